@@ -4,7 +4,7 @@ use crate::constants::{ConstantTable, Constants, ExpressionHandle, Known, Made};
 use ir_types::{ArraySize, Expression};
 use spirv_numbers::ops;
 use spirv_types::{Reading, Shape, TypeHandle, TypeTable, Types, span_of};
-use spirv_words::{Feature, Instruction, Malformed, SpirvError, Unsupported};
+use spirv_words::{Feature, Instruction, Malformed, Unsupported};
 use std::alloc::Global;
 
 // How many parts a constant may have of which one is put in anew.
@@ -24,44 +24,44 @@ impl<C: Constants> ConstantTable<C> {
         alloc: Global,
         ids: &[u32],
         instruction: &Instruction,
-    ) -> Result<Vec<ExpressionHandle>, SpirvError> {
-        let mut all = Vec::with_capacity(alloc, ids.len())?;
+    ) -> Vec<ExpressionHandle> {
+        let mut all = Vec::new(alloc);
         for id in ids {
-            all.push(self.part_expression(*id, instruction)?)?;
+            let part = self.part_expression(*id, instruction);
+            self.keep(&mut all, part);
         }
-        Ok(all)
+        all
     }
 
-    /// A constant that is put together of these: a constant of the module where all of them are such, else kept as its parts.
+    // A constant that is put together of these: a constant of the module where all of them are such, else kept as its parts.
     pub(crate) fn put_composite(
         &mut self,
         reading: &Reading,
         instruction: &Instruction,
         ty: TypeHandle,
         parts: &[u32],
-    ) -> Result<(), SpirvError> {
-        let init = self.compose(reading, instruction, ty, parts)?;
-        let first = self.add_parts(parts)?;
+    ) {
+        let init = self.compose(reading.alloc, instruction, ty, parts);
+        let first = self.add_parts(parts);
         let known = Known::of_parts(first, parts, instruction.ty, init);
         if self.are_constants(parts) {
-            self.put(reading, instruction, ty, init, None)?;
+            self.put(reading, instruction, ty, init, None);
             self.set_parts(instruction.id, &known);
         } else {
             self.set_known(instruction.id, known);
         }
-        Ok(())
     }
 
     // The expression of a composite of this type that is put together of these.
     fn compose(
         &mut self,
-        reading: &Reading,
+        alloc: Global,
         instruction: &Instruction,
         ty: TypeHandle,
         parts: &[u32],
-    ) -> Result<ExpressionHandle, SpirvError> {
-        let components = self.expressions_of_parts(reading.alloc, parts, instruction)?;
-        self.add(Expression::Compose { ty, components }, span_of(instruction))
+    ) -> ExpressionHandle {
+        let components = self.expressions_of_parts(alloc, parts, instruction);
+        self.build(Expression::Compose { ty, components }, span_of(instruction))
     }
 
     // Whether all these are constants, and none is an override or has one in it.
@@ -83,151 +83,153 @@ impl<C: Constants> ConstantTable<C> {
         }
     }
 
-    /// The constant that is a part of another one.
+    // The constant that is a part of another one.
     pub(crate) fn constant_in<T: Types>(
         &mut self,
         types: &TypeTable<T>,
         id: u32,
         index: u32,
         instruction: &Instruction,
-    ) -> Result<u32, SpirvError> {
+    ) -> u32 {
         let Some(known) = self.known_part(id) else {
-            return Err(instruction.malformed(Malformed::NoConstant));
+            return self.refuse(instruction.malformed(Malformed::NoConstant));
         };
         if let Some(part) = self.part_at(&known, index) {
-            return Ok(part);
+            return part;
         }
         let part = match types.part(known.ty, index) {
             Some(part) if index < count_parts(types, known.ty) => part.ty,
-            _ => return Err(instruction.malformed(Malformed::Index)),
+            _ => return self.refuse(instruction.malformed(Malformed::Index)),
         };
-        if !known.is_null() {
+        if known.is_null() {
+            self.null_part(types, part, instruction)
+        } else {
             let opcode = ops::COMPOSITE_EXTRACT;
-            return Err(instruction.unsupported_as(Unsupported::SpecOperation(opcode)));
+            self.refuse(instruction.unsupported_as(Unsupported::SpecOperation(opcode)))
         }
-        // a part of a null is a null
-        let ty = types.need(part, instruction)?;
-        let span = span_of(instruction);
-        let init = self.add(Expression::ZeroValue(ty), span)?;
-        let constant = self.built.constant(None, ty, init, span)?;
-        let place = self.add_place()?;
-        self.set_known(place, Known::null(constant, part));
-        Ok(place)
     }
 
-    /// A part of a composite.
+    // A part of this type of a null, which is a null; a constant more.
+    fn null_part<T: Types>(
+        &mut self,
+        types: &TypeTable<T>,
+        part: u32,
+        instruction: &Instruction,
+    ) -> u32 {
+        let ty = self.need_type(types, part, instruction);
+        let span = span_of(instruction);
+        let init = self.build(Expression::ZeroValue(ty), span);
+        let made = self.put_constant(None, ty, init, span);
+        let place = self.add_place();
+        self.set_known(place, Known::null(made, part));
+        place
+    }
+
+    // A part of a composite.
     pub(crate) fn extract<T: Types>(
         &mut self,
         types: &TypeTable<T>,
         instruction: &Instruction,
         operands: &[u32],
-    ) -> Result<(), SpirvError> {
-        let mut at = self.operand(instruction, operands, 0)?;
+    ) {
+        let mut at = self.operand(instruction, operands, 0);
         for index in operands.get(1..).unwrap_or(&[]) {
-            at = self.constant_in(types, at, *index, instruction)?;
+            at = self.constant_in(types, at, *index, instruction);
         }
         self.set_same(instruction.id, at);
-        Ok(())
     }
 
     // The constant of the module that is the operand at this place.
-    fn operand(
-        &self,
-        instruction: &Instruction,
-        operands: &[u32],
-        place: usize,
-    ) -> Result<u32, SpirvError> {
+    fn operand(&mut self, instruction: &Instruction, operands: &[u32], place: usize) -> u32 {
         let Some(id) = operands.get(place).copied() else {
-            return Err(instruction.malformed(Malformed::MissingOperand));
+            return self.refuse(instruction.malformed(Malformed::MissingOperand));
         };
         match self.known(id) {
-            Some(_) => Ok(id),
-            None => Err(instruction.malformed(Malformed::NoConstant)),
+            Some(_) => id,
+            None => self.refuse(instruction.malformed(Malformed::NoConstant)),
         }
     }
 
-    /// A composite with another part.
+    // A composite with another part.
     pub(crate) fn insert<T: Types>(
         &mut self,
         reading: &Reading,
         types: &TypeTable<T>,
         instruction: &Instruction,
         operands: &[u32],
-    ) -> Result<(), SpirvError> {
-        let mut made = self.operand(instruction, operands, 0)?;
-        let mut at = self.operand(instruction, operands, 1)?;
+    ) {
+        let mut made = self.operand(instruction, operands, 0);
+        let mut at = self.operand(instruction, operands, 1);
         let mut around = Vec::new(reading.alloc);
         for index in operands.get(2..).unwrap_or(&[]) {
-            around.push(Inside {
+            let inside = Inside {
                 constant: at,
                 index: *index,
-            })?;
-            at = self.constant_in(types, at, *index, instruction)?;
+            };
+            self.keep(&mut around, inside);
+            at = self.constant_in(types, at, *index, instruction);
         }
         for inside in around.iter().rev() {
-            made = self.replaced(reading, types, instruction, inside, made)?;
+            made = self.replaced(reading.alloc, types, instruction, inside, made);
         }
         self.set_same(instruction.id, made);
-        Ok(())
     }
 
     // The composite in which this constant is the part; a constant more.
     fn replaced<T: Types>(
         &mut self,
-        reading: &Reading,
+        alloc: Global,
         types: &TypeTable<T>,
         instruction: &Instruction,
         inside: &Inside,
         made: u32,
-    ) -> Result<u32, SpirvError> {
+    ) -> u32 {
         let ty = self.type_of(inside.constant);
         let count = count_parts(types, ty);
         if count > MAX_PARTS {
-            return Err(instruction.unsupported_by(Feature::LargeInsert));
+            return self.refuse(instruction.unsupported_by(Feature::LargeInsert));
         }
-        let mut parts = Vec::new(reading.alloc);
+        let mut parts = Vec::new(alloc);
         for index in 0..count {
             let part = if index == inside.index {
                 made
             } else {
-                self.constant_in(types, inside.constant, index, instruction)?
+                self.constant_in(types, inside.constant, index, instruction)
             };
-            parts.push(part)?;
+            self.keep(&mut parts, part);
         }
-        let handle = types.need(ty, instruction)?;
-        let init = self.compose(reading, instruction, handle, &parts)?;
-        let first = self.add_parts(&parts)?;
-        let place = self.add_place()?;
+        let handle = self.need_type(types, ty, instruction);
+        let init = self.compose(alloc, instruction, handle, &parts);
+        let first = self.add_parts(&parts);
+        let place = self.add_place();
         self.set_known(place, Known::of_parts(first, &parts, ty, init));
-        Ok(place)
+        place
     }
 
-    /// Components of two vectors.
+    // Components of two vectors.
     pub(crate) fn shuffle<T: Types>(
         &mut self,
         reading: &Reading,
         types: &TypeTable<T>,
         instruction: &Instruction,
         operands: &[u32],
-    ) -> Result<(), SpirvError> {
-        let first = self.operand(instruction, operands, 0)?;
-        let second = self.operand(instruction, operands, 1)?;
-        let ty = self.type_of(first);
-        let count = count_parts(types, ty);
+    ) {
+        let first = self.operand(instruction, operands, 0);
+        let second = self.operand(instruction, operands, 1);
+        let count = count_parts(types, self.type_of(first));
         let mut parts = Vec::new(reading.alloc);
         for component in operands.get(2..).unwrap_or(&[]) {
-            let part = match component.checked_sub(count) {
+            let (of, index) = match component.checked_sub(count) {
                 // any value would do
-                Some(_) if *component == u32::MAX => {
-                    self.constant_in(types, first, 0, instruction)?
-                }
-                Some(index) => self.constant_in(types, second, index, instruction)?,
-                None => self.constant_in(types, first, *component, instruction)?,
+                Some(_) if *component == u32::MAX => (first, 0),
+                Some(index) => (second, index),
+                None => (first, *component),
             };
-            parts.push(part)?;
+            let part = self.constant_in(types, of, index, instruction);
+            self.keep(&mut parts, part);
         }
-        let ty = types.need(instruction.ty, instruction)?;
-        self.put_composite(reading, instruction, ty, &parts)
+        let ty = self.need_type(types, instruction.ty, instruction);
+        self.put_composite(reading, instruction, ty, &parts);
     }
 }
 

@@ -117,9 +117,9 @@ impl Known {
     }
 
     // All zeros.
-    pub(crate) fn null(made: Handle<key::Constant>, ty: u32) -> Known {
+    pub(crate) fn null(made: Made, ty: u32) -> Known {
         Known {
-            made: Made::Constant(made),
+            made,
             ty,
             value: Some(0),
             expression: None,
@@ -135,7 +135,8 @@ impl Known {
     }
 }
 
-/// The constants of a module: those that are built, and what each id of one is.
+/// The constants of a module: those that are built, and what each id of one is. What is wrong first is kept: after that every
+/// declaration fails.
 #[derive(Drop)]
 pub struct ConstantTable<C: Constants> {
     /// Those that are built.
@@ -144,6 +145,13 @@ pub struct ConstantTable<C: Constants> {
     known: Vec<Known>,
     bound: usize,
     parts: Vec<u32>,
+    // what was wrong first
+    failure: Option<SpirvError>,
+}
+
+// An expression that is not made.
+fn no_expression() -> ExpressionHandle {
+    Handle::at(0)
 }
 
 impl<C: Constants> ConstantTable<C> {
@@ -154,7 +162,69 @@ impl<C: Constants> ConstantTable<C> {
             known: vec![in alloc; NOTHING; bound]?,
             bound,
             parts: Vec::new(alloc),
+            failure: None,
         })
+    }
+
+    // This is wrong. It is kept where nothing was before.
+    pub(crate) fn fail(&mut self, error: SpirvError) {
+        if self.failure.is_none() {
+            self.failure = Some(error);
+        }
+    }
+
+    // A constant that is not made, since this is wrong.
+    pub(crate) fn refuse(&mut self, error: SpirvError) -> u32 {
+        self.fail(error);
+        0
+    }
+
+    // An expression that is not made, since this is wrong.
+    pub(crate) fn refuse_expression(&mut self, error: SpirvError) -> ExpressionHandle {
+        self.fail(error);
+        no_expression()
+    }
+
+    // What was made, where nothing was wrong.
+    pub(crate) fn made<T: Copy>(&self, made: T) -> Result<T, SpirvError> {
+        match self.failure {
+            Some(error) => Err(error),
+            None => Ok(made),
+        }
+    }
+
+    // One more in a list.
+    pub(crate) fn keep<T: Drop>(&mut self, list: &mut Vec<T>, item: T) {
+        if list.push(item).is_err() {
+            self.fail(SpirvError::Memory);
+        }
+    }
+
+    // The type that is built for an id, which an instruction has to have.
+    pub(crate) fn need_type<T: Types>(
+        &mut self,
+        types: &TypeTable<T>,
+        id: u32,
+        instruction: &Instruction,
+    ) -> TypeHandle {
+        match types.need(id, instruction) {
+            Ok(ty) => ty,
+            Err(error) => {
+                self.fail(error);
+                Handle::at(0)
+            }
+        }
+    }
+
+    // The name of an id, if it has one.
+    pub(crate) fn name_of(&mut self, reading: &Reading, id: u32) -> Option<String> {
+        match reading.listing.name(reading.alloc, id, None) {
+            Ok(name) => name,
+            Err(error) => {
+                self.fail(error);
+                None
+            }
+        }
     }
 
     /// What is known of a constant, if the id is of one.
@@ -214,7 +284,16 @@ impl<C: Constants> ConstantTable<C> {
         expression: Expression,
         span: Span,
     ) -> Result<ExpressionHandle, SpirvError> {
-        self.built.expression(expression, span)
+        let handle = self.build(expression, span);
+        self.made(handle)
+    }
+
+    // An expression of the module.
+    pub(crate) fn build(&mut self, expression: Expression, span: Span) -> ExpressionHandle {
+        match self.built.expression(expression, span) {
+            Ok(handle) => handle,
+            Err(error) => self.refuse_expression(error),
+        }
     }
 
     /// The expression of the module that a constant is.
@@ -224,7 +303,10 @@ impl<C: Constants> ConstantTable<C> {
         instruction: &Instruction,
     ) -> Result<ExpressionHandle, SpirvError> {
         match self.known(id) {
-            Some(_) => self.part_expression(id, instruction),
+            Some(_) => {
+                let handle = self.part_expression(id, instruction);
+                self.made(handle)
+            }
             None => Err(instruction.malformed(Malformed::NoConstant)),
         }
     }
@@ -234,21 +316,21 @@ impl<C: Constants> ConstantTable<C> {
         &mut self,
         id: u32,
         instruction: &Instruction,
-    ) -> Result<ExpressionHandle, SpirvError> {
+    ) -> ExpressionHandle {
         let Some(known) = self.known_part(id) else {
-            return Err(instruction.malformed(Malformed::NoConstant));
+            return self.refuse_expression(instruction.malformed(Malformed::NoConstant));
         };
         if let Some(handle) = known.expression {
-            return Ok(handle);
+            return handle;
         }
         let Some(expression) = named(&known.made) else {
-            return Err(instruction.malformed(Malformed::NoConstant));
+            return self.refuse_expression(instruction.malformed(Malformed::NoConstant));
         };
-        let handle = self.add(expression, span_of(instruction))?;
+        let handle = self.build(expression, span_of(instruction));
         if let Some(place) = self.known.get_mut(id as usize) {
             place.expression = Some(handle);
         }
-        Ok(handle)
+        handle
     }
 
     // This is known of an id.
@@ -259,19 +341,21 @@ impl<C: Constants> ConstantTable<C> {
     }
 
     // The place of a constant that has no id, after the ids.
-    pub(crate) fn add_place(&mut self) -> Result<u32, SpirvError> {
+    pub(crate) fn add_place(&mut self) -> u32 {
         let place = u32::try_from(self.known.len()).unwrap_or(u32::MAX);
-        self.known.push(NOTHING)?;
-        Ok(place)
+        if self.known.push(NOTHING).is_err() {
+            self.fail(SpirvError::Memory);
+        }
+        place
     }
 
     // Parts that a constant is put together of; answers the place of the first.
-    pub(crate) fn add_parts(&mut self, parts: &[u32]) -> Result<u32, SpirvError> {
+    pub(crate) fn add_parts(&mut self, parts: &[u32]) -> u32 {
         let first = u32::try_from(self.parts.len()).unwrap_or(u32::MAX);
-        for part in parts {
-            self.parts.push(*part)?;
+        if self.parts.extend_from_slice(parts).is_err() {
+            self.fail(SpirvError::Memory);
         }
-        Ok(first)
+        first
     }
 
     // A constant is put together of the same parts as another.
@@ -298,47 +382,62 @@ impl<C: Constants> ConstantTable<C> {
         }
     }
 
-    /// A constant, or an override where it is decorated as one.
-    pub fn put(
+    // A constant, or an override where it is decorated as one.
+    pub(crate) fn put(
         &mut self,
         reading: &Reading,
         instruction: &Instruction,
         ty: TypeHandle,
         init: ExpressionHandle,
         value: Option<i64>,
-    ) -> Result<(), SpirvError> {
+    ) {
         let said = Decorated::of(reading.listing, instruction.id, None).spec_id;
-        let Some(number) = said else {
-            let name = reading.listing.name(reading.alloc, instruction.id, None)?;
-            let handle = self.built.constant(name, ty, init, span_of(instruction))?;
-            self.set_made(instruction, Made::Constant(handle), value);
-            return Ok(());
+        let id = said.and_then(|number| u16::try_from(number).ok());
+        if let (Some(number), None) = (said, id) {
+            self.fail(instruction.unsupported_as(Unsupported::SpecId(number)));
+        }
+        let name = self.name_of(reading, instruction.id);
+        let span = span_of(instruction);
+        let made = match id {
+            Some(_) => self.put_override(name, id, ty, init, span),
+            None => self.put_constant(name, ty, init, span),
         };
-        let Ok(number) = u16::try_from(number) else {
-            return Err(instruction.unsupported_as(Unsupported::SpecId(number)));
-        };
-        let name = reading.listing.name(reading.alloc, instruction.id, None)?;
-        self.put_override(instruction, name, Some(number), ty, init, value)
+        self.set_known(instruction.id, Known::of(made, instruction.ty, value));
     }
 
-    /// An override.
-    pub fn put_override(
+    // A constant of the module.
+    pub(crate) fn put_constant(
         &mut self,
-        instruction: &Instruction,
+        name: Option<String>,
+        ty: TypeHandle,
+        init: ExpressionHandle,
+        span: Span,
+    ) -> Made {
+        match self.built.constant(name, ty, init, span) {
+            Ok(handle) => Made::Constant(handle),
+            Err(error) => {
+                self.fail(error);
+                Made::Nothing
+            }
+        }
+    }
+
+    // An override.
+    pub(crate) fn put_override(
+        &mut self,
         name: Option<String>,
         id: Option<u16>,
         ty: TypeHandle,
         init: ExpressionHandle,
-        value: Option<i64>,
-    ) -> Result<(), SpirvError> {
-        let span = span_of(instruction);
-        let handle = self.built.overridable(name, id, ty, init, span)?;
-        self.set_made(instruction, Made::Override(handle), value);
-        Ok(())
-    }
-
-    fn set_made(&mut self, instruction: &Instruction, made: Made, value: Option<i64>) {
-        self.set_known(instruction.id, Known::of(made, instruction.ty, value));
+        span: Span,
+    ) -> Made {
+        match self.built.overridable(name, id, ty, init, span) {
+            Ok(handle) => Made::Override(handle),
+            Err(error) => {
+                self.fail(error);
+                Made::Nothing
+            }
+        }
     }
 
     /// A constant as it is declared, but for those that an operation computes.
@@ -348,50 +447,56 @@ impl<C: Constants> ConstantTable<C> {
         types: &TypeTable<T>,
         instruction: &Instruction,
     ) -> Result<(), SpirvError> {
-        let ty = types.need(instruction.ty, instruction)?;
+        let ty = self.need_type(types, instruction.ty, instruction);
         let shape = types.shape(instruction.ty);
         match instruction.opcode {
             ops::CONSTANT_COMPOSITE | ops::SPEC_CONSTANT_COMPOSITE => {
                 let parts = reading.listing.operands(instruction);
-                self.need_all(instruction, parts)?;
-                return self.put_composite(reading, instruction, ty, parts);
+                self.need_all(instruction, parts);
+                self.put_composite(reading, instruction, ty, parts);
             }
             ops::CONSTANT_NULL | ops::UNDEF => {
                 if shape.is_handle() || matches!(shape, Shape::Pointer { .. }) {
-                    return Err(instruction.unsupported());
+                    self.fail(instruction.unsupported());
                 }
-                return self.declare_null(reading, instruction, ty);
+                self.declare_null(reading, instruction, ty);
             }
-            _ => {}
+            _ => match literal_of(reading.listing, instruction, shape) {
+                Ok(literal) => self.declare_literal(reading, instruction, ty, literal),
+                Err(error) => self.fail(error),
+            },
         }
-        let literal = literal_of(reading.listing, instruction, shape)?;
-        let init = self.add(Expression::Literal(literal), span_of(instruction))?;
-        self.put(reading, instruction, ty, init, value_of(literal))
+        self.made(())
     }
 
-    // All zeros.
-    fn declare_null(
+    // A literal.
+    fn declare_literal(
         &mut self,
         reading: &Reading,
         instruction: &Instruction,
         ty: TypeHandle,
-    ) -> Result<(), SpirvError> {
-        let init = self.add(Expression::ZeroValue(ty), span_of(instruction))?;
-        self.put(reading, instruction, ty, init, Some(0))?;
+        literal: Literal,
+    ) {
+        let init = self.build(Expression::Literal(literal), span_of(instruction));
+        self.put(reading, instruction, ty, init, value_of(literal));
+    }
+
+    // All zeros.
+    fn declare_null(&mut self, reading: &Reading, instruction: &Instruction, ty: TypeHandle) {
+        let init = self.build(Expression::ZeroValue(ty), span_of(instruction));
+        self.put(reading, instruction, ty, init, Some(0));
         if let Some(place) = self.known.get_mut(instruction.id as usize) {
             place.null = true;
         }
-        Ok(())
     }
 
     // All these have to be constants.
-    fn need_all(&self, instruction: &Instruction, ids: &[u32]) -> Result<(), SpirvError> {
+    fn need_all(&mut self, instruction: &Instruction, ids: &[u32]) {
         for id in ids {
             if self.known(*id).is_none() {
-                return Err(instruction.malformed(Malformed::NoConstant));
+                self.fail(instruction.malformed(Malformed::NoConstant));
             }
         }
-        Ok(())
     }
 
     /// The expressions of the module that these constants are.
@@ -401,8 +506,12 @@ impl<C: Constants> ConstantTable<C> {
         ids: &[u32],
         instruction: &Instruction,
     ) -> Result<Vec<ExpressionHandle>, SpirvError> {
-        self.need_all(instruction, ids)?;
-        self.expressions_of_parts(alloc, ids, instruction)
+        self.need_all(instruction, ids);
+        let all = self.expressions_of_parts(alloc, ids, instruction);
+        match self.failure {
+            Some(error) => Err(error),
+            None => Ok(all),
+        }
     }
 }
 

@@ -31,14 +31,6 @@ impl Operation<'_> {
         self.instruction
             .unsupported_as(Unsupported::SpecOperation(self.opcode))
     }
-
-    // The operand at this place.
-    fn need(&self, place: usize) -> Result<u32, SpirvError> {
-        match self.operands.get(place) {
-            Some(id) if place < self.count => Ok(*id),
-            _ => Err(self.instruction.malformed(Malformed::MissingOperand)),
-        }
-    }
 }
 
 impl<C: Constants> ConstantTable<C> {
@@ -58,6 +50,7 @@ impl<C: Constants> ConstantTable<C> {
             ops::VECTOR_SHUFFLE => self.shuffle(reading, types, instruction, rest),
             _ => self.compute_all(reading, types, instruction, opcode, rest),
         }
+        self.made(())
     }
 
     // An operation of numbers or truth values, component by component.
@@ -68,10 +61,11 @@ impl<C: Constants> ConstantTable<C> {
         instruction: &Instruction,
         opcode: u16,
         operands: &[u32],
-    ) -> Result<(), SpirvError> {
+    ) {
         let shape = types.shape(instruction.ty);
         let (Shape::Scalar(scalar) | Shape::Vector { scalar, .. }) = shape else {
-            return Err(instruction.unsupported_as(Unsupported::SpecOperation(opcode)));
+            self.fail(instruction.unsupported_as(Unsupported::SpecOperation(opcode)));
+            return;
         };
         let mut operation = Operation {
             instruction,
@@ -89,10 +83,11 @@ impl<C: Constants> ConstantTable<C> {
         } = shape
         {
             operation.ty = component;
-            return self.compute_each(reading, types, &operation, operands, u32::from(size));
+            self.compute_each(reading, types, &operation, operands, u32::from(size));
+            return;
         }
-        operation.operands = self.operands_at(types, instruction, operands, None)?;
-        self.compute(reading, types, &operation, instruction.id)
+        operation.operands = self.operands_at(types, instruction, operands, None);
+        self.compute(reading, types, &operation, instruction.id);
     }
 
     // The same of so many components.
@@ -103,19 +98,19 @@ impl<C: Constants> ConstantTable<C> {
         whole: &Operation,
         operands: &[u32],
         count: u32,
-    ) -> Result<(), SpirvError> {
+    ) {
         let instruction = whole.instruction;
         let mut parts = Vec::new(reading.alloc);
         for place in 0..count {
             let mut operation = *whole;
             operation.component = Some(place);
-            operation.operands = self.operands_at(types, instruction, operands, Some(place))?;
-            let part = self.add_place()?;
-            self.compute(reading, types, &operation, part)?;
-            parts.push(part)?;
+            operation.operands = self.operands_at(types, instruction, operands, Some(place));
+            let part = self.add_place();
+            self.compute(reading, types, &operation, part);
+            self.keep(&mut parts, part);
         }
-        let ty = types.need(instruction.ty, instruction)?;
-        self.put_composite(reading, instruction, ty, &parts)
+        let ty = self.need_type(types, instruction.ty, instruction);
+        self.put_composite(reading, instruction, ty, &parts);
     }
 
     // The operands of an operation; of a component those of a vector's component, and scalars as they are.
@@ -125,36 +120,42 @@ impl<C: Constants> ConstantTable<C> {
         instruction: &Instruction,
         operands: &[u32],
         component: Option<u32>,
-    ) -> Result<[u32; 3], SpirvError> {
-        let first = operands.first().copied();
-        let second = operands.get(1).copied();
-        let third = operands.get(2).copied();
-        Ok([
-            self.operand_at(types, instruction, first, component)?,
-            self.operand_at(types, instruction, second, component)?,
-            self.operand_at(types, instruction, third, component)?,
-        ])
+    ) -> [u32; 3] {
+        let mut all = [0, 0, 0];
+        let mut place = 0usize;
+        for operand in &mut all {
+            if let Some(id) = operands.get(place).copied() {
+                *operand = self.operand_at(types, instruction, id, component);
+            }
+            place = place.saturating_add(1);
+        }
+        all
     }
 
-    // One of them; 0 where there is none.
+    // One of them.
     fn operand_at<T: Types>(
         &mut self,
         types: &TypeTable<T>,
         instruction: &Instruction,
-        operand: Option<u32>,
+        id: u32,
         component: Option<u32>,
-    ) -> Result<u32, SpirvError> {
-        let Some(id) = operand else {
-            return Ok(0);
-        };
+    ) -> u32 {
         let Some(known) = self.known(id) else {
-            return Err(instruction.malformed(Malformed::NoConstant));
+            return self.refuse(instruction.malformed(Malformed::NoConstant));
         };
         match (types.shape(known.ty), component) {
             (Shape::Vector { .. }, Some(component)) => {
                 self.constant_in(types, id, component, instruction)
             }
-            _ => Ok(id),
+            _ => id,
+        }
+    }
+
+    // The operand at this place; 0 where it is missing.
+    fn need(&mut self, operation: &Operation, place: usize) -> u32 {
+        match operation.operands.get(place) {
+            Some(id) if place < operation.count => *id,
+            _ => self.refuse(operation.instruction.malformed(Malformed::MissingOperand)),
         }
     }
 
@@ -166,29 +167,45 @@ impl<C: Constants> ConstantTable<C> {
         types: &TypeTable<T>,
         operation: &Operation,
         place: u32,
-    ) -> Result<(), SpirvError> {
+    ) {
         if let Some(chosen) = self.chosen(operation) {
             self.set_same(place, chosen);
-            return Ok(());
+            return;
         }
         let value = self.fold(types, operation);
-        let ty = types.need(operation.ty, operation.instruction)?;
+        let ty = self.need_type(types, operation.ty, operation.instruction);
         let span = span_of(operation.instruction);
-        let made = match self.constant_literal(operation, value) {
-            Some(literal) => {
-                let init = self.add(Expression::Literal(literal), span)?;
-                let name = operation_name(reading, operation)?;
-                Made::Constant(self.built.constant(name, ty, init, span)?)
-            }
-            None => {
-                let expression = self.operation(types, operation)?;
-                let init = self.add(expression, span)?;
-                let name = operation_name(reading, operation)?;
-                Made::Override(self.built.overridable(name, None, ty, init, span)?)
-            }
+        let literal = self.constant_literal(operation, value);
+        let init = match literal {
+            Some(literal) => self.build(Expression::Literal(literal), span),
+            None => self.operation(types, operation),
+        };
+        let name = self.operation_name(reading, operation);
+        let made = match literal {
+            Some(_) => self.put_constant(name, ty, init, span),
+            None => self.put_override(name, None, ty, init, span),
         };
         self.set_known(place, Known::of(made, operation.ty, value));
-        Ok(())
+    }
+
+    // The name of what an operation gives, or of one of its components.
+    fn operation_name(&mut self, reading: &Reading, operation: &Operation) -> Option<String> {
+        let id = operation.instruction.id;
+        let whole = match self.name_of(reading, id) {
+            Some(name) => Ok(name),
+            None => format!(in reading.alloc; "spec_op_{id}"),
+        };
+        let name = match (whole, operation.component) {
+            (Ok(name), Some(component)) => format!(in reading.alloc; "{name}_{component}"),
+            (whole, _) => whole,
+        };
+        match name {
+            Ok(name) => Some(name),
+            Err(_) => {
+                self.fail(SpirvError::Memory);
+                None
+            }
+        }
     }
 
     // The literal that an operation gives all of whose operands are constants, where it was computed.
@@ -257,7 +274,7 @@ impl<C: Constants> ConstantTable<C> {
         &mut self,
         types: &TypeTable<T>,
         operation: &Operation,
-    ) -> Result<Expression, SpirvError> {
+    ) -> ExpressionHandle {
         let span = span_of(operation.instruction);
         let kind = ScalarKind::Sint;
         let signed = Scalar {
@@ -265,22 +282,22 @@ impl<C: Constants> ConstantTable<C> {
             width: operation.scalar.width,
         };
         let Some(literal) = literal(signed, 0) else {
-            return Err(operation.unsupported());
+            return self.refuse_expression(operation.unsupported());
         };
-        let zero = self.add(Expression::Literal(literal), span)?;
-        let remainder = self.binary(types, operation, BinaryOperator::Modulo, kind, kind)?;
-        let left = self.add(remainder, span)?;
-        let right = self.signed(types, operation, 1, kind)?;
-        let differs = self.pair(span, BinaryOperator::ExclusiveOr, left, right)?;
-        let is_other = self.pair(span, BinaryOperator::Less, differs, zero)?;
-        let is_some = self.pair(span, BinaryOperator::NotEqual, left, zero)?;
-        let condition = self.pair(span, BinaryOperator::LogicalAnd, is_other, is_some)?;
-        let accept = self.pair(span, BinaryOperator::Add, left, right)?;
-        Ok(Expression::Select {
+        let zero = self.build(Expression::Literal(literal), span);
+        let left = self.binary(types, operation, BinaryOperator::Modulo, kind, kind);
+        let right = self.signed(types, operation, 1, kind);
+        let differs = self.pair(span, BinaryOperator::ExclusiveOr, left, right);
+        let is_other = self.pair(span, BinaryOperator::Less, differs, zero);
+        let is_some = self.pair(span, BinaryOperator::NotEqual, left, zero);
+        let condition = self.pair(span, BinaryOperator::LogicalAnd, is_other, is_some);
+        let accept = self.pair(span, BinaryOperator::Add, left, right);
+        let select = Expression::Select {
             condition,
             accept,
             reject: left,
-        })
+        };
+        self.build(select, span)
     }
 
     // An expression of the module of two others.
@@ -290,8 +307,30 @@ impl<C: Constants> ConstantTable<C> {
         op: BinaryOperator,
         left: ExpressionHandle,
         right: ExpressionHandle,
-    ) -> Result<ExpressionHandle, SpirvError> {
-        self.add(Expression::Binary { op, left, right }, span)
+    ) -> ExpressionHandle {
+        self.build(Expression::Binary { op, left, right }, span)
+    }
+
+    // An expression of the module as one of this kind, converted to so many bytes, or bit for bit.
+    fn cast(
+        &mut self,
+        span: Span,
+        expr: ExpressionHandle,
+        kind: ScalarKind,
+        convert: Option<u8>,
+    ) -> ExpressionHandle {
+        let cast = Expression::As {
+            expr,
+            kind,
+            convert,
+        };
+        self.build(cast, span)
+    }
+
+    // An operand as an expression of the module.
+    fn plain(&mut self, operation: &Operation, place: usize) -> ExpressionHandle {
+        let id = self.need(operation, place);
+        self.part_expression(id, operation.instruction)
     }
 
     // An operand as an expression of the module, with this sign: a constant as a literal of it.
@@ -301,10 +340,11 @@ impl<C: Constants> ConstantTable<C> {
         operation: &Operation,
         place: usize,
         kind: ScalarKind,
-    ) -> Result<ExpressionHandle, SpirvError> {
-        let id = operation.need(place)?;
+    ) -> ExpressionHandle {
+        let id = self.need(operation, place);
         let Some(scalar) = self.scalar_of(types, id) else {
-            return Err(operation.instruction.malformed(Malformed::NoConstant));
+            let error = operation.instruction.malformed(Malformed::NoConstant);
+            return self.refuse_expression(error);
         };
         if scalar.kind == kind {
             return self.part_expression(id, operation.instruction);
@@ -316,19 +356,11 @@ impl<C: Constants> ConstantTable<C> {
                 width: scalar.width,
             };
             if let Some(made) = literal(wanted, value.cast_unsigned()) {
-                return self.add(Expression::Literal(made), span);
+                return self.build(Expression::Literal(made), span);
             }
         }
-        let expr = self.part_expression(id, operation.instruction)?;
-        let convert = None;
-        self.add(
-            Expression::As {
-                expr,
-                kind,
-                convert,
-            },
-            span,
-        )
+        let expr = self.part_expression(id, operation.instruction);
+        self.cast(span, expr, kind, None)
     }
 
     // The value of a constant that is no override; 0 where it is no whole number.
@@ -345,10 +377,10 @@ impl<C: Constants> ConstantTable<C> {
         &mut self,
         types: &TypeTable<T>,
         operation: &Operation,
-    ) -> Result<Expression, SpirvError> {
+    ) -> ExpressionHandle {
         let (opcode, kind) = (operation.opcode, operation.scalar.kind);
         if opcode == ops::S_MOD {
-            let modulo = self.signed_modulo(types, operation)?;
+            let modulo = self.signed_modulo(types, operation);
             return self.as_result(operation, modulo, ScalarKind::Sint);
         }
         if let Some(op) = find_operator(&INTEGER, opcode) {
@@ -357,19 +389,15 @@ impl<C: Constants> ConstantTable<C> {
                 ops::S_DIV | ops::S_REM => ScalarKind::Sint,
                 _ => kind,
             };
-            let made = self.binary(types, operation, op, kind, kind)?;
+            let made = self.binary(types, operation, op, kind, kind);
             return self.as_result(operation, made, kind);
         }
         if let Some((op, sign)) = find_signed(&COMPARISONS, opcode) {
-            let left = self.scalar_of(types, operation.need(0)?);
-            let Some(kind) = sign.or(left.map(|scalar| scalar.kind)) else {
-                return Err(operation.unsupported());
-            };
-            return self.binary(types, operation, op, kind, kind);
+            return self.compared(types, operation, op, sign);
         }
         if let Some((op, sign)) = find_signed(&SHIFTS, opcode) {
             let kind = sign.unwrap_or(kind);
-            let made = self.binary(types, operation, op, kind, ScalarKind::Uint)?;
+            let made = self.binary(types, operation, op, kind, ScalarKind::Uint);
             return self.as_result(operation, made, kind);
         }
         match find_operator(&PLAIN, opcode) {
@@ -378,23 +406,35 @@ impl<C: Constants> ConstantTable<C> {
         }
     }
 
+    // A comparison, of operands of this sign where it has one.
+    fn compared<T: Types>(
+        &mut self,
+        types: &TypeTable<T>,
+        operation: &Operation,
+        op: BinaryOperator,
+        sign: Option<ScalarKind>,
+    ) -> ExpressionHandle {
+        let first = self.need(operation, 0);
+        let left = self.scalar_of(types, first);
+        match sign.or(left.map(|scalar| scalar.kind)) {
+            Some(kind) => self.binary(types, operation, op, kind, kind),
+            None => self.refuse_expression(operation.unsupported()),
+        }
+    }
+
     // What has this kind, as the result's, bit for bit.
     fn as_result(
         &mut self,
         operation: &Operation,
-        made: Expression,
+        made: ExpressionHandle,
         from: ScalarKind,
-    ) -> Result<Expression, SpirvError> {
+    ) -> ExpressionHandle {
         let kind = operation.scalar.kind;
         if from == kind {
-            return Ok(made);
+            made
+        } else {
+            self.cast(span_of(operation.instruction), made, kind, None)
         }
-        let expr = self.add(made, span_of(operation.instruction))?;
-        Ok(Expression::As {
-            expr,
-            kind,
-            convert: None,
-        })
     }
 
     // An operation of two operands with these signs.
@@ -405,35 +445,42 @@ impl<C: Constants> ConstantTable<C> {
         op: BinaryOperator,
         left: ScalarKind,
         right: ScalarKind,
-    ) -> Result<Expression, SpirvError> {
-        let left = self.signed(types, operation, 0, left)?;
-        let right = self.signed(types, operation, 1, right)?;
-        Ok(Expression::Binary { op, left, right })
+    ) -> ExpressionHandle {
+        let left = self.signed(types, operation, 0, left);
+        let right = self.signed(types, operation, 1, right);
+        self.pair(span_of(operation.instruction), op, left, right)
     }
 
     // An operation of one operand, or a choice.
-    fn other<T: Types>(
-        &mut self,
-        types: &TypeTable<T>,
-        operation: &Operation,
-    ) -> Result<Expression, SpirvError> {
+    fn other<T: Types>(&mut self, types: &TypeTable<T>, operation: &Operation) -> ExpressionHandle {
         let kind = operation.scalar.kind;
         let (op, kind) = match operation.opcode {
             ops::LOGICAL_NOT => (UnaryOperator::LogicalNot, kind),
             ops::S_NEGATE => (UnaryOperator::Negate, ScalarKind::Sint),
             ops::F_NEGATE => (UnaryOperator::Negate, kind),
             ops::NOT => (UnaryOperator::BitwiseNot, kind),
-            ops::SELECT => {
-                return Ok(Expression::Select {
-                    condition: self.part_expression(operation.need(0)?, operation.instruction)?,
-                    accept: self.part_expression(operation.need(1)?, operation.instruction)?,
-                    reject: self.part_expression(operation.need(2)?, operation.instruction)?,
-                });
-            }
+            ops::SELECT => return self.choice(operation),
             _ => return self.converted(types, operation),
         };
-        let expr = self.signed(types, operation, 0, kind)?;
-        self.as_result(operation, Expression::Unary { op, expr }, kind)
+        let expr = self.signed(types, operation, 0, kind);
+        let made = self.build(
+            Expression::Unary { op, expr },
+            span_of(operation.instruction),
+        );
+        self.as_result(operation, made, kind)
+    }
+
+    // A choice.
+    fn choice(&mut self, operation: &Operation) -> ExpressionHandle {
+        let condition = self.plain(operation, 0);
+        let accept = self.plain(operation, 1);
+        let reject = self.plain(operation, 2);
+        let select = Expression::Select {
+            condition,
+            accept,
+            reject,
+        };
+        self.build(select, span_of(operation.instruction))
     }
 
     // A conversion.
@@ -441,40 +488,26 @@ impl<C: Constants> ConstantTable<C> {
         &mut self,
         types: &TypeTable<T>,
         operation: &Operation,
-    ) -> Result<Expression, SpirvError> {
+    ) -> ExpressionHandle {
         let sign = match operation.opcode {
             ops::S_CONVERT => ScalarKind::Sint,
             ops::U_CONVERT => ScalarKind::Uint,
             ops::F_CONVERT | ops::QUANTIZE_TO_F16 => ScalarKind::Float,
-            _ => return Err(operation.unsupported()),
+            _ => return self.refuse_expression(operation.unsupported()),
         };
-        let expr = self.signed(types, operation, 0, sign)?;
-        if operation.opcode == ops::QUANTIZE_TO_F16 {
-            return Ok(Expression::Math {
-                fun: MathFunction::QuantizeToF16,
-                arg: expr,
-                arg1: None,
-                arg2: None,
-                arg3: None,
-            });
+        let expr = self.signed(types, operation, 0, sign);
+        let span = span_of(operation.instruction);
+        if operation.opcode != ops::QUANTIZE_TO_F16 {
+            let width = operation.scalar.width;
+            return self.cast(span, expr, operation.scalar.kind, Some(width));
         }
-        Ok(Expression::As {
-            expr,
-            kind: operation.scalar.kind,
-            convert: Some(operation.scalar.width),
-        })
+        let rounded = Expression::Math {
+            fun: MathFunction::QuantizeToF16,
+            arg: expr,
+            arg1: None,
+            arg2: None,
+            arg3: None,
+        };
+        self.build(rounded, span)
     }
-}
-
-// The name of what an operation gives, or of one of its components.
-fn operation_name(reading: &Reading, operation: &Operation) -> Result<Option<String>, SpirvError> {
-    let id = operation.instruction.id;
-    let said = reading.listing.name(reading.alloc, id, None)?;
-    let name = match (said, operation.component) {
-        (Some(name), None) => name,
-        (None, None) => format!(in reading.alloc; "spec_op_{}", id)?,
-        (Some(name), Some(component)) => format!(in reading.alloc; "{name}_{component}")?,
-        (None, Some(component)) => format!(in reading.alloc; "spec_op_{id}_{component}")?,
-    };
-    Ok(Some(name))
 }

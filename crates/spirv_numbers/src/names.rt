@@ -7,7 +7,10 @@ fn name_in(names: &'static str, number: u32) -> &'static str {
         if found {
             return word;
         }
-        found = word.parse::<u32>().is_ok_and(|each| each == number);
+        found = match word.parse::<u32>() {
+            Ok(each) => each == number,
+            Err(_) => false,
+        };
     }
     ""
 }

@@ -3,6 +3,7 @@ ghost use Rattle.std.specs.Prelude.{◌≡◌};
 ghost use Rattle.spirv_words.specs.declared.error.SpirvError.TheVariants.{Memory};
 
 use crate::unsupported::{Feature, Unsupported};
+use spirv_numbers::WordsError;
 use std::alloc::{AllocError, AllocFailed};
 use thiserror::Error;
 
@@ -120,6 +121,17 @@ impl SpirvError {
     /// The same of what no number says.
     pub fn untranslated(feature: Feature, word: u32) -> SpirvError {
         SpirvError::unsupported(Unsupported::Feature(feature), word)
+    }
+}
+
+impl From<WordsError> for SpirvError {
+    fn from(error: WordsError) -> SpirvError {
+        match error {
+            WordsError::Memory => SpirvError::Memory,
+            WordsError::TooLong => SpirvError::malformed(Malformed::TooLong, 0),
+            WordsError::Length => SpirvError::malformed(Malformed::Length, 0),
+            WordsError::Magic => SpirvError::malformed(Malformed::Magic, 0),
+        }
     }
 }
 

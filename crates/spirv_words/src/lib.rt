@@ -8,13 +8,12 @@ mod parts;
 mod pieces;
 mod text;
 mod unsupported;
-mod words;
 
 pub use error::{Malformed, SpirvError};
 pub use groups::Groups;
 pub use listing::{Instruction, Listing, list};
 pub use parts::{FunctionParts, Parts};
 pub use pieces::{HEADER, Piece, cut};
+pub use spirv_numbers::MAX_LEN;
 pub use text::{read_text, starts_text};
 pub use unsupported::{Feature, Unsupported};
-pub use words::{ByteOrder, MAX_LEN, read_words};

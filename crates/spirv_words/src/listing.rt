@@ -6,8 +6,7 @@ use crate::parts::{Parts, sort_out};
 use crate::pieces::{HEADER, Piece, cut};
 use crate::text::read_text;
 use crate::unsupported::{Feature, Unsupported};
-use crate::words::read_words;
-use spirv_numbers::{Results, ops, results_of};
+use spirv_numbers::{Results, ops, read_words, results_of};
 use std::alloc::{AllocError, Global};
 
 // How many ids there may be for each word, so that a table of ids is linear in the words.

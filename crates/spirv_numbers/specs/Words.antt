@@ -2,8 +2,8 @@
 use Rattle.std.specs.Prelude.{◌≡◌, ℕ, List, [], ◌∷◌, ◌+◌, ◌*◌, ◌≤◌, ◌⊎◌, length, map, get_or}
 use Rattle.std.specs.List.{range_with_len}
 use Rattle.std.specs.Int.{w32, from_le_bytes, from_be_bytes}
-use Rattle.spirv_words.specs.declared.words.ByteOrder.{ByteOrder}
-use Rattle.spirv_words.specs.declared.words.ByteOrder.TheVariants.{Little, Big}
+use Rattle.spirv_numbers.specs.declared.words.ByteOrder.{ByteOrder}
+use Rattle.spirv_numbers.specs.declared.words.ByteOrder.TheVariants.{Little, Big}
 
 -- four bytes from a place on
 abbrev pub four : List ℕ → ℕ → List ℕ

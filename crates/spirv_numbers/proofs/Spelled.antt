@@ -1,9 +1,9 @@
 -- Which words bytes spell, by the steps in which they are read.
 use Rattle.std.proofs.Common.{◌≡◌, ◌≢◌, ℕ, ◌+◌, ◌*◌, ◌/◌, ◌%◌, ◌<◌, ◌≤◌, ◌⊎◌, inl, inr, List, [], ◌∷◌, ◌++◌, length, map, refl, sym, arith}
 use Rattle.std.proofs.lemmas.List.FromFn.{map-range_with_len_more, length-map-range_with_len}
-use Rattle.spirv_words.specs.declared.words.ByteOrder.{ByteOrder}
-use Rattle.spirv_words.specs.declared.words.ByteOrder.TheVariants.{Little, Big}
-use Rattle.spirv_words.specs.Words.{IsSpelled, Reads, magic, word_at, words_in}
+use Rattle.spirv_numbers.specs.declared.words.ByteOrder.{ByteOrder}
+use Rattle.spirv_numbers.specs.declared.words.ByteOrder.TheVariants.{Little, Big}
+use Rattle.spirv_numbers.specs.Words.{IsSpelled, Reads, magic, word_at, words_in}
 
 -- none
 pub words_none : (order : ByteOrder) (bytes : List ℕ) → words_in order bytes 0 ≡ []

@@ -1,7 +1,7 @@
 -- All words are read where the loop ends.
 use Rattle.std.proofs.Common.{rules, arith}
-use Rattle.spirv_words.proofs.Spelled.{reads, words_length}
-use Rattle.spirv_words.proofs.words.read_words.Goals as goal
+use Rattle.spirv_numbers.proofs.Spelled.{reads, words_length}
+use Rattle.spirv_numbers.proofs.words.read_words.Goals as goal
 
 pub returns-clause-words : goal.returns-clause-words
 returns-clause-words c = reads c.in_ok-order.order c.args.bytes.now c.loop-place.words.items c.loop-place.place (search rules) (search rules) (search rules) (search rules) c.in_ok-order.ensures.found c.loop-place.invariant
