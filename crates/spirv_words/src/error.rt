@@ -5,10 +5,11 @@ ghost use Rattle.spirv_words.specs.declared.error.SpirvError.TheVariants.{Memory
 use crate::unsupported::{Feature, Unsupported};
 use spirv_numbers::WordsError;
 use std::alloc::{AllocError, AllocFailed};
+use std::fmt;
 use thiserror::Error;
 
 /// What is wrong with words that are no SPIR-V.
-#[derive(Clone, Copy, Debug, PartialEq, Eq)]
+#[derive(Clone, Copy)]
 pub enum Malformed {
     /// The bytes are no whole words, or fewer than a header has.
     Length,
@@ -54,32 +55,46 @@ pub enum Malformed {
     OpenBlock,
 }
 
+// What is wrong, in words.
+static TEXTS: [(Malformed, &str); 21] = [
+    (Malformed::Length, "no whole words, or no header"),
+    (Malformed::TooLong, "too many bytes"),
+    (Malformed::Magic, "no magic number"),
+    (Malformed::InstructionLength, "the length of an instruction"),
+    (Malformed::MissingOperand, "a missing operand"),
+    (Malformed::IdBound, "an id that is not below the bound"),
+    (Malformed::DefinedTwice, "an id that is defined twice"),
+    (Malformed::Undefined, "an id that is not defined before"),
+    (Malformed::NoType, "an id that is not a type"),
+    (Malformed::NoConstant, "an id that is not a constant"),
+    (Malformed::NoValue, "an id that is not a value"),
+    (Malformed::NoPointer, "an id that is not a pointer"),
+    (Malformed::NoBlock, "an id that is not a block"),
+    (Malformed::NoFunction, "an id that is not a function"),
+    (Malformed::WrongType, "a type that is not wanted here"),
+    (Malformed::Index, "an index out of its type"),
+    (Malformed::Text, "a text without an end"),
+    (Malformed::Member, "a member that its struct does not have"),
+    (Malformed::Misplaced, "an instruction out of its place"),
+    (Malformed::Unfinished, "a function without an end"),
+    (Malformed::OpenBlock, "a block without an end"),
+];
+
 impl Malformed {
     /// The same in words.
     pub fn text(self) -> &'static str {
-        match self {
-            Malformed::Length => "no whole words, or no header",
-            Malformed::TooLong => "too many bytes",
-            Malformed::Magic => "no magic number",
-            Malformed::InstructionLength => "the length of an instruction",
-            Malformed::MissingOperand => "a missing operand",
-            Malformed::IdBound => "an id that is not below the bound",
-            Malformed::DefinedTwice => "an id that is defined twice",
-            Malformed::Undefined => "an id that is not defined before",
-            Malformed::NoType => "an id that is not a type",
-            Malformed::NoConstant => "an id that is not a constant",
-            Malformed::NoValue => "an id that is not a value",
-            Malformed::NoPointer => "an id that is not a pointer",
-            Malformed::NoBlock => "an id that is not a block",
-            Malformed::NoFunction => "an id that is not a function",
-            Malformed::WrongType => "a type that is not wanted here",
-            Malformed::Index => "an index out of its type",
-            Malformed::Text => "a text without an end",
-            Malformed::Member => "a member that its struct does not have",
-            Malformed::Misplaced => "an instruction out of its place",
-            Malformed::Unfinished => "a function without an end",
-            Malformed::OpenBlock => "a block without an end",
+        for row in &TEXTS {
+            if row.0 as u8 == self as u8 {
+                return row.1;
+            }
         }
+        ""
+    }
+}
+
+impl fmt::Debug for Malformed {
+    fn fmt<W: fmt::Write>(&self, f: &mut fmt::Formatter<W>) -> fmt::Result {
+        f.write_str(self.text())
     }
 }
 

@@ -71,47 +71,107 @@ pub struct Listing {
     pub words: Vec<u32>,
     /// The instructions in order.
     pub instructions: Vec<Instruction>,
+    ids: Ids,
+    said: Said,
+    /// The parts of the module.
+    pub parts: Parts,
+}
+
+// Which instruction defines an id, and the slots of what is said of it and of its members.
+#[derive(Drop)]
+struct Ids {
     // for each id the place of the instruction that defines it and one, or 0
     defined: Vec<u32>,
     // for each instruction the first of its slots
     slots: Vec<u32>,
+}
+
+// What is said of ids.
+#[derive(Drop)]
+struct Said {
     // for each slot the word where its name begins, or 0
     names: Vec<u32>,
     // for each slot the instructions that decorate it
     decorations: Groups,
     // for each id the instructions that say how it is executed, of an entry point's function
     modes: Groups,
-    /// The parts of the module.
-    pub parts: Parts,
 }
 
 /// The module that the bytes are.
 pub fn list(alloc: Global, bytes: &[u8]) -> Result<Listing, SpirvError> {
     let words = read_words(alloc, bytes)?;
-    let pieces = cut(alloc, &words)?;
-    let instructions = read_instructions(alloc, &words, &pieces)?;
-    let defined = define(alloc, &words, &instructions)?;
-    let slots = number_slots(alloc, &instructions)?;
+    let instructions = read_instructions(alloc, &words)?;
+    sort(alloc, words, instructions)
+}
+
+// The same of its words and instructions.
+fn sort(
+    alloc: Global,
+    words: Vec<u32>,
+    instructions: Vec<Instruction>,
+) -> Result<Listing, SpirvError> {
+    let ids = Ids::of(alloc, &words, &instructions)?;
     let parts = sort_out(alloc, &instructions)?;
-    let said = Said {
+    let finder = Finder {
         words: &words,
         instructions: &instructions,
-        defined: &defined,
-        slots: &slots,
+        ids: &ids,
     };
-    let names = said.find_names(alloc, &parts.names)?;
-    let decorations = said.find_decorations(alloc, &parts.decorations, &parts.groups)?;
-    let modes = said.find_modes(alloc, &parts.modes)?;
+    let said = finder.find(alloc, &parts)?;
     Ok(Listing {
         words,
         instructions,
-        defined,
-        slots,
-        names,
-        decorations,
-        modes,
+        ids,
+        said,
         parts,
     })
+}
+
+// The number at this place; 0 where there is none.
+fn number_at(numbers: &[u32], place: u32) -> u32 {
+    match numbers.get(place as usize) {
+        Some(number) => *number,
+        None => 0,
+    }
+}
+
+impl Ids {
+    // Those that these instructions define.
+    fn of(alloc: Global, words: &[u32], instructions: &[Instruction]) -> Result<Ids, SpirvError> {
+        let defined = define(alloc, words, instructions)?;
+        let slots = number_slots(alloc, instructions)?;
+        Ok(Ids { defined, slots })
+    }
+
+    // The place of the instruction that defines an id.
+    fn place_of(&self, id: u32) -> Option<u32> {
+        number_at(&self.defined, id).checked_sub(1)
+    }
+
+    // The slot of an id, or of a member of its struct.
+    fn slot(&self, id: u32, member: Option<u32>) -> Option<u32> {
+        let Some(place) = self.place_of(id) else {
+            return None;
+        };
+        let first = number_at(&self.slots, place);
+        let slot = match member {
+            None => first,
+            Some(member) => first.saturating_add(member).saturating_add(1),
+        };
+        if slot < number_at(&self.slots, place.saturating_add(1)) {
+            Some(slot)
+        } else {
+            None
+        }
+    }
+
+    // How many slots there are.
+    fn count(&self) -> usize {
+        match self.slots.last() {
+            Some(count) => *count as usize,
+            None => 0,
+        }
+    }
 }
 
 // The instruction of these words.
@@ -126,14 +186,8 @@ fn instruction_of(words: &[u32], piece: &Piece) -> Result<Instruction, SpirvErro
     if len <= results {
         return Err(SpirvError::malformed(Malformed::MissingOperand, start));
     }
-    let first = words
-        .get(piece.start.saturating_add(1))
-        .copied()
-        .unwrap_or(0);
-    let second = words
-        .get(piece.start.saturating_add(2))
-        .copied()
-        .unwrap_or(0);
+    let first = number_at(words, start.saturating_add(1));
+    let second = number_at(words, start.saturating_add(2));
     let (ty, id) = match results {
         0 => (0, 0),
         1 => (0, first),
@@ -150,16 +204,23 @@ fn instruction_of(words: &[u32], piece: &Piece) -> Result<Instruction, SpirvErro
 }
 
 // All instructions.
-fn read_instructions(
-    alloc: Global,
+fn read_instructions(alloc: Global, words: &[u32]) -> Result<Vec<Instruction>, SpirvError> {
+    let pieces = cut(alloc, words)?;
+    let mut all = Vec::with_capacity(alloc, pieces.len())?;
+    add_instructions(words, &pieces, &mut all)?;
+    Ok(all)
+}
+
+// Those of these words.
+fn add_instructions(
     words: &[u32],
     pieces: &[Piece],
-) -> Result<Vec<Instruction>, SpirvError> {
-    let mut all = Vec::with_capacity(alloc, pieces.len())?;
+    all: &mut Vec<Instruction>,
+) -> Result<(), SpirvError> {
     for piece in pieces {
         all.push(instruction_of(words, piece)?)?;
     }
-    Ok(all)
+    Ok(())
 }
 
 // For each id the instruction that defines it.
@@ -169,7 +230,7 @@ fn define(
     instructions: &[Instruction],
 ) -> Result<Vec<u32>, SpirvError> {
     // the fourth word is the bound (section 2.3)
-    let bound = words.get(3).copied().unwrap_or(0);
+    let bound = number_at(words, 3);
     let most = words.len().saturating_mul(IDS_A_WORD);
     let mut defined = vec![in alloc; 0u32; most.min(bound as usize)]?;
     let mut place = 0u32;
@@ -226,22 +287,28 @@ fn number_slots(alloc: Global, instructions: &[Instruction]) -> Result<Vec<u32>,
 
 // What names, decorations and modes are found with.
 #[derive(Clone, Copy)]
-struct Said<'a> {
+struct Finder<'a> {
     words: &'a [u32],
     instructions: &'a [Instruction],
-    defined: &'a [u32],
-    slots: &'a [u32],
+    ids: &'a Ids,
 }
 
-impl Said<'_> {
-    // How many slots there are.
-    fn count(&self) -> usize {
-        self.slots.last().copied().unwrap_or(0) as usize
+impl Finder<'_> {
+    // What is said in these parts.
+    fn find(&self, alloc: Global, parts: &Parts) -> Result<Said, SpirvError> {
+        let names = self.find_names(alloc, &parts.names)?;
+        let decorations = self.find_decorations(alloc, &parts.decorations, &parts.groups)?;
+        let modes = self.find_modes(alloc, &parts.modes)?;
+        Ok(Said {
+            names,
+            decorations,
+            modes,
+        })
     }
 
     // The word at this place.
     fn word(&self, place: u32) -> u32 {
-        self.words.get(place as usize).copied().unwrap_or(0)
+        number_at(self.words, place)
     }
 
     // The slot of what the instruction speaks of: of an id, or of a member where the operand after it counts.
@@ -252,20 +319,17 @@ impl Said<'_> {
     // The slot of the id that is this word, or of a member where the word after it counts.
     fn slot_at(&self, word: u32, of_member: bool) -> Option<u32> {
         let id = self.word(word);
-        let place = self.defined.get(id as usize).copied()?.checked_sub(1)? as usize;
-        let first = self.slots.get(place).copied()?;
-        if !of_member {
-            return Some(first);
-        }
-        let member = self.word(word.saturating_add(1));
-        let slot = first.checked_add(member)?.checked_add(1)?;
-        let end = self.slots.get(place.saturating_add(1)).copied()?;
-        if slot < end { Some(slot) } else { None }
+        let member = if of_member {
+            Some(self.word(word.saturating_add(1)))
+        } else {
+            None
+        };
+        self.ids.slot(id, member)
     }
 
     // For each slot the word where its name begins.
     fn find_names(&self, alloc: Global, places: &[u32]) -> Result<Vec<u32>, AllocError> {
-        let mut names = vec![in alloc; 0u32; self.count()]?;
+        let mut names = vec![in alloc; 0u32; self.ids.count()]?;
         for place in places {
             let Some(instruction) = self.instructions.get(*place as usize) else {
                 continue;
@@ -290,7 +354,18 @@ impl Said<'_> {
         places: &[u32],
         groups: &[u32],
     ) -> Result<Groups, SpirvError> {
-        let mut pairs = Vec::with_capacity(alloc, places.len())?;
+        let mut pairs = Vec::new(alloc);
+        self.add_decorations(places, &mut pairs)?;
+        self.add_groups(alloc, groups, &mut pairs)?;
+        Ok(Groups::of_pairs(alloc, self.ids.count(), &pairs)?)
+    }
+
+    // Adds each slot that is decorated itself, with the instruction.
+    fn add_decorations(
+        &self,
+        places: &[u32],
+        pairs: &mut Vec<(u32, u32)>,
+    ) -> Result<(), SpirvError> {
         for place in places {
             if let Some(instruction) = self.instructions.get(*place as usize) {
                 let of_member = instruction.opcode == ops::MEMBER_DECORATE;
@@ -299,16 +374,26 @@ impl Said<'_> {
                 }
             }
         }
-        let own = Groups::of_pairs(alloc, self.count(), &pairs)?;
+        Ok(())
+    }
+
+    // Adds each slot that a group decorates.
+    fn add_groups(
+        &self,
+        alloc: Global,
+        groups: &[u32],
+        pairs: &mut Vec<(u32, u32)>,
+    ) -> Result<(), SpirvError> {
         if groups.is_empty() {
-            return Ok(own);
+            return Ok(());
         }
+        let own = Groups::of_pairs(alloc, self.ids.count(), pairs)?;
         for place in groups {
             if let Some(instruction) = self.instructions.get(*place as usize) {
-                self.add_group(instruction, &own, &mut pairs)?;
+                self.add_group(instruction, &own, pairs)?;
             }
         }
-        Ok(Groups::of_pairs(alloc, self.count(), &pairs)?)
+        Ok(())
     }
 
     // Adds what a group's decorations say of others.
@@ -349,32 +434,35 @@ impl Said<'_> {
                 pairs.push((self.word(instruction.first), *place))?;
             }
         }
-        Groups::of_pairs(alloc, self.defined.len(), &pairs)
+        Groups::of_pairs(alloc, self.ids.defined.len(), &pairs)
     }
 }
 
 impl Listing {
     /// Every id that is defined is below this.
     pub fn bound(&self) -> usize {
-        self.defined.len()
+        self.ids.defined.len()
     }
 
     /// The instruction at this place.
     pub fn at(&self, place: u32) -> Instruction {
-        self.instructions
-            .get(place as usize)
-            .copied()
-            .unwrap_or(Instruction::NONE)
+        match self.instructions.get(place as usize) {
+            Some(instruction) => *instruction,
+            None => Instruction::NONE,
+        }
     }
 
     /// The place of the instruction that defines an id.
     pub fn place_of(&self, id: u32) -> Option<u32> {
-        self.defined.get(id as usize).copied()?.checked_sub(1)
+        self.ids.place_of(id)
     }
 
     /// The instruction that defines an id.
     pub fn definition(&self, id: u32) -> Option<Instruction> {
-        self.instructions.get(self.place_of(id)? as usize).copied()
+        match self.ids.place_of(id) {
+            Some(place) => Some(self.at(place)),
+            None => None,
+        }
     }
 
     /// The operands of an instruction, after its results.
@@ -397,22 +485,6 @@ impl Listing {
         }
     }
 
-    // The slot of an id, or of a member of its struct.
-    fn slot_of(&self, id: u32, member: Option<u32>) -> Option<usize> {
-        let place = self.place_of(id)? as usize;
-        let first = self.slots.get(place).copied()?;
-        let slot = match member {
-            None => first,
-            Some(member) => first.checked_add(member)?.checked_add(1)?,
-        };
-        let end = self.slots.get(place.saturating_add(1)).copied()?;
-        if slot < end {
-            Some(slot as usize)
-        } else {
-            None
-        }
-    }
-
     /// The name of an id, or of a member of its struct, if it has one.
     pub fn name(
         &self,
@@ -420,28 +492,29 @@ impl Listing {
         id: u32,
         member: Option<u32>,
     ) -> Result<Option<String>, SpirvError> {
-        let Some(slot) = self.slot_of(id, member) else {
+        let Some(slot) = self.ids.slot(id, member) else {
             return Ok(None);
         };
-        let start = self.names.get(slot).copied().unwrap_or(0) as usize;
-        if start < HEADER {
-            return Ok(None);
+        let start = number_at(&self.said.names, slot);
+        match self.words.get(start as usize..) {
+            Some(words) if start as usize >= HEADER => match read_text(alloc, words, start) {
+                Ok((text, _)) => Ok(Some(text)),
+                Err(error) => Err(error),
+            },
+            _ => Ok(None),
         }
-        let words = self.words.get(start..).unwrap_or(&[]);
-        let (text, _) = read_text(alloc, words, start as u32)?;
-        Ok(Some(text))
     }
 
     /// The instructions that decorate an id, or a member of its struct.
     pub fn decorations(&self, id: u32, member: Option<u32>) -> &[u32] {
-        match self.slot_of(id, member) {
-            Some(slot) => self.decorations.of(slot),
+        match self.ids.slot(id, member) {
+            Some(slot) => self.said.decorations.of(slot as usize),
             None => &[],
         }
     }
 
     /// The instructions that say how a function is executed.
     pub fn modes(&self, id: u32) -> &[u32] {
-        self.modes.of(id as usize)
+        self.said.modes.of(id as usize)
     }
 }

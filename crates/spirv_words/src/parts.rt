@@ -91,43 +91,52 @@ impl Parts {
 
     // Takes an instruction outside of functions to its part.
     fn add(&mut self, opcode: u16, place: u32) -> Result<(), SpirvError> {
-        match part_of(opcode) {
-            Part::Ignored => {}
-            Part::Name => self.names.push(place)?,
-            Part::Decoration => self.decorations.push(place)?,
-            Part::Group => self.groups.push(place)?,
-            Part::Mode => self.modes.push(place)?,
-            Part::EntryPoint => self.entry_points.push(place)?,
-            Part::Capability => self.capabilities.push(place)?,
-            Part::Declaration => self.declarations.push(place)?,
+        let added = match part_of(opcode) {
+            Part::Ignored => Ok(()),
+            Part::Name => self.names.push(place),
+            Part::Decoration => self.decorations.push(place),
+            Part::Group => self.groups.push(place),
+            Part::Mode => self.modes.push(place),
+            Part::EntryPoint => self.entry_points.push(place),
+            Part::Capability => self.capabilities.push(place),
+            Part::Declaration => self.declarations.push(place),
+        };
+        match added {
+            Ok(()) => Ok(()),
+            Err(_) => Err(SpirvError::Memory),
         }
-        Ok(())
+    }
+
+    // Takes all instructions to their parts.
+    fn add_all(&mut self, instructions: &[Instruction]) -> Result<(), SpirvError> {
+        let mut place = 0u32;
+        // the place of the function that is open
+        let mut open = None;
+        for instruction in instructions {
+            match (instruction.opcode, open) {
+                (ops::FUNCTION, None) => open = Some(place),
+                (ops::FUNCTION, Some(_)) | (ops::FUNCTION_END, None) => {
+                    return Err(instruction.malformed(Malformed::Misplaced));
+                }
+                (ops::FUNCTION_END, Some(start)) => {
+                    self.functions.push(FunctionParts { start, end: place })?;
+                    open = None;
+                }
+                (_, Some(_)) => {}
+                (number, None) => self.add(number, place)?,
+            }
+            place = place.saturating_add(1);
+        }
+        match open {
+            None => Ok(()),
+            Some(_) => Err(SpirvError::malformed(Malformed::Unfinished, 0)),
+        }
     }
 }
 
 /// The parts of a module.
 pub fn sort_out(alloc: Global, instructions: &[Instruction]) -> Result<Parts, SpirvError> {
     let mut parts = Parts::new(alloc);
-    let mut place = 0u32;
-    // the place of the function that is open
-    let mut open = None;
-    for instruction in instructions {
-        match (instruction.opcode, open) {
-            (ops::FUNCTION, None) => open = Some(place),
-            (ops::FUNCTION, Some(_)) | (ops::FUNCTION_END, None) => {
-                return Err(instruction.malformed(Malformed::Misplaced));
-            }
-            (ops::FUNCTION_END, Some(start)) => {
-                parts.functions.push(FunctionParts { start, end: place })?;
-                open = None;
-            }
-            (_, Some(_)) => {}
-            (number, None) => parts.add(number, place)?,
-        }
-        place = place.saturating_add(1);
-    }
-    match open {
-        None => Ok(parts),
-        Some(_) => Err(SpirvError::malformed(Malformed::Unfinished, 0)),
-    }
+    parts.add_all(instructions)?;
+    Ok(parts)
 }

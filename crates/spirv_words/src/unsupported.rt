@@ -361,7 +361,7 @@ impl fmt::Debug for Feature {
 }
 
 /// What the IR can't say, or what is not translated.
-#[derive(Clone, Copy, Debug)]
+#[derive(Clone, Copy)]
 pub enum Unsupported {
     /// An instruction, by its opcode.
     Instruction(u16),
@@ -399,48 +399,85 @@ pub enum Unsupported {
     Feature(Feature),
 }
 
-// What it is, and its name where it has one.
-fn write_named<W: fmt::Write>(f: &mut fmt::Formatter<W>, what: &str, name: &str) -> fmt::Result {
-    f.write_str(what)?;
-    if name.is_empty() {
-        Ok(())
-    } else {
-        write!(f, " {name}")
+// What it is, with its name or its number.
+#[derive(Clone, Copy)]
+struct Described {
+    what: &'static str,
+    // what stands between them
+    between: &'static str,
+    name: &'static str,
+    number: Option<u32>,
+}
+
+// What has this name, which may be empty.
+fn named(what: &'static str, name: &'static str) -> Described {
+    Described {
+        what,
+        between: " ",
+        name,
+        number: None,
+    }
+}
+
+// What has this number.
+fn numbered(what: &'static str, number: u32) -> Described {
+    Described {
+        what,
+        between: " ",
+        name: "",
+        number: Some(number),
+    }
+}
+
+impl Unsupported {
+    // The same in words.
+    fn described(self) -> Described {
+        match self {
+            Unsupported::Instruction(opcode) => Described {
+                what: "Op",
+                between: "",
+                name: opcode_name(opcode),
+                number: None,
+            },
+            Unsupported::ValueOf(opcode) => named("a value of", opcode_name(opcode)),
+            Unsupported::ChainInto(opcode) => named("an access chain into", opcode_name(opcode)),
+            Unsupported::SpecOperation(opcode) => named("OpSpecConstantOp", opcode_name(opcode)),
+            Unsupported::Decoration(number) => named("decoration", decoration_name(number)),
+            Unsupported::StorageClass(number) => named("storage class", class_name(number)),
+            Unsupported::BuiltIn(number) => named("built-in", built_in_name(number)),
+            Unsupported::Stage(number) => named("stage", model_name(number)),
+            Unsupported::Dimension(number) => {
+                named("OpTypeImage dimension", dimension_name(number))
+            }
+            Unsupported::Format(number) => named("OpTypeImage format", format_name(number)),
+            Unsupported::SpecId(number) => numbered("SpecId", number),
+            Unsupported::MathFunction(number) => numbered("GLSL.std.450", number),
+            Unsupported::VectorSize(number) => numbered("OpTypeVector", number),
+            Unsupported::IntWidth(number) => numbered("OpTypeInt", number),
+            Unsupported::FloatWidth(number) => numbered("OpTypeFloat", number),
+            Unsupported::MatrixStride(number) => numbered("MatrixStride", number),
+            Unsupported::Feature(feature) => named(feature.text(), ""),
+        }
     }
 }
 
 impl Display for Unsupported {
     fn fmt<W: fmt::Write>(&self, f: &mut fmt::Formatter<W>) -> fmt::Result {
-        match *self {
-            Unsupported::Instruction(opcode) => write!(f, "Op{}", opcode_name(opcode)),
-            Unsupported::ValueOf(opcode) => write_named(f, "a value of", opcode_name(opcode)),
-            Unsupported::ChainInto(opcode) => {
-                write_named(f, "an access chain into", opcode_name(opcode))
+        let said = self.described();
+        f.write_str(said.what)?;
+        match said.number {
+            Some(number) => write!(f, " {number}"),
+            None if said.name.is_empty() => Ok(()),
+            None => {
+                f.write_str(said.between)?;
+                f.write_str(said.name)
             }
-            Unsupported::SpecOperation(opcode) => {
-                write_named(f, "OpSpecConstantOp", opcode_name(opcode))
-            }
-            Unsupported::Decoration(number) => {
-                write_named(f, "decoration", decoration_name(number))
-            }
-            Unsupported::StorageClass(number) => {
-                write_named(f, "storage class", class_name(number))
-            }
-            Unsupported::BuiltIn(number) => write_named(f, "built-in", built_in_name(number)),
-            Unsupported::Stage(number) => write_named(f, "stage", model_name(number)),
-            Unsupported::Dimension(number) => {
-                write_named(f, "OpTypeImage dimension", dimension_name(number))
-            }
-            Unsupported::Format(number) => {
-                write_named(f, "OpTypeImage format", format_name(number))
-            }
-            Unsupported::SpecId(number) => write!(f, "SpecId {number}"),
-            Unsupported::MathFunction(number) => write!(f, "GLSL.std.450 {number}"),
-            Unsupported::VectorSize(number) => write!(f, "OpTypeVector {number}"),
-            Unsupported::IntWidth(number) => write!(f, "OpTypeInt {number}"),
-            Unsupported::FloatWidth(number) => write!(f, "OpTypeFloat {number}"),
-            Unsupported::MatrixStride(number) => write!(f, "MatrixStride {number}"),
-            Unsupported::Feature(feature) => f.write_str(feature.text()),
         }
+    }
+}
+
+impl fmt::Debug for Unsupported {
+    fn fmt<W: fmt::Write>(&self, f: &mut fmt::Formatter<W>) -> fmt::Result {
+        Display::fmt(self, f)
     }
 }

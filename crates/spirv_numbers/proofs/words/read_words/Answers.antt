@@ -1,5 +1,5 @@
 -- All words are read where the loop ends.
-use Rattle.std.proofs.Common.{rules, arith}
+use Rattle.std.proofs.Common.{rules}
 use Rattle.spirv_numbers.proofs.Spelled.{reads, words_length}
 use Rattle.spirv_numbers.proofs.words.read_words.Goals as goal
 
