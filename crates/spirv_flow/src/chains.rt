@@ -16,7 +16,7 @@ pub struct Part {
 
 /// The value of a constant whole number, its low 32 bits.
 pub fn constant_word(listing: &Listing, id: u32) -> Option<u32> {
-    let constant = listing.definition(id)?;
+    let constant = listing.defined(id);
     match constant.opcode {
         ops::CONSTANT | ops::SPEC_CONSTANT => listing.operand(&constant, 0),
         ops::CONSTANT_NULL => Some(0),
@@ -26,7 +26,7 @@ pub fn constant_word(listing: &Listing, id: u32) -> Option<u32> {
 
 /// The type that a pointer's type points to.
 pub fn pointee(listing: &Listing, ty: u32) -> Option<u32> {
-    let pointer = listing.definition(ty)?;
+    let pointer = listing.defined(ty);
     if pointer.opcode == ops::TYPE_POINTER {
         listing.operand(&pointer, 1)
     } else {
@@ -58,13 +58,16 @@ pub fn part_at(
                 None => Err(chain.malformed(Malformed::Member)),
             }
         }
-        ops::TYPE_ARRAY | ops::TYPE_RUNTIME_ARRAY | ops::TYPE_VECTOR | ops::TYPE_MATRIX => Ok(
-            Part {
-                from,
-                member: None,
-                ty: listing.need(&ty, 0)?,
-            },
-        ),
+        ops::TYPE_ARRAY | ops::TYPE_RUNTIME_ARRAY | ops::TYPE_VECTOR | ops::TYPE_MATRIX => {
+            match listing.need(&ty, 0) {
+                Ok(part) => Ok(Part {
+                    from,
+                    member: None,
+                    ty: part,
+                }),
+                Err(error) => Err(error),
+            }
+        }
         _ => Err(chain.unsupported_as(Unsupported::ChainInto(ty.opcode))),
     }
 }
@@ -76,12 +79,9 @@ pub fn is_chain(opcode: u16) -> bool {
 
 /// Whether an extended instruction only speaks of the source.
 pub fn is_debug(listing: &Listing, instruction: &Instruction) -> bool {
-    let Some(import) = listing
-        .operand(instruction, 0)
-        .and_then(|id| listing.definition(id))
-    else {
+    let Some(id) = listing.operand(instruction, 0) else {
         return false;
     };
-    let name = listing.operands(&import);
+    let name = listing.operands(&listing.defined(id));
     starts_text(name, "NonSemantic", false) || starts_text(name, "OpenCL.DebugInfo", false)
 }

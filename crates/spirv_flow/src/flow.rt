@@ -40,7 +40,7 @@ pub fn flow_of(alloc: Global, listing: &Listing) -> Result<Flow, SpirvError> {
     let blocks = Blocks::of_module(alloc, listing)?;
     let order = Order::of_module(alloc, listing, &blocks)?;
     let uses = Uses::of_module(alloc, listing, &blocks, &order)?;
-    let (steps, functions) = walk_all(alloc, listing, &blocks, &order)?;
+    let Walked { steps, functions } = walk_all(alloc, listing, &blocks, &order)?;
     let kept = Kept::of_module(alloc, listing, &blocks, &steps.scopes)?;
     Ok(Flow {
         blocks,
@@ -53,14 +53,35 @@ pub fn flow_of(alloc: Global, listing: &Listing) -> Result<Flow, SpirvError> {
 }
 
 // The steps of all functions.
+#[derive(Drop)]
+struct Walked {
+    steps: Steps,
+    functions: Vec<FunctionSteps>,
+}
+
+// Walks all functions.
 fn walk_all(
     alloc: Global,
     listing: &Listing,
     blocks: &Blocks,
     order: &Order,
-) -> Result<(Steps, Vec<FunctionSteps>), SpirvError> {
-    let mut functions = Vec::with_capacity(alloc, order.functions.len())?;
+) -> Result<Walked, SpirvError> {
+    let mut functions = Vec::new(alloc);
     let mut walk = Walk::new(alloc, listing, blocks)?;
+    walk_each(&mut walk, blocks, order, &mut functions)?;
+    Ok(Walked {
+        steps: walk.finish(),
+        functions,
+    })
+}
+
+// Walks each function.
+fn walk_each(
+    walk: &mut Walk,
+    blocks: &Blocks,
+    order: &Order,
+    functions: &mut Vec<FunctionSteps>,
+) -> Result<(), SpirvError> {
     for number in &order.functions {
         if let Some(function) = blocks.functions.get(*number as usize) {
             let first = walk.count();
@@ -73,5 +94,5 @@ fn walk_all(
             })?;
         }
     }
-    Ok((walk.finish(), functions))
+    Ok(())
 }

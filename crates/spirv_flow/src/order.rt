@@ -2,7 +2,7 @@
 
 use spirv_numbers::ops;
 use spirv_steps::Blocks;
-use spirv_words::{Feature, Instruction, Listing, Malformed, SpirvError};
+use spirv_words::{Feature, Instruction, Listing, Malformed, SpirvError, number_at};
 use std::alloc::Global;
 
 // How far a function is.
@@ -58,27 +58,27 @@ impl Order {
         listing: &Listing,
         blocks: &Blocks,
     ) -> Result<Order, SpirvError> {
-        let count = blocks.functions.len();
-        let mut order = Order {
-            functions: Vec::with_capacity(alloc, count)?,
-            places: vec![in alloc; 0u32; listing.bound()]?,
-        };
-        let mut visit = Visit {
-            listing,
-            blocks,
-            numbers: number_functions(alloc, listing, blocks)?,
-            states: vec![in alloc; State::New; count]?,
-            open: Vec::new(alloc),
-        };
-        for number in 0..u32::try_from(count).unwrap_or(u32::MAX) {
-            visit.visit_all(&mut order, number)?;
-        }
+        let places = vec![in alloc; 0u32; listing.bound()]?;
+        let functions = Vec::new(alloc);
+        let mut order = Order { functions, places };
+        order.add_all(alloc, listing, blocks)?;
         Ok(order)
+    }
+
+    // Takes all functions to the order.
+    fn add_all(
+        &mut self,
+        alloc: Global,
+        listing: &Listing,
+        blocks: &Blocks,
+    ) -> Result<(), SpirvError> {
+        let mut visit = Visit::new(alloc, listing, blocks)?;
+        visit.visit_each(self)
     }
 
     /// The place in the order of the function with this id.
     pub fn place_of(&self, id: u32) -> Option<u32> {
-        self.places.get(id as usize).copied()?.checked_sub(1)
+        number_at(&self.places, id).checked_sub(1)
     }
 
     fn add(&mut self, number: u32, id: u32) -> Result<(), SpirvError> {
@@ -91,7 +91,33 @@ impl Order {
     }
 }
 
-impl Visit<'_> {
+impl<'a> Visit<'a> {
+    // One that has gone through nothing.
+    fn new(
+        alloc: Global,
+        listing: &'a Listing,
+        blocks: &'a Blocks,
+    ) -> Result<Visit<'a>, SpirvError> {
+        let numbers = number_functions(alloc, listing, blocks)?;
+        let states = vec![in alloc; State::New; blocks.functions.len()]?;
+        Ok(Visit {
+            listing,
+            blocks,
+            numbers,
+            states,
+            open: Vec::new(alloc),
+        })
+    }
+
+    // Takes each function to the order.
+    fn visit_each(&mut self, order: &mut Order) -> Result<(), SpirvError> {
+        let count = u32::try_from(self.blocks.functions.len()).unwrap_or(u32::MAX);
+        for number in 0..count {
+            self.visit_all(order, number)?;
+        }
+        Ok(())
+    }
+
     // Takes this function, and before it all that it calls, to the order.
     fn visit_all(&mut self, order: &mut Order, number: u32) -> Result<(), SpirvError> {
         self.open_function(number)?;
@@ -151,8 +177,7 @@ impl Visit<'_> {
     // The number of the function that is called.
     fn callee(&self, call: &Instruction) -> Result<u32, SpirvError> {
         let id = self.listing.need(call, 0)?;
-        let number = self.numbers.get(id as usize).copied().unwrap_or(0);
-        match number.checked_sub(1) {
+        match number_at(&self.numbers, id).checked_sub(1) {
             Some(number) => Ok(number),
             None => Err(call.malformed(Malformed::NoFunction)),
         }

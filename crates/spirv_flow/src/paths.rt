@@ -2,7 +2,7 @@
 
 use crate::chains::{is_chain, part_at, pointee};
 use spirv_numbers::ops;
-use spirv_words::{Feature, Instruction, Listing, SpirvError};
+use spirv_words::{Feature, Instruction, Listing, SpirvError, number_at};
 use std::alloc::{AllocError, Global};
 
 // How many steps an access chain may have from its variable (universal limit of the standard), and how many parts of one
@@ -32,10 +32,9 @@ pub struct Paths {
 impl Paths {
     /// None.
     pub fn new(alloc: Global, bound: usize) -> Result<Paths, AllocError> {
-        Ok(Paths {
-            parts: Vec::new(alloc),
-            variables: vec![in alloc; 0u32; bound]?,
-        })
+        let variables = vec![in alloc; 0u32; bound]?;
+        let parts = Vec::new(alloc);
+        Ok(Paths { parts, variables })
     }
 
     /// Whether a part of this variable is changed.
@@ -45,25 +44,31 @@ impl Paths {
 
     /// The place of a variable.
     pub fn of(&self, variable: u32) -> Option<u32> {
-        self.variables
-            .get(variable as usize)
-            .copied()?
-            .checked_sub(1)
+        number_at(&self.variables, variable).checked_sub(1)
     }
 
     /// The part at this place.
     pub fn part(&self, place: u32) -> Option<PathPart> {
-        self.parts.get(place as usize).copied()
+        match self.parts.get(place as usize) {
+            Some(part) => Some(*part),
+            None => None,
+        }
     }
 
     /// The first part inside the one at this place.
     pub fn first(&self, place: u32) -> Option<u32> {
-        self.part(place)?.first.checked_sub(1)
+        match self.part(place) {
+            Some(part) => part.first.checked_sub(1),
+            None => None,
+        }
     }
 
     /// The part that is inside of the same as this one, after it.
     pub fn next(&self, place: u32) -> Option<u32> {
-        self.part(place)?.next.checked_sub(1)
+        match self.part(place) {
+            Some(part) => part.next.checked_sub(1),
+            None => None,
+        }
     }
 
     // A new part.
@@ -100,19 +105,27 @@ impl Paths {
         let mut at = self.first(place);
         for _ in 0..MAX_STEPS {
             let Some(found) = at else {
-                let next = self.parts.get(place as usize).map_or(0, |part| part.first);
-                let made = self.make(member, next)?;
-                if let Some(part) = self.parts.get_mut(place as usize) {
-                    part.first = made.saturating_add(1);
-                }
-                return Ok(made);
+                return Ok(self.add_inside(place, member)?);
             };
-            if self.part(found).is_some_and(|part| part.member == member) {
-                return Ok(found);
+            match self.part(found) {
+                Some(part) if part.member == member => return Ok(found),
+                _ => at = self.next(found),
             }
-            at = self.next(found);
         }
         Err(atomic.unsupported_by(Feature::AtomicParts))
+    }
+
+    // A part more inside another.
+    fn add_inside(&mut self, place: u32, member: Option<u32>) -> Result<u32, AllocError> {
+        let next = match self.part(place) {
+            Some(part) => part.first,
+            None => 0,
+        };
+        let made = self.make(member, next)?;
+        if let Some(part) = self.parts.get_mut(place as usize) {
+            part.first = made.saturating_add(1);
+        }
+        Ok(made)
     }
 
     /// The part of a variable that a pointer leads to is changed atomically.
@@ -123,8 +136,19 @@ impl Paths {
         variable: u32,
         atomic: &Instruction,
     ) -> Result<(), SpirvError> {
-        let chains = chains_of(self.allocator(), listing, pointer, atomic)?;
-        let mut place = self.variable(variable)?;
+        let chains = chains_of(*self.parts.allocator(), listing, pointer, atomic)?;
+        let from = self.variable(variable)?;
+        self.follow_all(listing, &chains, from)
+    }
+
+    // The part that these chains lead to from this one, the last first, is changed.
+    fn follow_all(
+        &mut self,
+        listing: &Listing,
+        chains: &[Instruction],
+        from: u32,
+    ) -> Result<(), SpirvError> {
+        let mut place = from;
         for chain in chains.iter().rev() {
             place = self.follow(listing, chain, place)?;
         }
@@ -132,10 +156,6 @@ impl Paths {
             part.is_atomic = true;
         }
         Ok(())
-    }
-
-    fn allocator(&self) -> Global {
-        *self.parts.allocator()
     }
 
     // The part that a chain leads to from this one.
@@ -146,14 +166,11 @@ impl Paths {
         from: u32,
     ) -> Result<u32, SpirvError> {
         let base = listing.need(chain, 0)?;
-        let Some(mut ty) = listing
-            .definition(base)
-            .and_then(|d| pointee(listing, d.ty))
-        else {
+        let Some(mut ty) = pointee(listing, listing.defined(base).ty) else {
             return Ok(from);
         };
         let mut place = from;
-        for index in listing.operands(chain).get(1..).unwrap_or(&[]) {
+        for index in listing.operands_from(chain, 1) {
             let part = part_at(listing, ty, *index, chain)?;
             place = self.inside(place, part.member, chain)?;
             ty = part.ty;
@@ -170,16 +187,26 @@ fn chains_of(
     atomic: &Instruction,
 ) -> Result<Vec<Instruction>, SpirvError> {
     let mut chains = Vec::new(alloc);
+    add_chains(listing, pointer, atomic, &mut chains)?;
+    Ok(chains)
+}
+
+// Adds them to a list.
+fn add_chains(
+    listing: &Listing,
+    pointer: u32,
+    atomic: &Instruction,
+    chains: &mut Vec<Instruction>,
+) -> Result<(), SpirvError> {
     let mut id = pointer;
     for _ in 0..MAX_STEPS {
-        match listing.definition(id) {
-            Some(made) if is_chain(made.opcode) => {
-                chains.push(made)?;
-                id = listing.need(&made, 0)?;
-            }
-            Some(made) if made.opcode == ops::COPY_OBJECT => id = listing.need(&made, 0)?,
-            _ => return Ok(chains),
+        let made = listing.defined(id);
+        if is_chain(made.opcode) {
+            chains.push(made)?;
+        } else if made.opcode != ops::COPY_OBJECT {
+            return Ok(());
         }
+        id = listing.need(&made, 0)?;
     }
     Err(atomic.unsupported_by(Feature::LongPointer))
 }

@@ -28,14 +28,20 @@ impl Use {
     };
 }
 
+// What is known of an id.
+#[derive(Clone, Copy)]
+struct Known {
+    // the variable or argument that it leads from, or 0
+    root: u32,
+    used: Use,
+    // of a parameter the variable or argument that every call passes for it; 0 for none, or where they differ `DIFFERENT`
+    passed: u32,
+}
+
 /// What the variables and arguments of a module are used for.
 #[derive(Drop)]
 pub struct Uses {
-    // for each id the variable or argument that it leads from, or 0
-    roots: Vec<u32>,
-    uses: Vec<Use>,
-    // for each parameter the variable or argument that every call passes for it; 0 for none, or where they differ `DIFFERENT`
-    passed: Vec<u32>,
+    known: Vec<Known>,
     // the built-ins below 64 that an access chain touches in a block
     touched: u64,
     /// What is changed atomically.
@@ -118,20 +124,17 @@ fn is_numbered(listing: &Listing, instruction: &Instruction) -> bool {
 
 // Whether the image that is read is an attachment.
 fn reads_attachment(listing: &Listing, read: &Instruction) -> bool {
-    let image = listing.operand(read, 0).unwrap_or(0);
-    let made = listing.definition(image).unwrap_or(Instruction::NONE);
-    match listing.definition(made.ty) {
-        Some(ty) => {
-            ty.opcode == ops::TYPE_IMAGE && listing.operand(&ty, 1) == Some(DIM_SUBPASS_DATA)
-        }
-        None => false,
-    }
+    let Some(image) = listing.operand(read, 0) else {
+        return false;
+    };
+    let ty = listing.defined(listing.defined(image).ty);
+    ty.opcode == ops::TYPE_IMAGE && listing.operand(&ty, 1) == Some(DIM_SUBPASS_DATA)
 }
 
 // The arguments of a call; none where it is none.
 fn arguments_of<'a>(listing: &'a Listing, call: &Instruction) -> &'a [u32] {
     if call.opcode == ops::FUNCTION_CALL {
-        listing.operands(call).get(1..).unwrap_or(&[])
+        listing.operands_from(call, 1)
     } else {
         &[]
     }
@@ -148,9 +151,11 @@ fn takes_image(listing: &Listing, parameter: &Instruction) -> bool {
     if parameter.opcode != ops::FUNCTION_PARAMETER {
         return false;
     }
-    let ty = pointee(listing, parameter.ty).unwrap_or(parameter.ty);
-    let made = listing.definition(ty).unwrap_or(Instruction::NONE);
-    made.opcode == ops::TYPE_IMAGE
+    let ty = match pointee(listing, parameter.ty) {
+        Some(ty) => ty,
+        None => parameter.ty,
+    };
+    listing.defined(ty).opcode == ops::TYPE_IMAGE
 }
 
 impl Uses {
@@ -161,31 +166,47 @@ impl Uses {
         blocks: &Blocks,
         order: &Order,
     ) -> Result<Uses, SpirvError> {
+        let nothing = Known {
+            root: 0,
+            used: Use::NONE,
+            passed: 0,
+        };
+        let known = vec![in alloc; nothing; listing.bound()]?;
+        let atomics = Paths::new(alloc, listing.bound())?;
         let mut uses = Uses {
-            roots: vec![in alloc; 0u32; listing.bound()]?,
-            uses: vec![in alloc; Use::NONE; listing.bound()]?,
-            passed: vec![in alloc; 0u32; listing.bound()]?,
+            known,
             touched: 0,
-            atomics: Paths::new(alloc, listing.bound())?,
+            atomics,
             numbered: false,
             placed: false,
         };
+        uses.take_all(listing, blocks, order)?;
+        Ok(uses)
+    }
+
+    // What all functions do.
+    fn take_all(
+        &mut self,
+        listing: &Listing,
+        blocks: &Blocks,
+        order: &Order,
+    ) -> Result<(), SpirvError> {
         for number in &order.functions {
             if let Some(function) = blocks.functions.get(*number as usize) {
                 for place in function.parts.start..function.parts.end {
-                    uses.take(listing, &listing.at(place))?;
+                    self.take(listing, &listing.at(place))?;
                 }
             }
         }
         for number in order.functions.iter().rev() {
             if let Some(function) = blocks.functions.get(*number as usize) {
-                uses.pass_down(listing, function);
+                self.pass_down(listing, function);
             }
         }
         for function in &blocks.functions {
-            uses.check_calls(listing, function)?;
+            self.check_calls(listing, function)?;
         }
-        Ok(uses)
+        Ok(())
     }
 
     // An image that is sampled with a comparison somewhere is one of depths wherever it is passed to.
@@ -197,8 +218,8 @@ impl Uses {
                 at = at.saturating_add(1);
                 let parameter = listing.at(at);
                 if self.of(self.root(*argument)).compared && takes_image(listing, &parameter) {
-                    if let Some(place) = self.uses.get_mut(parameter.id as usize) {
-                        place.compared = true;
+                    if let Some(known) = self.known.get_mut(parameter.id as usize) {
+                        known.used.compared = true;
                     }
                 }
             }
@@ -223,8 +244,8 @@ impl Uses {
 
     /// The variable or argument from which an id leads.
     pub fn root(&self, id: u32) -> u32 {
-        match self.roots.get(id as usize).copied() {
-            Some(root) if root != 0 => root,
+        match self.known.get(id as usize) {
+            Some(known) if known.root != 0 => known.root,
             _ => id,
         }
     }
@@ -233,8 +254,8 @@ impl Uses {
     pub fn always_passed(&self, listing: &Listing, parameter: u32) -> Option<u32> {
         let mut at = parameter;
         for _ in 0..MAX_CALLS {
-            match listing.definition(at)?.opcode {
-                ops::FUNCTION_PARAMETER => at = self.passed.get(at as usize).copied()?,
+            match listing.defined(at).opcode {
+                ops::FUNCTION_PARAMETER => at = self.passed(at),
                 ops::VARIABLE => return Some(at),
                 _ => return None,
             }
@@ -242,9 +263,20 @@ impl Uses {
         None
     }
 
+    // What every call passes for a parameter.
+    fn passed(&self, parameter: u32) -> u32 {
+        match self.known.get(parameter as usize) {
+            Some(known) => known.passed,
+            None => 0,
+        }
+    }
+
     /// What a variable or an argument is used for.
     pub fn of(&self, id: u32) -> Use {
-        self.uses.get(id as usize).copied().unwrap_or(Use::NONE)
+        match self.known.get(id as usize) {
+            Some(known) => known.used,
+            None => Use::NONE,
+        }
     }
 
     /// Whether a member of a block with this built-in may be touched.
@@ -257,8 +289,8 @@ impl Uses {
         let opcode = instruction.opcode;
         if leads_on(opcode) {
             let root = self.root(listing.need(instruction, 0)?);
-            if let Some(place) = self.roots.get_mut(instruction.id as usize) {
-                *place = root;
+            if let Some(known) = self.known.get_mut(instruction.id as usize) {
+                known.root = root;
             }
         }
         if is_chain(opcode) {
@@ -280,15 +312,11 @@ impl Uses {
 
     // The members of blocks that an access chain goes through.
     fn touch(&mut self, listing: &Listing, chain: &Instruction) -> Result<(), SpirvError> {
-        let operands = listing.operands(chain);
         let base = listing.need(chain, 0)?;
-        let Some(mut ty) = listing
-            .definition(base)
-            .and_then(|d| pointee(listing, d.ty))
-        else {
+        let Some(mut ty) = pointee(listing, listing.defined(base).ty) else {
             return Ok(());
         };
-        for index in operands.get(1..).unwrap_or(&[]) {
+        for index in listing.operands_from(chain, 1) {
             let part = part_at(listing, ty, *index, chain)?;
             if part.member.is_some() {
                 self.touch_member(listing, part.from, part.member);
@@ -308,9 +336,9 @@ impl Uses {
                 1
             };
             if listing.operand(&decoration, after) == Some(numbers::DECORATION_BUILT_IN) {
-                let number = listing.operand(&decoration, after + 1).unwrap_or(u32::MAX);
-                if number < 64 {
-                    self.touched |= 1u64 << number;
+                match listing.operand(&decoration, after + 1) {
+                    Some(number) if number < 64 => self.touched |= 1u64 << number,
+                    _ => {}
                 }
             }
         }
@@ -319,10 +347,10 @@ impl Uses {
     // Adds what it is used for to the root of an id.
     fn add(&mut self, id: u32, more: Use) {
         let root = self.root(id);
-        if let Some(place) = self.uses.get_mut(root as usize) {
-            place.compared |= more.compared;
-            place.sampled |= more.sampled;
-            place.atomic |= more.atomic;
+        if let Some(known) = self.known.get_mut(root as usize) {
+            known.used.compared |= more.compared;
+            known.used.sampled |= more.sampled;
+            known.used.atomic |= more.atomic;
         }
     }
 
@@ -338,12 +366,12 @@ impl Uses {
             atomic: false,
         };
         let image = self.root(listing.need(instruction, 0)?);
-        match listing.definition(image) {
-            Some(made) if made.opcode == ops::SAMPLED_IMAGE => {
-                self.add(listing.need(&made, 0)?, more);
-                self.add(listing.need(&made, 1)?, more);
-            }
-            _ => self.add(image, more),
+        let made = listing.defined(image);
+        if made.opcode == ops::SAMPLED_IMAGE {
+            self.add(listing.need(&made, 0)?, more);
+            self.add(listing.need(&made, 1)?, more);
+        } else {
+            self.add(image, more);
         }
         Ok(())
     }
@@ -355,7 +383,7 @@ impl Uses {
             return Ok(());
         };
         let mut place = start;
-        for argument in listing.operands(call).get(1..).unwrap_or(&[]) {
+        for argument in listing.operands_from(call, 1) {
             place = place.saturating_add(1);
             let parameter = listing.at(place);
             if parameter.opcode == ops::FUNCTION_PARAMETER {
@@ -371,8 +399,8 @@ impl Uses {
 
     // A call passes this for a parameter.
     fn pass(&mut self, parameter: u32, argument: u32) {
-        if let Some(place) = self.passed.get_mut(parameter as usize) {
-            *place = if *place == 0 || *place == argument {
+        if let Some(known) = self.known.get_mut(parameter as usize) {
+            known.passed = if known.passed == 0 || known.passed == argument {
                 argument
             } else {
                 DIFFERENT
@@ -383,23 +411,20 @@ impl Uses {
     // An atomic operation on a texel or on a part of a variable.
     fn change(&mut self, listing: &Listing, atomic: &Instruction) -> Result<(), SpirvError> {
         let pointer = listing.need(atomic, 0)?;
-        match listing.definition(pointer) {
-            Some(texel) if texel.opcode == ops::IMAGE_TEXEL_POINTER => {
-                let image = listing.need(&texel, 0)?;
-                self.add(
-                    image,
-                    Use {
-                        compared: false,
-                        sampled: false,
-                        atomic: true,
-                    },
-                );
-                Ok(())
-            }
-            _ => {
-                let root = self.root(pointer);
-                self.atomics.add(listing, pointer, root, atomic)
-            }
+        let texel = listing.defined(pointer);
+        if texel.opcode != ops::IMAGE_TEXEL_POINTER {
+            let root = self.root(pointer);
+            return self.atomics.add(listing, pointer, root, atomic);
         }
+        let image = listing.need(&texel, 0)?;
+        self.add(
+            image,
+            Use {
+                compared: false,
+                sampled: false,
+                atomic: true,
+            },
+        );
+        Ok(())
     }
 }

@@ -11,7 +11,7 @@ mod unsupported;
 
 pub use error::{Malformed, SpirvError};
 pub use groups::Groups;
-pub use listing::{Instruction, Listing, list};
+pub use listing::{Instruction, Listing, list, number_at};
 pub use parts::{FunctionParts, Parts};
 pub use pieces::{HEADER, Piece, cut};
 pub use spirv_numbers::MAX_LEN;

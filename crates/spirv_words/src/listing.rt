@@ -127,8 +127,8 @@ fn sort(
     })
 }
 
-// The number at this place; 0 where there is none.
-fn number_at(numbers: &[u32], place: u32) -> u32 {
+/// The number at this place; 0 where there is none.
+pub fn number_at(numbers: &[u32], place: u32) -> u32 {
     match numbers.get(place as usize) {
         Some(number) => *number,
         None => 0,
@@ -465,16 +465,39 @@ impl Listing {
         }
     }
 
+    /// The instruction that defines an id; none where it is not defined.
+    pub fn defined(&self, id: u32) -> Instruction {
+        match self.ids.place_of(id) {
+            Some(place) => self.at(place),
+            None => Instruction::NONE,
+        }
+    }
+
     /// The operands of an instruction, after its results.
     pub fn operands(&self, instruction: &Instruction) -> &[u32] {
-        self.words
+        match self
+            .words
             .get(instruction.first as usize..instruction.end as usize)
-            .unwrap_or(&[])
+        {
+            Some(operands) => operands,
+            None => &[],
+        }
     }
 
     /// The operand at this place, if the instruction has so many.
     pub fn operand(&self, instruction: &Instruction, place: usize) -> Option<u32> {
-        self.operands(instruction).get(place).copied()
+        match self.operands(instruction).get(place) {
+            Some(word) => Some(*word),
+            None => None,
+        }
+    }
+
+    /// The operands of an instruction from this place on.
+    pub fn operands_from(&self, instruction: &Instruction, place: usize) -> &[u32] {
+        match self.operands(instruction).get(place..) {
+            Some(operands) => operands,
+            None => &[],
+        }
     }
 
     /// The operand at this place, which the instruction has to have.
