@@ -1,7 +1,7 @@
 // The blocks of functions (section 2.2.5).
 
 use spirv_numbers::ops;
-use spirv_words::{FunctionParts, Instruction, Listing, Malformed, SpirvError};
+use spirv_words::{FunctionParts, Instruction, Listing, Malformed, SpirvError, number_at};
 use std::alloc::Global;
 
 /// A block, by the places of its instructions.
@@ -95,15 +95,21 @@ impl Open {
 impl Blocks {
     /// The blocks of all functions.
     pub fn of_module(alloc: Global, listing: &Listing) -> Result<Blocks, SpirvError> {
+        let labelled = vec![in alloc; 0u32; listing.bound()]?;
         let mut all = Blocks {
             functions: Vec::new(alloc),
             blocks: Vec::new(alloc),
-            labelled: vec![in alloc; 0u32; listing.bound()]?,
+            labelled,
         };
-        for parts in &listing.parts.functions {
-            all.add_function(listing, *parts)?;
-        }
+        all.add_all(listing)?;
         Ok(all)
+    }
+
+    fn add_all(&mut self, listing: &Listing) -> Result<(), SpirvError> {
+        for parts in &listing.parts.functions {
+            self.add_function(listing, *parts)?;
+        }
+        Ok(())
     }
 
     // The number of the next block.
@@ -146,17 +152,18 @@ impl Blocks {
 
     /// The number of the block with this label, if it is one of the function's.
     pub fn labelled(&self, function: &FunctionBlocks, label: u32) -> Option<u32> {
-        let number = self.labelled.get(label as usize).copied()?.checked_sub(1)?;
-        if function.first <= number && number < function.end {
-            Some(number)
-        } else {
-            None
+        match number_at(&self.labelled, label).checked_sub(1) {
+            Some(number) if function.first <= number && number < function.end => Some(number),
+            _ => None,
         }
     }
 
     /// The block with this number.
     pub fn get(&self, number: u32) -> Option<Block> {
-        self.blocks.get(number as usize).copied()
+        match self.blocks.get(number as usize) {
+            Some(block) => Some(*block),
+            None => None,
+        }
     }
 }
 

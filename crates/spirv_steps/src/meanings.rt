@@ -61,18 +61,17 @@ pub struct Meanings {
 impl Meanings {
     /// Each block means nothing.
     pub fn new(alloc: Global, count: usize) -> Result<Meanings, AllocError> {
-        Ok(Meanings {
-            now: vec![in alloc; Meaning::Nothing; count]?,
-            before: Vec::new(alloc),
-        })
+        let now = vec![in alloc; Meaning::Nothing; count]?;
+        let before = Vec::new(alloc);
+        Ok(Meanings { now, before })
     }
 
     /// What a branch to this block means.
     pub fn of(&self, block: u32) -> Meaning {
-        self.now
-            .get(block as usize)
-            .copied()
-            .unwrap_or(Meaning::Nothing)
+        match self.now.get(block as usize) {
+            Some(meaning) => *meaning,
+            None => Meaning::Nothing,
+        }
     }
 
     /// It means this from now on.

@@ -1,5 +1,6 @@
 // Where a value is in scope.
 
+use spirv_words::number_at;
 use std::alloc::{AllocError, Global};
 
 /// The scopes of all functions, numbered as they are opened, so that those inside a scope have the numbers after its own.
@@ -16,9 +17,10 @@ pub struct Scopes {
 impl Scopes {
     /// None.
     pub fn new(alloc: Global, blocks: usize) -> Result<Scopes, AllocError> {
+        let of_block = vec![in alloc; 0u32; blocks]?;
         Ok(Scopes {
             ends: Vec::new(alloc),
-            of_block: vec![in alloc; 0u32; blocks]?,
+            of_block,
             open: Vec::new(alloc),
         })
     }
@@ -47,7 +49,10 @@ impl Scopes {
 
     /// The block stands in the innermost.
     pub fn enter(&mut self, block: u32) {
-        let scope = self.open.last().copied().unwrap_or(0);
+        let scope = match self.open.last() {
+            Some(scope) => *scope,
+            None => 0,
+        };
         if let Some(place) = self.of_block.get_mut(block as usize) {
             *place = scope.saturating_add(1);
         }
@@ -55,12 +60,11 @@ impl Scopes {
 
     /// The scope of a block, if it is walked.
     pub fn of_block(&self, block: u32) -> Option<u32> {
-        self.of_block.get(block as usize).copied()?.checked_sub(1)
+        number_at(&self.of_block, block).checked_sub(1)
     }
 
     /// Whether what is in scope in the one is so in the other.
     pub fn reaches(&self, outer: u32, inner: u32) -> bool {
-        let end = self.ends.get(outer as usize).copied().unwrap_or(0);
-        outer <= inner && inner < end
+        outer <= inner && inner < number_at(&self.ends, outer)
     }
 }

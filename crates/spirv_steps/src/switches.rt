@@ -1,7 +1,7 @@
 // The cases of switches, and in which order they stand.
 
 use crate::steps::{Case, CaseBody, Choice, Step};
-use spirv_words::{Feature, Groups, SpirvError};
+use spirv_words::{Feature, Groups, SpirvError, number_at};
 use std::alloc::{AllocError, Global};
 
 // To which block a case goes on.
@@ -20,6 +20,22 @@ struct Target {
     start: u32,
     falls: Falls,
 }
+
+// No switch.
+const NONE: Open = Open {
+    looping: 0,
+    leaves: false,
+    block: 0,
+    word: 0,
+    step: 0,
+    merge: 0,
+    targets: 0,
+    choices: 0,
+    default: 0,
+    alone: false,
+    next: 0,
+    current: 0,
+};
 
 // A switch that is not ended.
 #[derive(Clone, Copy)]
@@ -63,13 +79,14 @@ pub struct Switches {
 impl Switches {
     /// None.
     pub fn new(alloc: Global, blocks: usize) -> Result<Switches, AllocError> {
+        let target_of = vec![in alloc; 0u32; blocks]?;
         Ok(Switches {
             alloc,
             cases: Vec::new(alloc),
             open: Vec::new(alloc),
             targets: Vec::new(alloc),
             choices: Vec::new(alloc),
-            target_of: vec![in alloc; 0u32; blocks]?,
+            target_of,
             pending: Falls::Nowhere,
         })
     }
@@ -120,26 +137,16 @@ impl Switches {
 
     // The innermost switch.
     fn innermost(&self) -> Open {
-        self.open.last().copied().unwrap_or(Open {
-            looping: 0,
-            leaves: false,
-            block: 0,
-            word: 0,
-            step: 0,
-            merge: 0,
-            targets: 0,
-            choices: 0,
-            default: 0,
-            alone: false,
-            next: 0,
-            current: 0,
-        })
+        match self.open.last() {
+            Some(open) => *open,
+            None => NONE,
+        }
     }
 
     // The target of the innermost switch that the block is; a new one where it is none.
     fn target(&mut self, block: u32) -> Result<(usize, bool), AllocError> {
         let first = self.innermost().targets;
-        let known = self.target_of.get(block as usize).copied().unwrap_or(0) as usize;
+        let known = number_at(&self.target_of, block) as usize;
         if known > first {
             return Ok((known.saturating_sub(1), false));
         }
@@ -186,11 +193,9 @@ impl Switches {
 
     /// The block of a target, unless it only leaves the switch.
     pub fn block_of(&self, target: usize) -> Option<u32> {
-        let block = self.targets.get(target)?.block;
-        if block == self.innermost().merge {
-            None
-        } else {
-            Some(block)
+        match self.targets.get(target) {
+            Some(target) if target.block != self.innermost().merge => Some(target.block),
+            _ => None,
         }
     }
 
@@ -207,20 +212,24 @@ impl Switches {
 
     /// The next target of the innermost switch that has a body, with its block; its body begins with this step.
     pub fn next(&mut self, step: u32) -> Option<(u32, u32)> {
-        let first = self.innermost().next;
-        for number in first..self.targets.len() {
+        for number in self.innermost().next..self.targets.len() {
             if let Some(block) = self.block_of(number) {
-                if let Some(open) = self.open.last_mut() {
-                    open.next = number.saturating_add(1);
-                    open.current = number;
-                }
-                if let Some(target) = self.targets.get_mut(number) {
-                    target.start = step;
-                }
+                self.begin_target(number, step);
                 return Some((u32::try_from(number).unwrap_or(u32::MAX), block));
             }
         }
         None
+    }
+
+    // The body of a target begins with this step.
+    fn begin_target(&mut self, number: usize, step: u32) {
+        if let Some(open) = self.open.last_mut() {
+            open.next = number.saturating_add(1);
+            open.current = number;
+        }
+        if let Some(target) = self.targets.get_mut(number) {
+            target.start = step;
+        }
     }
 
     /// The block of the target that was walked.
@@ -301,15 +310,17 @@ impl Switches {
 
     // Lists the cases of a switch in their order.
     fn list_cases(&mut self, open: &Open, words: &Groups) -> Result<(), SpirvError> {
-        let end = self.targets.len();
-        if !open.alone {
-            for number in open.targets..end {
-                self.list_case(open, words, number)?;
-            }
-            return self.end_list(open);
-        }
-        let (after, before) = self.place_of_default(open);
-        for number in open.targets..open.default {
+        let (after, before) = if open.alone {
+            self.place_of_default(open)
+        } else {
+            (None, None)
+        };
+        let end = if open.alone {
+            open.default
+        } else {
+            self.targets.len()
+        };
+        for number in open.targets..end {
             if before == Some(number) {
                 self.list_case(open, words, open.default)?;
             }
@@ -318,7 +329,7 @@ impl Switches {
                 self.list_case(open, words, open.default)?;
             }
         }
-        if after.is_none() && before.is_none() {
+        if open.alone && after.is_none() && before.is_none() {
             self.list_case(open, words, open.default)?;
         }
         self.end_list(open)
@@ -347,9 +358,8 @@ impl Switches {
         if number == open.default {
             self.list_choice(Choice::Default)?;
         }
-        let leaves = target.block == open.merge;
         if let Some(case) = self.cases.last_mut() {
-            case.body = if leaves {
+            case.body = if target.block == open.merge {
                 CaseBody::Break
             } else {
                 CaseBody::Steps(target.start)

@@ -57,7 +57,7 @@ pub struct Steps {
     pub scopes: Scopes,
 }
 
-//// What walks the blocks of functions. What is wrong first is kept, and the walk ends after the step that found it.
+/// What walks the blocks of functions. What is wrong first is kept, and the walk ends after the step that found it.
 #[derive(Drop)]
 pub struct Walk<'a> {
     listing: &'a Listing,
@@ -65,8 +65,6 @@ pub struct Walk<'a> {
     function: FunctionBlocks,
     steps: Vec<Step>,
     frames: Vec<Frame>,
-    // for each block whether it is walked
-    done: Vec<bool>,
     meanings: Meanings,
     scopes: Scopes,
     switches: Switches,
@@ -93,7 +91,6 @@ impl<'a> Walk<'a> {
         let switches = Switches::new(alloc, count)?;
         let meanings = Meanings::new(alloc, count)?;
         let scopes = Scopes::new(alloc, count)?;
-        let done = vec![in alloc; false; count]?;
         let none = FunctionBlocks {
             parts: FunctionParts { start: 0, end: 0 },
             first: 0,
@@ -105,7 +102,6 @@ impl<'a> Walk<'a> {
             function: none,
             steps: Vec::new(alloc),
             frames: Vec::new(alloc),
-            done,
             meanings,
             scopes,
             switches,
@@ -124,7 +120,6 @@ impl<'a> Walk<'a> {
             function: _,
             steps,
             frames,
-            done,
             meanings,
             scopes,
             switches,
@@ -134,7 +129,6 @@ impl<'a> Walk<'a> {
             failed: _,
         } = self;
         drop(frames);
-        drop(done);
         drop(meanings);
         drop(flagged);
         Steps {
@@ -223,12 +217,15 @@ impl<'a> Walk<'a> {
 
     // The block with this number, which is one.
     fn block(&self, number: u32) -> Block {
-        self.blocks.get(number).unwrap_or(Block {
-            label: 0,
-            first: 0,
-            merge: None,
-            end: 0,
-        })
+        match self.blocks.get(number) {
+            Some(block) => block,
+            None => Block {
+                label: 0,
+                first: 0,
+                merge: None,
+                end: 0,
+            },
+        }
     }
 
     // The instruction that ends a block.
@@ -308,7 +305,7 @@ impl<'a> Walk<'a> {
             self.refuse(Feature::DeepControlFlow, number);
             return None;
         }
-        if !self.is_first(number) {
+        if self.scopes.of_block(number).is_some() {
             self.refuse(Feature::BlockReachedTwice, number);
             return None;
         }
@@ -325,17 +322,6 @@ impl<'a> Walk<'a> {
         }
         self.begin_loop(number, &merge);
         self.finish_block(number, None)
-    }
-
-    // Whether the block is walked for the first time, as it is from now on.
-    fn is_first(&mut self, number: u32) -> bool {
-        match self.done.get_mut(number as usize) {
-            Some(done) if !*done => {
-                *done = true;
-                true
-            }
-            _ => false,
-        }
     }
 
     // Opens the loop that this block begins.
@@ -499,18 +485,12 @@ impl<'a> Walk<'a> {
     // How many words each value of a switch has.
     fn words_of(&self, end: &Instruction) -> Result<usize, SpirvError> {
         let selector = self.listing.need(end, 0)?;
-        let value = self.defined(selector);
-        let ty = self.defined(value.ty);
+        let ty = self.listing.defined(self.listing.defined(selector).ty);
         match self.listing.operand(&ty, 0) {
             Some(16 | 32) if ty.opcode == ops::TYPE_INT => Ok(1),
             Some(64) if ty.opcode == ops::TYPE_INT => Ok(2),
             _ => Err(end.unsupported_by(Feature::SwitchSelector)),
         }
-    }
-
-    // The instruction that defines an id.
-    fn defined(&self, id: u32) -> Instruction {
-        self.listing.definition(id).unwrap_or(Instruction::NONE)
     }
 
     // Goes on with the next case of the innermost switch, or ends it.
