@@ -1,12 +1,10 @@
 // Functions.
 
-use crate::body::Body;
 use crate::lowering::Lowering;
 use crate::origin::Origin;
 use crate::writing::{Writing, keep_in, read_in, type_in};
-use ir_arena::arena::Arena;
 use ir_flags::StorageAccess;
-use ir_items::{Expression, Function, FunctionArgument, FunctionResult, key};
+use ir_items::{Expression, FunctionArgument, FunctionResult};
 use ir_types::TypeInner;
 use spirv_declarations::{Tables, sampler_name};
 use spirv_expressions::{Builder, Operation, Value};
@@ -19,25 +17,14 @@ use spirv_types::{ImageShape, ImageUse, Shape, TypeHandle, image_class, span_of}
 use spirv_words::{Feature, FunctionParts, Malformed, SpirvError};
 use std::alloc::Global;
 
-/// What a module declares with what its functions needed besides, its functions, callees first, and the structs that their
-/// expressions give.
-pub fn lower_functions<T: Tables>(
-    alloc: Global,
-    source: Source,
-    declared: T,
-) -> Result<(T, Arena<Function, key::Function>, Vec<Special>), SpirvError> {
-    let words = u64::try_from(source.listing.words.len()).unwrap_or(0);
-    let body = Body::new(alloc, words.saturating_mul(64).saturating_add(1024));
-    lower_with(alloc, source, declared, body)
-}
-
-// The same, with whatever writes functions.
-fn lower_with<T: Tables, W: Writing>(
+/// What a module declares with what its functions needed besides, its functions as they are written, callees first, and the
+/// structs that their expressions give.
+pub fn lower_functions<T: Tables, W: Writing>(
     alloc: Global,
     source: Source,
     tables: T,
     body: W,
-) -> Result<(T, Arena<Function, key::Function>, Vec<Special>), SpirvError> {
+) -> Result<(T, W, Vec<Special>), SpirvError> {
     let names = Names::new(alloc, source.listing.bound())?;
     let mut lowering = Lowering {
         alloc,
@@ -53,7 +40,7 @@ fn lower_with<T: Tables, W: Writing>(
 
 impl<O: Origin, T: Tables, W: Writing> Lowering<O, T, W> {
     // What was built, where nothing was wrong.
-    fn finish(self) -> Result<(T, Arena<Function, key::Function>, Vec<Special>), SpirvError> {
+    fn finish(self) -> Result<(T, W, Vec<Special>), SpirvError> {
         if let Some(error) = self.body.failure() {
             return Err(error);
         }
@@ -66,7 +53,7 @@ impl<O: Origin, T: Tables, W: Writing> Lowering<O, T, W> {
             scope: _,
         } = self;
         drop(source);
-        Ok((tables, body.finish(), names.finish()))
+        Ok((tables, body, names.finish()))
     }
 
     // Builds all functions.

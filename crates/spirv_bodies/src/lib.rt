@@ -1,18 +1,18 @@
-//! The functions of a SPIR-V module, in the IR: each as it is built. They are built over any tables and with whatever writes
-//! functions, so that all tables of a module are looked at in few places.
+//! The functions of a SPIR-V module, in the IR: each as it is built, and what entry points compute for them. They are built over
+//! any tables and with whatever writes functions, so that all tables of a module are looked at in few places.
 #![tactic(auto)]
 
-mod body;
 mod building;
 mod functions;
 mod lowering;
 mod masks;
 mod origin;
 mod predeclared;
+mod subgroups;
 mod writing;
 
-pub use body::Body;
 pub use functions::lower_functions;
 pub use masks::Words;
 pub use spirv_operations::Special;
+pub use subgroups::Subgroups;
 pub use writing::{Writing, keep_in, read_in, refuse_in, type_in};

@@ -1,10 +1,7 @@
 // What functions are written with.
 
-use ir_arena::arena::Arena;
 use ir_arena::span::Span;
-use ir_items::{
-    Block, Expression, Function, FunctionArgument, FunctionResult, LocalVariable, Statement, key,
-};
+use ir_items::{Block, Expression, FunctionArgument, FunctionResult, LocalVariable, Statement};
 use spirv_expressions::{Value, no_type, no_value};
 use spirv_types::TypeHandle;
 use spirv_words::SpirvError;
@@ -49,9 +46,6 @@ pub trait Writing: Drop {
         body: Block,
         span: Span,
     );
-
-    /// All functions, in the order in which they were written.
-    fn finish(self) -> Arena<Function, key::Function>;
 }
 
 /// One more in a list.

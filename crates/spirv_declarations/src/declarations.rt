@@ -1,10 +1,8 @@
 // All declarations of a module, in order.
 
-use crate::building::{BuiltConstants, BuiltTypes, BuiltVariables};
 use crate::variables::{VariableTable, Variables};
 use ir_flags::Capabilities;
 use ir_kinds::{Scalar, VectorSize};
-use ir_sets::keyed::KeyedState;
 use ir_types::ArraySize;
 use spirv_constants::{ConstantTable, Constants};
 use spirv_flow::{FRAGMENT_PLACE, SUBGROUP_NUMBERS, Uses, is_debug};
@@ -27,25 +25,8 @@ pub struct Declarations<T: Types, C: Constants, V: Variables> {
     pub demands: Demands,
 }
 
-/// What a module declares. Hashers of its types know the key.
-pub fn declare(
-    alloc: Global,
-    listing: &Listing,
-    uses: &Uses,
-    key: KeyedState,
-) -> Result<Declarations<BuiltTypes, BuiltConstants, BuiltVariables>, SpirvError> {
-    declare_in(
-        alloc,
-        listing,
-        uses,
-        BuiltTypes::new(alloc, key),
-        BuiltConstants::new(alloc),
-        BuiltVariables::new(alloc),
-    )
-}
-
-// The same, built there.
-fn declare_in<T: Types, C: Constants, V: Variables>(
+/// What a module declares, built in these.
+pub fn declare<T: Types, C: Constants, V: Variables>(
     alloc: Global,
     listing: &Listing,
     uses: &Uses,

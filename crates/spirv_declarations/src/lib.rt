@@ -2,15 +2,16 @@
 //! over whatever these are built in, so that a module's arenas are looked at in one place.
 #![tactic(auto)]
 
-mod building;
 mod declarations;
+mod interface;
+mod modes;
 mod tables;
 mod upgrades;
 mod variables;
 mod varyings;
 
-pub use building::{BuiltConstants, BuiltTypes, BuiltVariables};
 pub use declarations::{Declarations, declare};
+pub use interface::{Interface, Located};
+pub use modes::{Modes, decorated_size, modes_of, stage_of};
 pub use tables::Tables;
 pub use variables::{GlobalHandle, Variable, VariableTable, Variables, Varying, sampler_name};
-pub use varyings::scalar_kind;

@@ -223,8 +223,8 @@ fn argument_type<T: Types>(
     }
 }
 
-/// The kind of the scalars that a type is made of, where it is a number or a vector.
-pub fn scalar_kind<T: Types>(types: &TypeTable<T>, ty: TypeHandle) -> Option<ScalarKind> {
+// The kind of the scalars that a type is made of, where it is a number or a vector.
+pub(crate) fn scalar_kind<T: Types>(types: &TypeTable<T>, ty: TypeHandle) -> Option<ScalarKind> {
     match types.types.inner(ty) {
         Some(TypeInner::Scalar(scalar) | TypeInner::Vector { scalar, .. }) => Some(scalar.kind),
         _ => None,

@@ -1,9 +1,7 @@
 // Entry points: functions that take and give what goes between stages, and call those of SPIR-V.
 
-use crate::interface::Interface;
+use crate::body::Body;
 use crate::located::{Piece, Whole};
-use crate::modes::{Modes, decorated_size, modes_of, stage_of};
-use crate::subgroups::Subgroups;
 use ir_arena::handle::{Handle, NonMaxU32};
 use ir_arena::span::Span;
 use ir_items::{
@@ -12,8 +10,10 @@ use ir_items::{
 };
 use ir_kinds::{Binding, ScalarKind, ShaderStage};
 use ir_types::clone_name;
-use spirv_bodies::{Body, Words, Writing, keep_in, read_in, type_in};
-use spirv_declarations::{GlobalHandle, Variable, Varying};
+use spirv_bodies::{Subgroups, Words, Writing, keep_in, read_in, type_in};
+use spirv_declarations::{
+    GlobalHandle, Interface, Modes, Variable, Varying, decorated_size, modes_of, stage_of,
+};
 use spirv_expressions::Value;
 use spirv_flow::{FRAGMENT_PLACE, Order, SUBGROUP_NUMBERS};
 use spirv_numbers::numbers;

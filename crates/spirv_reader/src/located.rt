@@ -1,10 +1,9 @@
 // Locations that variables share, each with some of the components.
 
-use crate::interface::Located;
 use ir_kinds::{
     Binding, Interpolation, Sampling, Scalar, ScalarKind, SwizzleComponent, VectorSize,
 };
-use spirv_declarations::{GlobalHandle, Variable, Varying};
+use spirv_declarations::{GlobalHandle, Located, Variable, Varying};
 use std::alloc::{AllocError, Global};
 
 /// A location, with the source of a blend.

@@ -2,17 +2,16 @@
 ghost use Rattle.std.specs.Prelude.{IfOk};
 ghost use Rattle.spirv_reader.specs.Checks.{MakesSixChecks};
 
+use crate::body::Body;
+use crate::building::{BuiltConstants, BuiltTypes, BuiltVariables};
 use crate::entries::lower_entries;
-use crate::interface::Interface;
 use document_reader::{Document, Settings};
 use ir_arena::arena::Arena;
 use ir_flags::{ShaderStages, SubgroupOperationSet, ValidationFlags};
 use ir_items::{EntryPoint, Function, Module, SpecialTypes, key};
 use ir_sets::keyed::KeyedState;
-use spirv_bodies::{Special, lower_functions};
-use spirv_declarations::{
-    BuiltConstants, BuiltTypes, BuiltVariables, Declarations, Tables, declare,
-};
+use spirv_bodies::{Special, Writing, lower_functions};
+use spirv_declarations::{Declarations, Interface, Tables, declare};
 use spirv_flow::{Flow, Order, flow_of};
 use spirv_functions::Source;
 use spirv_tables::Demands;
@@ -34,33 +33,35 @@ fn read_listing(alloc: Global, listing: &Listing, key: KeyedState) -> Result<Doc
     ensures { IfOk result (λ d. MakesSixChecks d.settings.flags) }
 {
     let flow = flow_of(alloc, listing)?;
-    let declared = declare(alloc, listing, &flow.uses, key)?;
-    match read_functions(alloc, listing, &flow, declared) {
-        Ok((declared, functions, special, entries)) => {
-            Ok(document_of(alloc, declared, special, functions, entries))
+    let declared = declare(
+        alloc,
+        listing,
+        &flow.uses,
+        BuiltTypes::new(alloc, key),
+        BuiltConstants::new(alloc),
+        BuiltVariables::new(alloc),
+    )?;
+    let words = u64::try_from(listing.words.len()).unwrap_or(0);
+    let body = Body::new(alloc, words.saturating_mul(64).saturating_add(1024));
+    match read_functions(alloc, listing, &flow, declared, body) {
+        Ok((declared, body, special, entries)) => {
+            Ok(document_of(alloc, declared, special, body.into_functions(), entries))
         }
         Err(error) => Err(error),
     }
 }
 
 // What a module declares, its functions, the structs that their expressions give, and its entry points.
-fn read_functions<D: Tables + Interface>(
+fn read_functions<D: Tables + Interface, W: Writing>(
     alloc: Global,
     listing: &Listing,
     flow: &Flow,
     declared: D,
-) -> Result<
-    (
-        D,
-        Arena<Function, key::Function>,
-        SpecialTypes,
-        Vec<EntryPoint>,
-    ),
-    SpirvError,
-> {
+    body: W,
+) -> Result<(D, W, SpecialTypes, Vec<EntryPoint>), SpirvError> {
     let source = Source { listing, flow };
-    let (declared, functions, special) = lower_functions(alloc, source, declared)?;
-    with_entries(alloc, listing, &flow.order, declared, functions, &special)
+    let (declared, body, special) = lower_functions(alloc, source, declared, body)?;
+    with_entries(alloc, listing, &flow.order, declared, body, &special)
 }
 
 // The structs that expressions give, and the entry points, beside what was read before.

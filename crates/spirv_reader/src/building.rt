@@ -1,6 +1,5 @@
 // Where the types, constants and variables of a module are built: its arenas.
 
-use crate::variables::{GlobalHandle, Variables};
 use ir_arena::arena::Arena;
 use ir_arena::handle::Handle;
 use ir_arena::span::Span;
@@ -9,6 +8,7 @@ use ir_sets::keyed::KeyedState;
 use ir_sets::unique_arena::UniqueArena;
 use ir_types::{Expression, IrType, TypeInner, key};
 use spirv_constants::{Constants, ExpressionHandle};
+use spirv_declarations::{GlobalHandle, Variables};
 use spirv_types::{TypeHandle, Types};
 use spirv_words::SpirvError;
 use std::alloc::Global;

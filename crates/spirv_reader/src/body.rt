@@ -1,12 +1,12 @@
 // A function's expressions, locals and statements, as they come.
 
-use crate::writing::Writing;
 use ir_arena::arena::Arena;
 use ir_arena::range::Range;
 use ir_arena::span::Span;
 use ir_items::{
     Block, Expression, Function, FunctionArgument, FunctionResult, LocalVariable, Statement, key,
 };
+use spirv_bodies::Writing;
 use spirv_expressions::{Value, no_value};
 use spirv_words::{Feature, SpirvError};
 use std::alloc::Global;
@@ -105,6 +105,12 @@ impl Body {
         }
     }
 
+    /// All functions, in the order in which they were written.
+    pub fn into_functions(self) -> Arena<Function, key::Function> {
+        let mut body = self;
+        mem::replace(&mut body.functions, Arena::new(body.alloc))
+    }
+
     /// The one function that was written.
     pub fn into_function(
         self,
@@ -201,10 +207,5 @@ impl Writing for Body {
         if self.functions.append(function, span).is_err() {
             self.fail(SpirvError::Memory);
         }
-    }
-
-    fn finish(self) -> Arena<Function, key::Function> {
-        let mut body = self;
-        mem::replace(&mut body.functions, Arena::new(body.alloc))
     }
 }

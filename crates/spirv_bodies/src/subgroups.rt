@@ -1,14 +1,14 @@
 // What entry points compute for functions: of the number of an invocation in its subgroup and of the subgroup's size, and of the
 // place of a fragment.
 
-use crate::interface::Interface;
+use crate::masks::Words;
+use crate::writing::{Writing, keep_in, type_in};
 use ir_arena::span::Span;
 use ir_items::{Expression, FunctionArgument, Statement, TypeInner};
 use ir_kinds::{
     BinaryOperator, Binding, BuiltIn, Scalar, ScalarKind, SwizzleComponent, VectorSize,
 };
-use spirv_bodies::{Words, Writing, keep_in, type_in};
-use spirv_declarations::Variable;
+use spirv_declarations::{Interface, Variable};
 use spirv_expressions::Value;
 use spirv_tables::SubgroupMask;
 

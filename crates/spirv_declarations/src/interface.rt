@@ -1,12 +1,13 @@
 // What entry points are built over.
 
+use crate::declarations::Declarations;
+use crate::variables::{Variable, Variables};
+use crate::varyings::scalar_kind;
 use ir_arena::span::Span;
 use ir_flags::Capabilities;
-use ir_items::{StructMember, TypeInner};
 use ir_kinds::{Scalar, ScalarKind, VectorSize};
-use ir_types::ArraySize;
+use ir_types::{ArraySize, StructMember, TypeInner};
 use spirv_constants::Constants;
-use spirv_declarations::{Declarations, Variable, Variables, scalar_kind};
 use spirv_types::{TypeHandle, Types};
 use spirv_words::SpirvError;
 
