@@ -1,13 +1,18 @@
-//! What the numbers of SPIR-V are in the IR, what decorations say, and what has to be known of types beforehand.
+//! What the numbers of SPIR-V are in the IR, what decorations say, how values lie in memory, and what has to be known of types
+//! beforehand.
 #![tactic(auto)]
 
+mod declared;
 mod decorated;
+mod layouts;
 pub mod operators;
 mod scan;
 mod tables;
 
+pub use declared::{image_format, scalar_type};
 pub use decorated::{Decorated, with_default};
+pub use layouts::{Layout, matrix_layout, round_up, scalar_layout, vector_layout, vector_size};
 pub use scan::Scan;
 pub use tables::{
-    Demands, SubgroupMask, built_in, dimension, find, format, is_norm16, is_unsigned, subgroup_mask,
+    Demands, SubgroupMask, built_in, dimension, find, is_norm16, is_unsigned, subgroup_mask,
 };

@@ -1,17 +1,17 @@
 // The declarations of types (section 3.52.6).
 
-use crate::shapes::{
-    ImageShape, Layout, Shape, TypeHandle, matrix_layout, scalar_layout, span_of, vector_layout,
-    vector_size,
-};
+use crate::shapes::{ImageShape, Shape, TypeHandle, span_of};
 use crate::table::{TypeTable, Types};
 use ir_arena::span::Span;
 use ir_flags::{Capabilities, StorageAccess};
-use ir_kinds::{AddressSpace, ImageClass, Scalar, ScalarKind};
+use ir_kinds::{AddressSpace, ImageClass, Scalar, StorageFormat};
 use ir_types::{ArraySize, TypeInner};
 use spirv_flow::{DIM_SUBPASS_DATA, Use, Uses};
 use spirv_numbers::{numbers, ops};
-use spirv_tables::{Decorated, Demands, Scan, dimension, format, is_norm16};
+use spirv_tables::{
+    Decorated, Demands, Layout, Scan, dimension, image_format, is_norm16, matrix_layout,
+    scalar_layout, scalar_type, vector_layout, vector_size,
+};
 use spirv_words::{Feature, Instruction, Listing, Malformed, SpirvError, Unsupported};
 use std::alloc::Global;
 
@@ -39,107 +39,96 @@ impl<T: Types> TypeTable<T> {
         match instruction.opcode {
             ops::TYPE_VOID => self.set(instruction.id, Shape::Void, None, Layout::NONE),
             ops::TYPE_FUNCTION => self.set(instruction.id, Shape::Function, None, Layout::NONE),
-            ops::TYPE_BOOL => self.declare_scalar(instruction, Scalar::BOOL)?,
-            ops::TYPE_INT | ops::TYPE_FLOAT => {
-                let scalar = number(reading.listing, instruction)?;
-                self.declare_scalar(instruction, scalar)?;
-            }
-            ops::TYPE_VECTOR => self.declare_vector(reading.listing, instruction)?,
-            ops::TYPE_MATRIX => self.declare_matrix(reading.listing, instruction)?,
-            ops::TYPE_IMAGE => self.declare_image(reading.listing, instruction, demands)?,
+            ops::TYPE_BOOL => self.declare_scalar(instruction, Scalar::BOOL),
+            ops::TYPE_INT | ops::TYPE_FLOAT => match scalar_type(reading.listing, instruction) {
+                Ok(scalar) => self.declare_scalar(instruction, scalar),
+                Err(error) => self.fail(error),
+            },
+            ops::TYPE_VECTOR => self.declare_vector(reading.listing, instruction),
+            ops::TYPE_MATRIX => self.declare_matrix(reading.listing, instruction),
+            ops::TYPE_IMAGE => self.declare_image(reading.listing, instruction, demands),
             ops::TYPE_SAMPLER => {
                 let inner = TypeInner::Sampler { comparison: false };
-                let handle = self.insert(None, inner, span_of(instruction))?;
-                self.set(instruction.id, Shape::Sampler, Some(handle), Layout::NONE);
+                self.declare_as(instruction, inner, Shape::Sampler, Layout::NONE);
             }
             ops::TYPE_SAMPLED_IMAGE => {
-                let image = reading.listing.need(instruction, 0)?;
-                let handle = self.need(image, instruction)?;
+                let image = self.operand(reading.listing, instruction, 0);
+                let handle = self.needed(image, instruction);
                 let shape = Shape::SampledImage(image);
                 self.set(instruction.id, shape, Some(handle), Layout::NONE);
             }
-            ops::TYPE_POINTER => self.declare_pointer(reading, instruction)?,
-            _ => return Err(instruction.unsupported()),
+            ops::TYPE_POINTER => self.declare_pointer(reading, instruction),
+            _ => self.fail(instruction.unsupported()),
         }
-        Ok(())
+        self.made(())
     }
 
-    fn declare_scalar(
+    // A type that is made of this.
+    fn declare_as(
         &mut self,
         instruction: &Instruction,
-        scalar: Scalar,
-    ) -> Result<(), SpirvError> {
-        let handle = self.insert(None, TypeInner::Scalar(scalar), span_of(instruction))?;
-        let shape = Shape::Scalar(scalar);
-        self.set(instruction.id, shape, Some(handle), scalar_layout(scalar));
-        Ok(())
+        inner: TypeInner,
+        shape: Shape,
+        layout: Layout,
+    ) {
+        let handle = self.build(inner, span_of(instruction));
+        self.set(instruction.id, shape, Some(handle), layout);
     }
 
-    fn declare_vector(
-        &mut self,
-        listing: &Listing,
-        instruction: &Instruction,
-    ) -> Result<(), SpirvError> {
-        let component = listing.need(instruction, 0)?;
-        let count = listing.need(instruction, 1)?;
+    fn declare_scalar(&mut self, instruction: &Instruction, scalar: Scalar) {
+        let inner = TypeInner::Scalar(scalar);
+        let layout = scalar_layout(scalar);
+        self.declare_as(instruction, inner, Shape::Scalar(scalar), layout);
+    }
+
+    fn declare_vector(&mut self, listing: &Listing, instruction: &Instruction) {
+        let component = self.operand(listing, instruction, 0);
+        let count = self.operand(listing, instruction, 1);
         let Some(size) = vector_size(count) else {
-            return Err(instruction.unsupported_as(Unsupported::VectorSize(count)));
+            self.fail(instruction.unsupported_as(Unsupported::VectorSize(count)));
+            return;
         };
         let Shape::Scalar(scalar) = self.shape(component) else {
-            return Err(instruction.malformed(Malformed::WrongType));
+            self.fail(instruction.malformed(Malformed::WrongType));
+            return;
         };
         let inner = TypeInner::Vector { size, scalar };
-        let handle = self.insert(None, inner, span_of(instruction))?;
         let shape = Shape::Vector {
             size,
             scalar,
             component,
         };
-        self.set(
-            instruction.id,
-            shape,
-            Some(handle),
-            vector_layout(size, scalar),
-        );
-        Ok(())
+        self.declare_as(instruction, inner, shape, vector_layout(size, scalar));
     }
 
-    fn declare_matrix(
-        &mut self,
-        listing: &Listing,
-        instruction: &Instruction,
-    ) -> Result<(), SpirvError> {
-        let column = listing.need(instruction, 0)?;
-        let Some(columns) = vector_size(listing.need(instruction, 1)?) else {
-            return Err(instruction.malformed(Malformed::WrongType));
-        };
-        let Shape::Vector {
-            size: rows,
-            scalar,
-            ..
-        } = self.shape(column)
+    fn declare_matrix(&mut self, listing: &Listing, instruction: &Instruction) {
+        let column = self.operand(listing, instruction, 0);
+        let columns = vector_size(self.operand(listing, instruction, 1));
+        let (
+            Some(columns),
+            Shape::Vector {
+                size: rows,
+                scalar,
+                ..
+            },
+        ) = (columns, self.shape(column))
         else {
-            return Err(instruction.malformed(Malformed::WrongType));
+            self.fail(instruction.malformed(Malformed::WrongType));
+            return;
         };
         let inner = TypeInner::Matrix {
             columns,
             rows,
             scalar,
         };
-        let handle = self.insert(None, inner, span_of(instruction))?;
         let shape = Shape::Matrix {
             columns,
             rows,
             scalar,
             column,
         };
-        self.set(
-            instruction.id,
-            shape,
-            Some(handle),
-            matrix_layout(columns, rows, scalar),
-        );
-        Ok(())
+        let layout = matrix_layout(columns, rows, scalar);
+        self.declare_as(instruction, inner, shape, layout);
     }
 
     fn declare_image(
@@ -147,23 +136,24 @@ impl<T: Types> TypeTable<T> {
         listing: &Listing,
         instruction: &Instruction,
         demands: &mut Demands,
-    ) -> Result<(), SpirvError> {
-        let sampled = listing.need(instruction, 0)?;
+    ) {
+        let sampled = self.operand(listing, instruction, 0);
         let Shape::Scalar(scalar) = self.shape(sampled) else {
-            return Err(instruction.unsupported_by(Feature::ImageOfNoNumber));
+            self.fail(instruction.unsupported_by(Feature::ImageOfNoNumber));
+            return;
         };
-        let image = read_image(listing, instruction, scalar)?;
+        let image = match read_image(listing, instruction, scalar) {
+            Ok(image) => image,
+            Err(error) => {
+                self.fail(error);
+                return;
+            }
+        };
         if image.format.is_some_and(is_norm16) {
             demands.ask(Capabilities::STORAGE_TEXTURE_16BIT_NORM_FORMATS);
         }
-        let handle = self.image(&image, Use::NONE, StorageAccess(0), span_of(instruction))?;
-        self.set(
-            instruction.id,
-            Shape::Image(image),
-            Some(handle),
-            Layout::NONE,
-        );
-        Ok(())
+        let inner = image_inner(&image, Use::NONE, StorageAccess(0));
+        self.declare_as(instruction, inner, Shape::Image(image), Layout::NONE);
     }
 
     /// The type of an image that is used so, and may be accessed so where it is for storage.
@@ -174,25 +164,17 @@ impl<T: Types> TypeTable<T> {
         access: StorageAccess,
         span: Span,
     ) -> Result<TypeHandle, SpirvError> {
-        let inner = TypeInner::Image {
-            dim: image.dim,
-            arrayed: image.arrayed,
-            class: image_class(image, used, access),
-        };
-        self.insert(None, inner, span)
+        self.insert(None, image_inner(image, used, access), span)
     }
 
-    fn declare_pointer(
-        &mut self,
-        reading: &Reading,
-        instruction: &Instruction,
-    ) -> Result<(), SpirvError> {
-        let class = reading.listing.need(instruction, 0)?;
-        let to = reading.listing.need(instruction, 1)?;
+    fn declare_pointer(&mut self, reading: &Reading, instruction: &Instruction) {
+        let class = self.operand(reading.listing, instruction, 0);
+        let to = self.operand(reading.listing, instruction, 1);
         let handle = match self.shape(to) {
-            Shape::Nothing => return Err(instruction.unsupported_as(Unsupported::StorageClass(
-                class,
-            ))),
+            Shape::Nothing => {
+                self.fail(instruction.unsupported_as(Unsupported::StorageClass(class)));
+                None
+            }
             Shape::Function
             | Shape::Void
             | Shape::Pointer { .. }
@@ -204,7 +186,7 @@ impl<T: Types> TypeTable<T> {
             | Shape::Vector { .. }
             | Shape::Matrix { .. }
             | Shape::Array { .. }
-            | Shape::Struct { .. } => self.pointer(reading, instruction, class, to)?,
+            | Shape::Struct { .. } => self.pointer(reading, instruction, class, to),
         };
         self.set(
             instruction.id,
@@ -212,7 +194,6 @@ impl<T: Types> TypeTable<T> {
             handle,
             POINTER,
         );
-        Ok(())
     }
 
     // The type of a pointer to a value.
@@ -222,20 +203,23 @@ impl<T: Types> TypeTable<T> {
         instruction: &Instruction,
         class: u32,
         to: u32,
-    ) -> Result<Option<TypeHandle>, SpirvError> {
+    ) -> Option<TypeHandle> {
         if class == numbers::CLASS_UNIFORM_CONSTANT || class == numbers::CLASS_IMAGE {
-            return Ok(None);
+            return None;
         }
-        let base = self.need(to, instruction)?;
+        let base = self.needed(to, instruction);
         let space = match space_of(reading, class, to) {
             Some(AddressSpace::Storage { .. }) => AddressSpace::Storage {
                 access: StorageAccess(0),
             },
             Some(space) => space,
-            None => return Err(instruction.unsupported_as(Unsupported::StorageClass(class))),
+            None => {
+                self.fail(instruction.unsupported_as(Unsupported::StorageClass(class)));
+                return None;
+            }
         };
         let inner = TypeInner::Pointer { base, space };
-        Ok(Some(self.insert(None, inner, span_of(instruction))?))
+        Some(self.build(inner, span_of(instruction)))
     }
 
     /// An array whose length is known, or is found when it runs.
@@ -245,27 +229,42 @@ impl<T: Types> TypeTable<T> {
         instruction: &Instruction,
         size: &ArraySize,
     ) -> Result<(), SpirvError> {
-        let element = reading.listing.need(instruction, 0)?;
-        let base = self.need(element, instruction)?;
+        let element = self.operand(reading.listing, instruction, 0);
+        let base = self.needed(element, instruction);
         if self.is_resource(reading, instruction, element) {
-            return self.declare_resources(instruction, element, base, size);
+            self.declare_resources(instruction, element, base, size);
+        } else {
+            self.declare_elements(reading, instruction, element, base, size);
         }
+        self.made(())
+    }
+
+    // An array of what is no resource.
+    fn declare_elements(
+        &mut self,
+        reading: &Reading,
+        instruction: &Instruction,
+        element: u32,
+        base: TypeHandle,
+        size: &ArraySize,
+    ) {
         let said = Decorated::of(reading.listing, instruction.id, None).array_stride;
-        let stride = said.unwrap_or(self.natural_stride(element));
+        let stride = match said {
+            Some(stride) => stride,
+            None => self.natural_stride(element),
+        };
         let inner = TypeInner::Array {
             base,
             size: *size,
             stride,
         };
-        let handle = self.insert(None, inner, span_of(instruction))?;
-        let layout = self.array_layout(element, size, stride);
         let shape = Shape::Array {
             element,
             size: *size,
             binding: false,
         };
-        self.set(instruction.id, shape, Some(handle), layout);
-        Ok(())
+        let layout = self.array_layout(element, size, stride);
+        self.declare_as(instruction, inner, shape, layout);
     }
 
     // An array of resources. One of arrays of them is built as one array of all.
@@ -275,23 +274,25 @@ impl<T: Types> TypeTable<T> {
         element: u32,
         base: TypeHandle,
         size: &ArraySize,
-    ) -> Result<(), SpirvError> {
+    ) {
         let (base, whole) = match self.types.inner(base) {
-            Some(TypeInner::BindingArray { base, size: inner }) => match product(size, inner) {
-                Some(whole) => (*base, whole),
-                None => return Err(instruction.unsupported_by(Feature::ResourceArrays)),
-            },
-            _ => (base, *size),
+            Some(TypeInner::BindingArray { base, size: inner }) => (*base, product(size, inner)),
+            _ => (base, Some(*size)),
         };
-        let inner = TypeInner::BindingArray { base, size: whole };
-        let handle = self.insert(None, inner, span_of(instruction))?;
+        let Some(size_of_all) = whole else {
+            self.fail(instruction.unsupported_by(Feature::ResourceArrays));
+            return;
+        };
+        let inner = TypeInner::BindingArray {
+            base,
+            size: size_of_all,
+        };
         let shape = Shape::Array {
             element,
             size: *size,
             binding: true,
         };
-        self.set(instruction.id, shape, Some(handle), Layout::NONE);
-        Ok(())
+        self.declare_as(instruction, inner, shape, Layout::NONE);
     }
 
     /// The resources that a type is an array of, or an array of arrays of: what each is, and how many they are together.
@@ -386,32 +387,6 @@ const POINTER: Layout = Layout {
     locations: 1,
 };
 
-// The scalar of a type of numbers.
-fn number(listing: &Listing, instruction: &Instruction) -> Result<Scalar, SpirvError> {
-    let bits = listing.need(instruction, 0)?;
-    let kind = if instruction.opcode == ops::TYPE_FLOAT {
-        ScalarKind::Float
-    } else if listing.need(instruction, 1)? == 1 {
-        ScalarKind::Sint
-    } else {
-        ScalarKind::Uint
-    };
-    let width = match bits {
-        16 => 2,
-        32 => 4,
-        64 => 8,
-        _ => {
-            let what = if kind == ScalarKind::Float {
-                Unsupported::FloatWidth(bits)
-            } else {
-                Unsupported::IntWidth(bits)
-            };
-            return Err(instruction.unsupported_as(what));
-        }
-    };
-    Ok(Scalar { kind, width })
-}
-
 // What an image is declared as: dimension, depth, layers, samples, whether sampled or for storage, format.
 fn read_image(
     listing: &Listing,
@@ -426,14 +401,14 @@ fn read_image(
     };
     let multi = listing.need(instruction, 4)? != 0;
     let format = if listing.need(instruction, 5)? == 2 && !attachment {
-        Some(read_format(listing, instruction)?)
+        Some(image_format(listing, instruction)?)
     } else {
         None
     };
     if multi && format.is_some() {
         return Err(instruction.unsupported_by(Feature::MultisampledStorage));
     }
-    let wide = format == Some(ir_kinds::StorageFormat::R64Uint);
+    let wide = format == Some(StorageFormat::R64Uint);
     if scalar.width != 4 && !wide {
         return Err(instruction.unsupported_by(Feature::ImageWidth));
     }
@@ -448,15 +423,12 @@ fn read_image(
     })
 }
 
-// The format of a storage image.
-fn read_format(
-    listing: &Listing,
-    instruction: &Instruction,
-) -> Result<ir_kinds::StorageFormat, SpirvError> {
-    let number = listing.need(instruction, 6)?;
-    match format(number) {
-        Some(format) => Ok(format),
-        None => Err(instruction.unsupported_as(Unsupported::Format(number))),
+// What the type of an image is made of that is used so.
+fn image_inner(image: &ImageShape, used: Use, access: StorageAccess) -> TypeInner {
+    TypeInner::Image {
+        dim: image.dim,
+        arrayed: image.arrayed,
+        class: image_class(image, used, access),
     }
 }
 

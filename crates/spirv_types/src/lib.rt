@@ -8,8 +8,8 @@ mod table;
 
 pub use declare::{Reading, Resources, image_class, space_of};
 pub use shapes::{
-    ImageShape, ImageUse, Layout, MatrixShape, MemberShape, Shape, Stored, TypeHandle, round_up,
-    span_of, vector_size,
+    ImageShape, ImageUse, MatrixShape, MemberShape, Shape, Stored, TypeHandle, span_of,
 };
+pub use spirv_tables::{Layout, vector_size};
 pub use structs::block_access;
 pub use table::{TypeTable, Types};

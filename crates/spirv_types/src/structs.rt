@@ -1,17 +1,15 @@
 // The declarations of structs.
 
 use crate::declare::Reading;
-use crate::shapes::{
-    Layout, MatrixShape, MemberShape, Shape, Stored, TypeHandle, matrix_layout, round_up, span_of,
-    vector_layout,
-};
+use crate::shapes::{MatrixShape, MemberShape, Shape, Stored, TypeHandle, span_of};
 use crate::table::{TypeTable, Types};
+use ir_arena::handle::Handle;
 use ir_arena::span::Span;
 use ir_flags::StorageAccess;
 use ir_kinds::{Binding, Scalar, VectorSize};
 use ir_types::{ArraySize, StructMember, TypeInner};
 use spirv_numbers::numbers;
-use spirv_tables::{Decorated, Demands};
+use spirv_tables::{Decorated, Demands, Layout, round_up, vector_layout};
 use spirv_words::{Feature, Instruction, SpirvError, Unsupported};
 use std::alloc::Global;
 
@@ -94,18 +92,42 @@ impl<T: Types> TypeTable<T> {
     ) -> Result<(), SpirvError> {
         let first = self.next_member();
         let mut extent = Extent::NONE;
-        let members = self.declare_members(reading, instruction, &mut extent, demands)?;
+        let members = self.declare_members(reading, instruction, &mut extent, demands);
         let count = u32::try_from(members.len()).unwrap_or(u32::MAX);
         let layout = extent.layout();
-        let Ok(span) = u32::try_from(layout.size) else {
-            return Err(instruction.unsupported_by(Feature::LargeStruct));
-        };
-        let name = reading.listing.name(reading.alloc, instruction.id, None)?;
+        let span = u32::try_from(layout.size).unwrap_or(u32::MAX);
+        if u64::from(span) != layout.size {
+            self.fail(instruction.unsupported_by(Feature::LargeStruct));
+        }
+        let name = self.name_of(reading, instruction, None);
         let inner = TypeInner::Struct { members, span };
-        let handle = self.insert(name, inner, span_of(instruction))?;
+        let handle = self.build_named(name, inner, span_of(instruction));
         let shape = Shape::Struct { first, count };
         self.set(instruction.id, shape, Some(handle), layout);
-        Ok(())
+        self.made(())
+    }
+
+    // The name of a struct or of its member, if it has one.
+    fn name_of(
+        &mut self,
+        reading: &Reading,
+        instruction: &Instruction,
+        member: Option<u32>,
+    ) -> Option<String> {
+        match reading.listing.name(reading.alloc, instruction.id, member) {
+            Ok(name) => name,
+            Err(error) => {
+                self.fail(error);
+                None
+            }
+        }
+    }
+
+    // One more in a list.
+    fn keep<I: Drop>(&mut self, list: &mut Vec<I>, item: I) {
+        if list.push(item).is_err() {
+            self.fail(SpirvError::Memory);
+        }
     }
 
     // The members of a struct.
@@ -115,15 +137,15 @@ impl<T: Types> TypeTable<T> {
         instruction: &Instruction,
         extent: &mut Extent,
         demands: &mut Demands,
-    ) -> Result<Vec<StructMember>, SpirvError> {
+    ) -> Vec<StructMember> {
         let mut members = Vec::new(reading.alloc);
         let mut place = 0u32;
         for ty in reading.listing.operands(instruction) {
             let index = u32::try_from(members.len()).unwrap_or(u32::MAX);
-            let shape = self.shape_member(reading, instruction, *ty, place, index)?;
-            self.add_member(shape)?;
+            let shape = self.shape_member(reading, instruction, *ty, place, index);
+            self.add_member(shape);
             if shape.split {
-                self.declare_lines(reading, instruction, &shape, place, extent, &mut members)?;
+                self.declare_lines(reading, instruction, &shape, place, extent, &mut members);
             } else {
                 let member = self.declare_member(
                     reading,
@@ -132,46 +154,43 @@ impl<T: Types> TypeTable<T> {
                     place,
                     extent,
                     demands,
-                )?;
-                members.push(member)?;
+                );
+                self.keep(&mut members, member);
             }
             place = place.saturating_add(1);
         }
-        Ok(members)
+        members
     }
 
     // What a member of a struct is, which is the one at this index of those that are built.
     fn shape_member(
-        &self,
+        &mut self,
         reading: &Reading,
         instruction: &Instruction,
         ty: u32,
         place: u32,
         index: u32,
-    ) -> Result<MemberShape, SpirvError> {
+    ) -> MemberShape {
         let said = Decorated::of(reading.listing, instruction.id, Some(place));
         if self.shape(ty).is_handle() {
-            return Err(instruction.unsupported_by(Feature::HandleMember));
+            self.fail(instruction.unsupported_by(Feature::HandleMember));
         }
         if said.component.is_some() {
             let what = Unsupported::Decoration(numbers::DECORATION_COMPONENT);
-            return Err(instruction.unsupported_as(what));
+            self.fail(instruction.unsupported_as(what));
         }
         let stored = Stored {
             row_major: said.row_major && self.holds_matrix(ty),
-            stride: self.stride_between(instruction, ty, &said)?,
+            stride: self.stride_between(instruction, ty, &said),
         };
-        let next = Decorated::of(
-            reading.listing,
-            instruction.id,
-            Some(place.saturating_add(1)),
-        );
-        Ok(MemberShape {
+        let after = place.saturating_add(1);
+        let next = Decorated::of(reading.listing, instruction.id, Some(after)).offset;
+        MemberShape {
             ty,
             stored,
             index,
-            split: self.is_split(ty, stored, said.offset, next.offset),
-        })
+            split: self.is_split(ty, stored, said.offset, next),
+        }
     }
 
     // Whether the next member begins after the last column or row of a matrix, and before that would end with its stride.
@@ -201,32 +220,47 @@ impl<T: Types> TypeTable<T> {
         place: u32,
         extent: &mut Extent,
         members: &mut Vec<StructMember>,
-    ) -> Result<(), SpirvError> {
+    ) {
         let said = Decorated::of(reading.listing, instruction.id, Some(place));
         let Some(matrix) = MatrixShape::of(&self.shape(shape.ty)) else {
-            return Err(instruction.unsupported_by(Feature::RowMajorOfNoMatrix));
+            self.fail(instruction.unsupported_by(Feature::RowMajorOfNoMatrix));
+            return;
         };
         let (lines, length) = matrix.lines(shape.stored.row_major);
         let mut layout = vector_layout(length, matrix.scalar);
-        let ty = if shape.stored.is_packed(&matrix) {
+        if shape.stored.is_packed(&matrix) {
             layout.alignment = u64::from(matrix.scalar.width);
-            self.packed_line(length, matrix.scalar)?
-        } else {
-            self.vector(Some(length), matrix.scalar)?
-        };
-        let mut offset = extent.offset_of(instruction, &said, &layout)?;
+        }
+        let ty = self.build_line(&matrix, shape.stored, length);
+        let mut offset = self.offset_of(instruction, extent, &said, &layout);
         for line in 0..u32::from(lines) {
-            let name = line_name(reading, instruction, place, line)?;
-            members.push(StructMember {
-                name,
+            let member = StructMember {
+                name: self.line_name(reading, instruction, place, line),
                 ty,
                 binding: None,
                 offset,
-            })?;
+            };
+            self.keep(members, member);
             extent.add(offset, &layout, 0);
             offset = offset.saturating_add(shape.stored.stride);
         }
-        Ok(())
+    }
+
+    // Where a member begins.
+    fn offset_of(
+        &mut self,
+        instruction: &Instruction,
+        extent: &Extent,
+        said: &Decorated,
+        layout: &Layout,
+    ) -> u32 {
+        match extent.offset_of(instruction, said, layout) {
+            Ok(offset) => offset,
+            Err(error) => {
+                self.fail(error);
+                0
+            }
+        }
     }
 
     // A member of a struct.
@@ -238,19 +272,17 @@ impl<T: Types> TypeTable<T> {
         place: u32,
         extent: &mut Extent,
         demands: &mut Demands,
-    ) -> Result<StructMember, SpirvError> {
+    ) -> StructMember {
         let said = Decorated::of(reading.listing, instruction.id, Some(place));
-        let (handle, layout) = self.stored(reading, shape.ty, shape.stored, instruction)?;
-        let offset = extent.offset_of(instruction, &said, &layout)?;
+        let (ty, layout) = self.stored(reading.alloc, shape.ty, shape.stored, instruction);
+        let offset = self.offset_of(instruction, extent, &said, &layout);
         extent.add(offset, &layout, shape.stored.stride);
-        Ok(StructMember {
-            name: reading
-                .listing
-                .name(reading.alloc, instruction.id, Some(place))?,
-            ty: handle,
+        StructMember {
+            name: self.name_of(reading, instruction, Some(place)),
+            ty,
             binding: member_binding(reading, instruction.id, &said, demands),
             offset,
-        })
+        }
     }
 
     /// Whether a type is a matrix, or an array of matrices.
@@ -277,27 +309,41 @@ impl<T: Types> TypeTable<T> {
         matrix: &MatrixShape,
         stored: Stored,
     ) -> Result<TypeHandle, SpirvError> {
+        let handle = self.build_matrix(matrix, stored);
+        self.made(handle)
+    }
+
+    // The same.
+    fn build_matrix(&mut self, matrix: &MatrixShape, stored: Stored) -> TypeHandle {
         let (lines, length) = matrix.lines(stored.row_major);
-        let scalar = matrix.scalar;
-        if stored.stride == 0 {
-            let inner = TypeInner::Matrix {
+        let inner = if stored.stride == 0 {
+            TypeInner::Matrix {
                 columns: lines,
                 rows: length,
-                scalar,
-            };
-            return self.insert(None, inner, Span::UNDEFINED);
-        }
-        let base = if stored.is_packed(matrix) {
-            self.packed_line(length, scalar)?
+                scalar: matrix.scalar,
+            }
         } else {
-            self.vector(Some(length), scalar)?
+            TypeInner::Array {
+                base: self.build_line(matrix, stored, length),
+                size: ArraySize::Constant(u32::from(lines)),
+                stride: stored.stride,
+            }
         };
-        let inner = TypeInner::Array {
-            base,
-            size: ArraySize::Constant(u32::from(lines)),
-            stride: stored.stride,
-        };
-        self.insert(None, inner, Span::UNDEFINED)
+        self.build(inner, Span::UNDEFINED)
+    }
+
+    // The type of a column or a row of a matrix that is stored as an array of those.
+    fn build_line(
+        &mut self,
+        matrix: &MatrixShape,
+        stored: Stored,
+        length: VectorSize,
+    ) -> TypeHandle {
+        if stored.is_packed(matrix) {
+            self.build_packed(length, matrix.scalar)
+        } else {
+            self.build_vector(Some(length), matrix.scalar)
+        }
     }
 
     /// The type of a column or a row that is an array of scalars.
@@ -306,67 +352,89 @@ impl<T: Types> TypeTable<T> {
         length: VectorSize,
         scalar: Scalar,
     ) -> Result<TypeHandle, SpirvError> {
+        let handle = self.build_packed(length, scalar);
+        self.made(handle)
+    }
+
+    // The same.
+    fn build_packed(&mut self, length: VectorSize, scalar: Scalar) -> TypeHandle {
         let inner = TypeInner::Array {
-            base: self.scalar(scalar)?,
+            base: self.build_vector(None, scalar),
             size: ArraySize::Constant(u32::from(length)),
             stride: u32::from(scalar.width),
         };
-        self.insert(None, inner, Span::UNDEFINED)
+        self.build(inner, Span::UNDEFINED)
     }
 
     // The type that a member is stored as, with its layout.
     fn stored(
         &mut self,
-        reading: &Reading,
+        alloc: Global,
         ty: u32,
         stored: Stored,
         instruction: &Instruction,
-    ) -> Result<(TypeHandle, Layout), SpirvError> {
+    ) -> (TypeHandle, Layout) {
         if stored.is_plain() {
-            return Ok((self.need(ty, instruction)?, self.layout(ty)));
+            return (self.needed(ty, instruction), self.layout(ty));
         }
         let Some(matrix) = self.matrix_in(ty) else {
-            return Err(instruction.unsupported_by(Feature::RowMajorOfNoMatrix));
+            self.fail(instruction.unsupported_by(Feature::RowMajorOfNoMatrix));
+            return (Handle::at(0), Layout::NONE);
         };
-        let (lines, length) = matrix.lines(stored.row_major);
-        let mut handle = self.stored_matrix(&matrix, stored)?;
-        let mut layout = matrix_layout(lines, length, matrix.scalar);
+        let handle = self.build_matrix(&matrix, stored);
+        let mut layout = matrix.layout(stored.row_major);
         if stored.stride != 0 {
+            let (lines, _) = matrix.lines(stored.row_major);
             layout.size = u64::from(stored.stride).saturating_mul(u64::from(u8::from(lines)));
         }
         if stored.is_packed(&matrix) {
             layout.alignment = u64::from(matrix.scalar.width);
         }
-        let arrays = self.arrays_around(reading.alloc, ty)?;
+        self.in_arrays(alloc, ty, handle, layout)
+    }
+
+    // The type in which what lies in the arrays of a type is stored so, with its layout.
+    fn in_arrays(
+        &mut self,
+        alloc: Global,
+        ty: u32,
+        stored: TypeHandle,
+        layout: Layout,
+    ) -> (TypeHandle, Layout) {
+        let mut handle = stored;
+        let mut whole = layout;
+        let arrays = self.arrays_around(alloc, ty);
         for array in arrays.iter().rev() {
             let inner = TypeInner::Array {
                 base: handle,
                 size: array.size,
                 stride: array.stride,
             };
-            handle = self.insert(None, inner, Span::UNDEFINED)?;
-            layout.size = self.layout(array.ty).size;
-            layout.locations = self.layout(array.ty).locations;
+            handle = self.build(inner, Span::UNDEFINED);
+            let of_array = self.layout(array.ty);
+            whole.size = of_array.size;
+            whole.locations = of_array.locations;
         }
-        Ok((handle, layout))
+        (handle, whole)
     }
 
     // The arrays in which the matrix of a type lies, the outermost first.
-    fn arrays_around(&self, alloc: Global, ty: u32) -> Result<Vec<Around>, SpirvError> {
+    fn arrays_around(&mut self, alloc: Global, ty: u32) -> Vec<Around> {
         let mut arrays = Vec::new(alloc);
         let mut at = ty;
         for _ in 0..MAX_DEPTH {
             let Shape::Array { element, size, .. } = self.shape(at) else {
                 break;
             };
-            arrays.push(Around {
+            let around = Around {
                 ty: at,
                 size,
                 stride: self.stride_of(at),
-            })?;
+            };
+            self.keep(&mut arrays, around);
             at = element;
         }
-        Ok(arrays)
+        arrays
     }
 
     // The stride of an array that is built.
@@ -381,46 +449,48 @@ impl<T: Types> TypeTable<T> {
     }
 
     // The stride of the matrices in a member, where that is not the one that the IR has; 0 where it is.
-    fn stride_between(
-        &self,
-        instruction: &Instruction,
-        ty: u32,
-        said: &Decorated,
-    ) -> Result<u32, SpirvError> {
+    fn stride_between(&mut self, instruction: &Instruction, ty: u32, said: &Decorated) -> u32 {
         let (Some(stride), Some(matrix)) = (said.matrix_stride, self.matrix_in(ty)) else {
-            return Ok(0);
+            return 0;
         };
         let (_, length) = matrix.lines(said.row_major);
         let natural = vector_layout(length, matrix.scalar);
         if u64::from(stride) == natural.alignment {
-            return Ok(0);
+            return 0;
         }
         let width = u64::from(matrix.scalar.width);
         match u64::from(stride).checked_rem(width) {
-            Some(0) if u64::from(stride) >= natural.size => Ok(stride),
-            Some(_) | None => Err(instruction.unsupported_as(Unsupported::MatrixStride(stride))),
+            Some(0) if u64::from(stride) >= natural.size => stride,
+            Some(_) | None => {
+                self.fail(instruction.unsupported_as(Unsupported::MatrixStride(stride)));
+                0
+            }
+        }
+    }
+
+    // The name of a column or a row that is a member by itself.
+    fn line_name(
+        &mut self,
+        reading: &Reading,
+        instruction: &Instruction,
+        place: u32,
+        line: u32,
+    ) -> Option<String> {
+        let Some(name) = self.name_of(reading, instruction, Some(place)) else {
+            return None;
+        };
+        match format!(in reading.alloc; "{name}_{line}") {
+            Ok(name) => Some(name),
+            Err(_) => {
+                self.fail(SpirvError::Memory);
+                None
+            }
         }
     }
 }
 
 // How deep arrays may nest where a matrix is looked for (universal limit of the standard).
 const MAX_DEPTH: usize = 255;
-
-// The name of a column or a row that is a member by itself.
-fn line_name(
-    reading: &Reading,
-    instruction: &Instruction,
-    place: u32,
-    line: u32,
-) -> Result<Option<String>, SpirvError> {
-    match reading
-        .listing
-        .name(reading.alloc, instruction.id, Some(place))?
-    {
-        Some(name) => Ok(Some(format!(in reading.alloc; "{name}_{line}")?)),
-        None => Ok(None),
-    }
-}
 
 // What binds a member: one with a built-in of an output that nothing touches is not bound.
 fn member_binding(

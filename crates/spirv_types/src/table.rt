@@ -1,10 +1,12 @@
 // The types of a module: where they are built, and what each id of one is.
 
-use crate::shapes::{Layout, MemberShape, Shape, Stored, TypeHandle};
+use crate::shapes::{MemberShape, Shape, Stored, TypeHandle};
+use ir_arena::handle::Handle;
 use ir_arena::span::Span;
 use ir_kinds::{Scalar, VectorSize};
 use ir_types::{IrType, TypeInner};
-use spirv_words::{Instruction, Malformed, SpirvError};
+use spirv_tables::Layout;
+use spirv_words::{Instruction, Listing, Malformed, SpirvError};
 use std::alloc::Global;
 
 /// Where the types of a module are built.
@@ -27,7 +29,8 @@ struct Entry {
     layout: Layout,
 }
 
-/// The types of a module: those that are built, and what each id of a type is.
+/// The types of a module: those that are built, and what each id of a type is. What is wrong first is kept: after that every
+/// call that may fail does.
 #[derive(Drop)]
 pub struct TypeTable<T: Types> {
     /// The types that are built.
@@ -36,6 +39,8 @@ pub struct TypeTable<T: Types> {
     members: Vec<MemberShape>,
     // whether the columns or rows of a matrix are members of a struct
     splits: bool,
+    // what was wrong first
+    failure: Option<SpirvError>,
 }
 
 impl<T: Types> TypeTable<T> {
@@ -46,12 +51,77 @@ impl<T: Types> TypeTable<T> {
             handle: None,
             layout: Layout::NONE,
         };
+        let entries = vec![in alloc; none; bound]?;
         Ok(TypeTable {
             types,
-            entries: vec![in alloc; none; bound]?,
+            entries,
             members: Vec::new(alloc),
             splits: false,
+            failure: None,
         })
+    }
+
+    // This is wrong. It is kept where nothing was before.
+    pub(crate) fn fail(&mut self, error: SpirvError) {
+        if self.failure.is_none() {
+            self.failure = Some(error);
+        }
+    }
+
+    // What was made, where nothing was wrong.
+    pub(crate) fn made<M: Copy>(&self, made: M) -> Result<M, SpirvError> {
+        match self.failure {
+            Some(error) => Err(error),
+            None => Ok(made),
+        }
+    }
+
+    // The operand at this place, which the instruction has to have.
+    pub(crate) fn operand(
+        &mut self,
+        listing: &Listing,
+        instruction: &Instruction,
+        place: usize,
+    ) -> u32 {
+        match listing.need(instruction, place) {
+            Ok(word) => word,
+            Err(error) => {
+                self.fail(error);
+                0
+            }
+        }
+    }
+
+    // The type that is built for an id, which an instruction has to have.
+    pub(crate) fn needed(&mut self, id: u32, instruction: &Instruction) -> TypeHandle {
+        match self.need(id, instruction) {
+            Ok(handle) => handle,
+            Err(error) => {
+                self.fail(error);
+                Handle::at(0)
+            }
+        }
+    }
+
+    // The type that is made of this.
+    pub(crate) fn build(&mut self, inner: TypeInner, span: Span) -> TypeHandle {
+        self.build_named(None, inner, span)
+    }
+
+    // The type with this name that is made of this.
+    pub(crate) fn build_named(
+        &mut self,
+        name: Option<String>,
+        inner: TypeInner,
+        span: Span,
+    ) -> TypeHandle {
+        match self.types.insert(IrType { name, inner }, span) {
+            Ok(handle) => handle,
+            Err(error) => {
+                self.fail(error);
+                Handle::at(0)
+            }
+        }
     }
 
     /// What a type is.
@@ -64,7 +134,10 @@ impl<T: Types> TypeTable<T> {
 
     /// The type that is built for it, if any.
     pub fn handle(&self, id: u32) -> Option<TypeHandle> {
-        self.entries.get(id as usize)?.handle
+        match self.entries.get(id as usize) {
+            Some(entry) => entry.handle,
+            None => None,
+        }
     }
 
     /// The type that is built for it, which an instruction has to have.
@@ -90,9 +163,10 @@ impl<T: Types> TypeTable<T> {
     pub fn member(&self, id: u32, place: u32) -> Option<MemberShape> {
         match self.shape(id) {
             Shape::Struct { first, count } if place < count => {
-                self.members
-                    .get(first.checked_add(place)? as usize)
-                    .copied()
+                match self.members.get(first.saturating_add(place) as usize) {
+                    Some(member) => Some(*member),
+                    None => None,
+                }
             }
             _ => None,
         }
@@ -126,16 +200,17 @@ impl<T: Types> TypeTable<T> {
         }
     }
 
-    /// The place of the next member.
-    pub fn next_member(&self) -> u32 {
+    // The place of the next member.
+    pub(crate) fn next_member(&self) -> u32 {
         u32::try_from(self.members.len()).unwrap_or(u32::MAX)
     }
 
-    /// A member more.
-    pub fn add_member(&mut self, member: MemberShape) -> Result<(), SpirvError> {
+    // A member more.
+    pub(crate) fn add_member(&mut self, member: MemberShape) {
         self.splits |= member.split;
-        self.members.push(member)?;
-        Ok(())
+        if self.members.push(member).is_err() {
+            self.fail(SpirvError::Memory);
+        }
     }
 
     /// Whether the columns or rows of a matrix are members of a struct, so that its members have other places.
@@ -150,12 +225,8 @@ impl<T: Types> TypeTable<T> {
         inner: TypeInner,
         span: Span,
     ) -> Result<TypeHandle, SpirvError> {
-        self.types.insert(IrType { name, inner }, span)
-    }
-
-    /// The type of a scalar.
-    pub fn scalar(&mut self, scalar: Scalar) -> Result<TypeHandle, SpirvError> {
-        self.insert(None, TypeInner::Scalar(scalar), Span::UNDEFINED)
+        let handle = self.build_named(name, inner, span);
+        self.made(handle)
     }
 
     /// The type of a vector, of a scalar where there is no size.
@@ -164,9 +235,16 @@ impl<T: Types> TypeTable<T> {
         size: Option<VectorSize>,
         scalar: Scalar,
     ) -> Result<TypeHandle, SpirvError> {
-        match size {
-            None => self.scalar(scalar),
-            Some(size) => self.insert(None, TypeInner::Vector { size, scalar }, Span::UNDEFINED),
-        }
+        let handle = self.build_vector(size, scalar);
+        self.made(handle)
+    }
+
+    // The same.
+    pub(crate) fn build_vector(&mut self, size: Option<VectorSize>, scalar: Scalar) -> TypeHandle {
+        let inner = match size {
+            None => TypeInner::Scalar(scalar),
+            Some(size) => TypeInner::Vector { size, scalar },
+        };
+        self.build(inner, Span::UNDEFINED)
     }
 }
