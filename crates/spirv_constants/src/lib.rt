@@ -3,7 +3,7 @@
 
 mod composites;
 mod constants;
-mod folding;
+mod defaults;
 mod spec_ops;
 
-pub use constants::{ConstantTable, Constants, ExpressionHandle, Known, Made, literal, named};
+pub use constants::{ConstantTable, Constants, ExpressionHandle, Known, Made, named};

@@ -1,13 +1,13 @@
 // Specialization constants that an operation computes (`OpSpecConstantOp`): of a vector each component by itself, since an
 // override is a scalar.
 
-use crate::constants::{ConstantTable, Constants, ExpressionHandle, Known, Made, literal};
-use crate::folding::folded;
+use crate::constants::{ConstantTable, Constants, ExpressionHandle, Known, Made};
 use ir_arena::span::Span;
 use ir_kinds::{BinaryOperator, Literal, MathFunction, Scalar, ScalarKind, UnaryOperator};
 use ir_types::Expression;
 use spirv_numbers::ops;
 use spirv_tables::operators::{COMPARISONS, INTEGER, PLAIN, SHIFTS, find_operator, find_signed};
+use spirv_tables::{folded, literal};
 use spirv_types::{Reading, Shape, TypeTable, Types, span_of};
 use spirv_words::{Instruction, Malformed, SpirvError, Unsupported};
 

@@ -34,43 +34,57 @@ pub fn declare<T: Types, C: Constants, V: Variables>(
     constants: C,
     variables: V,
 ) -> Result<Declarations<T, C, V>, SpirvError> {
-    let scan = Scan::of_module(alloc, listing)?;
     let bound = listing.bound();
+    let types = TypeTable::new(alloc, bound, types)?;
+    let constants = ConstantTable::new(alloc, bound, constants)?;
+    let variables = VariableTable::new(alloc, listing, variables)?;
     let mut declared = Declarations {
-        types: TypeTable::new(alloc, bound, types)?,
-        constants: ConstantTable::new(alloc, bound, constants)?,
-        variables: VariableTable::new(alloc, listing, variables)?,
-        demands: demands_of(listing)?,
+        types,
+        constants,
+        variables,
+        demands: Demands::NONE,
     };
-    let reading = Reading {
-        alloc,
-        listing,
-        scan: &scan,
-        uses,
-    };
-    for place in &listing.parts.declarations {
-        declared.take(&reading, &listing.at(*place))?;
-    }
-    if uses.numbered {
-        declared.demands.ask(Capabilities::SUBGROUP);
-        declared.add_hidden(SUBGROUP_NUMBERS)?;
-    }
-    if uses.placed {
-        declared.add_hidden(FRAGMENT_PLACE)?;
-    }
+    declared.take_all(alloc, listing, uses)?;
     Ok(declared)
 }
 
-// What the capabilities of a module require.
-fn demands_of(listing: &Listing) -> Result<Demands, SpirvError> {
-    let mut demands = Demands::NONE;
-    for place in &listing.parts.capabilities {
-        demands.declare(listing.need(&listing.at(*place), 0)?);
-    }
-    Ok(demands)
-}
-
 impl<T: Types, C: Constants, V: Variables> Declarations<T, C, V> {
+    // All that the module declares.
+    fn take_all(
+        &mut self,
+        alloc: Global,
+        listing: &Listing,
+        uses: &Uses,
+    ) -> Result<(), SpirvError> {
+        let scan = Scan::of_module(alloc, listing)?;
+        let reading = Reading {
+            alloc,
+            listing,
+            scan: &scan,
+            uses,
+        };
+        self.take_each(&reading)
+    }
+
+    // The same in order: what its capabilities require, its declarations, and what its functions need besides.
+    fn take_each(&mut self, reading: &Reading) -> Result<(), SpirvError> {
+        let listing = reading.listing;
+        for place in &listing.parts.capabilities {
+            self.demands.declare(listing.need(&listing.at(*place), 0)?);
+        }
+        for place in &listing.parts.declarations {
+            self.take(reading, &listing.at(*place))?;
+        }
+        if reading.uses.numbered {
+            self.demands.ask(Capabilities::SUBGROUP);
+            self.add_hidden(SUBGROUP_NUMBERS)?;
+        }
+        if reading.uses.placed {
+            self.add_hidden(FRAGMENT_PLACE)?;
+        }
+        Ok(())
+    }
+
     // A variable of two words that no id of the module is.
     fn add_hidden(&mut self, id: u32) -> Result<(), SpirvError> {
         let built = self.types.vector(Some(VectorSize::Bi), Scalar::U32)?;

@@ -40,6 +40,28 @@ fn size_of<I: Interface>(
     }
 }
 
+// The size of workgroups that the operands from this place on say, each as a constant or as it is.
+fn read_size<I: Interface>(
+    listing: &Listing,
+    declared: &I,
+    instruction: &Instruction,
+    first: usize,
+    by_constants: bool,
+) -> Result<[u32; 3], SpirvError> {
+    let mut size = [0, 0, 0];
+    let mut place = first;
+    for word in &mut size {
+        let operand = listing.need(instruction, place)?;
+        *word = if by_constants {
+            size_of(declared, operand, instruction)?
+        } else {
+            operand
+        };
+        place = place.saturating_add(1);
+    }
+    Ok(size)
+}
+
 /// The size of workgroups that a constant of the module says, if one is decorated so.
 pub fn decorated_size<I: Interface>(
     listing: &Listing,
@@ -56,11 +78,10 @@ pub fn decorated_size<I: Interface>(
         }
         let said = Decorated::of(listing, instruction.id, None).built_in;
         if said == Some(numbers::BUILT_IN_WORKGROUP_SIZE) {
-            let mut size = [0, 0, 0];
-            for (number, word) in size.iter_mut().enumerate() {
-                *word = size_of(declared, listing.need(&instruction, number)?, &instruction)?;
-            }
-            return Ok(Some(size));
+            return match read_size(listing, declared, &instruction, 0, true) {
+                Ok(size) => Ok(Some(size)),
+                Err(error) => Err(error),
+            };
         }
     }
     Ok(None)
@@ -84,18 +105,10 @@ pub fn modes_of<I: Interface>(
                 declared.require(Capabilities::EARLY_DEPTH_TEST);
             }
             numbers::MODE_LOCAL_SIZE => {
-                modes.size = [
-                    listing.need(&mode, 2)?,
-                    listing.need(&mode, 3)?,
-                    listing.need(&mode, 4)?,
-                ];
+                modes.size = read_size(listing, declared, &mode, 2, false)?;
             }
             numbers::MODE_LOCAL_SIZE_ID => {
-                modes.size = [
-                    size_of(declared, listing.need(&mode, 2)?, &mode)?,
-                    size_of(declared, listing.need(&mode, 3)?, &mode)?,
-                    size_of(declared, listing.need(&mode, 4)?, &mode)?,
-                ];
+                modes.size = read_size(listing, declared, &mode, 2, true)?;
             }
             _ => {}
         }

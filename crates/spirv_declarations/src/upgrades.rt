@@ -1,6 +1,7 @@
 // Types with atomics in them.
 
 use ir_types::{IrType, StructMember, TypeInner};
+use spirv_flow::PathPart;
 use spirv_types::{Reading, TypeHandle, TypeTable, Types, span_of};
 use spirv_words::{Feature, Instruction, SpirvError};
 
@@ -17,39 +18,84 @@ pub(crate) fn upgraded<T: Types>(
     let (Some(part), Some(depth)) = (reading.uses.atomics.part(place), depth.checked_sub(1)) else {
         return Err(instruction.unsupported_by(Feature::DeepAtomic));
     };
+    if let Some(TypeInner::Struct { .. }) = types.types.inner(handle) {
+        if let Some(inside) = elements_in(reading, place) {
+            return upgraded(types, reading, instruction, handle, inside, depth);
+        }
+    }
     let Some(IrType { name, inner }) = types.types.copy(reading.alloc, handle)? else {
         return Err(instruction.unsupported());
     };
-    let inner = match inner {
-        TypeInner::Scalar(scalar) if part.is_atomic => TypeInner::Atomic(scalar),
+    match upgraded_inner(
+        types,
+        reading,
+        instruction,
+        inner,
+        place,
+        part.is_atomic,
+        depth,
+    ) {
+        Ok(inner) => types.insert(name, inner, span_of(instruction)),
+        Err(error) => Err(error),
+    }
+}
+
+// The same of what a type is made of, of which this place is.
+#[cycle(upgrading)]
+fn upgraded_inner<T: Types>(
+    types: &mut TypeTable<T>,
+    reading: &Reading,
+    instruction: &Instruction,
+    inner: TypeInner,
+    place: u32,
+    is_atomic: bool,
+    depth: u32,
+) -> Result<TypeInner, SpirvError> {
+    match inner {
+        TypeInner::Scalar(scalar) if is_atomic => Ok(TypeInner::Atomic(scalar)),
         TypeInner::Array { base, size, stride } => {
-            let base = upgraded_part(types, reading, instruction, base, place, depth)?;
-            TypeInner::Array { base, size, stride }
+            match upgraded_part(types, reading, instruction, base, place, depth) {
+                Ok(base) => Ok(TypeInner::Array { base, size, stride }),
+                Err(error) => Err(error),
+            }
         }
         TypeInner::BindingArray { base, size } => {
-            let base = upgraded_part(types, reading, instruction, base, place, depth)?;
-            TypeInner::BindingArray { base, size }
+            match upgraded_part(types, reading, instruction, base, place, depth) {
+                Ok(base) => Ok(TypeInner::BindingArray { base, size }),
+                Err(error) => Err(error),
+            }
         }
         TypeInner::Struct { members, span } => {
-            if let Some(inside) = elements_in(reading, place) {
-                return upgraded(types, reading, instruction, handle, inside, depth);
-            }
             let mut members = members;
             upgrade_members(types, reading, instruction, &mut members, place, depth)?;
-            TypeInner::Struct { members, span }
+            Ok(TypeInner::Struct { members, span })
         }
-        _ => return Err(instruction.unsupported_by(Feature::AtomicOfNoNumber)),
-    };
-    types.insert(name, inner, span_of(instruction))
+        _ => Err(instruction.unsupported_by(Feature::AtomicOfNoNumber)),
+    }
 }
 
 // The elements that are the part inside of the one at this place, if they are: of an array in an array of resources, which are
 // built as one.
 fn elements_in(reading: &Reading, place: u32) -> Option<u32> {
-    let inside = reading.uses.atomics.first(place)?;
-    match reading.uses.atomics.part(inside)?.member {
-        None => Some(inside),
-        Some(_) => None,
+    let Some(inside) = reading.uses.atomics.first(place) else {
+        return None;
+    };
+    match reading.uses.atomics.part(inside) {
+        Some(PathPart { member: None, .. }) => Some(inside),
+        _ => None,
+    }
+}
+
+// The place of the member of a struct that a part is.
+fn member_of(reading: &Reading, part: u32) -> usize {
+    match reading.uses.atomics.part(part) {
+        Some(
+            PathPart {
+                member: Some(member),
+                ..
+            },
+        ) => member as usize,
+        _ => 0,
     }
 }
 
@@ -69,8 +115,7 @@ fn upgrade_members<T: Types>(
         let Some(inside) = at else {
             break;
         };
-        let member = paths.part(inside).and_then(|part| part.member).unwrap_or(0);
-        if let Some(member) = members.get_mut(member as usize) {
+        if let Some(member) = members.get_mut(member_of(reading, inside)) {
             member.ty = upgraded(types, reading, instruction, member.ty, inside, depth)?;
         }
         at = paths.next(inside);

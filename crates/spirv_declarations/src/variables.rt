@@ -15,7 +15,7 @@ use spirv_types::{
     ImageShape, ImageUse, Reading, Resources, Shape, TypeHandle, TypeTable, Types, block_access,
     image_class, space_of, span_of,
 };
-use spirv_words::{Feature, Instruction, Listing, Malformed, SpirvError};
+use spirv_words::{Feature, Instruction, Listing, Malformed, SpirvError, number_at};
 use std::alloc::Global;
 use std::collections::BTreeMap;
 
@@ -130,20 +130,13 @@ fn resource_type<T: Types>(
 impl<V: Variables> VariableTable<V> {
     /// None, with the bindings that the variables of the module take, to be built there.
     pub fn new(alloc: Global, listing: &Listing, built: V) -> Result<VariableTable<V>, SpirvError> {
+        let places = vec![in alloc; 0u32; listing.bound()]?;
         let mut free = BTreeMap::new(alloc);
-        for place in &listing.parts.declarations {
-            let instruction = listing.at(*place);
-            if instruction.opcode == ops::VARIABLE {
-                let said = Decorated::of(listing, instruction.id, None);
-                if let Some(binding) = said.binding {
-                    take_binding(&mut free, said.set.unwrap_or(0), binding)?;
-                }
-            }
-        }
+        take_bindings(listing, &mut free)?;
         Ok(VariableTable {
             built,
             all: Vec::new(alloc),
-            places: vec![in alloc; 0u32; listing.bound()]?,
+            places,
             hidden: Vec::new(alloc),
             free,
         })
@@ -151,8 +144,7 @@ impl<V: Variables> VariableTable<V> {
 
     /// The variable with this id.
     pub fn of(&self, id: u32) -> Option<Variable> {
-        let place = self.places.get(id as usize).copied().unwrap_or(0);
-        if let Some(place) = place.checked_sub(1) {
+        if let Some(place) = number_at(&self.places, id).checked_sub(1) {
             return self.all.get(place as usize).copied();
         }
         for hidden in &self.hidden {
@@ -407,6 +399,20 @@ fn resource_of<T: Types>(types: &TypeTable<T>, draft: &Draft) -> Result<Resource
 
 // How many steps a part of a variable may lie deep (universal limit of the standard).
 const MAX_STEPS: u32 = 255;
+
+// The bindings that variables are decorated with are taken.
+fn take_bindings(listing: &Listing, free: &mut BTreeMap<u32, u32>) -> Result<(), SpirvError> {
+    for place in &listing.parts.declarations {
+        let instruction = listing.at(*place);
+        if instruction.opcode == ops::VARIABLE {
+            let said = Decorated::of(listing, instruction.id, None);
+            if let Some(binding) = said.binding {
+                take_binding(free, said.set.unwrap_or(0), binding)?;
+            }
+        }
+    }
+    Ok(())
+}
 
 // A binding of a group is taken.
 fn take_binding(free: &mut BTreeMap<u32, u32>, group: u32, binding: u32) -> Result<(), SpirvError> {

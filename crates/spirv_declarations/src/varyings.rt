@@ -1,17 +1,15 @@
 // What goes between stages.
 
 use crate::variables::{Draft, VariableTable, Variables, Varying};
-use ir_arena::span::Span;
 use ir_flags::{Capabilities, MemoryDecorations};
 use ir_items::GlobalVariable;
-use ir_kinds::{AddressSpace, Binding, BuiltIn, Literal, Scalar, ScalarKind, VectorSize};
+use ir_kinds::{AddressSpace, Binding, BuiltIn, Scalar, ScalarKind, VectorSize};
 use ir_types::{Expression, IrType, StructMember, TypeInner};
 use spirv_constants::{ConstantTable, Constants, ExpressionHandle};
 use spirv_numbers::{numbers, ops};
 use spirv_tables::{Decorated, Demands, is_unsigned, with_default};
 use spirv_types::{Reading, Shape, TypeHandle, TypeTable, Types, span_of};
 use spirv_words::{Feature, Malformed, SpirvError, Unsupported};
-use std::alloc::Global;
 
 impl<V: Variables> VariableTable<V> {
     // An input or an output: a private variable, and what an entry point takes or gives it as.
@@ -118,19 +116,10 @@ fn initial<T: Types, C: Constants>(
         return given(reading, types, constants, draft, built, id);
     }
     if binding.is_some() {
-        return default_value(reading.alloc, types, constants, binding, built, span);
+        constants.default_value(reading.alloc, types, binding, built, span)
+    } else {
+        constants.default_struct(reading.alloc, types, built, span)
     }
-    let members = match types.types.inner(built) {
-        Some(TypeInner::Struct { members, .. }) => members.as_slice(),
-        _ => &[],
-    };
-    let mut components = Vec::new(reading.alloc);
-    for member in members {
-        let (ty, bound) = (member.ty, member.binding);
-        components.push(default_value(reading.alloc, types, constants, bound, ty, span)?)?;
-    }
-    let ty = built;
-    constants.add(Expression::Compose { ty, components }, span)
 }
 
 // The initializer that a variable is given; of a struct that was built anew put together again.
@@ -159,43 +148,6 @@ fn given<T: Types, C: Constants>(
         }
         _ => Err(draft.instruction.unsupported_by(Feature::BlockInitializer)),
     }
-}
-
-// The bits of 1 as a float.
-const ONE: u32 = 0x3f80_0000;
-
-// What a value with this binding begins as.
-fn default_value<T: Types, C: Constants>(
-    alloc: Global,
-    types: &TypeTable<T>,
-    constants: &mut ConstantTable<C>,
-    binding: Option<Binding>,
-    ty: TypeHandle,
-    span: Span,
-) -> Result<ExpressionHandle, SpirvError> {
-    let literal = match binding {
-        Some(Binding::BuiltIn(BuiltIn::Position { .. })) => {
-            let zero = constants.add(Expression::Literal(Literal::F32(0)), span)?;
-            let one = constants.add(Expression::Literal(Literal::F32(ONE)), span)?;
-            let components = vec![in alloc; zero, zero, zero, one]?;
-            return constants.add(Expression::Compose { ty, components }, span);
-        }
-        Some(Binding::BuiltIn(BuiltIn::PointSize)) => Literal::F32(ONE),
-        Some(Binding::BuiltIn(BuiltIn::SampleMask)) if is_word(types, ty) => Literal::U32(u32::MAX),
-        _ => return constants.add(Expression::ZeroValue(ty), span),
-    };
-    constants.add(Expression::Literal(literal), span)
-}
-
-// Whether a type is `u32`.
-fn is_word<T: Types>(types: &TypeTable<T>, ty: TypeHandle) -> bool {
-    matches!(
-        types.types.inner(ty),
-        Some(TypeInner::Scalar(Scalar {
-            kind: ScalarKind::Uint,
-            width: 4
-        }))
-    )
 }
 
 // The type that an input is taken as: a signed built-in without its sign.
@@ -269,11 +221,22 @@ fn member_bindings<T: Types>(
     draft: &Draft,
     plain: TypeHandle,
 ) -> Result<Vec<Option<Binding>>, SpirvError> {
-    let members = match types.types.inner(plain) {
-        Some(TypeInner::Struct { members, .. }) => members.as_slice(),
-        _ => &[],
-    };
     let mut bindings = Vec::new(reading.alloc);
+    if let Some(TypeInner::Struct { members, .. }) = types.types.inner(plain) {
+        add_bindings(reading, types, demands, draft, members, &mut bindings)?;
+    }
+    Ok(bindings)
+}
+
+// Adds what binds each of these.
+fn add_bindings<T: Types>(
+    reading: &Reading,
+    types: &TypeTable<T>,
+    demands: &mut Demands,
+    draft: &Draft,
+    members: &[StructMember],
+    bindings: &mut Vec<Option<Binding>>,
+) -> Result<(), SpirvError> {
     let mut location = draft.said.location;
     let mut place = 0u32;
     for member in members {
@@ -292,7 +255,7 @@ fn member_bindings<T: Types>(
         }
         place = place.saturating_add(1);
     }
-    Ok(bindings)
+    Ok(())
 }
 
 // What is said of a member of such a block, or of the variable.

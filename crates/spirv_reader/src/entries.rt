@@ -59,8 +59,20 @@ pub fn lower_entries<I: Interface>(
     order: &Order,
     declared: &mut I,
 ) -> Result<Vec<EntryPoint>, SpirvError> {
-    let decorated = decorated_size(listing, declared)?;
     let mut entries = Vec::new(alloc);
+    add_entries(alloc, listing, order, declared, &mut entries)?;
+    Ok(entries)
+}
+
+// Adds them to a list.
+fn add_entries<I: Interface>(
+    alloc: Global,
+    listing: &Listing,
+    order: &Order,
+    declared: &mut I,
+    entries: &mut Vec<EntryPoint>,
+) -> Result<(), SpirvError> {
+    let decorated = decorated_size(listing, declared)?;
     for place in &listing.parts.entry_points {
         let instruction = listing.at(*place);
         let entry = Entry {
@@ -73,9 +85,10 @@ pub fn lower_entries<I: Interface>(
         entries.push(entry.lower(order, declared, decorated)?)?;
     }
     if entries.is_empty() {
-        return Err(SpirvError::untranslated(Feature::NoEntryPoint, 0));
+        Err(SpirvError::untranslated(Feature::NoEntryPoint, 0))
+    } else {
+        Ok(())
     }
-    Ok(entries)
 }
 
 impl Entry<'_> {

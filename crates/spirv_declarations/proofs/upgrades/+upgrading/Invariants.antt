@@ -2,13 +2,16 @@ use Rattle.std.proofs.Common.{◌+◌, ◌*◌}
 use Rattle.spirv_declarations.proofs.upgrades.+upgrading.Given as goal
 
 abbrev pub decreases-upgraded : goal.decreases-upgraded
-decreases-upgraded g l = 2 * l.depth
+decreases-upgraded g l = 3 * l.depth
+
+abbrev pub decreases-upgraded_inner : goal.decreases-upgraded_inner
+decreases-upgraded_inner g l = 3 * l.depth + 2
 
 abbrev pub decreases-upgrade_members : goal.decreases-upgrade_members
-decreases-upgrade_members g l = 2 * l.depth + 1
+decreases-upgrade_members g l = 3 * l.depth + 1
 
 abbrev pub decreases-upgraded_part : goal.decreases-upgraded_part
-decreases-upgraded_part g l = 2 * l.depth + 1
+decreases-upgraded_part g l = 3 * l.depth + 1
 
 abbrev pub invariant-upgrade_members-loop : goal.invariant-upgrade_members-loop
 invariant-upgrade_members-loop g l = Unit {0}

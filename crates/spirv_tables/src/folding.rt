@@ -1,6 +1,6 @@
 // What operations on constants of whole numbers and truth values give.
 
-use crate::constants::{literal, value_of};
+use crate::literals::{literal, value_of};
 use ir_kinds::{Scalar, ScalarKind};
 use spirv_numbers::ops;
 
