@@ -41,7 +41,10 @@ impl<O: Origin, T: Tables, W: Writing> Builder for Lowering<O, T, W> {
     }
 
     fn type_of(&self, id: u32) -> u32 {
-        self.source.definition(id).map_or(0, |made| made.ty)
+        match self.source.definition(id) {
+            Some(made) => made.ty,
+            None => 0,
+        }
     }
 
     fn built(&mut self, ty: u32, operation: &Operation) -> TypeHandle {

@@ -67,12 +67,19 @@ impl<C: Constants> ConstantTable<C> {
     // Whether all these are constants, and none is an override or has one in it.
     fn are_constants(&self, ids: &[u32]) -> bool {
         for id in ids {
-            let made = self.known_part(*id).map(|known| known.made);
-            if !matches!(made, Some(Made::Constant(_))) {
+            if !self.is_constant(*id) {
                 return false;
             }
         }
         true
+    }
+
+    // Whether it is a constant, and not an override or put together of such.
+    pub(crate) fn is_constant(&self, id: u32) -> bool {
+        match self.known_part(id) {
+            Some(known) => matches!(known.made, Made::Constant(_)),
+            None => false,
+        }
     }
 
     // The type of a constant; 0 where it is none.

@@ -7,7 +7,7 @@ use ir_types::{ArraySize, Expression, key};
 use spirv_numbers::ops;
 use spirv_tables::{Decorated, literal, value_of};
 use spirv_types::{Reading, Shape, TypeHandle, TypeTable, Types, span_of};
-use spirv_words::{Feature, Instruction, Listing, Malformed, SpirvError, Unsupported};
+use spirv_words::{Feature, Instruction, Listing, Malformed, SpirvError, Unsupported, number_at};
 use std::alloc::Global;
 
 /// The handle of an expression, of the module or of a function.
@@ -238,10 +238,12 @@ impl<C: Constants> ConstantTable<C> {
 
     /// The same of a part of a constant, which need not have an id.
     pub fn known_part(&self, id: u32) -> Option<Known> {
-        let known = self.known.get(id as usize).copied()?;
+        let Some(known) = self.known.get(id as usize) else {
+            return None;
+        };
         match known.made {
             Made::Nothing => None,
-            Made::Constant(_) | Made::Override(_) | Made::Parts { .. } => Some(known),
+            Made::Constant(_) | Made::Override(_) | Made::Parts { .. } => Some(*known),
         }
     }
 
@@ -255,8 +257,7 @@ impl<C: Constants> ConstantTable<C> {
 
     /// The constant at a place among those that one is put together of, which begin at the first; 0 where there is none.
     pub fn part(&self, first: u32, place: u32) -> u32 {
-        let at = first.saturating_add(place);
-        self.parts.get(at as usize).copied().unwrap_or(0)
+        number_at(&self.parts, first.saturating_add(place))
     }
 
     /// The length of an array that a constant says.
@@ -267,14 +268,9 @@ impl<C: Constants> ConstantTable<C> {
         if let Some(size) = pending(&known.made) {
             return Ok(size);
         }
-        let count = known
-            .value
-            .and_then(|value| u32::try_from(value).ok())
-            .unwrap_or(0);
-        if count == 0 {
-            Err(instruction.unsupported_by(Feature::ArrayLength))
-        } else {
-            Ok(ArraySize::Constant(count))
+        match u32::try_from(known.value.unwrap_or(0)) {
+            Ok(count) if count != 0 => Ok(ArraySize::Constant(count)),
+            _ => Err(instruction.unsupported_by(Feature::ArrayLength)),
         }
     }
 
@@ -392,10 +388,10 @@ impl<C: Constants> ConstantTable<C> {
         value: Option<i64>,
     ) {
         let said = Decorated::of(reading.listing, instruction.id, None).spec_id;
-        let id = said.and_then(|number| u16::try_from(number).ok());
-        if let (Some(number), None) = (said, id) {
-            self.fail(instruction.unsupported_as(Unsupported::SpecId(number)));
-        }
+        let id = match said {
+            Some(number) => self.override_id(number, instruction),
+            None => None,
+        };
         let name = self.name_of(reading, instruction.id);
         let span = span_of(instruction);
         let made = match id {
@@ -403,6 +399,17 @@ impl<C: Constants> ConstantTable<C> {
             None => self.put_constant(name, ty, init, span),
         };
         self.set_known(instruction.id, Known::of(made, instruction.ty, value));
+    }
+
+    // The id of an override.
+    fn override_id(&mut self, number: u32, instruction: &Instruction) -> Option<u16> {
+        match u16::try_from(number) {
+            Ok(id) => Some(id),
+            Err(_) => {
+                self.fail(instruction.unsupported_as(Unsupported::SpecId(number)));
+                None
+            }
+        }
     }
 
     // A constant of the module.

@@ -211,7 +211,7 @@ impl<C: Constants> ConstantTable<C> {
     // The literal that an operation gives all of whose operands are constants, where it was computed.
     fn constant_literal(&self, operation: &Operation, value: Option<i64>) -> Option<Literal> {
         let value = value?;
-        if !self.is_constant(operation) {
+        if !self.are_constant(operation) {
             return None;
         }
         match operation.scalar.kind {
@@ -231,12 +231,11 @@ impl<C: Constants> ConstantTable<C> {
     }
 
     // Whether all operands are constants, and none is an override.
-    fn is_constant(&self, operation: &Operation) -> bool {
+    fn are_constant(&self, operation: &Operation) -> bool {
         for place in 0..operation.count {
-            let id = operation.operands.get(place).copied().unwrap_or(0);
-            let made = self.known_part(id).map(|known| known.made);
-            if !matches!(made, Some(Made::Constant(_))) {
-                return false;
+            match operation.operands.get(place) {
+                Some(id) if self.is_constant(*id) => {}
+                _ => return false,
             }
         }
         true
@@ -415,11 +414,12 @@ impl<C: Constants> ConstantTable<C> {
         sign: Option<ScalarKind>,
     ) -> ExpressionHandle {
         let first = self.need(operation, 0);
-        let left = self.scalar_of(types, first);
-        match sign.or(left.map(|scalar| scalar.kind)) {
-            Some(kind) => self.binary(types, operation, op, kind, kind),
-            None => self.refuse_expression(operation.unsupported()),
-        }
+        let kind = match (sign, self.scalar_of(types, first)) {
+            (Some(kind), _) => kind,
+            (None, Some(scalar)) => scalar.kind,
+            (None, None) => return self.refuse_expression(operation.unsupported()),
+        };
+        self.binary(types, operation, op, kind, kind)
     }
 
     // What has this kind, as the result's, bit for bit.

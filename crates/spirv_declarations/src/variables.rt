@@ -295,7 +295,10 @@ impl<V: Variables> VariableTable<V> {
         let handle = self.append(draft, handle_variable(name, binding, built))?;
         let sampler = if combined {
             let ty = sampler_type(types, draft)?;
-            let group = binding.map_or(0, |resource| resource.group);
+            let group = match binding {
+                Some(resource) => resource.group,
+                None => 0,
+            };
             let free = self.free_binding(group)?;
             let name = sampler_name(reading.alloc, reading.listing, draft.instruction.id)?;
             let resource = ResourceBinding {

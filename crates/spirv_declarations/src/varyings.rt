@@ -208,7 +208,10 @@ fn bound_struct<T: Types>(
 fn bind_all(members: &mut [StructMember], bindings: &[Option<Binding>]) {
     let mut place = 0usize;
     for member in members {
-        member.binding = bindings.get(place).copied().unwrap_or(None);
+        member.binding = match bindings.get(place) {
+            Some(binding) => *binding,
+            None => None,
+        };
         place = place.saturating_add(1);
     }
 }
@@ -288,6 +291,9 @@ fn bound_member(
 
 // How many locations a member takes.
 fn locations_of<T: Types>(types: &TypeTable<T>, block: u32, place: u32) -> u32 {
-    let ty = types.member(block, place).map_or(0, |shape| shape.ty);
+    let ty = match types.member(block, place) {
+        Some(member) => member.ty,
+        None => 0,
+    };
     u32::try_from(types.layout(ty).locations).unwrap_or(u32::MAX)
 }

@@ -306,9 +306,10 @@ fn refuse_relaid<B: Builder>(builder: &mut B, operation: &Operation, ty: u32) {
         return;
     };
     for place in 0..count {
-        let stored = builder
-            .part(ty, place)
-            .map_or(Stored::PLAIN, |part| part.stored);
+        let stored = match builder.part(ty, place) {
+            Some(part) => part.stored,
+            None => Stored::PLAIN,
+        };
         if !stored.is_plain() {
             builder.fail(stored.unsupported(&operation.instruction, Feature::RowMajorStruct));
             return;
@@ -425,7 +426,7 @@ fn shuffle<B: Builder>(builder: &mut B, operation: &Operation) -> Value {
         high &= index >= split;
         keep(builder, &mut indexes, index);
     }
-    let Some(size) = u32::try_from(indexes.len()).ok().and_then(vector_size) else {
+    let Some(size) = vector_size(u32::try_from(indexes.len()).unwrap_or(0)) else {
         return refuse(builder, operation.malformed(Malformed::WrongType));
     };
     if low {

@@ -165,8 +165,10 @@ pub fn math<B: Builder>(builder: &mut B, operation: &Operation, number: u32) -> 
         return refuse(builder, operation.instruction.unsupported_as(what));
     };
     let arg = operand(builder, operation, 2);
-    let from = operand_shape(builder, operation, 2).scalar();
-    let given = from.map_or(ScalarKind::Float, |scalar| scalar.kind);
+    let given = match operand_shape(builder, operation, 2).kind() {
+        Some(kind) => kind,
+        None => ScalarKind::Float,
+    };
     let kind = sign.unwrap_or(given);
     let arg = as_kind(builder, operation, arg, given, kind);
     let mut second = argument(builder, operation, 3, sign);

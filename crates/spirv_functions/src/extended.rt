@@ -7,7 +7,7 @@ use spirv_expressions::{Operation, Value, as_kind, call, math, need, result_scal
 use spirv_flow::is_debug;
 use spirv_images::cast;
 use spirv_operations::{FunctionBuilder, split};
-use spirv_words::{Feature, Instruction, starts_text};
+use spirv_words::{Feature, starts_text};
 
 // Doubles out of two words, and the other way.
 const PACK_DOUBLE_2X32: u32 = 59;
@@ -20,7 +20,7 @@ pub fn extended<L: FunctionBuilder>(source: Source, lowering: &mut L, operation:
         return;
     }
     let set = need(lowering, operation, 0);
-    let import = source.listing.definition(set).unwrap_or(Instruction::NONE);
+    let import = source.listing.defined(set);
     let name = source.listing.operands(&import);
     let number = need(lowering, operation, 1);
     let value = if starts_text(name, "GLSL.std.450", true) {

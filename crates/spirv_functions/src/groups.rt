@@ -267,7 +267,7 @@ fn all_equal<L: FunctionBuilder>(lowering: &mut L, operation: &Operation, place:
     let ty = lowering.type_of(id);
     let shape = lowering.shape(ty);
     let mut left = operand(lowering, operation, place);
-    let is_truth = shape.scalar().map(|scalar| scalar.kind) == Some(ScalarKind::Bool);
+    let is_truth = shape.kind() == Some(ScalarKind::Bool);
     let of_value = if is_truth {
         left = numbers_of(lowering, operation, left, shape.size());
         lowering.vector(shape.size(), Scalar::U32)

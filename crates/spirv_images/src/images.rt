@@ -148,8 +148,8 @@ fn level_of<B: Builder>(
         if compares(operation.instruction.opcode) {
             return SampleLevel::Zero;
         }
-        let scalar = builder.shape(builder.type_of(level)).scalar();
-        if !is_depth(image) && scalar.map(|scalar| scalar.kind) != Some(ScalarKind::Float) {
+        let kind = builder.shape(builder.type_of(level)).kind();
+        if !is_depth(image) && kind != Some(ScalarKind::Float) {
             builder.fail(operation.unsupported_by(Feature::IntegerLod));
         }
         return SampleLevel::Exact(builder.value(level, operation));

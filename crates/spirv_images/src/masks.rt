@@ -55,7 +55,10 @@ pub fn image_operands<B: Builder>(
     operation: &Operation,
     place: usize,
 ) -> ImageOperands {
-    let mask = operation.operands.get(place).copied().unwrap_or(0);
+    let mask = match operation.operands.get(place) {
+        Some(mask) => *mask,
+        None => 0,
+    };
     if mask & CONST_OFFSETS != 0 {
         builder.fail(operation.unsupported_by(Feature::ConstOffsets));
     }

@@ -2,6 +2,7 @@
 
 use ir_kinds::{BinaryOperator, Literal, Scalar, ScalarKind};
 use spirv_expressions::{Builder, Operation, Value, binary, convert, operand_scalar, select};
+use spirv_words::number_at;
 
 /// The selector of a switch out of its value, and whether its cases are signed.
 pub fn selector_of<B: Builder>(
@@ -43,8 +44,8 @@ fn place_of<B: Builder>(
 
 // A value of two words, the lower one first.
 fn literal_of(words: &[u32], scalar: Scalar) -> Literal {
-    let low = u64::from(words.first().copied().unwrap_or(0));
-    let high = u64::from(words.get(1).copied().unwrap_or(0));
+    let low = u64::from(number_at(words, 0));
+    let high = u64::from(number_at(words, 1));
     let bits = high << 32 | low;
     if scalar.kind == ScalarKind::Sint {
         Literal::I64(bits.cast_signed())

@@ -51,10 +51,27 @@ fn bits_at<B: Builder>(
         Shape::Vector { .. } => part_of(builder, operation, value, place),
         _ => value,
     };
-    let kind = shape
-        .scalar()
-        .map_or(ScalarKind::Uint, |scalar| scalar.kind);
+    let kind = match shape.kind() {
+        Some(kind) => kind,
+        None => ScalarKind::Uint,
+    };
     as_kind(builder, operation, part, kind, ScalarKind::Uint)
+}
+
+// How many bytes a scalar of a type has; so many where it has none.
+fn width_of(shape: &Shape, otherwise: u8) -> u8 {
+    match shape.scalar() {
+        Some(scalar) => scalar.width,
+        None => otherwise,
+    }
+}
+
+// How often one width is in another.
+fn times_in(wide: u8, narrow: u8) -> u32 {
+    match wide.checked_div(narrow) {
+        Some(times) => u32::from(times),
+        None => 1,
+    }
 }
 
 // So many components of an operand, from one on, as one wide number: the first has the lowest bits.
@@ -66,8 +83,7 @@ fn joined<B: Builder>(
     first: u32,
     to: Scalar,
 ) -> Value {
-    let width = shape.scalar().map_or(4, |scalar| scalar.width);
-    let count = u32::from(to.width.checked_div(width).unwrap_or(1));
+    let count = times_in(to.width, width_of(shape, 4));
     let mut whole = None;
     for place in 0..count {
         let narrow = bits_at(
@@ -136,8 +152,7 @@ fn widened<B: Builder>(
     shape: &Shape,
     to: Scalar,
 ) -> Vec<Value> {
-    let width = shape.scalar().map_or(to.width, |scalar| scalar.width);
-    let each = u32::from(to.width.checked_div(width).unwrap_or(1));
+    let each = times_in(to.width, width_of(shape, to.width));
     let mut components = Vec::new(builder.alloc());
     for place in 0..component_count(builder.shape(operation.instruction.ty)) {
         let first = place.saturating_mul(each);
@@ -155,8 +170,7 @@ fn narrowed<B: Builder>(
     shape: &Shape,
     to: Scalar,
 ) -> Vec<Value> {
-    let width = shape.scalar().map_or(to.width, |scalar| scalar.width);
-    let each = u32::from(width.checked_div(to.width).unwrap_or(1));
+    let each = times_in(width_of(shape, to.width), to.width);
     let mut components = Vec::new(builder.alloc());
     for place in 0..component_count(*shape) {
         let wide = bits_at(builder, operation, value, shape, place);

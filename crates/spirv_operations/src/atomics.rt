@@ -170,11 +170,11 @@ pub fn store_texel<L: FunctionBuilder>(lowering: &mut L, operation: &Operation) 
     let id = need(lowering, operation, 0);
     let image = lowering.image(id, operation);
     let at = read_coordinates(lowering, operation, &image, 1, false);
-    if operation
-        .operands
-        .get(3)
-        .is_some_and(|mask| mask & !ORDERING != 0)
-    {
+    let mask = match operation.operands.get(3) {
+        Some(mask) => *mask,
+        None => 0,
+    };
+    if mask & !ORDERING != 0 {
         lowering.fail(operation.unsupported_by(Feature::ImageWriteOperands));
         return;
     }

@@ -179,7 +179,10 @@ fn array_length<L: FunctionBuilder>(lowering: &mut L, operation: &Operation) {
     let place = lowering.pointer(id, operation);
     let block = lowering.way(place, operation);
     let ty = lowering.pointer_at(place, operation).ty;
-    let index = lowering.part(ty, member).map_or(member, |part| part.index);
+    let index = match lowering.part(ty, member) {
+        Some(part) => part.index,
+        None => member,
+    };
     let array = part_of(lowering, operation, block, index);
     let value = lowering.emit(Expression::ArrayLength(array), operation);
     lowering.define(operation, value);

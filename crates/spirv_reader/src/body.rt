@@ -50,8 +50,10 @@ impl Body {
     fn append(&mut self, expression: Expression, span: Span) -> Value {
         let left = self.left.checked_sub(1);
         if left.is_none() {
-            let word = span.to_range().map_or(0, |range| range.start);
-            let word = u32::try_from(word).unwrap_or(u32::MAX);
+            let word = match span.to_range() {
+                Some(range) => u32::try_from(range.start).unwrap_or(u32::MAX),
+                None => 0,
+            };
             self.fail(SpirvError::untranslated(Feature::ExpressionLimit, word));
         }
         self.left = left.unwrap_or(0);

@@ -28,15 +28,24 @@ fn bits_of(value: i64, scalar: Scalar) -> u64 {
     }
 }
 
+// The value of a scalar with these bits.
+fn value_in(scalar: Scalar, bits: u64) -> Option<i64> {
+    match literal(scalar, bits) {
+        Some(literal) => value_of(literal),
+        None => None,
+    }
+}
+
 // The same value with the sign that its highest bit says.
 fn signed_of(value: i64, scalar: Scalar) -> i64 {
     let signed = Scalar {
         kind: ScalarKind::Sint,
         width: scalar.width,
     };
-    literal(signed, value.cast_unsigned())
-        .and_then(value_of)
-        .unwrap_or(value)
+    match value_in(signed, value.cast_unsigned()) {
+        Some(signed) => signed,
+        None => value,
+    }
 }
 
 /// What an operation gives as a value of this scalar, where it can be computed here. The values are of whole numbers or truth
@@ -64,7 +73,7 @@ pub fn folded(opcode: u16, to: Scalar, from: Scalar, values: [i64; 3]) -> Option
     };
     match to.kind {
         ScalarKind::Bool => Some(i64::from(bits % 2 == 1)),
-        _ => literal(to, bits).and_then(value_of),
+        _ => value_in(to, bits),
     }
 }
 

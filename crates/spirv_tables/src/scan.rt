@@ -49,7 +49,10 @@ impl Scan {
     }
 
     fn at(&self, id: u32) -> Known {
-        self.known.get(id as usize).copied().unwrap_or(NOTHING)
+        match self.known.get(id as usize) {
+            Some(known) => *known,
+            None => NOTHING,
+        }
     }
 
     // The interface of an entry point; the words of its name do no harm.

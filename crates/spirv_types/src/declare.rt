@@ -71,7 +71,7 @@ impl<T: Types> TypeTable<T> {
         shape: Shape,
         layout: Layout,
     ) {
-        let handle = self.build(inner, span_of(instruction));
+        let handle = self.build(None, inner, span_of(instruction));
         self.set(instruction.id, shape, Some(handle), layout);
     }
 
@@ -219,7 +219,7 @@ impl<T: Types> TypeTable<T> {
             }
         };
         let inner = TypeInner::Pointer { base, space };
-        Some(self.build(inner, span_of(instruction)))
+        Some(self.build(None, inner, span_of(instruction)))
     }
 
     /// An array whose length is known, or is found when it runs.

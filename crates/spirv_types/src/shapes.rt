@@ -2,7 +2,7 @@
 
 use ir_arena::handle::Handle;
 use ir_arena::span::Span;
-use ir_kinds::{ImageClass, ImageDimension, Scalar, StorageFormat, VectorSize};
+use ir_kinds::{ImageClass, ImageDimension, Scalar, ScalarKind, StorageFormat, VectorSize};
 use ir_types::{ArraySize, key};
 use spirv_tables::{Layout, matrix_layout, vector_layout};
 use spirv_words::{Feature, Instruction, SpirvError, Unsupported};
@@ -115,6 +115,14 @@ impl Shape {
             Shape::Scalar(scalar) | Shape::Vector { scalar, .. } | Shape::Matrix { scalar, .. } =>
                 Some(scalar),
             _ => None,
+        }
+    }
+
+    /// The kind of the scalars of a number, a vector or a matrix.
+    pub fn kind(&self) -> Option<ScalarKind> {
+        match self.scalar() {
+            Some(scalar) => Some(scalar.kind),
+            None => None,
         }
     }
 

@@ -101,7 +101,7 @@ impl<T: Types> TypeTable<T> {
         }
         let name = self.name_of(reading, instruction, None);
         let inner = TypeInner::Struct { members, span };
-        let handle = self.build_named(name, inner, span_of(instruction));
+        let handle = self.build(name, inner, span_of(instruction));
         let shape = Shape::Struct { first, count };
         self.set(instruction.id, shape, Some(handle), layout);
         self.made(())
@@ -329,7 +329,7 @@ impl<T: Types> TypeTable<T> {
                 stride: stored.stride,
             }
         };
-        self.build(inner, Span::UNDEFINED)
+        self.build(None, inner, Span::UNDEFINED)
     }
 
     // The type of a column or a row of a matrix that is stored as an array of those.
@@ -363,7 +363,7 @@ impl<T: Types> TypeTable<T> {
             size: ArraySize::Constant(u32::from(length)),
             stride: u32::from(scalar.width),
         };
-        self.build(inner, Span::UNDEFINED)
+        self.build(None, inner, Span::UNDEFINED)
     }
 
     // The type that a member is stored as, with its layout.
@@ -410,7 +410,7 @@ impl<T: Types> TypeTable<T> {
                 size: array.size,
                 stride: array.stride,
             };
-            handle = self.build(inner, Span::UNDEFINED);
+            handle = self.build(None, inner, Span::UNDEFINED);
             let of_array = self.layout(array.ty);
             whole.size = of_array.size;
             whole.locations = of_array.locations;

@@ -103,13 +103,8 @@ impl<T: Types> TypeTable<T> {
         }
     }
 
-    // The type that is made of this.
-    pub(crate) fn build(&mut self, inner: TypeInner, span: Span) -> TypeHandle {
-        self.build_named(None, inner, span)
-    }
-
     // The type with this name that is made of this.
-    pub(crate) fn build_named(
+    pub(crate) fn build(
         &mut self,
         name: Option<String>,
         inner: TypeInner,
@@ -225,7 +220,7 @@ impl<T: Types> TypeTable<T> {
         inner: TypeInner,
         span: Span,
     ) -> Result<TypeHandle, SpirvError> {
-        let handle = self.build_named(name, inner, span);
+        let handle = self.build(name, inner, span);
         self.made(handle)
     }
 
@@ -245,6 +240,6 @@ impl<T: Types> TypeTable<T> {
             None => TypeInner::Scalar(scalar),
             Some(size) => TypeInner::Vector { size, scalar },
         };
-        self.build(inner, Span::UNDEFINED)
+        self.build(None, inner, Span::UNDEFINED)
     }
 }
