@@ -519,12 +519,16 @@ impl Listing {
             return Ok(None);
         };
         let start = number_at(&self.said.names, slot);
-        match self.words.get(start as usize..) {
-            Some(words) if start as usize >= HEADER => match read_text(alloc, words, start) {
-                Ok((text, _)) => Ok(Some(text)),
-                Err(error) => Err(error),
-            },
-            _ => Ok(None),
+        if (start as usize) < HEADER {
+            return Ok(None);
+        }
+        let words = match self.words.get(start as usize..) {
+            Some(words) => words,
+            None => &[],
+        };
+        match read_text(alloc, words, start) {
+            Ok((text, _)) => Ok(Some(text)),
+            Err(error) => Err(error),
         }
     }
 
