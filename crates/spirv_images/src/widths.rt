@@ -83,7 +83,8 @@ fn joined<B: Builder>(
     first: u32,
     to: Scalar,
 ) -> Value {
-    let count = times_in(to.width, width_of(shape, 4));
+    let width = width_of(shape, 4);
+    let count = times_in(to.width, width);
     let mut whole = None;
     for place in 0..count {
         let narrow = bits_at(
