@@ -100,7 +100,8 @@ struct Said {
 /// The module that the bytes are.
 pub fn list(alloc: Global, bytes: &[u8]) -> Result<Listing, SpirvError> {
     let words = read_words(alloc, bytes)?;
-    let instructions = read_instructions(alloc, &words)?;
+    let pieces = cut(alloc, &words)?;
+    let instructions = read_instructions(alloc, &words, &pieces)?;
     sort(alloc, words, instructions)
 }
 
@@ -204,10 +205,13 @@ fn instruction_of(words: &[u32], piece: &Piece) -> Result<Instruction, SpirvErro
 }
 
 // All instructions.
-fn read_instructions(alloc: Global, words: &[u32]) -> Result<Vec<Instruction>, SpirvError> {
-    let pieces = cut(alloc, words)?;
+fn read_instructions(
+    alloc: Global,
+    words: &[u32],
+    pieces: &[Piece],
+) -> Result<Vec<Instruction>, SpirvError> {
     let mut all = Vec::with_capacity(alloc, pieces.len())?;
-    add_instructions(words, &pieces, &mut all)?;
+    add_instructions(words, pieces, &mut all)?;
     Ok(all)
 }
 
