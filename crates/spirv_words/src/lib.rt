@@ -2,7 +2,6 @@
 #![tactic(auto)]
 
 mod error;
-mod groups;
 mod listing;
 mod parts;
 mod pieces;
@@ -10,10 +9,9 @@ mod text;
 mod unsupported;
 
 pub use error::{Malformed, SpirvError};
-pub use groups::Groups;
 pub use listing::{Instruction, Listing, list, number_at};
 pub use parts::{FunctionParts, Parts};
 pub use pieces::{HEADER, Piece, cut};
-pub use spirv_numbers::MAX_LEN;
+pub use spirv_numbers::{Groups, MAX_LEN};
 pub use text::{read_text, starts_text};
 pub use unsupported::{Feature, Unsupported};

@@ -1,12 +1,11 @@
 // What each id is defined by, and what is said of it.
 
 use crate::error::{Malformed, SpirvError};
-use crate::groups::Groups;
 use crate::parts::{Parts, sort_out};
 use crate::pieces::{HEADER, Piece, cut};
 use crate::text::read_text;
 use crate::unsupported::{Feature, Unsupported};
-use spirv_numbers::{Results, ops, read_words, results_of};
+use spirv_numbers::{Groups, Results, ops, read_words, results_of};
 use std::alloc::{AllocError, Global};
 
 // How many ids there may be for each word, so that a table of ids is linear in the words.
