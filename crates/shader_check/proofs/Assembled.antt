@@ -36,6 +36,7 @@ use Rattle.spec_handles.specs.InOrder.{HandlesOK}
 use Rattle.judgement.specs.judged.ModuleSteps.{ModuleOK}
 use Rattle.judgement.specs.declared.settings.ModuleSettings.{ModuleSettings}
 use Rattle.spec_statements.specs.judged.Functions.{FunctionSettings}
+use Rattle.spec_statements.specs.judged.ModuleFunctions.{reading_over}
 use Rattle.typing_expressions.specs.Types.{AreTypes}
 use Rattle.typing_layout.specs.found.Held.{AreLayouts}
 
