@@ -3,8 +3,8 @@
 
 The program is run once on each document under valgrind's callgrind. Of that run the instructions are told of the step over
 functions (`validate_function`, of each), with all that it calls; beside them those of the JSON reader alone, with letting its
-value go, in a run of `test_kinds json` on the same bytes. Prints a table in Markdown. Both programs have to be built: `rt ci`
-leaves them, and so does `rt run` in crates/checker and crates/test_kinds. The status is 1 where a target is missed.
+value go, in a run of `test_calls json` on the same bytes. Prints a table in Markdown. Both programs have to be built: `rt ci`
+leaves them, and so does `rt run` in crates/checker and crates/test_calls. The status is 1 where a target is missed.
 """
 import json
 import pathlib

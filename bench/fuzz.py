@@ -12,9 +12,9 @@ a process (`serve.c`). A find is
 - a document that ends a build by a signal, or takes it longer than two seconds of processor time;
 - two builds that write something else, or end with another status; a status above 1, or something on standard error;
 - an answer that is no verdict: neither `accepted` with lines after it, nor one line that begins with `refused`;
-- memory that is not freed, or more than 40 bytes for a byte of the document, and 16 KiB; what `test_kinds json` takes to read
+- memory that is not freed, or more than 40 bytes for a byte of the document, and 16 KiB; what `test_calls json` takes to read
   the same bytes as JSON is allowed too, and 16 KiB beside it;
-- more than ten times the time that `test_kinds json` takes to read the same bytes as JSON, and 200 microseconds, in each of
+- more than ten times the time that `test_calls json` takes to read the same bytes as JSON, and 200 microseconds, in each of
   nine runs of the program.
 
 Each find is made smaller for as long as it stays one, and written to the folder of finds (fuzz-finds beside the temporary
@@ -387,7 +387,7 @@ def arguments():
     words.add_argument("--seeds", action="append", default=[])
     words.add_argument("--program", default=str(BUILT / "checker"))
     words.add_argument("--second", default=str(BUILT / "checker.by-rattle"))
-    words.add_argument("--reader", default=str(TOP / "crates/test_kinds/out/test_kinds"))
+    words.add_argument("--reader", default=str(TOP / "crates/test_calls/out/test_calls"))
     words.add_argument("--finds", default=str(Path(tempfile.gettempdir()) / "fuzz-finds"))
     words.add_argument("--seed", type=int, default=0)
     words.add_argument("--longest", type=int, default=3000)

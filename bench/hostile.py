@@ -3,8 +3,8 @@
 
 Each kind of `hostile_kinds.py` (all, where none is named) is made as a document of a quarter, half and the whole of so many
 bytes (16 MiB). Prints a table in Markdown: the processor time and the most memory of a run of the check, beside a run that
-reads the same bytes as JSON and no more (`test_kinds json`), each the least of the runs. Both programs have to be built:
-`rt ci` leaves them, and so does `rt run` in crates/checker and crates/test_kinds.
+reads the same bytes as JSON and no more (`test_calls json`), each the least of the runs. Both programs have to be built:
+`rt ci` leaves them, and so does `rt run` in crates/checker and crates/test_calls.
 
 The status is 1 where the whole takes more than 4.6 times what the quarter does, or more than 10 times the JSON reader, or more
 than 64 bytes of memory for a byte. Kinds whose answer, or what each function tells of itself, is itself larger than linear, or for
@@ -24,7 +24,7 @@ import hostile_kinds
 
 TOP = Path(__file__).resolve().parent.parent
 CHECK = TOP / "crates/checker/out/checker"
-READER = TOP / "crates/test_kinds/out/test_kinds"
+READER = TOP / "crates/test_calls/out/test_calls"
 WHOLE = (1 << 24) - (1 << 19)
 MOST_GROWTH = 4.6
 MOST_TIMES = 10

@@ -7,7 +7,7 @@ besides, or finds the kinds or the types of the expressions. What these take is 
 take turns. It is a small part of the whole, so that where other programs run beside it can't be told from theirs: with
 --instructions the instructions of one run each are counted instead (valgrind's callgrind), on documents of 256 KiB and
 1 MiB, since that takes fifty times as long. Prints a table in Markdown. Both programs have to be built: `rt ci` leaves
-them, and so does `rt run` in crates/test_typing and crates/test_kinds. The status is 1 where a target is missed.
+them, and so does `rt run` in crates/test_typing and crates/test_calls. The status is 1 where a target is missed.
 """
 import json
 import os

@@ -3,8 +3,8 @@
 
 The program is run once on each document under valgrind's callgrind. Of that run the instructions are told of all steps up to
 overrides (`ModuleValidator::validate`, or all steps where the compiler has joined them), with all that they call; beside them
-those of the JSON reader alone, with letting its value go, in a run of `test_kinds json` on the same bytes. Prints a table in
-Markdown. Both programs have to be built: `rt ci` leaves them, and so does `rt run` in crates/checker and crates/test_kinds. The
+those of the JSON reader alone, with letting its value go, in a run of `test_calls json` on the same bytes. Prints a table in
+Markdown. Both programs have to be built: `rt ci` leaves them, and so does `rt run` in crates/checker and crates/test_calls. The
 status is 1 where a target is missed.
 """
 import json
@@ -16,7 +16,7 @@ import tempfile
 
 TOP = pathlib.Path(__file__).resolve().parent.parent
 CHECKER = TOP / "crates/checker/out/checker"
-MEASURES = TOP / "crates/test_kinds/out/test_kinds"
+MEASURES = TOP / "crates/test_calls/out/test_calls"
 MOST_SHARE = 0.25
 # The steps up to overrides; and where the compiler has put them into the function that asks all steps, that one: the documents
 # have no function, no global variable and no entry point.
@@ -116,7 +116,7 @@ def called(room, path):
 def json_alone(room, path):
     """The instructions of reading the bytes as JSON and letting the value go, without taking the bytes in."""
     said = counted_run(room, path, [MEASURES, "json"], "read\n")
-    whole, taken = of_call(said, "test_kinds::json_alone::run"), of_call(said, "check_ports::source::Source::take_all")
+    whole, taken = of_call(said, "test_calls::json_alone::run"), of_call(said, "check_ports::source::Source::take_all")
     if not whole or not taken:
         sys.exit("modules: the JSON reader was not counted")
     return whole - taken

@@ -4,7 +4,7 @@ that document as JSON and no more.
 
 Each call is `min` of two vectors: the rules of `min`, those that take the first argument, those that take the second
 too, and a list of them. Prints a table in Markdown: the median of five runs of each, processor time. The program has to
-be built: `rt ci` leaves it, and so does `rt run` in crates/test_kinds. The status is 1 where the sets take more than a
+be built: `rt ci` leaves it, and so does `rt run` in crates/test_calls. The status is 1 where the sets take more than a
 fifth of the reading.
 """
 import statistics

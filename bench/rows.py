@@ -1,11 +1,12 @@
 #!/usr/bin/env python3
-"""Refuses each request for memory of a run in turn, on a few documents and on library calls: rows.py [--program FILE] [--calls FILE]
+"""Refuses each request for memory of a run in turn, on a few documents and on library calls: rows.py [--program FILE] [--calls FILE] [--typing FILE]
 
 First the program (crates/checker/out/checker) on nine documents, from an empty module to images that are passed on: the Nth
 request is refused, N from 1 until a run makes fewer. A run that is refused one ends with status 2, writes nothing, and says
 `fault: memory`, or it can do without and gives the document's own answer, as does the first that is refused none.
 
-Then `test_typing` (crates/test_typing/out/test_typing) on each line of its data/turns.jsonl alone. `Done` becomes `AsBefore`
+Then `test_cases` on each line of its data/turns.jsonl alone, and `test_typing` on each of its data/left.jsonl, where `rt ci` leaves
+these programs (crates/NAME/out/NAME) or where the arguments say. `Done` becomes `AsBefore`
 where the call is refused, and of several modules in turn one answer becomes `Memory`, the others staying as they are; or the call
 can do without and answers the same. Where the refused request is another one, such as one to print, the program ends with an error.
 
@@ -22,7 +23,7 @@ import tempfile
 from pathlib import Path
 
 TOP = Path(__file__).resolve().parent.parent
-CALLS = TOP / "crates/test_typing"
+CRATES = TOP / "crates"
 SIX = ["EXPRESSIONS", "BLOCKS", "CONTROL_FLOW_UNIFORMITY", "STRUCT_LAYOUTS", "CONSTANTS", "BINDINGS"]
 FAULT = 2, "", "fault: memory\n"
 # the descriptor that refuse.c writes the number of requests to
@@ -129,7 +130,7 @@ def is_due(asked, answer, found):
     return len(due) == len(now) and sorted(it for one, it in zip(due, now) if one != it) == ["Memory"]
 
 
-def try_call(run, name, asked, answer):
+def try_call(run, file, name, asked, answer):
     number, refused = 1, 0
     while True:
         status, out, err, requests = run.at(number)
@@ -144,30 +145,32 @@ def try_call(run, name, asked, answer):
                     return f"{name}: request {number} refused: {found}"
                 refused += 1
         number += 1
-    if status != 0 or "turns.jsonl: 1 cases, 0 differ" not in out:
+    if status != 0 or f"{file}: 1 cases, 0 differ" not in out:
         return f"{name}: status {status}, {out!r}, {err!r}"
     print(f"{name}: each of {number - 1} requests refused in turn, {refused} of them of the call", flush=True)
     return None if refused else f"{name}: no request of the call was refused"
 
 
-def try_calls(room, program):
-    """What is wrong with the calls, each alone in the folder where the program looks for its data."""
-    folder = Path(room) / "data"
+def try_calls(room, crate, source, file, program):
+    """What is wrong with the calls, each alone in a folder where the program looks for its data."""
+    folder = Path(room) / crate
     folder.mkdir()
-    for name in re.findall(r'"([a-z]+\.jsonl)"', (CALLS / "src/main.rt").read_text()):
+    (folder / "files.json").write_text("[]")
+    for name in re.findall(r'"([a-z]+\.jsonl)"', (CRATES / crate / "src" / source).read_text()):
         (folder / name).write_text("")
-    for line in (CALLS / "data/turns.jsonl").read_text().splitlines():
-        (folder / "turns.jsonl").write_text(line + "\n")
+    for line in (CRATES / crate / "data" / file).read_text().splitlines():
+        (folder / file).write_text(line + "\n")
         name, asked, _, answer = json.loads(line)
-        yield try_call(Run(room, [program], folder), name, asked, answer)
+        yield try_call(Run(room, [program], folder), file, name, asked, answer)
 
 
 def main():
     words = argparse.ArgumentParser(description=__doc__.split("\n")[0])
     words.add_argument("--program", default=str(TOP / "crates/checker/out/checker"))
-    words.add_argument("--calls", default=str(CALLS / "out/test_typing"))
+    words.add_argument("--calls", default=str(CRATES / "test_cases/out/test_cases"))
+    words.add_argument("--typing", default=str(CRATES / "test_typing/out/test_typing"))
     given = words.parse_args()
-    for path in (given.program, given.calls):
+    for path in (given.program, given.calls, given.typing):
         if not os.access(path, os.X_OK):
             sys.exit(f"rows: {path} is not built yet")
     with tempfile.TemporaryDirectory() as room:
@@ -177,7 +180,8 @@ def main():
         os.dup2(counts, COUNT)
         run = Run(room, [given.program], room)
         wrong = [try_document(run, name, *it) for name, it in DOCUMENTS.items()]
-        wrong += try_calls(room, given.calls)
+        wrong += try_calls(room, "test_cases", "questions.rt", "turns.jsonl", given.calls)
+        wrong += try_calls(room, "test_typing", "main.rt", "left.jsonl", given.typing)
     for it in filter(None, wrong):
         print(f"rows: {it}", file=sys.stderr)
     return 1 if any(wrong) else 0

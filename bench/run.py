@@ -3,7 +3,7 @@
 
 Prints a table in Markdown: for each document the median of five runs of each program, which take turns. Time is the
 processor time of the program, and memory the most that it held at once. Both programs have to be built: `rt ci` leaves
-them, and so does `rt run` in crates/checker and crates/test_kinds. The status is 1 where a target is missed, or where a
+them, and so does `rt run` in crates/checker and crates/test_calls. The status is 1 where a target is missed, or where a
 program answers something else than it should.
 """
 import os
@@ -14,7 +14,7 @@ from pathlib import Path
 
 TOP = Path(__file__).resolve().parent.parent
 CHECK = TOP / "crates/checker/out/checker"
-MEASURES = TOP / "crates/test_kinds/out/test_kinds"
+MEASURES = TOP / "crates/test_calls/out/test_calls"
 ALONE = (MEASURES, "json")
 SIZES = [1 << 20, 1 << 24]
 RUNS = 5

@@ -6,7 +6,7 @@ and no more: summaries.py [--instructions]
 finds besides what is kept of each function. What this takes is the difference, of the least times of five runs, which take
 turns. With --instructions the instructions of one run each are counted instead (valgrind's callgrind), on documents of 256
 KiB and 1 MiB, since that takes fifty times as long. Prints a table in Markdown. Both programs have to be built: `rt ci`
-leaves them, and so does `rt run` in crates/test_typing and crates/test_kinds. The status is 1 where a target is missed.
+leaves them, and so does `rt run` in crates/test_typing and crates/test_calls. The status is 1 where a target is missed.
 """
 import sys
 import tempfile

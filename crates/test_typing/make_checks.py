@@ -4,7 +4,7 @@
 FOLDER has module-checks.jsonl. A line of it is an object with `name`, `document`, `output`, what a program answers that
 judges functions as well, but asks for no global variables and no entry points; `fault`, the one fault that stands where it
 refuses, or `one_of`, the two that stand there; and `whole`, what it answers with these, where that is something else. OUT is
-where the files of cases go, data/ beside this script where none is given. Without --all the documents are chosen: one for
+where the files of cases go, data/ of test_cases where none is given. Without --all the documents are chosen: one for
 each fault of each way in which documents were made, and further ones, the shortest first, as far as a file takes less than
 LIMIT bytes. The worked rows below are always taken.
 
@@ -255,7 +255,7 @@ def write(path, cases):
 
 def main():
     places = [Path(word) for word in sys.argv[1:] if word != "--all"]
-    out = places[1] if len(places) > 1 else Path(__file__).resolve().parent / "data"
+    out = places[1] if len(places) > 1 else Path(__file__).resolve().parent.parent / "test_cases/data"
     everything = "--all" in sys.argv
     found = list(asked(places[0]))
     order = [pair for pair in found if pair[0][1] == "handles"]

@@ -3,8 +3,8 @@
 
 FOLDER has functions.jsonl and whole.jsonl. A line of them is an object with `name`, `document` (the text of a document) and
 `output`, what the whole program answers: the former's documents have no global variables and no entry points. Asked are the
-documents whose items before the functions, and global variables, are accepted. OUT is where the file of cases goes, data/
-beside this script where none is given. Without --all the shortest documents are chosen, EACH for each thing that they show,
+documents whose items before the functions, and global variables, are accepted. OUT is where the file of cases goes, data/ of
+test_cases where none is given. Without --all the shortest documents are chosen, EACH for each thing that they show,
 and one for each set of flags; the worked rows below are always taken.
 
 The answer is `accepted`, or the first function that is refused, or else the first entry point's, with the error as
@@ -268,7 +268,7 @@ def chosen(found):
 
 def main():
     folders = [Path(word) for word in sys.argv[1:] if word != "--all"]
-    out = folders[1] if len(folders) > 1 else Path(__file__).resolve().parent / "data"
+    out = folders[1] if len(folders) > 1 else Path(__file__).resolve().parent.parent / "test_cases/data"
     for name, _, document, *told in ROWS:
         assert answers(json.loads(document)) == told, (name, answers(json.loads(document)))
     found = list(cases(folders[0]))

@@ -2,7 +2,7 @@
 """Writes the cases of why documents are refused: make_names.py [OUT].
 
 Each document was worked out by hand, so that what is told is wrong with it and nothing else is; beside it stands one in which
-that is taken away, and which is accepted. OUT is where the file of cases goes, data/ beside this script where none is given.
+that is taken away, and which is accepted. OUT is where the file of cases goes, data/ of test_cases where none is given.
 
 The answer is `accepted`, or the verdict, a colon, a space, and the error of the item that the verdict names, as the program
 prints it: of a type a `TypeError`, of a global expression a `ConstExpressionError`, of a global variable a
@@ -913,7 +913,7 @@ def check(cases):
 
 
 def run():
-    out = Path(sys.argv[1]) if len(sys.argv) > 1 else Path(__file__).resolve().parent / "data"
+    out = Path(sys.argv[1]) if len(sys.argv) > 1 else Path(__file__).resolve().parent.parent / "test_cases/data"
     check(CASES)
     lines = "".join(json.dumps(it, ensure_ascii=False, separators=(",", ":")) + "\n" for it in CASES)
     assert len(lines.encode()) < LIMIT, len(lines.encode())

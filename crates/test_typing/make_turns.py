@@ -3,8 +3,8 @@
 
 `turns` is asked of a list of documents: what one validator answers to their modules in turn, each answer as that of a validator
 made anew. The others are asked of a document: `Done`, where nothing is refused. `bench/rows.py` refuses each request for memory
-of each of these cases in turn. The answers were worked out by hand. OUT is where the file of cases goes, data/ beside this
-script where none is given.
+of each of these cases in turn. The answers were worked out by hand. OUT is where the files of cases go: where none is given,
+turns.jsonl to data/ of test_cases, and left.jsonl, of calls beneath the whole judgement, to data/ beside this script.
 """
 import json
 import sys
@@ -84,19 +84,28 @@ CASES = [
     turns("payloads of f32, then of u32", (F32_THEN_REFUSED, refused("Function", 1)), (U32_TRACED, ACCEPTED),
           (BOTH, refused("Function", 1)), (U32_TRACED, ACCEPTED), (F32_THEN_REFUSED, refused("Function", 1)), (U32_TRACED, ACCEPTED)),
     turns("one buffer twice", (ONE_BUFFER, ACCEPTED), (ONE_BUFFER, ACCEPTED)),
+    ["a report", "left of a report", ONE_BUFFER, "Done"],
+]
+
+
+LOW_CASES = [
     ["layouts", "left of layouts", TYPES, "Done"],
     ["functions and entry points that are kept", "left of functions", document(), "Done"],
     ["a copy of a module", "left of a copy", TWO_RESULTS, "Done"],
-    ["a report", "left of a report", ONE_BUFFER, "Done"],
     ["returns", "left of returns", SIDES, "Done"],
 ]
 
 
+def write(out, name, cases):
+    lines = "".join(json.dumps(it, separators=(",", ":")) + "\n" for it in cases)
+    (out / name).write_text(lines, encoding="utf-8")
+    print(f"{name}: {len(cases)} cases, {len(lines.encode())} bytes")
+
+
 def run():
-    out = Path(sys.argv[1]) if len(sys.argv) > 1 else Path(__file__).resolve().parent / "data"
-    lines = "".join(json.dumps(it, separators=(",", ":")) + "\n" for it in CASES)
-    (out / "turns.jsonl").write_text(lines, encoding="utf-8")
-    print(f"turns.jsonl: {len(CASES)} cases, {len(lines.encode())} bytes")
+    own = Path(__file__).resolve().parent
+    write(Path(sys.argv[1]) if len(sys.argv) > 1 else own.parent / "test_cases/data", "turns.jsonl", CASES)
+    write(Path(sys.argv[1]) if len(sys.argv) > 1 else own / "data", "left.jsonl", LOW_CASES)
 
 
 if __name__ == "__main__":

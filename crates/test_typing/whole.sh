@@ -1,9 +1,10 @@
 #!/bin/sh
-# Runs the program over all cases of a folder: ./whole.sh FOLDER
+# Runs test_typing and test_cases over all cases of a folder: ./whole.sh FOLDER
 #
 # The folder is that of make_data.py, make_infos.py, make_checks.py and make_functions.py, and has the corpora of make_types.py
-# as typing.jsonl and of make_tests.py and make_summaries.py as summaries.jsonl. make_chains.py, make_names.py and make_turns.py need no corpus. The program has
-# to be built (`rt run`, once); its last lines count the cases, and the status is 0 where none differs.
+# as typing.jsonl and of make_tests.py and make_summaries.py as summaries.jsonl. make_chains.py, make_names.py and make_turns.py
+# need no corpus. The programs have to be built (`rt run`, once each); their last lines count the cases, and the status is 0 where
+# none differs.
 
 crate=$(cd "$(dirname "$0")" && pwd) || exit 1
 room=$(mktemp -d) || exit 1
@@ -18,4 +19,5 @@ python3 "$crate/make_checks.py" "$1" "$room" --all || exit 1
 python3 "$crate/make_functions.py" "$1" "$room" --all || exit 1
 python3 "$crate/make_names.py" "$room" || exit 1
 python3 "$crate/make_turns.py" "$room" || exit 1
-cd "$room" && "$crate/out/test_typing"
+echo '[]' > "$room/files.json"
+cd "$room" && "$crate/out/test_typing" && "$crate/../test_cases/out/test_cases" < /dev/null

@@ -2,9 +2,10 @@
 use crate::given::{Types, inner, is_no_struct, resolution};
 use ir_arena::handle::Handle;
 use ir_items::Module;
+use ir_types::TypeInner;
 use serde_json::Value;
 use std::alloc::{AllocError, Global};
-use test_support::call::{handle, no_call, text, told};
+use test_support::call::{freeing, handle, no_call, text, told};
 use typing_expressions::CompareTypes;
 use typing_forms::laws::form_equality;
 use typing_forms::{TypeResolution, compare_types, form_in, form_of, form_of_type, inner_of};
@@ -25,11 +26,7 @@ fn see_inner(
 // Whether a copy equals its source, and the place that the copy names.
 fn copied(alloc: Global, source: &TypeResolution) -> Result<(bool, Option<usize>), AllocError> {
     let copy = source.clone(alloc)?;
-    Ok((copy == *source, copy.handle().map(Handle::index)))
-}
-
-fn see_handle(alloc: Global, resolution: &TypeResolution) -> Result<String, AllocError> {
-    told(alloc, resolution.handle().map(Handle::index))
+    Ok(freeing((copy == *source, copy.handle().map(Handle::index)), copy))
 }
 
 fn see_form(
@@ -48,7 +45,7 @@ fn of_one(
     call: &Value,
 ) -> Result<String, AllocError> {
     match text(call, 0) {
-        "handle" => see_handle(alloc, resolution),
+        "handle" => told(alloc, resolution.handle().map(Handle::index)),
         "inner_with" => see_inner(alloc, resolution, types),
         "clone" => told(alloc, copied(alloc, resolution)),
         "form_of" => see_form(alloc, resolution, types),
@@ -59,7 +56,7 @@ fn of_one(
 /// The result of a call of the resolution that stands after its name.
 pub fn of_resolution(alloc: Global, types: &Types, call: &Value) -> Result<String, AllocError> {
     match resolution(alloc, call, 1)? {
-        Some(resolution) => of_one(alloc, &resolution, types, call),
+        Some(resolution) => freeing(of_one(alloc, &resolution, types, call), resolution),
         None => no_call(alloc),
     }
 }
@@ -73,16 +70,36 @@ pub fn of_handle(alloc: Global, types: &Types, call: &Value) -> Result<String, A
     )
 }
 
+// Whether two types have the same form.
+fn are_alike(
+    alloc: Global,
+    types: &Types,
+    left: &TypeInner,
+    right: &TypeInner,
+) -> Result<String, AllocError> {
+    let forms = (form_in(types, None, left), form_in(types, None, right));
+    told(alloc, form_equality(forms.0, forms.1))
+}
+
+// Whether a type and the one that stands after it have the same form.
+fn of_form(
+    alloc: Global,
+    types: &Types,
+    left: &TypeInner,
+    call: &Value,
+) -> Result<String, AllocError> {
+    match inner(alloc, call, 2)? {
+        Some(right) => freeing(are_alike(alloc, types, left, &right), right),
+        None => no_call(alloc),
+    }
+}
+
 /// Whether two types that are given as values have the same form.
 pub fn of_forms(alloc: Global, types: &Types, call: &Value) -> Result<String, AllocError> {
-    let Some(left) = inner(alloc, call, 1)? else {
-        return no_call(alloc);
-    };
-    let Some(right) = inner(alloc, call, 2)? else {
-        return no_call(alloc);
-    };
-    let forms = (form_in(types, None, &left), form_in(types, None, &right));
-    told(alloc, form_equality(forms.0, forms.1))
+    match inner(alloc, call, 1)? {
+        Some(left) => freeing(of_form(alloc, types, &left, call), left),
+        None => no_call(alloc),
+    }
 }
 
 // Whether two types are equivalent among the types, in the module, and by what its expressions may name.
@@ -101,13 +118,23 @@ fn compared(
     ))
 }
 
+// Whether a type and the one that stands after it are equivalent.
+fn of_other(
+    alloc: Global,
+    module: &Module,
+    left: &TypeResolution,
+    call: &Value,
+) -> Result<String, AllocError> {
+    match resolution(alloc, call, 2)? {
+        Some(right) => freeing(told(alloc, compared(module, left, &right)), right),
+        None => no_call(alloc),
+    }
+}
+
 /// Whether the two types that stand after a name are equivalent.
 pub fn of_pair(alloc: Global, module: &Module, call: &Value) -> Result<String, AllocError> {
-    let Some(left) = resolution(alloc, call, 1)? else {
-        return no_call(alloc);
-    };
-    let Some(right) = resolution(alloc, call, 2)? else {
-        return no_call(alloc);
-    };
-    told(alloc, compared(module, &left, &right))
+    match resolution(alloc, call, 1)? {
+        Some(left) => freeing(of_other(alloc, module, &left, call), left),
+        None => no_call(alloc),
+    }
 }

@@ -6,13 +6,13 @@ ghost use Rattle.typing_forms.specs.judged.Resolutions.{resolution_view};
 ghost use Rattle.typing_forms.specs.found.Canonical.{NotBothStructs};
 
 use document_items::TypeForm;
+use document_words::find_word;
 use ir_kinds::Scalar;
 use ir_sets::unique_arena::UniqueArena;
 use ir_types::{IrType, TypeInner, key};
 use serde_json::Value;
 use std::alloc::{AllocError, Global};
-use test_support::call::{handle, text};
-use test_support::forms::found;
+use test_support::call::{found, handle, text};
 use typing_forms::TypeResolution;
 
 pub type Types = UniqueArena<IrType, key::IrType>;
@@ -45,20 +45,7 @@ pub fn resolution(
 
 /// The scalar at a place, by its word.
 pub fn scalar(call: &Value, place: usize) -> Scalar {
-    match text(call, place) {
-        "bool" => Scalar::BOOL,
-        "i16" => Scalar::I16,
-        "u16" => Scalar::U16,
-        "i32" => Scalar::I32,
-        "u32" => Scalar::U32,
-        "i64" => Scalar::I64,
-        "u64" => Scalar::U64,
-        "f16" => Scalar::F16,
-        "f32" => Scalar::F32,
-        "f64" => Scalar::F64,
-        "aint" => Scalar::ABSTRACT_INT,
-        _ => Scalar::ABSTRACT_FLOAT,
-    }
+    find_word(text(call, place)).unwrap_or(Scalar::ABSTRACT_FLOAT)
 }
 
 /// Whether a type is not a struct that is given as a value.

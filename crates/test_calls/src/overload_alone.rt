@@ -1,25 +1,31 @@
-// Makes the overload set of `min` over two vectors once for each byte of standard input, and says how many rules they
-// leave in all: what overload sets take in a check of as many calls.
+// Makes the overload set of `min` over two vectors once for each byte of a text, and says how many rules they leave in all:
+// what overload sets take in a check of as many calls.
 use check_ports::Source;
 use ir_kinds::{MathFunction, Scalar, VectorSize};
 use ir_types::TypeInner;
 use std::alloc::{AllocError, Global};
 use std::io;
-use typing_overloads::{MathFunctionExt, OverloadSet};
+use test_support::call::{freeing, told};
+use typing_overloads::{AnyOverloadSet, MathFunctionExt, OverloadSet};
 
 /// The most calls.
 const MOST_CALLS: usize = 16777216;
 
-// How many rules two vectors of floats leave of those of `min`.
-fn rules_left(alloc: Global) -> Result<usize, AllocError> {
+// How many rules a vector of floats at each of two places leaves of those of a set.
+fn supplied(alloc: Global, set: &mut AnyOverloadSet) -> Result<usize, AllocError> {
     let vector = TypeInner::Vector {
         size: VectorSize::Tri,
         scalar: Scalar::F32,
     };
-    let set = MathFunction::Min.overloads(alloc)?;
-    let set = set.arg(alloc, 0, &vector)?;
-    let set = set.arg(alloc, 1, &vector)?;
+    *set = set.arg(alloc, 0, &vector)?;
+    *set = set.arg(alloc, 1, &vector)?;
     Ok(set.overload_list(alloc)?.len())
+}
+
+// How many rules two vectors of floats leave of those of `min`.
+fn rules_left(alloc: Global) -> Result<usize, AllocError> {
+    let mut set = MathFunction::Min.overloads(alloc)?;
+    freeing(supplied(alloc, &mut set), set)
 }
 
 // The same for each of the bytes.
@@ -31,14 +37,24 @@ fn rules_of_all(alloc: Global, bytes: &[u8]) -> Result<usize, AllocError> {
     Ok(left)
 }
 
-/// Says how many rules are left in all.
-pub fn run(rt: &HostRuntime) -> io::Result<()> {
-    let mut source = Source::new(rt.reader());
-    let Ok(bytes) = source.take_all(rt.alloc(), MOST_CALLS) else {
-        return println!(rt; "not read");
-    };
-    match rules_of_all(rt.alloc(), &bytes) {
+/// How many rules are left in all for the bytes of a text.
+pub fn rules_after(alloc: Global, text: &str) -> Result<String, AllocError> {
+    told(alloc, rules_of_all(alloc, text.as_bytes()))
+}
+
+// Says how many rules are left in all for these bytes.
+fn say_left(rt: &HostRuntime, bytes: &[u8]) -> io::Result<()> {
+    match rules_of_all(rt.alloc(), bytes) {
         Ok(left) => println!(rt; "{left} rules left"),
         Err(_) => println!(rt; "no memory"),
+    }
+}
+
+/// Says how many rules are left in all for the bytes of standard input.
+pub fn run(rt: &HostRuntime) -> io::Result<()> {
+    let mut source = Source::new(rt.reader());
+    match source.take_all(rt.alloc(), MOST_CALLS) {
+        Ok(bytes) => freeing(say_left(rt, &bytes), bytes),
+        Err(_) => println!(rt; "not read"),
     }
 }

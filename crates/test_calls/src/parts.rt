@@ -3,7 +3,7 @@ use crate::given::{Types, are_not_structs, inner};
 use ir_types::TypeInner;
 use serde_json::Value;
 use std::alloc::{AllocError, Global};
-use test_support::call::{no_call, number, text, told};
+use test_support::call::{freeing, no_call, number, text, told};
 use typing_forms::{TypeInnerExt, form_in, types_go_back};
 
 // The size where it is at most the greatest, and the size however large.
@@ -71,7 +71,7 @@ fn of_types(
 /// The result of a call of the type that stands after its name.
 pub fn of_type(alloc: Global, types: &Types, call: &Value) -> Result<String, AllocError> {
     match inner(alloc, call, 1)? {
-        Some(inner) => of_types(alloc, &inner, types, call),
+        Some(inner) => freeing(of_types(alloc, &inner, types, call), inner),
         None => no_call(alloc),
     }
 }
@@ -95,13 +95,23 @@ fn of_both(
     }
 }
 
+// The result of a call of a type and of the one that stands after it.
+fn of_other(
+    alloc: Global,
+    left: &TypeInner,
+    types: &Types,
+    call: &Value,
+) -> Result<String, AllocError> {
+    match inner(alloc, call, 2)? {
+        Some(right) => freeing(of_both(alloc, left, &right, types, call), right),
+        None => no_call(alloc),
+    }
+}
+
 /// The result of a call of the two types that stand after its name.
 pub fn of_pair(alloc: Global, types: &Types, call: &Value) -> Result<String, AllocError> {
-    let Some(left) = inner(alloc, call, 1)? else {
-        return no_call(alloc);
-    };
-    let Some(right) = inner(alloc, call, 2)? else {
-        return no_call(alloc);
-    };
-    of_both(alloc, &left, &right, types, call)
+    match inner(alloc, call, 1)? {
+        Some(left) => freeing(of_other(alloc, &left, types, call), left),
+        None => no_call(alloc),
+    }
 }

@@ -6,8 +6,7 @@ use ir_arena::span::Span;
 use ir_items::Module;
 use serde_json::Value;
 use std::alloc::{AllocError, Global};
-use test_support::call::{handle, list, text, told};
-use test_support::forms::found;
+use test_support::call::{found, handle, list, text, told};
 use typing_forms::types_go_back;
 
 /// The module whose types are queried.
@@ -47,10 +46,10 @@ impl TypeCalls {
     pub fn answer(&mut self, alloc: Global, call: &Value) -> Result<String, AllocError> {
         let types = &self.module.types;
         match text(call, 0) {
-            "types" => told(alloc, self.add_types(alloc, list(call, 1))),
+            "add_types" => told(alloc, self.add_types(alloc, list(call, 1))),
             "declare" => told(alloc, self.declare(call)),
             "conclusion" => conclusions::of_conclusion(alloc, &self.module.special_types, call),
-            "type" => compared::of_handle(alloc, types, call),
+            "form_at" => compared::of_handle(alloc, types, call),
             "handle" | "inner_with" | "clone" | "form_of" => {
                 compared::of_resolution(alloc, types, call)
             }

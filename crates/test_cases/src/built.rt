@@ -1,5 +1,4 @@
 // A module that is built by calls and judged, as by a front end that writes no documents.
-use anyhow::{Result, ensure};
 use function_real_lower::RealLower;
 use ir_arena::handle::Handle;
 use ir_arena::span::Span;
@@ -12,8 +11,9 @@ use ir_items::{
     EntryPoint, Expression, Function, GlobalVariable, IrType, Module, Statement, TypeInner, key,
 };
 use ir_kinds::{AddressSpace, Literal, ResourceBinding, Scalar, ShaderStage};
-use shader_check::{Document, Settings, Validator, judge_document};
+use shader_check::{Document, Settings, ValidationError, Validator, judge_document};
 use std::alloc::{AllocError, Global};
+use test_support::call::freeing;
 use typing_infos::ModuleInfo;
 
 // A storage buffer `count` of one u32, at group 0 and binding 0.
@@ -82,13 +82,21 @@ fn build(alloc: Global, module: &mut Module) -> Result<(), AllocError> {
     }
 }
 
-// Whether a validator accepts a module. A refusal has the error, which prints itself, and the spans of what it names.
-fn accepts(validator: &mut Validator<RealLower>, module: &Module) -> Result<bool, AllocError> {
-    match validator.validate(module) {
+// Whether a module is accepted. A refusal has the error, which prints itself, and the spans of what it names.
+fn is_accepted_by(
+    answer: &Result<ModuleInfo, Refusal<ValidationError>>,
+) -> Result<bool, AllocError> {
+    match answer {
         Ok(_) => Ok(true),
         Err(Refusal::Fault(_)) => Ok(false),
-        Err(Refusal::Memory(error)) => Err(error),
+        Err(Refusal::Memory(_)) => Err(AllocError),
     }
+}
+
+// Whether a validator accepts a module.
+fn accepts(validator: &mut Validator<RealLower>, module: &Module) -> Result<bool, AllocError> {
+    let answer = validator.validate(module);
+    freeing(is_accepted_by(&answer), answer)
 }
 
 // The same of a validator that is made for it.
@@ -96,31 +104,40 @@ fn is_accepted(alloc: Global, module: &Module) -> Result<bool, AllocError> {
     let lower = RealLower::new(ModuleInfo::new(alloc));
     let flags = ValidationFlags::default();
     let mut validator = Validator::new(alloc, lower, flags, Capabilities(0));
-    accepts(&mut validator, module)
+    freeing(accepts(&mut validator, module), validator)
 }
 
 // The verdict and the report, as the program writes them of a document.
 fn text_on(alloc: Global, document: &mut Document) -> Result<String, AllocError> {
-    judge_document(alloc, document)?.text(alloc)
+    let judgement = judge_document(alloc, document)?;
+    freeing(judgement.text(alloc), judgement)
+}
+
+// What is wrong with the judgement of a built module, if something is.
+fn wrong_of(alloc: Global, document: &mut Document) -> Result<Option<&'static str>, AllocError> {
+    if !is_accepted(alloc, &document.module)? {
+        return Ok(Some("a built module is refused"));
+    }
+    let text = text_on(alloc, document)?;
+    let known = "accepted\nbuffer 0 size 4 alignment 4\nentry 0\nglobal 0 write\n";
+    Ok(if freeing(text.as_str() == known, text) {
+        None
+    } else {
+        Some("a built module is accepted with another report")
+    })
 }
 
 // Builds the module of a document, and judges it in both ways.
-fn build_and_judge(alloc: Global, document: &mut Document) -> Result<()> {
+fn build_and_judge(
+    alloc: Global,
+    document: &mut Document,
+) -> Result<Option<&'static str>, AllocError> {
     build(alloc, &mut document.module)?;
-    ensure!(
-        is_accepted(alloc, &document.module)?,
-        "a built module is refused"
-    );
-    let text = text_on(alloc, document)?;
-    ensure!(
-        text.as_str() == "accepted\nbuffer 0 size 4 alignment 4\nentry 0\nglobal 0 write\n",
-        "a built module is accepted with another report"
-    );
-    Ok(())
+    wrong_of(alloc, document)
 }
 
-/// Builds a module and judges it in both ways.
-pub fn judge_built(alloc: Global) -> Result<()> {
+/// Builds a module and judges it in both ways. Answers what is wrong with it, if something is.
+pub fn judge_built(alloc: Global) -> Result<Option<&'static str>, AllocError> {
     let settings = Settings {
         flags: ValidationFlags::default(),
         capabilities: Capabilities(0),
@@ -130,5 +147,5 @@ pub fn judge_built(alloc: Global) -> Result<()> {
     };
     let module = Module::new(alloc);
     let mut document = Document { settings, module };
-    build_and_judge(alloc, &mut document)
+    freeing(build_and_judge(alloc, &mut document), document)
 }

@@ -1,8 +1,9 @@
-// Runs the check over readers and writers that fail, over input without end and over what a program makes of its answers.
+// Runs the check over readers and writers that fail, over input without end, with little memory and over what a program makes
+// of its answers, and the rules of functions over the small layer.
 //
 // A line is a list: the call, a document with the line that it is known to come to, and what the call is given.
 use crate::rows::{Answer, Row};
-use crate::{limits, streams};
+use crate::{layer_judged, limits, memory, streams};
 use serde_json::Value;
 use shader_check::{Fault, Verdict, outcome};
 use std::alloc::{AllocError, Global};
@@ -46,6 +47,8 @@ pub fn answer(alloc: Global, call: &Value) -> Result<String, AllocError> {
         "past_the_limit" => limits::past_the_limit(alloc, number(call, 1) as usize),
         "named_types" => limits::named_types(alloc, number(call, 1), number(call, 2)),
         "interrupted_for_ever" => limits::interrupted_for_ever(alloc),
+        "little_memory" => memory::of_row(alloc, Row::of(call), step),
+        "layer" => layer_judged::of_document(alloc, text(call, 1)),
         "outcome" => told(alloc, outcome(&answer_of(text(call, 1)))),
         _ => no_call(alloc),
     }

@@ -3,46 +3,60 @@
 // data/files.json names the data files. Each is a list of objects: a case's `name`, its `input` (or `input_b64`, in
 // Base64), the number of `spaces` that follow the input, which may be left out, and the `output` that is known; or, where
 // a case has a `form`, whether its input is a document.
-use crate::case::{Case, judge};
+use crate::case::judge;
 use anyhow::{Context, Result, ensure};
 use serde_json::Value;
-use std::fs;
-use test_support::call::items;
+use std::{fs, io};
+use test_support::call::{freeing, items};
+use test_support::questions::print_count;
 
 fn read_list(rt: &HostRuntime, name: &str) -> Result<Value> {
     let text = fs::read_to_string(rt, name).context(format_args!("reading {name}"))?;
-    let list = Value::from_str(rt.alloc(), text.as_str()).context(format_args!("reading {name}"))?;
-    ensure!(list.is_array(), "{name} holds no list");
-    Ok(list)
+    let value = Value::from_str(rt.alloc(), text.as_str());
+    freeing(value, text).context(format_args!("reading {name}"))
 }
 
-// Runs a case. Returns whether it does not differ.
-fn run_case(rt: &HostRuntime, name: &str, item: &Value) -> Result<bool> {
-    let case = Case::read(rt.alloc(), item)?;
-    match judge(rt.alloc(), &case)? {
-        Some(difference) => {
-            println!(rt; "{name}: {}: {difference}", case.name)?;
-            Ok(false)
-        }
-        None => Ok(true),
+// The name of a case.
+fn name_of(item: &Value) -> &str {
+    match item.get("name") {
+        Some(name) => name.as_str().unwrap_or(""),
+        None => "",
+    }
+}
+
+// Prints how a case differs.
+fn print_difference(
+    rt: &HostRuntime,
+    name: &str,
+    item: &Value,
+    difference: &str,
+) -> io::Result<bool> {
+    println!(rt; "{name}: {}: {difference}", name_of(item))?;
+    Ok(true)
+}
+
+// Runs a case. Returns whether it differs, which is printed then.
+fn differs(rt: &HostRuntime, name: &str, item: &Value) -> io::Result<bool> {
+    match judge(rt.alloc(), item)? {
+        Some(difference) => { freeing(print_difference(rt, name, item, &difference), difference) }
+        None => Ok(false),
     }
 }
 
 // Runs the cases of one data file. Answers how many differ.
-fn run_cases(rt: &HostRuntime, name: &str, cases: &[Value]) -> Result<usize> {
+fn run_cases(rt: &HostRuntime, name: &str, cases: &[Value]) -> io::Result<usize> {
     let mut differing = 0usize;
-    for (place, item) in cases.iter().enumerate() {
-        if !run_case(rt, name, item).context(format_args!("case {place} of {name}"))? {
+    for item in cases {
+        if differs(rt, name, item)? {
             differing = differing.saturating_add(1);
         }
     }
-    println!(rt; "{name}: {} cases, {differing} differ", cases.len())?;
-    Ok(differing)
+    print_count(rt, name, cases.len(), differing)
 }
 
 fn run_file(rt: &HostRuntime, name: &str) -> Result<usize> {
     let cases = read_list(rt, name)?;
-    run_cases(rt, name, items(&cases))
+    Ok(freeing(run_cases(rt, name, items(&cases)), cases)?)
 }
 
 fn run_files(rt: &HostRuntime, names: &[Value]) -> Result<usize> {
@@ -56,7 +70,7 @@ fn run_files(rt: &HostRuntime, names: &[Value]) -> Result<usize> {
 /// Runs all cases.
 pub fn run(rt: &HostRuntime) -> Result<()> {
     let names = read_list(rt, "files.json")?;
-    let differing = run_files(rt, items(&names))?;
+    let differing = freeing(run_files(rt, items(&names)), names)?;
     ensure!(differing == 0, "{differing} cases differ");
     Ok(())
 }

@@ -1,4 +1,4 @@
-//! Which functions of a module are accepted over the small layer.
+// Which functions of a module are accepted over the small layer.
 
 ghost use Rattle.std.specs.Prelude.{◌≡◌, IsTrue};
 ghost use Rattle.ir_items.specs.found.View.{function_view, module_view};
@@ -10,11 +10,12 @@ use crate::layer_made::lower_for;
 use function_interface::Lower;
 use function_tiny_lower::{TinyInfo, TinyLower};
 use ir_faults::refusal::Refusal;
-use ir_flags::{Capabilities, ValidationFlags};
+use ir_flags::{Capabilities, ShaderStages, ValidationFlags};
 use ir_items::{Function, Module};
 use module_handles::{filter_parents_precede, handles_in_range, operands_precede};
-use shader_check::Validator;
+use shader_check::{DocumentError, Validator, read_document};
 use std::alloc::{AllocError, Global};
+use test_support::call::{completed, freeing, push};
 use typing_errors::FunctionError;
 
 // Whether the handles of a function are in order.
@@ -64,21 +65,25 @@ fn judge(
     }
 }
 
-// Tells of each function of the module, up to the first that is refused.
+// Tells the stages that may run a function.
+fn tell_stages(alloc: Global, told: &mut String, stages: ShaderStages) -> Result<(), AllocError> {
+    push(told, format!(in alloc; "accepted {} ", stages.0))
+}
+
+// Tells of each function of the module, up to the first that is refused, and keeps what is found of them in a list.
 fn tell_all(
     alloc: Global,
     validator: &mut Validator<TinyLower>,
     told: &mut String,
     module: &Module,
+    kept: &mut Vec<TinyInfo>,
 ) -> Result<(), AllocError>
     requires { IsMadeOf (module_view «module».now) validator.old.lower.infos.items }
 {
-    let mut kept: Vec<TinyInfo> = Vec::with_capacity(alloc, module.functions.len())?;
     for (_, function) in module.functions.iter() {
         match judge(validator, told, module, function, kept.as_slice()) {
             Ok(Some(info)) => {
-                let stages = validator.lower.stages(&info);
-                told.push_str(&format!(in alloc; "accepted {} ", stages.0)?)?;
+                tell_stages(alloc, told, validator.lower.stages(&info))?;
                 kept.push(info)?;
             }
             Ok(None) => return Ok(()),
@@ -88,9 +93,22 @@ fn tell_all(
     Ok(())
 }
 
-/// What is found of the functions of a module, one after the other, up to the first that is refused. The error is out of
-/// memory.
-pub fn reported_of(
+// What is found of the functions of a module by a validator that is made for it, beside an empty list.
+fn reported_by(
+    alloc: Global,
+    validator: &mut Validator<TinyLower>,
+    module: &Module,
+    kept: &mut Vec<TinyInfo>,
+) -> Result<String, AllocError>
+    requires { IsMadeOf (module_view «module».now) validator.old.lower.infos.items }
+{
+    let mut told = String::new(alloc);
+    completed(tell_all(alloc, validator, &mut told, module, kept), told)
+}
+
+// What is found of the functions of a module, one after the other, up to the first that is refused. The error is out of
+// memory.
+fn reported_of(
     alloc: Global,
     flags: ValidationFlags,
     module: &Module,
@@ -99,7 +117,19 @@ pub fn reported_of(
         return String::from_str(alloc, "no layer");
     };
     let mut validator = Validator::new(alloc, lower, flags, Capabilities(0));
-    let mut told = String::new(alloc);
-    tell_all(alloc, &mut validator, &mut told, module)?;
-    Ok(told)
+    let mut kept: Vec<TinyInfo> = Vec::new(alloc);
+    let reported = freeing(reported_by(alloc, &mut validator, module, &mut kept), kept);
+    freeing(reported, validator)
+}
+
+/// What is found of the functions of the document that a text spells, over the small layer.
+pub fn of_document(alloc: Global, text: &str) -> Result<String, AllocError> {
+    match read_document(alloc, text.as_bytes()) {
+        Ok(document) => freeing(
+            reported_of(alloc, document.settings.flags, &document.module),
+            document,
+        ),
+        Err(DocumentError::Memory) => Err(AllocError),
+        Err(_) => String::from_str(alloc, "no document"),
+    }
 }

@@ -1,4 +1,4 @@
-//! The small layer, made for a module.
+// The small layer, made for a module.
 
 ghost use Rattle.std.specs.Prelude.{IfOk, IfSome};
 ghost use Rattle.function_interface.specs.Reported.{AreReported};

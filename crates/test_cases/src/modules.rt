@@ -1,65 +1,110 @@
-// What modules and documents hold.
-use crate::item::read_at;
-use document_reader::{Document, DocumentError, read_document};
+// Whether the handles of a module are in order, whether it is accepted up to its overrides, and why it is not.
+use document_reader::Document;
+use ir_faults::refusal::Refusal;
 use ir_items::Module;
-use serde_json::Value;
+use module_handles::{InvalidHandleError, validate_module_handles};
+use module_type_infos::TypeError;
+use module_types::InvalidType;
+use module_validator::{ModuleError, ModuleInfo, ModuleValidator};
 use std::alloc::{AllocError, Global};
-use test_support::call::{no_call, text, told};
+use std::fmt::Debug;
+use test_support::call::freeing;
 
-type Counts = (usize, usize, usize, usize);
+/// Whether each override has to have its value.
+#[derive(Clone, Copy)]
+pub enum Overrides {
+    Open,
+    Resolved,
+}
 
-/// The document that the bytes spell, if they spell one.
-pub fn document_of(alloc: Global, bytes: &[u8]) -> Result<Option<Document>, AllocError> {
-    match read_document(alloc, bytes) {
-        Ok(document) => Ok(Some(document)),
-        Err(DocumentError::Memory) => Err(AllocError),
-        Err(_) => Ok(None),
+// The name of what is wrong with a handle.
+fn handle_fault(error: &InvalidHandleError) -> &'static str {
+    match error {
+        InvalidHandleError::BadHandle(_) => "BadHandle",
+        InvalidHandleError::ForwardDependency(_) => "ForwardDependency",
+        InvalidHandleError::BadRange(_) => "BadRange",
     }
 }
 
-fn counts_of_context(module: &Module) -> Counts {
-    let context = module.to_ctx();
-    (
-        context.types.len(),
-        context.constants.len(),
-        context.overrides.len(),
-        context.global_expressions.len(),
-    )
+/// Whether the handles of a module are in order, or the name of what is wrong with one.
+pub fn handles_told(alloc: Global, module: &Module) -> Result<String, AllocError> {
+    let told = match validate_module_handles(module) {
+        Ok(()) => "in order",
+        Err(error) => handle_fault(&error),
+    };
+    String::from_str(alloc, told)
 }
 
-/// How much of each list the context of a module shows.
-pub fn of_context(alloc: Global, call: &Value) -> Result<String, AllocError> {
-    match read_at::<Module>(alloc, call, 1)? {
-        Some(module) => told(alloc, counts_of_context(&module)),
-        None => no_call(alloc),
+// The step that refuses an item, the item, and why.
+fn item_told<E: Debug>(
+    alloc: Global,
+    step: &str,
+    index: usize,
+    error: &E,
+) -> Result<String, AllocError> {
+    format!(in alloc; "{step} {index} {error:?}")
+}
+
+// The type that is refused, and why; which fault it is that sources of a blend have is not reported.
+fn type_told(alloc: Global, refused: &InvalidType) -> Result<String, AllocError> {
+    let index = refused.ty.index();
+    if let TypeError::InvalidBlendSrc(_) = refused.error {
+        return format!(in alloc; "type {index} InvalidBlendSrc");
+    }
+    item_told(alloc, "type", index, &refused.error)
+}
+
+/// The step that refuses a module, and why.
+pub fn error_told(alloc: Global, error: &ModuleError) -> Result<String, AllocError> {
+    match error {
+        ModuleError::InvalidHandle(error) => {
+            format!(in alloc; "handles {}", handle_fault(error))
+        }
+        ModuleError::Layouter(error) => {
+            item_told(alloc, "layout", error.ty.index(), &error.inner)
+        }
+        ModuleError::Type(refused) => type_told(alloc, refused),
+        ModuleError::ConstExpression(refused) => item_told(
+            alloc,
+            "expression",
+            refused.expression.index(),
+            &refused.error,
+        ),
+        ModuleError::Constant(refused) => item_told(
+            alloc,
+            "constant",
+            refused.constant.index(),
+            &refused.error,
+        ),
+        ModuleError::Override(refused) => {
+            item_told(alloc, "override", refused.id.index(), &refused.error)
+        }
     }
 }
 
-fn counts(module: &Module) -> Counts {
-    (
-        module.types.len(),
-        module.global_variables.len(),
-        module.functions.len(),
-        module.entry_points.len(),
-    )
-}
-
-/// How much of each list a module has.
-pub fn of_module(alloc: Global, call: &Value) -> Result<String, AllocError> {
-    match read_at::<Module>(alloc, call, 1)? {
-        Some(module) => told(alloc, counts(&module)),
-        None => no_call(alloc),
+// What a validator answers.
+fn answer_told(
+    alloc: Global,
+    judged: &Result<ModuleInfo, Refusal<ModuleError>>,
+) -> Result<String, AllocError> {
+    match judged {
+        Ok(_) => String::from_str(alloc, "accepted"),
+        Err(Refusal::Memory(_)) => Err(AllocError),
+        Err(Refusal::Fault(fault)) => error_told(alloc, fault.as_inner()),
     }
 }
 
-fn seen(alloc: Global, copy: &Document) -> Result<String, AllocError> {
-    told(alloc, counts(&copy.module))
-}
-
-/// How much of each list the copy of a document has.
-pub fn of_document(alloc: Global, call: &Value) -> Result<String, AllocError> {
-    match document_of(alloc, text(call, 1).as_bytes())? {
-        Some(document) => seen(alloc, &document.clone(alloc)?),
-        None => no_call(alloc),
-    }
+/// Whether the module of a document is accepted up to its overrides, or why it is not.
+pub fn checks_told(
+    alloc: Global,
+    document: &Document,
+    overrides: Overrides,
+) -> Result<String, AllocError> {
+    let settings = document.settings;
+    let mut validator = ModuleValidator::new(alloc, settings.flags, settings.capabilities);
+    let judged = match overrides {
+        Overrides::Open => validator.validate(&document.module),
+        Overrides::Resolved => validator.validate_resolved_overrides(&document.module),
+    };
+    freeing(freeing(answer_told(alloc, &judged), judged), validator)
 }

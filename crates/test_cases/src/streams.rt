@@ -1,7 +1,9 @@
 // Checks over readers and writers that fail at one of their calls, at each in turn.
-use crate::rows::{Answer, Row};
-use shader_check::{Fault, Sink, Source, check_document};
+use crate::check::{Checked, check};
+use crate::rows::Row;
+use shader_check::Fault;
 use std::alloc::Global;
+use test_support::call::freeing;
 use test_support::fakes::{Bad, Page, Script, plain};
 
 /// More than the calls that a reader gets.
@@ -34,14 +36,15 @@ fn judged(fault: bool, met: bool) -> Outcome {
 // What comes of a reader. The mark is set at a fault, and where a call was interrupted; nothing is written at a fault.
 fn read_once(alloc: Global, row: Row<'_>, script: Script<'_>) -> Outcome {
     let halting = script.halting;
-    let mut held: Vec<u8> = Vec::new(alloc);
-    let mut source = Source::new(script);
-    let mut sink = Sink::new(&mut held);
-    let answer = check_document(alloc, &mut source, &mut sink);
-    let (read_failed, write_failed) = (source.failed(), sink.failed());
-    let is_fault = answer == Err(Fault::Read) && read_failed && held.is_empty();
-    let is_met = read_failed == halting && row.is_met(answer, &held);
-    judged(is_fault && !write_failed, is_met && !write_failed)
+    let mut written: Vec<u8> = Vec::new(alloc);
+    let checked = check(alloc, script, &mut written);
+    let is_fault = checked.answer == Err(Fault::Read) && checked.read_failed && written.is_empty();
+    let is_met = checked.read_failed == halting && row.is_met(checked.answer, &written);
+    let outcome = judged(
+        is_fault && !checked.write_failed,
+        is_met && !checked.write_failed,
+    );
+    freeing(outcome, written)
 }
 
 /// How many calls of a reader may fail before a check comes to its end, each of them with its fault; `None` where anything
@@ -66,13 +69,12 @@ pub fn reader_fails(alloc: Global, row: Row<'_>, step: usize, halting: bool) -> 
 
 /// How often a reader is called that gives a byte a call, where what comes is what is expected.
 pub fn reader_calls(alloc: Global, row: Row<'_>) -> Option<u64> {
-    let mut held: Vec<u8> = Vec::new(alloc);
+    let mut written: Vec<u8> = Vec::new(alloc);
     let mut script = plain(row.input, 1);
-    let mut source = Source::new(&mut script);
-    let mut sink = Sink::new(&mut held);
-    let answer = check_document(alloc, &mut source, &mut sink);
-    let failed = source.failed() || sink.failed();
-    if row.is_met(answer, &held) && !failed {
+    let checked = check(alloc, &mut script, &mut written);
+    let failed = checked.read_failed || checked.write_failed;
+    let is_met = freeing(row.is_met(checked.answer, &written), written);
+    if is_met && !failed {
         Some(script.calls)
     } else {
         None
@@ -92,32 +94,34 @@ fn is_prefix(row: Row<'_>, page: &Page) -> bool {
 }
 
 // What came of a writer, with the marks of the reader and the writer.
-fn written(row: Row<'_>, page: &Page, answer: Answer, marks: (bool, bool)) -> Outcome {
-    let is_fault = answer == Err(Fault::Write) && marks == (false, true) && is_prefix(row, page);
-    let is_met = marks == (false, false) && row.is_met(answer, &page.held);
-    judged(is_fault, is_met)
+fn judged_page(row: Row<'_>, page: &Page, checked: Checked) -> Outcome {
+    let is_fault = checked.answer == Err(Fault::Write)
+        && checked.write_failed
+        && is_prefix(row, page);
+    let is_met = !checked.write_failed && row.is_met(checked.answer, &page.held);
+    judged(
+        is_fault && !checked.read_failed,
+        is_met && !checked.read_failed,
+    )
 }
 
-fn write_once(alloc: Global, row: Row<'_>, page: &mut Page) -> Outcome {
-    let mut source = Source::new(plain(row.input, 4));
-    let mut sink = Sink::new(&mut *page);
-    let answer = check_document(alloc, &mut source, &mut sink);
-    let marks = (source.failed(), sink.failed());
-    written(row, page, answer, marks)
+fn write_once(alloc: Global, row: Row<'_>, step: usize, bad_call: u64, bad: Bad) -> Outcome {
+    let mut page = Page {
+        held: Vec::new(alloc),
+        step,
+        calls: 0,
+        bad_call,
+        bad,
+    };
+    let checked = check(alloc, plain(row.input, 4), &mut page);
+    freeing(judged_page(row, &page, checked), page)
 }
 
 /// How many calls of a writer may fail before a check comes to its end, each of them with its fault; `None` where anything
 /// else came.
 pub fn writer_fails(alloc: Global, row: Row<'_>, step: usize, bad: Bad) -> Option<u64> {
     for bad_call in 1..MOST_WRITES {
-        let mut page = Page {
-            held: Vec::new(alloc),
-            step,
-            calls: 0,
-            bad_call,
-            bad,
-        };
-        match write_once(alloc, row, &mut page) {
+        match write_once(alloc, row, step, bad_call, bad) {
             Outcome::Fault => {}
             Outcome::Met => return Some(bad_call.saturating_sub(1)),
             Outcome::Other => return None,

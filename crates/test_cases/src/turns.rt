@@ -4,9 +4,9 @@ use function_real_lower::RealLower;
 use ir_faults::refusal::Refusal;
 use ir_items::Module;
 use serde_json::Value;
-use shader_check::{Finding, Validator, refused_by};
+use shader_check::{Finding, ValidationError, Validator, refused_by};
 use std::alloc::{AllocError, Global};
-use test_support::call::{items, told};
+use test_support::call::{completed, freeing, items, told};
 use typing_infos::ModuleInfo;
 
 /// What a validator answers.
@@ -26,40 +26,89 @@ fn validator_for(alloc: Global, settings: Settings) -> Validator<RealLower> {
     validator
 }
 
-fn judged(validator: &mut Validator<RealLower>, module: &Module) -> Answered {
-    match validator.validate(module) {
+fn answered(answer: &Result<ModuleInfo, Refusal<ValidationError>>) -> Answered {
+    match answer {
         Ok(_) => Answered::Accepted,
         Err(Refusal::Memory(_)) => Answered::Memory,
         Err(Refusal::Fault(fault)) => Answered::Refused(refused_by(fault.as_inner())),
     }
 }
 
-// The documents that these texts spell, up to one that spells none.
-fn documents_of(alloc: Global, texts: &[Value]) -> Result<Vec<Document>, AllocError> {
-    let mut documents = Vec::new(alloc);
+fn judged(validator: &mut Validator<RealLower>, module: &Module) -> Answered {
+    let answer = validator.validate(module);
+    freeing(answered(&answer), answer)
+}
+
+// Puts the documents that these texts spell after a list, up to one that spells none.
+fn add_documents(
+    alloc: Global,
+    documents: &mut Vec<Document>,
+    texts: &[Value],
+) -> Result<(), AllocError> {
     for text in texts {
         match read_document(alloc, text.as_str().unwrap_or("").as_bytes()) {
             Ok(document) => documents.push(document)?,
             Err(DocumentError::Memory) => return Err(AllocError),
-            Err(_) => return Ok(documents),
+            Err(_) => return Ok(()),
         }
     }
-    Ok(documents)
+    Ok(())
 }
 
-/// What one validator answers to the modules of the documents in this list, in turn, by the settings of the first.
-pub fn turns_told(alloc: Global, list: &str) -> Result<String, AllocError> {
-    let Ok(texts) = Value::from_str(alloc, list) else {
-        return String::from_str(alloc, "no list");
-    };
-    let documents = documents_of(alloc, items(&texts))?;
+// Puts what a validator answers to the modules of these documents, in turn, into a list.
+fn add_answers(
+    validator: &mut Validator<RealLower>,
+    documents: &[Document],
+    answers: &mut Vec<Answered>,
+) -> Result<(), AllocError> {
+    for document in documents {
+        answers.push(judged(validator, &document.module))?;
+    }
+    Ok(())
+}
+
+// What a validator answers to the modules of these documents, in turn.
+fn answers_of(
+    alloc: Global,
+    validator: &mut Validator<RealLower>,
+    documents: &[Document],
+) -> Result<String, AllocError> {
+    let mut answers = Vec::with_capacity(alloc, documents.len())?;
+    told(
+        alloc,
+        completed(add_answers(validator, documents, &mut answers), answers)?,
+    )
+}
+
+// The same of one validator by the settings of the first.
+fn judged_in_turn(alloc: Global, documents: &[Document]) -> Result<String, AllocError> {
     let Some(first) = documents.first() else {
         return String::from_str(alloc, "no document");
     };
     let mut validator = validator_for(alloc, first.settings);
-    let mut answers = Vec::with_capacity(alloc, documents.len())?;
-    for document in &documents {
-        answers.push(judged(&mut validator, &document.module))?;
+    freeing(answers_of(alloc, &mut validator, documents), validator)
+}
+
+// The same of the documents that these texts spell, which are read into this list.
+fn read_and_judged(
+    alloc: Global,
+    documents: &mut Vec<Document>,
+    texts: &[Value],
+) -> Result<String, AllocError> {
+    add_documents(alloc, documents, texts)?;
+    judged_in_turn(alloc, documents)
+}
+
+// The same of a list of texts.
+fn turns_of(alloc: Global, texts: &[Value]) -> Result<String, AllocError> {
+    let mut documents = Vec::new(alloc);
+    freeing(read_and_judged(alloc, &mut documents, texts), documents)
+}
+
+/// What one validator answers to the modules of the documents in this list, in turn, by the settings of the first.
+pub fn turns_told(alloc: Global, list: &str) -> Result<String, AllocError> {
+    match Value::from_str(alloc, list) {
+        Ok(texts) => freeing(turns_of(alloc, items(&texts)), texts),
+        Err(_) => String::from_str(alloc, "no list"),
     }
-    told(alloc, answers)
 }

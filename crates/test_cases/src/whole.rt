@@ -1,5 +1,5 @@
 // Whether a document is accepted, and why it is not.
-use crate::checks::error_told;
+use crate::modules::error_told;
 use crate::refusals::refusal_reported;
 use document_reader::Document;
 use function_entry_checks::EntryPointError;
@@ -7,6 +7,7 @@ use shader_check::{
     Examined, Finding, InvalidEntryPoint, Named, ValidationError, examine_document, refused_by,
 };
 use std::alloc::{AllocError, Global};
+use test_support::call::freeing;
 
 // Why an entry point is refused: what is wrong with its function in words, anything else by its name.
 fn entry_told(alloc: Global, refused: &InvalidEntryPoint) -> Result<String, AllocError> {
@@ -40,20 +41,26 @@ fn told_by_name(alloc: Global, error: &ValidationError) -> Result<String, AllocE
     }
 }
 
-/// Whether a document is accepted, or why it is not, with what is wrong with a function in words. Returns are put in where
-/// its settings require them.
-pub fn functions_reported(alloc: Global, document: &mut Document) -> Result<String, AllocError> {
-    match examine_document(alloc, document)? {
+// Whether a document is accepted, or why it is not.
+fn found_told(alloc: Global, question: &str, found: &Examined) -> Result<String, AllocError> {
+    match found {
         Examined::Accepted { .. } => String::from_str(alloc, "accepted"),
-        Examined::Refused(error) => told_in_words(alloc, &error),
+        Examined::Refused(error) => match question {
+            "functions" => told_in_words(alloc, error),
+            _ => told_by_name(alloc, error),
+        },
     }
 }
 
-/// Whether a document is accepted, or the verdict and the error by its name. Returns are put in where its settings require
-/// them.
-pub fn refusals_told(alloc: Global, document: &mut Document) -> Result<String, AllocError> {
-    match examine_document(alloc, document)? {
-        Examined::Accepted { .. } => String::from_str(alloc, "accepted"),
-        Examined::Refused(error) => told_by_name(alloc, &error),
+/// Whether a document is accepted, or why it is not: with what is wrong with a function in words where the question is
+/// `functions`, or else the verdict and the error by its name. Returns are put in where its settings require them.
+pub fn refusal_told(
+    alloc: Global,
+    question: &str,
+    document: &mut Document,
+) -> Result<String, AllocError> {
+    match examine_document(alloc, document) {
+        Ok(found) => freeing(found_told(alloc, question, &found), found),
+        Err(error) => Err(error),
     }
 }

@@ -7,7 +7,7 @@ use ir_arena::span::Span;
 use ir_items::{Block, Statement};
 use serde_json::Value;
 use std::alloc::{AllocError, Global};
-use test_support::call::{list, number, text, told};
+use test_support::call::{completed, freeing, list, number, text, told};
 
 fn emit(place: u32) -> Statement {
     Statement::Emit(Range::new(place, 50))
@@ -38,8 +38,7 @@ fn push(block: &mut Block, places: &[Value]) -> Result<(), AllocError> {
 // The block of these places.
 fn block(alloc: Global, places: &[Value]) -> Result<Block, AllocError> {
     let mut block = Block::new(alloc);
-    push(&mut block, places)?;
-    Ok(block)
+    completed(push(&mut block, places), block)
 }
 
 // Of a statement and its span: the first place where it computes, and the span.
@@ -79,11 +78,20 @@ fn made(answer: Result<(), AllocError>) -> Result<bool, AllocError> {
     }
 }
 
-// Moves the statements of another block after this one. Returns whether none is left there.
-fn append(alloc: Global, subject: &mut Block, places: &[Value]) -> Result<bool, AllocError> {
-    let mut other = block(alloc, places)?;
-    subject.append(&mut other)?;
+// Moves the statements of these places, which another block gets, after this one. Returns whether none is left there.
+fn append_from(
+    subject: &mut Block,
+    other: &mut Block,
+    places: &[Value],
+) -> Result<bool, AllocError> {
+    push(other, places)?;
+    subject.append(other)?;
     Ok(other.is_empty() && other.span_iter().next().is_none())
+}
+
+fn append(alloc: Global, subject: &mut Block, places: &[Value]) -> Result<bool, AllocError> {
+    let mut other = Block::new(alloc);
+    freeing(append_from(subject, &mut other, places), other)
 }
 
 fn extend_block(alloc: Global, subject: &mut Block, places: &[Value]) -> Result<bool, AllocError> {
@@ -173,36 +181,39 @@ fn called(alloc: Global, subject: &mut Block, call: &Value) -> Result<bool, Allo
     }
 }
 
-// The block that calls are made of.
-fn subject(alloc: Global, call: &Value) -> Result<Block, AllocError> {
-    if text(call, 1) != "extend_block" {
-        return block(alloc, list(call, 2));
+// What a call of a block that was made for it tells, and what the block holds then.
+fn of_subject(alloc: Global, subject: &mut Block, call: &Value) -> Result<String, AllocError> {
+    if text(call, 1) == "extend_block" {
+        *subject = Block::with_capacity(alloc, 2)?;
     }
-    let mut subject = Block::with_capacity(alloc, 2)?;
-    push(&mut subject, list(call, 2))?;
-    Ok(subject)
+    push(subject, list(call, 2))?;
+    let is_made = called(alloc, subject, call)?;
+    told(alloc, (is_made, seen(alloc, subject)))
 }
 
 /// The result of a call of a block: what it tells, and what the block holds then.
 pub fn of_block(alloc: Global, call: &Value) -> Result<String, AllocError> {
-    let mut subject = subject(alloc, call)?;
-    let is_made = called(alloc, &mut subject, call)?;
-    told(alloc, (is_made, seen(alloc, &subject)))
+    let mut subject = Block::new(alloc);
+    freeing(of_subject(alloc, &mut subject, call), subject)
+}
+
+// Puts the statements of these places into a list, and a kill after them.
+fn add_statements(statements: &mut Vec<Statement>, places: &[Value]) -> Result<(), AllocError> {
+    for value in places {
+        statements.push(emit(place(value)))?;
+    }
+    statements.push(Statement::Kill)?;
+    Ok(())
 }
 
 // The statements of these places, and a kill after them.
 fn statements(alloc: Global, places: &[Value]) -> Result<Vec<Statement>, AllocError> {
     let mut statements = Vec::new(alloc);
-    for value in places {
-        statements.push(emit(place(value)))?;
-    }
-    statements.push(Statement::Kill)?;
-    Ok(statements)
+    completed(add_statements(&mut statements, places), statements)
 }
 
 /// What a block holds that is made of statements without spans.
 pub fn of_statements(alloc: Global, call: &Value) -> Result<String, AllocError> {
-    let statements = statements(alloc, list(call, 1))?;
-    let subject = Block::from_vec(statements);
-    told(alloc, seen(alloc, &subject))
+    let subject = Block::from_vec(statements(alloc, list(call, 1))?);
+    freeing(told(alloc, seen(alloc, &subject)), subject)
 }

@@ -9,7 +9,7 @@ use ir_proc::Emitter;
 use serde_json::Value;
 use std::alloc::{AllocError, Global};
 use std::ops;
-use test_support::call::{list, span, told};
+use test_support::call::{freeing, list, span, told};
 
 type Expressions = Arena<Expression, key::Expression>;
 
@@ -58,9 +58,14 @@ fn emitted(
     Ok(((before, meanwhile, emitter.is_running()), emitted))
 }
 
+// The same of an arena, which first gets the expressions with the first spans.
+fn of_arena(alloc: Global, arena: &mut Expressions, call: &Value) -> Result<String, AllocError> {
+    append_all(arena, list(call, 1))?;
+    told(alloc, emitted(arena, list(call, 2)))
+}
+
 /// What is emitted of the expressions with the second spans, which come after those with the first.
 pub fn of_emitter(alloc: Global, call: &Value) -> Result<String, AllocError> {
     let mut arena = Arena::new(alloc);
-    append_all(&mut arena, list(call, 1))?;
-    told(alloc, emitted(&mut arena, list(call, 2)))
+    freeing(of_arena(alloc, &mut arena, call), arena)
 }

@@ -5,7 +5,7 @@ use ir_arena::span::Span;
 use ir_items::{Block, EntryPoint, Function, Module};
 use serde_json::Value;
 use std::alloc::{AllocError, Global};
-use test_support::call::{list, no_call, span, text, told};
+use test_support::call::{completed, freeing, list, no_call, span, text, told};
 
 /// An item to which others are added, each with a span that no document tells.
 pub trait Holder: Item {
@@ -16,15 +16,30 @@ pub trait Holder: Item {
     fn tell_spans(&self, spans: &mut Vec<Span>) -> Result<(), AllocError>;
 }
 
-// An item with what is added to it.
-fn held<T: Holder>(alloc: Global, call: &Value, place: usize) -> Result<Option<T>, AllocError> {
-    let Some(mut holder): Option<T> = read_at(alloc, call, place)? else {
-        return Ok(None);
-    };
-    for part in list(call, place.saturating_add(1)) {
+// Adds these parts to an item.
+fn add_all<T: Holder>(alloc: Global, holder: &mut T, parts: &[Value]) -> Result<(), AllocError> {
+    for part in parts {
         holder.add(alloc, part)?;
     }
-    Ok(Some(holder))
+    Ok(())
+}
+
+// An item with these parts.
+fn filled<T: Holder>(alloc: Global, holder: T, parts: &[Value]) -> Result<Option<T>, AllocError> {
+    let mut holder = holder;
+    Ok(Some(completed(add_all(alloc, &mut holder, parts), holder)?))
+}
+
+// The item that a line gives with what is added to it.
+fn read_with_parts<T: Holder>(
+    alloc: Global,
+    call: &Value,
+    place: usize,
+) -> Result<Option<T>, AllocError> {
+    match read_at::<T>(alloc, call, place)? {
+        Some(holder) => filled(alloc, holder, list(call, place.saturating_add(1))),
+        None => Ok(None),
+    }
 }
 
 fn spans_of<T: Holder>(alloc: Global, holder: &T) -> Result<Vec<Span>, AllocError> {
@@ -40,28 +55,57 @@ fn equals<T: Holder>(copy: &T, other: &Option<T>) -> Option<bool> {
     }
 }
 
+// What is reported of an item and a copy of it, beside another one.
+fn of_copy<T: Holder>(
+    alloc: Global,
+    source: &T,
+    copy: &T,
+    other: &Option<T>,
+) -> Result<String, AllocError> {
+    let spans = spans_of(alloc, copy)?;
+    told(alloc, (*copy == *source, equals(copy, other), spans))
+}
+
+// The same beside the one that a line gives.
+fn of_other<T: Holder>(
+    alloc: Global,
+    source: &T,
+    copy: &T,
+    call: &Value,
+) -> Result<String, AllocError> {
+    let other: Option<T> = read_with_parts(alloc, call, 3)?;
+    freeing(of_copy(alloc, source, copy, &other), other)
+}
+
+// The same of an item and a copy of it.
+fn of_source<T: Holder>(alloc: Global, source: &T, call: &Value) -> Result<String, AllocError> {
+    let copy = source.copy(alloc)?;
+    freeing(of_other(alloc, source, &copy, call), copy)
+}
+
 /// What is reported of an item that is copied with all that was added to it, and of another one.
 pub fn compared<T: Holder>(alloc: Global, call: &Value) -> Result<String, AllocError> {
-    let Some(source): Option<T> = held(alloc, call, 1)? else {
-        return no_call(alloc);
-    };
-    let copy = source.copy(alloc)?;
-    let is_copy = copy == source;
-    let other: Option<T> = held(alloc, call, 3)?;
-    let spans = spans_of(alloc, &copy)?;
-    told(alloc, (is_copy, equals(&copy, &other), spans))
+    match read_with_parts::<T>(alloc, call, 1)? {
+        Some(source) => freeing(of_source(alloc, &source, call), source),
+        None => no_call(alloc),
+    }
+}
+
+// Puts the statements of a body after a block, each with this span.
+fn push_all(block: &mut Block, body: Block, span: Span) -> Result<(), AllocError> {
+    for (statement, _) in body.span_into_iter() {
+        block.push(statement, span)?;
+    }
+    Ok(())
 }
 
 impl Holder for Block {
     // Each statement of a body is added with the same span.
     fn add(&mut self, alloc: Global, part: &Value) -> Result<(), AllocError> {
-        let Some(body): Option<Block> = read_at(alloc, part, 1)? else {
-            return Ok(());
-        };
-        for (statement, _) in body.span_into_iter() {
-            self.push(statement, span(part, 2))?;
+        match read_at::<Block>(alloc, part, 1)? {
+            Some(body) => push_all(self, body, span(part, 2)),
+            None => Ok(()),
         }
-        Ok(())
     }
 
     fn tell_spans(&self, spans: &mut Vec<Span>) -> Result<(), AllocError> {

@@ -9,8 +9,7 @@ use ir_items::{
 };
 use serde_json::Value;
 use std::alloc::{AllocError, Global};
-use test_support::call::{no_call, told};
-use test_support::forms::found;
+use test_support::call::{found, freeing, no_call, told};
 
 /// What a line can give, and what can be copied.
 pub trait Item: PartialEq + Drop + Sized {
@@ -41,14 +40,25 @@ fn comparison<T: Item>(source: &T, copy: &T, other: &Option<T>) -> (bool, Option
     }
 }
 
-/// What is reported of an item that is copied, and of another one.
-pub fn compared<T: Item>(alloc: Global, call: &Value) -> Result<String, AllocError> {
-    let Some(source): Option<T> = read_at(alloc, call, 1)? else {
-        return no_call(alloc);
-    };
-    let other: Option<T> = read_at(alloc, call, 2)?;
+// What is reported of an item and a copy of it, beside another one.
+fn of_copy<T: Item>(alloc: Global, source: &T, other: &Option<T>) -> Result<String, AllocError> {
     let copy = source.copy(alloc)?;
-    told(alloc, comparison(&source, &copy, &other))
+    freeing(told(alloc, comparison(source, &copy, other)), copy)
+}
+
+// The same beside the one that a line gives.
+fn of_source<T: Item>(alloc: Global, source: &T, call: &Value) -> Result<String, AllocError> {
+    let other: Option<T> = read_at(alloc, call, 2)?;
+    freeing(of_copy(alloc, source, &other), other)
+}
+
+/// What is reported of an item that is copied, and of another one. Each is freed by a call of its own, which is cheaper to prove
+/// than on every way out.
+pub fn compared<T: Item>(alloc: Global, call: &Value) -> Result<String, AllocError> {
+    match read_at::<T>(alloc, call, 1)? {
+        Some(source) => freeing(of_source(alloc, &source, call), source),
+        None => no_call(alloc),
+    }
 }
 
 impl Item for IrType {

@@ -1,5 +1,5 @@
 // What expressions, types and special types answer.
-use crate::item::read_at;
+use crate::told::Told;
 use document_forms::Each;
 use document_items::TypeForm;
 use ir_arena::handle::Handle;
@@ -9,8 +9,7 @@ use ir_types::LiteralExt;
 use ir_types::laws::type_equality;
 use serde_json::Value;
 use std::alloc::{AllocError, Global};
-use test_support::call::{no_call, told};
-use test_support::forms::found;
+use test_support::call::{found, freeing, text, told};
 
 // Whether an expression is always in scope, whether it is a dynamic index, and whether the level of a sample requires
 // derivatives.
@@ -26,15 +25,7 @@ fn traits_of(expression: &Expression) -> (bool, bool, Option<bool>) {
     )
 }
 
-/// What is reported of an expression: whether a copy equals it, and what it is.
-pub fn of_expression(alloc: Global, call: &Value) -> Result<String, AllocError> {
-    let Some(source): Option<Expression> = read_at(alloc, call, 1)? else {
-        return no_call(alloc);
-    };
-    let copy = source.clone(alloc)?;
-    told(alloc, (copy == source, traits_of(&copy)))
-}
-
+// The type of a literal.
 fn inner_of(literal: &Expression) -> Option<TypeInner> {
     match literal {
         Expression::Literal(literal) => Some(literal.ty_inner()),
@@ -42,25 +33,37 @@ fn inner_of(literal: &Expression) -> Option<TypeInner> {
     }
 }
 
-/// The type of a literal.
-pub fn of_literal(alloc: Global, call: &Value) -> Result<String, AllocError> {
-    let Some(literal): Option<Expression> = read_at(alloc, call, 1)? else {
-        return no_call(alloc);
-    };
-    told(alloc, inner_of(&literal))
+impl Told for Expression {
+    // Whether a copy equals its source, and what it is, or the type of a literal.
+    fn tell(
+        &mut self,
+        alloc: Global,
+        source: &Self,
+        _other: &Option<Self>,
+        call: &Value,
+    ) -> Result<String, AllocError> {
+        if text(call, 0) == "literal" {
+            return told(alloc, inner_of(self));
+        }
+        told(alloc, (*self == *source, traits_of(self)))
+    }
 }
 
-/// What the equality of types that is proved says of two types and a copy.
-pub fn of_type(alloc: Global, call: &Value) -> Result<String, AllocError> {
-    let Some(source): Option<IrType> = read_at(alloc, call, 1)? else {
-        return no_call(alloc);
-    };
-    let copy = source.clone(alloc)?;
-    let is_copy = (copy == source, type_equality(&source, &copy));
-    let Some(other): Option<IrType> = read_at(alloc, call, 2)? else {
-        return told(alloc, is_copy);
-    };
-    told(alloc, (is_copy, type_equality(&source, &other)))
+impl Told for IrType {
+    // What the equality of types that is proved tells of two types and a copy.
+    fn tell(
+        &mut self,
+        alloc: Global,
+        source: &Self,
+        other: &Option<Self>,
+        _call: &Value,
+    ) -> Result<String, AllocError> {
+        let is_copy = (*self == *source, type_equality(source, self));
+        match other {
+            Some(other) => told(alloc, (is_copy, type_equality(source, other))),
+            None => told(alloc, is_copy),
+        }
+    }
 }
 
 // The places of the types of two lists that are made of the same.
@@ -87,11 +90,16 @@ fn list_of(alloc: Global, call: &Value) -> Result<Vec<IrType>, AllocError> {
     }
 }
 
+// Which types of a list are made of the same as which of the list that a line gives.
+fn alike_again(alloc: Global, types: &[IrType], call: &Value) -> Result<String, AllocError> {
+    let others = list_of(alloc, call)?;
+    freeing(told(alloc, alike(alloc, types, &others)), others)
+}
+
 /// Which types of a list are made of the same as which of the list again.
 pub fn of_types(alloc: Global, call: &Value) -> Result<String, AllocError> {
     let types = list_of(alloc, call)?;
-    let others = list_of(alloc, call)?;
-    told(alloc, alike(alloc, &types, &others))
+    freeing(alike_again(alloc, &types, call), types)
 }
 
 // The key of the parts of a float, which a line may have.
@@ -105,16 +113,20 @@ fn parts_of(special: &SpecialTypes) -> Option<usize> {
     Some(special.predeclared_types.get(&PARTS)?.index())
 }
 
-/// What a copy of special types has.
-pub fn of_special_types(alloc: Global, call: &Value) -> Result<String, AllocError> {
-    let Some(source): Option<SpecialTypes> = read_at(alloc, call, 1)? else {
-        return no_call(alloc);
-    };
-    let copy = source.clone(alloc)?;
-    let rays = (
-        copy.ray_desc.map(Handle::index),
-        copy.ray_intersection.map(Handle::index),
-    );
-    let predeclared = (copy.predeclared_types.len(), parts_of(&copy));
-    told(alloc, (copy == source, rays, predeclared))
+impl Told for SpecialTypes {
+    // What a copy of special types has.
+    fn tell(
+        &mut self,
+        alloc: Global,
+        source: &Self,
+        _other: &Option<Self>,
+        _call: &Value,
+    ) -> Result<String, AllocError> {
+        let rays = (
+            self.ray_desc.map(Handle::index),
+            self.ray_intersection.map(Handle::index),
+        );
+        let predeclared = (self.predeclared_types.len(), parts_of(self));
+        told(alloc, (*self == *source, rays, predeclared))
+    }
 }

@@ -1,32 +1,50 @@
-// Reads items of the IR of every kind, copies and compares them, and makes the calls of blocks, emitters and walks.
-//
-// A line is a list: what is required, and what it is required of, written as in a document.
-use crate::{blocks, emitters, holder, item, kinds, modules, returns, walks};
+//! Reads items of the IR of every kind, copies and compares them, and makes the calls of blocks, emitters, walks, spans and hashers
+//! that know a key; and makes the calls that need memory with little of it, and a little more each time.
+//!
+//! A call is a list: what is required, and what it is required of, written as in a document.
+#![tactic(auto)]
+
+mod blocks;
+mod emitters;
+mod hashes;
+mod holder;
+mod item;
+mod kinds;
+mod modules;
+mod returns;
+mod spans;
+mod told;
+mod trials;
+mod walks;
+
+pub use hashes::run as print_hashes;
 use ir_items::{
-    Block, Constant, DiagnosticFilterNode, EntryPoint, Function, GlobalVariable, Module, Override,
+    Block, Constant, DiagnosticFilterNode, EntryPoint, Expression, Function, GlobalVariable,
+    IrType, Module, Override, SpecialTypes,
 };
 use serde_json::Value;
+pub use spans::{of_number, of_span};
 use std::alloc::{AllocError, Global};
 use test_support::call::{no_call, text};
 
 /// The result of a call of items.
 pub fn answer(alloc: Global, call: &Value) -> Result<String, AllocError> {
     match text(call, 0) {
-        "type" => kinds::of_type(alloc, call),
+        "type" => told::of_item::<IrType>(alloc, call),
         "types" => kinds::of_types(alloc, call),
-        "literal" => kinds::of_literal(alloc, call),
-        "expression" => kinds::of_expression(alloc, call),
-        "special_types" => kinds::of_special_types(alloc, call),
+        "literal" | "expression" => told::of_item::<Expression>(alloc, call),
+        "special_types" => told::of_item::<SpecialTypes>(alloc, call),
         "block" => blocks::of_block(alloc, call),
         "statements" => blocks::of_statements(alloc, call),
-        "returns" => returns::of_returns(alloc, call),
+        "returns" => told::of_item::<Block>(alloc, call),
         "emitter" => emitters::of_emitter(alloc, call),
         "search" => walks::of_search(alloc, call),
-        "origin" => walks::of_origin(alloc, call),
-        "composition" => walks::of_composition(alloc, call),
-        "context" => modules::of_context(alloc, call),
-        "lists" => modules::of_module(alloc, call),
+        "origin" | "composition" | "composition_in_little" => {
+            told::of_item::<Function>(alloc, call)
+        }
+        "context" | "lists" => told::of_item::<Module>(alloc, call),
         "document" => modules::of_document(alloc, call),
+        "in_little" => trials::answer(alloc, call),
         _ => copied(alloc, call),
     }
 }

@@ -1,28 +1,29 @@
 // Calls that follow handles.
-use crate::item::{Item, read_at};
+use crate::item::Item;
+use crate::told::Told;
+use crate::trials::is_composition_refused;
 use ir_arena::arena::Arena;
 use ir_arena::handle::Handle;
 use ir_arena::span::Span;
 use ir_items::{DiagnosticFilterNode, Function, IrType, key};
 use ir_kinds::{Severity, StandardFilterableTriggeringRule};
-use ir_proc::{DiagnosticFilterNodeExt, FlattenCompose, FunctionExt};
+use ir_proc::{DiagnosticFilterNodeExt, FlattenCompose, FunctionExt, flatten_compose};
 use ir_sets::unique_arena::UniqueArena;
 use serde_json::Value;
 use std::alloc::{AllocError, Global};
-use test_support::call::{handle, list, no_call, told};
-use test_support::checks::{bases_precede, flat, parents_precede};
+use test_support::call::{completed, freeing, handle, list, no_call, number, text, told};
+use test_support::checks::{all_before, bases_precede, parents_precede, parts_precede};
 
 type Nodes = Arena<DiagnosticFilterNode, key::DiagnosticFilterNode>;
 
-// The filters of a list of filters.
-fn nodes(alloc: Global, filters: &[Value]) -> Result<Nodes, AllocError> {
-    let mut nodes = Arena::new(alloc);
+// Puts the filters of a list into an arena.
+fn add_nodes(alloc: Global, nodes: &mut Nodes, filters: &[Value]) -> Result<(), AllocError> {
     for filter in filters {
         if let Some(node) = Item::read(alloc, filter)? {
             nodes.append(node, Span::UNDEFINED)?;
         }
     }
-    Ok(nodes)
+    Ok(())
 }
 
 // The node where a search starts, if a line names one.
@@ -47,10 +48,16 @@ fn found(nodes: &Nodes, start: Option<Handle<key::DiagnosticFilterNode>>) -> Opt
     }
 }
 
+// What a search finds of the filters that a line gives, which are put into an arena.
+fn of_nodes(alloc: Global, nodes: &mut Nodes, call: &Value) -> Result<String, AllocError> {
+    add_nodes(alloc, nodes, list(call, 1))?;
+    told(alloc, found(nodes, start(call)))
+}
+
 /// What a search of filters finds.
 pub fn of_search(alloc: Global, call: &Value) -> Result<String, AllocError> {
-    let nodes = nodes(alloc, list(call, 1))?;
-    told(alloc, found(&nodes, start(call)))
+    let mut nodes = Arena::new(alloc);
+    freeing(of_nodes(alloc, &mut nodes, call), nodes)
 }
 
 // Whether the handles are in order, and the global where a pointer starts.
@@ -66,71 +73,150 @@ fn origin(function: &Function, pointer: Handle<key::Expression>) -> (bool, Optio
     }
 }
 
-/// Where a pointer of a function starts.
-pub fn of_origin(alloc: Global, call: &Value) -> Result<String, AllocError> {
-    match read_at::<Function>(alloc, call, 1)? {
-        Some(function) => told(alloc, origin(&function, handle(call, 2))),
-        None => no_call(alloc),
-    }
-}
+type Types = UniqueArena<IrType, key::IrType>;
 
-// The types of a list.
-fn types(alloc: Global, list: &[Value]) -> Result<UniqueArena<IrType, key::IrType>, AllocError> {
-    let mut types = UniqueArena::new(alloc);
+// Adds the types of a list.
+fn add_types(alloc: Global, types: &mut Types, list: &[Value]) -> Result<(), AllocError> {
     for value in list {
         if let Some(ty) = Item::read(alloc, value)? {
             types.insert(ty, Span::UNDEFINED)?;
         }
     }
-    Ok(types)
+    Ok(())
+}
+
+// Puts the handles of a list into another.
+fn add_components(
+    components: &mut Vec<Handle<key::Expression>>,
+    list: &[Value],
+) -> Result<(), AllocError> {
+    for value in list {
+        let place = value.as_u64().unwrap_or(0).min(4294967294);
+        components.push(Handle::at(place as usize))?;
+    }
+    Ok(())
 }
 
 // The handles of a list.
 fn components(alloc: Global, list: &[Value]) -> Result<Vec<Handle<key::Expression>>, AllocError> {
     let mut components = Vec::new(alloc);
-    for value in list {
-        let place = value.as_u64().unwrap_or(0).min(4294967294);
-        components.push(Handle::at(place as usize))?;
-    }
-    Ok(components)
+    completed(add_components(&mut components, list), components)
 }
 
-// The handles that a composition comes to, or `None` where a handle is not in order.
-fn leaves_of(
-    alloc: Global,
-    function: &Function,
-    call: &Value,
-) -> Result<Option<FlattenCompose>, AllocError> {
-    let types = types(alloc, list(call, 2))?;
-    let components = components(alloc, list(call, 4))?;
-    let expressions = &function.expressions;
-    flat(alloc, handle(call, 3), &components, expressions, &types)
+/// A composition of a function's expressions.
+#[derive(Clone, Copy)]
+pub struct Composition<'a> {
+    pub function: &'a Function,
+    pub types: &'a Types,
+    pub ty: Handle<key::IrType>,
+    pub components: &'a [Handle<key::Expression>],
+}
+
+// Puts the places of handles into a list.
+fn add_places(places: &mut Vec<usize>, leaves: FlattenCompose) -> Result<(), AllocError> {
+    for leaf in leaves {
+        places.push(leaf.index())?;
+    }
+    Ok(())
 }
 
 fn places_of(alloc: Global, leaves: FlattenCompose) -> Result<Vec<usize>, AllocError> {
     let mut places = Vec::new(alloc);
-    for leaf in leaves {
-        places.push(leaf.index())?;
+    completed(add_places(&mut places, leaves), places)
+}
+
+/// The handles that a composition comes to, or `None` where a handle is not in order.
+pub fn leaves_of(
+    alloc: Global,
+    composition: &Composition<'_>,
+) -> Result<Option<FlattenCompose>, AllocError> {
+    let (types, ty) = (composition.types, composition.ty);
+    let expressions = &composition.function.expressions;
+    let components = composition.components;
+    if ty.index() < types.len()
+        && all_before(components, expressions.len())
+        && parts_precede(expressions)
+    {
+        let leaves = flatten_compose(alloc, ty, components, expressions, types)?;
+        return Ok(Some(leaves));
     }
-    Ok(places)
+    Ok(None)
 }
 
 // The places of the handles that a composition comes to.
 fn flattened(
     alloc: Global,
-    function: &Function,
-    call: &Value,
+    composition: &Composition<'_>,
 ) -> Result<Option<Vec<usize>>, AllocError> {
-    match leaves_of(alloc, function, call)? {
+    match leaves_of(alloc, composition)? {
         Some(leaves) => Ok(Some(places_of(alloc, leaves)?)),
         None => Ok(None),
     }
 }
 
-/// What a composition of a function's expressions comes to.
-pub fn of_composition(alloc: Global, call: &Value) -> Result<String, AllocError> {
-    match read_at::<Function>(alloc, call, 1)? {
-        Some(function) => told(alloc, flattened(alloc, &function, call)),
+// Whether a composition is refused memory more often than this, and what it comes to.
+fn in_little(
+    alloc: Global,
+    composition: &Composition<'_>,
+    least: usize,
+) -> Result<String, AllocError> {
+    match flattened(alloc, composition)? {
+        Some(places) => {
+            let is_refused = is_composition_refused(alloc, composition, &places, least);
+            told(alloc, (is_refused, places))
+        }
         None => no_call(alloc),
+    }
+}
+
+// What a composition comes to, or whether that is refused memory.
+fn answered(
+    alloc: Global,
+    composition: &Composition<'_>,
+    call: &Value,
+) -> Result<String, AllocError> {
+    match text(call, 0) {
+        "composition" => told(alloc, flattened(alloc, composition)),
+        _ => in_little(alloc, composition, number(call, 5) as usize),
+    }
+}
+
+// The same for the types and components that a line gives.
+fn of_types(
+    alloc: Global,
+    function: &Function,
+    types: &mut Types,
+    call: &Value,
+) -> Result<String, AllocError> {
+    add_types(alloc, types, list(call, 2))?;
+    let components = components(alloc, list(call, 4))?;
+    let composition = Composition {
+        function,
+        types,
+        ty: handle(call, 3),
+        components: &components,
+    };
+    freeing(answered(alloc, &composition, call), components)
+}
+
+// What a composition of a function's expressions comes to.
+fn of_composition(alloc: Global, function: &Function, call: &Value) -> Result<String, AllocError> {
+    let mut types: Types = UniqueArena::new(alloc);
+    freeing(of_types(alloc, function, &mut types, call), types)
+}
+
+impl Told for Function {
+    // Where a pointer of a function starts, or what a composition comes to.
+    fn tell(
+        &mut self,
+        alloc: Global,
+        _source: &Self,
+        _other: &Option<Self>,
+        call: &Value,
+    ) -> Result<String, AllocError> {
+        match text(call, 0) {
+            "origin" => told(alloc, origin(self, handle(call, 2))),
+            _ => of_composition(alloc, self, call),
+        }
     }
 }

@@ -1,19 +1,17 @@
-// Looks up in the overload sets of all math functions what data/overloads.json names, and says which answers are not those
-// that are known.
+// Looks up in the overload sets of all math functions what a case names, and says whether the answers are those that are
+// known.
 //
-// A line of the data file is `["rules", function, [rule..]]`, the rules of a function in order, or
+// A case is `["rules", function, [rule..]]`, the rules of a function in order, or
 // `["arg", function, [[place, type]..], left, preferred, concrete]`: after these arguments the number of rules that are
-// left, the preferred one, and the preferred one among those without abstract arguments. These answers come from two
-// implementations that were written independently of this one. A list of the function's rules, one by one, gets the
-// same, and has to answer every call as the set does.
-use crate::data_words::{all, function, items, number, text};
-use crate::types::{rule, value_type};
-use anyhow::{Context, Result, ensure};
+// left, the preferred one, and the preferred one among those without abstract arguments. A list of the function's rules,
+// one by one, has to answer every call as the set does.
+use crate::types::{number, rule, value_type};
+use document_words::find_word;
 use ir_kinds::MathFunction;
 use ir_types::TypeInner;
 use serde_json::Value;
 use std::alloc::{AllocError, Global};
-use std::{fs, io};
+use test_support::call::{freeing, list, text};
 use typing_overloads::{AnyOverloadSet, List, MathFunctionExt, OverloadSet, Rule, ValueType};
 
 /// One more than the greatest number of arguments of a rule.
@@ -53,8 +51,13 @@ struct Both {
 impl Both {
     fn of(alloc: Global, function: MathFunction) -> Result<Both, AllocError> {
         let set = function.overloads(alloc)?;
-        let list = listed(alloc, &set)?;
-        Ok(Both { set, list })
+        match listed(alloc, &set) {
+            Ok(list) => Ok(Both { set, list }),
+            Err(error) => {
+                drop(set);
+                Err(error)
+            }
+        }
     }
 
     // Supplies an argument to both.
@@ -96,6 +99,17 @@ fn ask_all_alike(
     Ok(true)
 }
 
+// Whether a set requires these types at a place.
+fn requires_types(
+    alloc: Global,
+    set: &AnyOverloadSet,
+    place: usize,
+    types: &[ValueType],
+) -> Result<bool, AllocError> {
+    let found = set.allowed_args(alloc, place)?;
+    Ok(freeing(found.as_slice() == types, found))
+}
+
 // Whether two sets require the same types at a place.
 fn ask_alike(
     alloc: Global,
@@ -104,7 +118,13 @@ fn ask_alike(
     place: usize,
 ) -> Result<bool, AllocError> {
     let types = left.allowed_args(alloc, place)?;
-    Ok(types == right.allowed_args(alloc, place)?)
+    freeing(requires_types(alloc, right, place, &types), types)
+}
+
+// Whether a set has these rules.
+fn has_these(alloc: Global, set: &AnyOverloadSet, rules: &[Rule]) -> Result<bool, AllocError> {
+    let found = set.overload_list(alloc)?;
+    Ok(freeing(found.as_slice() == rules, found))
 }
 
 // Whether two sets have the same rules.
@@ -114,7 +134,7 @@ fn have_alike(
     right: &AnyOverloadSet,
 ) -> Result<bool, AllocError> {
     let rules = left.overload_list(alloc)?;
-    Ok(rules == right.overload_list(alloc)?)
+    freeing(has_these(alloc, right, &rules), rules)
 }
 
 // Whether a rule, or none, is what stands at a place of the case.
@@ -138,13 +158,18 @@ fn are_rules(rules: &[Rule], known: &[Value]) -> bool {
 
 fn rules_are(alloc: Global, set: &AnyOverloadSet, known: &[Value]) -> Result<bool, AllocError> {
     let rules = set.overload_list(alloc)?;
-    Ok(are_rules(&rules, known))
+    Ok(freeing(are_rules(&rules, known), rules))
+}
+
+// Whether these are the rules of a set, and the list answers each call alike.
+fn agrees_on_rules(alloc: Global, both: &Both, known: &[Value]) -> Result<bool, AllocError> {
+    Ok(rules_are(alloc, &both.set, known)? && both.agree(alloc)?)
 }
 
 // Whether the rules of a function are those of the case.
 fn has_rules(alloc: Global, function: MathFunction, case: &Value) -> Result<bool, AllocError> {
     let both = Both::of(alloc, function)?;
-    Ok(rules_are(alloc, &both.set, items(case, 2))? && both.agree(alloc)?)
+    freeing(agrees_on_rules(alloc, &both, list(case, 2)), both)
 }
 
 // The place and the type of an argument.
@@ -188,54 +213,38 @@ fn leaves_concrete(alloc: Global, both: &Both, case: &Value) -> Result<bool, All
 }
 
 // Whether what is left of both after the arguments is what the case says.
-fn leaves_both(alloc: Global, both: Both, case: &Value) -> Result<bool, AllocError> {
-    if !leaves(alloc, &both, case)? {
-        return Ok(false);
-    }
-    leaves_concrete(alloc, &both.concrete_only(), case)
+fn leaves_both(alloc: Global, both: &mut Both, case: &Value) -> Result<bool, AllocError> {
+    Ok(supply_all(alloc, both, list(case, 2))? && leaves(alloc, both, case)?)
+}
+
+// Whether what is left of both without abstract arguments is what the case says.
+fn leaves_without_abstract(alloc: Global, both: Both, case: &Value) -> Result<bool, AllocError> {
+    let concrete = both.concrete_only();
+    freeing(leaves_concrete(alloc, &concrete, case), concrete)
 }
 
 // Whether what is left of a function's rules after the arguments is what the case says.
 fn leaves_after(alloc: Global, function: MathFunction, case: &Value) -> Result<bool, AllocError> {
     let mut both = Both::of(alloc, function)?;
-    if supply_all(alloc, &mut both, items(case, 2))? {
-        leaves_both(alloc, both, case)
-    } else {
-        Ok(false)
+    match leaves_both(alloc, &mut both, case) {
+        Ok(true) => leaves_without_abstract(alloc, both, case),
+        answer => {
+            drop(both);
+            answer
+        }
     }
 }
 
-// Whether the case is of its form, and the answers are those of the case.
-fn is_met(alloc: Global, case: &Value) -> Result<bool, AllocError> {
-    match (function(case, 1), text(case, 0)) {
+// The function that the second word of a case names.
+fn function_of(case: &Value) -> Option<MathFunction> {
+    find_word(text(case, 1))
+}
+
+/// Whether a case is of its form, and the answers are those of the case.
+pub fn is_met(alloc: Global, case: &Value) -> Result<bool, AllocError> {
+    match (function_of(case), text(case, 0)) {
         (Some(function), "rules") => has_rules(alloc, function, case),
         (Some(function), "arg") => leaves_after(alloc, function, case),
         _ => Ok(false),
     }
-}
-
-// Makes all of these calls. Answers how many differ.
-fn ask_all(rt: &HostRuntime, cases: &[Value]) -> io::Result<usize> {
-    let mut differing = 0usize;
-    for (place, case) in cases.iter().enumerate() {
-        if !is_met(rt.alloc(), case)? {
-            differing = differing.saturating_add(1);
-            println!(rt; "case {place} differs")?;
-        }
-    }
-    println!(rt; "{} cases, {differing} differ", cases.len())?;
-    Ok(differing)
-}
-
-fn read_cases(rt: &HostRuntime) -> Result<Value> {
-    let text = fs::read_to_string(rt, "overloads.json").context("reading overloads.json")?;
-    Value::from_str(rt.alloc(), text.as_str()).context("reading overloads.json")
-}
-
-/// Makes all calls of the data file.
-pub fn run(rt: &HostRuntime) -> Result<()> {
-    let cases = read_cases(rt)?;
-    let differing = ask_all(rt, all(&cases))?;
-    ensure!(differing == 0, "{differing} cases differ");
-    Ok(())
 }

@@ -5,7 +5,9 @@ use ir_faults::refusal::Refusal;
 use ir_faults::with_span::{SpanContext, WithSpan};
 use serde_json::Value;
 use std::alloc::{AllocError, AllocFailed, Global};
-use test_support::call::{list, no_call, number, span, text, told};
+use std::mem;
+use test_support::call::{freeing, list, no_call, number, span, text, told};
+use test_support::hog::{Steps, Trial, is_refused_all, is_refused_more_than};
 
 /// An error that is made of another.
 #[derive(PartialEq, Debug, Drop)]
@@ -71,34 +73,54 @@ fn shown(context: &SpanContext) -> (Span, &str) {
     (context.0, context.1.as_str())
 }
 
+// An error whose inner one is a text.
+fn of_text(alloc: Global, call: &Value) -> Result<WithSpan<Trouble>, AllocError> {
+    let text = String::from_str(alloc, text(call, 4))?;
+    built(alloc, Trouble::Text(text), list(call, 5))
+}
+
 // An error whose inner one is a number, made of one whose inner one is a text.
 fn joined(alloc: Global, call: &Value) -> Result<WithSpan<u32>, AllocError> {
-    let text = String::from_str(alloc, text(call, 4))?;
-    let old = built(alloc, Trouble::Text(text), list(call, 5))?;
     let made = built(alloc, number(call, 2), list(call, 3))?;
-    kept(old.and_then(|_| made))
+    match of_text(alloc, call) {
+        Ok(old) => kept(old.and_then(|_| made)),
+        Err(error) => {
+            drop(made);
+            Err(error)
+        }
+    }
 }
 
 fn see_spans(alloc: Global, call: &Value) -> Result<String, AllocError> {
     let fault = bad(alloc, call)?;
-    told(alloc, (fault.as_inner(), spans(alloc, &fault)))
+    freeing(told(alloc, (fault.as_inner(), spans(alloc, &fault))), fault)
 }
 
 fn see_other(alloc: Global, call: &Value) -> Result<String, AllocError> {
     let other: WithSpan<Trouble> = bad(alloc, call)?.into_other();
-    told(alloc, (spans(alloc, &other), other.as_inner()))
+    freeing(told(alloc, (spans(alloc, &other), other.as_inner())), other)
 }
 
 fn see_joined(alloc: Global, call: &Value) -> Result<String, AllocError> {
     let fault = joined(alloc, call)?;
-    told(alloc, (fault.as_inner(), spans(alloc, &fault)))
+    freeing(told(alloc, (fault.as_inner(), spans(alloc, &fault))), fault)
 }
 
 // Whether a copy equals its source, and what it is.
+fn copied(alloc: Global, fault: &WithSpan<BadHandle>) -> Result<String, AllocError> {
+    let copy = fault.clone(alloc)?;
+    freeing(
+        told(
+            alloc,
+            (copy == *fault, copy.as_inner(), spans(alloc, &copy)),
+        ),
+        copy,
+    )
+}
+
 fn see_clone(alloc: Global, call: &Value) -> Result<String, AllocError> {
     let fault = bad(alloc, call)?;
-    let copy = fault.clone(alloc)?;
-    told(alloc, (copy == fault, copy.as_inner(), spans(alloc, &copy)))
+    freeing(copied(alloc, &fault), fault)
 }
 
 /// The result of a call of an error with spans.
@@ -109,7 +131,7 @@ pub fn of_fault(alloc: Global, call: &Value) -> Result<String, AllocError> {
         "into_other" => see_other(alloc, call),
         "and_then" => see_joined(alloc, call),
         "clone" => see_clone(alloc, call),
-        _ => no_call(alloc),
+        _ => in_little(alloc, text(call, 1)),
     }
 }
 
@@ -127,14 +149,143 @@ fn of_dropped() -> Refusal<Trouble> {
     Refusal::from(AllocFailed { value: 7u8 })
 }
 
+// Whether the refusals of two handles are equal.
+fn are_equal(alloc: Global, call: &Value) -> bool {
+    let left = fault_at(alloc, number(call, 2));
+    let right = fault_at(alloc, number(call, 3));
+    let answer = left == right;
+    drop(left);
+    drop(right);
+    answer
+}
+
+// Whether that of one is out of memory.
+fn is_memory(alloc: Global, call: &Value) -> bool {
+    let left = fault_at(alloc, number(call, 2));
+    freeing(left == Refusal::Memory(AllocError), left)
+}
+
 /// The result of a call of a refusal.
 pub fn of_refusal(alloc: Global, call: &Value) -> Result<String, AllocError> {
-    let left = fault_at(alloc, number(call, 2));
     match text(call, 1) {
         "memory" => told(alloc, of_memory()),
         "dropped" => told(alloc, of_dropped()),
-        "equal" => told(alloc, left == fault_at(alloc, number(call, 3))),
-        "is_memory" => told(alloc, left == Refusal::Memory(AllocError)),
+        "equal" => told(alloc, are_equal(alloc, call)),
+        "is_memory" => told(alloc, is_memory(alloc, call)),
+        _ => no_call(alloc),
+    }
+}
+
+// How a span is added to an error.
+#[derive(Clone, Copy)]
+enum Way {
+    Text,
+    Context,
+    Other,
+}
+
+// An error to which a span is added with little memory, and with what.
+#[derive(Drop)]
+struct Adding {
+    way: Way,
+    fault: WithSpan<BadHandle>,
+    text: String,
+    old: WithSpan<u32>,
+}
+
+// The error after a span was added, or as it was. Returns whether it was refused.
+fn left(
+    answer: Result<WithSpan<BadHandle>, AllocFailed<WithSpan<BadHandle>>>,
+    place: &mut WithSpan<BadHandle>,
+) -> bool {
+    match answer {
+        Ok(fault) => {
+            *place = fault;
+            false
+        }
+        Err(refused) => {
+            *place = refused.value;
+            true
+        }
+    }
+}
+
+const fn bad_handle() -> BadHandle {
+    BadHandle {
+        kind: "type",
+        index: 4,
+    }
+}
+
+fn old(alloc: Global) -> Result<WithSpan<u32>, AllocError> {
+    kept(WithSpan::new(alloc, 4u32).with_span(Span::new(1, 2), "old"))
+}
+
+impl Trial for Adding {
+    fn begin(&mut self, alloc: Global) -> Result<(), AllocError> {
+        self.fault = WithSpan::new(alloc, bad_handle());
+        self.text = String::from_str(alloc, "old")?;
+        self.old = old(alloc)?;
+        Ok(())
+    }
+
+    fn is_refused(&mut self, alloc: Global) -> bool {
+        let fault = mem::replace(&mut self.fault, WithSpan::new(alloc, bad_handle()));
+        let answer = match self.way {
+            Way::Text => fault.with_span(Span::new(1, 2), "a text that is longer than a short one"),
+            Way::Context => {
+                let text = mem::replace(&mut self.text, String::new(alloc));
+                fault.with_context((Span::new(3, 4), text))
+            }
+            Way::Other => {
+                let old = mem::replace(&mut self.old, WithSpan::new(alloc, 0));
+                old.and_then(|_| fault)
+            }
+        };
+        left(answer, &mut self.fault)
+    }
+
+    fn is_right(&mut self, refused: bool) -> bool {
+        let due = if refused { 0 } else { 1 };
+        self.fault.spans().len() == due && *self.fault.as_inner() == bad_handle()
+    }
+}
+
+fn new_adding(alloc: Global, way: Way) -> Adding {
+    Adding {
+        way,
+        fault: WithSpan::new(alloc, bad_handle()),
+        text: String::new(alloc),
+        old: WithSpan::new(alloc, 0),
+    }
+}
+
+// Whether a span is refused more than once.
+fn more_than_once<T: Trial + Drop>(alloc: Global, trial: T) -> Result<String, AllocError> {
+    let steps = Steps {
+        most: 300,
+        more: 32,
+        spare: 0,
+    };
+    let mut trial = trial;
+    freeing(
+        told(alloc, is_refused_more_than(alloc, 1, steps, &mut trial)),
+        trial,
+    )
+}
+
+// Whether a span is refused where there is no memory.
+fn without_memory<T: Trial + Drop>(alloc: Global, trial: T) -> Result<String, AllocError> {
+    let mut trial = trial;
+    freeing(told(alloc, is_refused_all(alloc, &mut trial)), trial)
+}
+
+// The same of a call that is named.
+fn in_little(alloc: Global, name: &str) -> Result<String, AllocError> {
+    match name {
+        "with_span in little memory" => more_than_once(alloc, new_adding(alloc, Way::Text)),
+        "with_context without memory" => without_memory(alloc, new_adding(alloc, Way::Context)),
+        "and_then without memory" => without_memory(alloc, new_adding(alloc, Way::Other)),
         _ => no_call(alloc),
     }
 }

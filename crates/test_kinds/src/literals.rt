@@ -29,7 +29,22 @@ const SCALARS: [Scalar; 15] = [
     },
 ];
 
-fn print_units(rt: &HostRuntime, scalar: Scalar) -> io::Result<()> {
+const LITERALS: [Literal; 12] = [
+    Literal::F64(4607182418800017408),
+    Literal::F32(1065353216),
+    Literal::F16(15360),
+    Literal::U16(7),
+    Literal::I16(-7),
+    Literal::U32(7),
+    Literal::I32(-7),
+    Literal::U64(7),
+    Literal::I64(-7),
+    Literal::Bool(true),
+    Literal::AbstractInt(-7),
+    Literal::AbstractFloat(0),
+];
+
+fn print_units(rt: &impl Print, scalar: Scalar) -> io::Result<()> {
     let zero = Literal::zero(scalar);
     let one = Literal::one(scalar);
     let minus_one = Literal::minus_one(scalar);
@@ -39,7 +54,7 @@ fn print_units(rt: &HostRuntime, scalar: Scalar) -> io::Result<()> {
     )
 }
 
-fn print_scalar(rt: &HostRuntime, literal: Literal) -> io::Result<()> {
+fn print_scalar(rt: &impl Print, literal: Literal) -> io::Result<()> {
     let scalar = literal.scalar();
     let same = scalar.kind == literal.scalar_kind() && scalar.width == literal.width();
     println!(rt;
@@ -49,20 +64,13 @@ fn print_scalar(rt: &HostRuntime, literal: Literal) -> io::Result<()> {
     )
 }
 
-pub fn run(rt: &HostRuntime) -> io::Result<()> {
+/// Prints the units of each scalar, and the scalar of each kind of literal.
+pub fn run(rt: &impl Print) -> io::Result<()> {
     for scalar in &SCALARS {
         print_units(rt, *scalar)?;
     }
-    print_scalar(rt, Literal::F64(4607182418800017408))?;
-    print_scalar(rt, Literal::F32(1065353216))?;
-    print_scalar(rt, Literal::F16(15360))?;
-    print_scalar(rt, Literal::U16(7))?;
-    print_scalar(rt, Literal::I16(-7))?;
-    print_scalar(rt, Literal::U32(7))?;
-    print_scalar(rt, Literal::I32(-7))?;
-    print_scalar(rt, Literal::U64(7))?;
-    print_scalar(rt, Literal::I64(-7))?;
-    print_scalar(rt, Literal::Bool(true))?;
-    print_scalar(rt, Literal::AbstractInt(-7))?;
-    print_scalar(rt, Literal::AbstractFloat(0))
+    for literal in &LITERALS {
+        print_scalar(rt, *literal)?;
+    }
+    Ok(())
 }

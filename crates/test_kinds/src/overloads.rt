@@ -1,9 +1,9 @@
 // Each call of overload sets once.
 use crate::asked::preferred;
-use anyhow::{Result, ensure};
 use ir_kinds::{MathFunction, Scalar, VectorSize};
 use ir_types::TypeInner;
 use std::alloc::{AllocError, Global};
+use test_support::call::freeing;
 use typing_overloads::{
     AnyOverloadSet, Arguments, Conclusion, ConstructorSet, ConstructorSize, MathFunctionExt,
     OneBitsIter, OverloadSet, Rule, ScalarSet, ValueType,
@@ -21,6 +21,18 @@ const fn one(scalar: Scalar) -> ValueType {
     of(ConstructorSize::Scalar, scalar)
 }
 
+// Supplies these arguments.
+fn supply_all(
+    alloc: Global,
+    set: &mut AnyOverloadSet,
+    arguments: &[(usize, ValueType)],
+) -> Result<(), AllocError> {
+    for argument in arguments {
+        *set = set.arg(alloc, argument.0, &argument.1.to_inner())?;
+    }
+    Ok(())
+}
+
 // What is left of the rules of a function after these arguments.
 fn after(
     alloc: Global,
@@ -28,10 +40,13 @@ fn after(
     arguments: &[(usize, ValueType)],
 ) -> Result<AnyOverloadSet, AllocError> {
     let mut set = function.overloads(alloc)?;
-    for argument in arguments {
-        set = set.arg(alloc, argument.0, &argument.1.to_inner())?;
+    match supply_all(alloc, &mut set, arguments) {
+        Ok(()) => Ok(set),
+        Err(error) => {
+            drop(set);
+            Err(error)
+        }
     }
-    Ok(set)
 }
 
 const fn gives(arguments: Arguments, value: ValueType) -> Option<Rule> {
@@ -49,7 +64,7 @@ fn prefers(
     expected: Option<Rule>,
 ) -> Result<bool, AllocError> {
     let set = after(alloc, function, arguments)?;
-    Ok(preferred(&set) == expected)
+    Ok(freeing(preferred(&set) == expected, set))
 }
 
 // The same among those without abstract arguments.
@@ -59,8 +74,8 @@ fn prefers_concrete(
     arguments: &[(usize, ValueType)],
     expected: Option<Rule>,
 ) -> Result<bool, AllocError> {
-    let set = after(alloc, function, arguments)?;
-    Ok(preferred(&set.concrete_only()) == expected)
+    let set = after(alloc, function, arguments)?.concrete_only();
+    Ok(freeing(preferred(&set) == expected, set))
 }
 
 fn rows_of_one(alloc: Global) -> Result<bool, AllocError> {
@@ -130,29 +145,47 @@ fn shapes() -> bool {
         && ConstructorSet::singleton(&sampler) == ConstructorSet(0)
 }
 
+// How many rules a set has.
+fn count(set: &AnyOverloadSet, alloc: Global) -> Result<usize, AllocError> {
+    Ok(set.overload_list(alloc)?.len())
+}
+
 // How many rules a clone has.
 fn cloned(set: &AnyOverloadSet, alloc: Global) -> Result<usize, AllocError> {
     let same = set.clone()?;
-    Ok(same.overload_list(alloc)?.len())
+    freeing(count(&same, alloc), same)
 }
 
 // Whether the types that are required at a third place are the expected ones.
-fn asked_third(set: &AnyOverloadSet, alloc: Global) -> Result<bool, AllocError> {
-    let asked = set.allowed_args(alloc, 2)?;
-    Ok(asked.len() == 28 && asked.first() == Some(&one(Scalar::ABSTRACT_FLOAT)))
+fn requires_third(set: &AnyOverloadSet, alloc: Global) -> Result<bool, AllocError> {
+    let found = set.allowed_args(alloc, 2)?;
+    Ok(freeing(
+        found.len() == 28 && found.first() == Some(&one(Scalar::ABSTRACT_FLOAT)),
+        found,
+    ))
+}
+
+fn is_mix(mix: &AnyOverloadSet, alloc: Global) -> Result<bool, AllocError> {
+    let counts = !mix.is_empty() && mix.min_arguments() == 3 && mix.max_arguments() == 3;
+    Ok(counts && cloned(mix, alloc)? == 28 && requires_third(mix, alloc)?)
 }
 
 fn of_mix(alloc: Global) -> Result<bool, AllocError> {
     let mix = MathFunction::Mix.overloads(alloc)?;
-    let counts = !mix.is_empty() && mix.min_arguments() == 3 && mix.max_arguments() == 3;
-    Ok(counts && cloned(&mix, alloc)? == 28 && asked_third(&mix, alloc)?)
+    freeing(is_mix(&mix, alloc), mix)
+}
+
+// Whether a sampler leaves no rule of a set, and no type is allowed at a fourth place.
+fn leaves_nothing(mix: &AnyOverloadSet, alloc: Global) -> Result<bool, AllocError> {
+    let none = mix.arg(alloc, 0, &TypeInner::Sampler { comparison: false })?;
+    let is_empty = none.is_empty();
+    drop(none);
+    Ok(is_empty && mix.allowed_args(alloc, 3)?.is_empty())
 }
 
 fn nothing_of_mix(alloc: Global) -> Result<bool, AllocError> {
-    let sampler = TypeInner::Sampler { comparison: false };
     let mix = MathFunction::Mix.overloads(alloc)?;
-    let none = mix.arg(alloc, 0, &sampler)?;
-    Ok(none.is_empty() && mix.allowed_args(alloc, 3)?.is_empty())
+    freeing(leaves_nothing(&mix, alloc), mix)
 }
 
 fn rules() -> bool {
@@ -175,22 +208,40 @@ fn value_types() -> bool {
         && VEC3.place() == 2
 }
 
-// Those that need no memory.
-fn without_memory() -> Result<()> {
-    ensure!(one_bits(), "the one bits of 11");
-    ensure!(sets() && wider_sets(), "sets of scalars");
-    ensure!(one_shape() && shapes(), "sets of shapes");
-    ensure!(rules() && value_types(), "rules and types");
-    Ok(())
+// The first of the calls that need no memory which does not answer what is expected.
+fn wrong_without_memory() -> Option<&'static str> {
+    if !one_bits() {
+        Some("the one bits of 11")
+    } else if !sets() || !wider_sets() {
+        Some("sets of scalars")
+    } else if !one_shape() || !shapes() {
+        Some("sets of shapes")
+    } else if !rules() || !value_types() {
+        Some("rules and types")
+    } else {
+        None
+    }
 }
 
-/// Makes each call once.
-pub fn every_call(rt: &HostRuntime) -> Result<()> {
-    without_memory()?;
-    ensure!(rows_of_one(rt.alloc())?, "functions of one argument");
-    ensure!(rows_of_more(rt.alloc())?, "functions of more");
-    ensure!(of_mix(rt.alloc())?, "all rules of a function");
-    ensure!(nothing_of_mix(rt.alloc())?, "rules that nothing leaves");
-    println!(rt; "each call answers what is expected")?;
-    Ok(())
+// The first of the others.
+fn wrong_with_memory(alloc: Global) -> Result<Option<&'static str>, AllocError> {
+    if !rows_of_one(alloc)? {
+        Ok(Some("functions of one argument"))
+    } else if !rows_of_more(alloc)? {
+        Ok(Some("functions of more"))
+    } else if !of_mix(alloc)? {
+        Ok(Some("all rules of a function"))
+    } else if !nothing_of_mix(alloc)? {
+        Ok(Some("rules that nothing leaves"))
+    } else {
+        Ok(None)
+    }
+}
+
+/// Makes each call of overload sets once. Answers what does not answer what is expected, if something does not.
+pub fn every_call(alloc: Global) -> Result<Option<&'static str>, AllocError> {
+    match wrong_without_memory() {
+        Some(wrong) => Ok(Some(wrong)),
+        None => wrong_with_memory(alloc),
+    }
 }

@@ -5,7 +5,7 @@ use ir_kinds::{
 };
 use std::io;
 
-fn print_kind(rt: &HostRuntime, kind: ScalarKind) -> io::Result<()> {
+fn print_kind(rt: &impl Print, kind: ScalarKind) -> io::Result<()> {
     let scalar = Scalar { kind, width: 8 };
     println!(rt;
         "{kind:?}: numeric {} abstract {}",
@@ -14,15 +14,7 @@ fn print_kind(rt: &HostRuntime, kind: ScalarKind) -> io::Result<()> {
     )
 }
 
-fn print_size(rt: &HostRuntime, size: VectorSize) -> io::Result<()> {
-    let byte: u8 = u8::from(size);
-    let count: u32 = u32::from(size);
-    println!(rt; "{size:?}: {byte} {count}")
-}
-
-pub fn run(rt: &HostRuntime) -> io::Result<()> {
-    laws::scalar_constants();
-    laws::vector_constants(VectorSize::Bi);
+fn print_kinds(rt: &impl Print) -> io::Result<()> {
     for kind in [
         ScalarKind::Sint,
         ScalarKind::Uint,
@@ -33,12 +25,24 @@ pub fn run(rt: &HostRuntime) -> io::Result<()> {
     ] {
         print_kind(rt, kind)?;
     }
-    println!(rt; "float 4 is f32: {}", Scalar::float(4) == Scalar::F32)?;
+    println!(rt; "float 4 is f32: {}", Scalar::float(4) == Scalar::F32)
+}
+
+fn print_size(rt: &impl Print, size: VectorSize) -> io::Result<()> {
+    let byte: u8 = u8::from(size);
+    let count: u32 = u32::from(size);
+    println!(rt; "{size:?}: {byte} {count}")
+}
+
+fn print_sizes(rt: &impl Print) -> io::Result<()> {
     println!(rt; "widths: {BOOL_WIDTH} {ABSTRACT_WIDTH}")?;
-    print_size(rt, VectorSize::Bi)?;
-    print_size(rt, VectorSize::Tri)?;
-    print_size(rt, VectorSize::Quad)?;
-    println!(rt; "most: {}", VectorSize::MAX)?;
+    for size in [VectorSize::Bi, VectorSize::Tri, VectorSize::Quad] {
+        print_size(rt, size)?;
+    }
+    println!(rt; "most: {}", VectorSize::MAX)
+}
+
+fn print_components(rt: &impl Print) -> io::Result<()> {
     let eight = CooperativeSize::Eight as u32;
     let sixteen = CooperativeSize::Sixteen as u32;
     println!(rt; "cooperative: {eight} {sixteen}")?;
@@ -49,4 +53,13 @@ pub fn run(rt: &HostRuntime) -> io::Result<()> {
         println!(rt; "{place}: {:?}", SwizzleComponent::from_index(place))?;
     }
     Ok(())
+}
+
+/// Prints kinds of scalars, sizes of vectors and components.
+pub fn run(rt: &impl Print) -> io::Result<()> {
+    laws::scalar_constants();
+    laws::vector_constants(VectorSize::Bi);
+    print_kinds(rt)?;
+    print_sizes(rt)?;
+    print_components(rt)
 }

@@ -7,60 +7,75 @@ use ir_flags::{
 };
 use std::io;
 
-// Of a set: how many words it has, and the bits of all of them.
-fn print_all(rt: &HostRuntime, name: &str, count: usize, bits: u64) -> io::Result<()> {
-    println!(rt; "{name} {count} {bits}")
+// Of each set: its name, how many words it has, and the bits of all of them.
+fn whole_sets() -> [(&'static str, usize, u64); 7] {
+    [
+        (
+            "access",
+            StorageAccess::flags().len(),
+            u64::from(StorageAccess::all().bits()),
+        ),
+        (
+            "barrier",
+            Barrier::flags().len(),
+            u64::from(Barrier::all().bits()),
+        ),
+        (
+            "decorations",
+            MemoryDecorations::flags().len(),
+            u64::from(MemoryDecorations::all().bits()),
+        ),
+        (
+            "stages",
+            ShaderStages::flags().len(),
+            u64::from(ShaderStages::all().bits()),
+        ),
+        (
+            "subgroups",
+            SubgroupOperationSet::flags().len(),
+            u64::from(SubgroupOperationSet::all().bits()),
+        ),
+        (
+            "flags",
+            ValidationFlags::flags().len(),
+            u64::from(ValidationFlags::all().bits()),
+        ),
+        (
+            "capabilities",
+            Capabilities::flags().len(),
+            Capabilities::all().bits(),
+        ),
+    ]
 }
 
-// Of the sets of statements and stages.
-fn print_small_sets(rt: &HostRuntime) -> io::Result<()> {
-    let access = u64::from(StorageAccess::all().bits());
-    print_all(rt, "access", StorageAccess::flags().len(), access)?;
-    let barrier = u64::from(Barrier::all().bits());
-    print_all(rt, "barrier", Barrier::flags().len(), barrier)?;
-    let decorations = u64::from(MemoryDecorations::all().bits());
-    print_all(
-        rt,
-        "decorations",
-        MemoryDecorations::flags().len(),
-        decorations,
-    )?;
-    let stages = u64::from(ShaderStages::all().bits());
-    print_all(rt, "stages", ShaderStages::flags().len(), stages)
+fn print_whole(rt: &impl Print) -> io::Result<()> {
+    for set in whole_sets() {
+        println!(rt; "{} {} {}", set.0, set.1, set.2)?;
+    }
+    Ok(())
 }
 
-// Of the sets that a validator gets.
-fn print_settings(rt: &HostRuntime) -> io::Result<()> {
-    let subgroups = u64::from(SubgroupOperationSet::all().bits());
-    print_all(
-        rt,
-        "subgroups",
-        SubgroupOperationSet::flags().len(),
-        subgroups,
-    )?;
-    let flags = u64::from(ValidationFlags::all().bits());
-    print_all(rt, "flags", ValidationFlags::flags().len(), flags)?;
-    let capabilities = Capabilities::all().bits();
-    print_all(
-        rt,
-        "capabilities",
-        Capabilities::flags().len(),
-        capabilities,
-    )
+// Constants by their names, as numbers.
+fn constants() -> [(&'static str, u64); 3] {
+    [
+        ("compute-like", u64::from(ShaderStages::COMPUTE_LIKE.bits())),
+        ("default", u64::from(ValidationFlags::default().bits())),
+        ("volatile", Capabilities::MEMORY_DECORATION_VOLATILE.bits()),
+    ]
 }
 
-fn print_constants(rt: &HostRuntime) -> io::Result<()> {
-    laws::compute_like();
-    laws::all_words();
-    laws::within(1, 3, 7);
-    println!(rt; "compute-like {}", ShaderStages::COMPUTE_LIKE.bits())?;
-    println!(rt; "default {}", ValidationFlags::default().bits())?;
-    println!(rt;
-        "volatile {}",
-        Capabilities::MEMORY_DECORATION_VOLATILE.bits()
-    )?;
-    println!(rt; "names {:?}", ValidationFlags::from_name("BLOCKS"))?;
-    println!(rt; "no name {:?}", ValidationFlags::from_name("blocks"))?;
+fn print_numbers(rt: &impl Print, numbers: &[(&str, u64)]) -> io::Result<()> {
+    for number in numbers {
+        println!(rt; "{} {}", number.0, number.1)?;
+    }
+    Ok(())
+}
+
+fn print_constants(rt: &impl Print) -> io::Result<()> {
+    print_numbers(rt, &constants())?;
+    for name in [("names", "BLOCKS"), ("no name", "blocks")] {
+        println!(rt; "{} {:?}", name.0, ValidationFlags::from_name(name.1))?;
+    }
     println!(rt; "hex {:x}", Capabilities::MESH_SHADER.bits())?;
     for flag in Barrier::SUB_GROUP | Barrier::STORAGE {
         println!(rt; "barrier {}", flag.bits())?;
@@ -68,74 +83,121 @@ fn print_constants(rt: &HostRuntime) -> io::Result<()> {
     Ok(())
 }
 
-fn print_operations(rt: &HostRuntime) -> io::Result<()> {
-    let some = ShaderStages::VERTEX.union(ShaderStages::MESH);
-    let other = ShaderStages::MESH | ShaderStages::TASK;
-    println!(rt; "{some:?} {other:?}")?;
-    println!(rt; "union {}", uses::either(some, other).bits())?;
-    println!(rt;
-        "intersection {} {}",
-        uses::both(some, other).bits(),
-        (some & other).bits()
-    )?;
-    println!(rt;
-        "difference {} {}",
-        uses::only_left(some, other).bits(),
-        (some - other).bits()
-    )?;
-    println!(rt;
-        "complement {} {}",
-        some.complement().bits(),
-        (!some).bits()
-    )?;
-    println!(rt;
-        "symmetric {} {}",
-        some.symmetric_difference(other).bits(),
-        (some ^ other).bits()
-    )?;
-    println!(rt;
-        "contains {} {}",
-        some.contains(other),
-        uses::is_within(ShaderStages::MESH, other)
-    )?;
-    println!(rt; "intersects {}", some.intersects(other))?;
-    println!(rt;
-        "empty {} {}",
-        uses::is_empty(some),
-        uses::is_empty(uses::nothing())
-    )?;
-    println!(rt; "all {} {}", some.is_all(), uses::every_check().is_all())?;
-    println!(rt;
-        "only fragment {} {}",
-        uses::is_fragment(some),
-        uses::is_fragment(ShaderStages::FRAGMENT)
-    )
+// What is made of two sets, by a call and by an operator.
+fn operations(some: ShaderStages, other: ShaderStages) -> [(&'static str, u16, u16); 4] {
+    [
+        (
+            "intersection",
+            uses::both(some, other).bits(),
+            (some & other).bits(),
+        ),
+        (
+            "difference",
+            uses::only_left(some, other).bits(),
+            (some - other).bits(),
+        ),
+        ("complement", some.complement().bits(), (!some).bits()),
+        (
+            "symmetric",
+            some.symmetric_difference(other).bits(),
+            (some ^ other).bits(),
+        ),
+    ]
 }
 
-fn print_changes(rt: &HostRuntime) -> io::Result<()> {
+fn print_operations(rt: &impl Print, some: ShaderStages, other: ShaderStages) -> io::Result<()> {
+    println!(rt; "{some:?} {other:?}")?;
+    println!(rt; "union {}", uses::either(some, other).bits())?;
+    for made in operations(some, other) {
+        println!(rt; "{} {} {}", made.0, made.1, made.2)?;
+    }
+    Ok(())
+}
+
+// What sets answer, each question put to two.
+fn questions(some: ShaderStages, other: ShaderStages) -> [(&'static str, bool, bool); 4] {
+    [
+        (
+            "contains",
+            some.contains(other),
+            uses::is_within(ShaderStages::MESH, other),
+        ),
+        (
+            "empty",
+            uses::is_empty(some),
+            uses::is_empty(uses::nothing()),
+        ),
+        ("all", some.is_all(), uses::every_check().is_all()),
+        (
+            "only fragment",
+            uses::is_fragment(some),
+            uses::is_fragment(ShaderStages::FRAGMENT),
+        ),
+    ]
+}
+
+fn print_questions(rt: &impl Print, some: ShaderStages, other: ShaderStages) -> io::Result<()> {
+    println!(rt; "intersects {}", some.intersects(other))?;
+    for question in questions(some, other) {
+        println!(rt; "{} {} {}", question.0, question.1, question.2)?;
+    }
+    Ok(())
+}
+
+// The bits of a set that is changed, after each step.
+fn changes() -> [(&'static str, u64); 3] {
     let mut checks = ValidationFlags::empty();
     uses::add_blocks(&mut checks);
     checks.set(ValidationFlags::CONSTANTS, true);
-    println!(rt; "checks {}", checks.bits())?;
+    let first = u64::from(checks.bits());
     uses::drop_blocks(&mut checks);
-    println!(rt; "checks {}", checks.bits())?;
+    let second = u64::from(checks.bits());
     checks.toggle(ValidationFlags::BINDINGS);
-    println!(rt; "checks {}", checks.bits())?;
+    [
+        ("checks", first),
+        ("checks", second),
+        ("checks", u64::from(checks.bits())),
+    ]
+}
+
+// What is made of bits of which some are unknown.
+fn made_of_bits() -> [(&'static str, u64); 2] {
+    [
+        (
+            "kept",
+            u64::from(ValidationFlags::from_bits_retain(128).bits()),
+        ),
+        (
+            "cut",
+            u64::from(ValidationFlags::from_bits_truncate(130).bits()),
+        ),
+    ]
+}
+
+fn print_changes(rt: &impl Print) -> io::Result<()> {
+    print_numbers(rt, &changes())?;
     println!(rt;
         "bits {:?} {:?}",
         uses::from_known(63),
         uses::from_known(128)
     )?;
-    println!(rt; "kept {}", ValidationFlags::from_bits_retain(128).bits())?;
-    println!(rt; "cut {}", ValidationFlags::from_bits_truncate(130).bits())?;
-    println!(rt; "mesh {}", uses::can_mesh(Capabilities::MESH_SHADER))?;
-    println!(rt; "mesh {}", uses::can_mesh(Capabilities::all()))
+    print_numbers(rt, &made_of_bits())?;
+    for capabilities in [Capabilities::MESH_SHADER, Capabilities::all()] {
+        println!(rt; "mesh {}", uses::can_mesh(capabilities))?;
+    }
+    Ok(())
 }
 
-pub fn run(rt: &HostRuntime) -> io::Result<()> {
-    print_small_sets(rt)?;
-    print_settings(rt)?;
+/// Prints what the sets of words answer.
+pub fn run(rt: &impl Print) -> io::Result<()> {
+    laws::compute_like();
+    laws::all_words();
+    laws::within(1, 3, 7);
+    let some = ShaderStages::VERTEX.union(ShaderStages::MESH);
+    let other = ShaderStages::MESH | ShaderStages::TASK;
+    print_whole(rt)?;
     print_constants(rt)?;
-    print_operations(rt)?;
+    print_operations(rt, some, other)?;
+    print_questions(rt, some, other)?;
     print_changes(rt)
 }

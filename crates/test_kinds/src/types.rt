@@ -1,8 +1,28 @@
-// The types and rules of the data file. What is not of its form is `None`.
-use crate::data_words::{scalar, size, text};
-use ir_kinds::PredeclaredType;
+// The types and rules of overload sets as data have them. What is not of its form is `None`.
+use document_words::find_word;
+use ir_kinds::{PredeclaredType, Scalar, VectorSize};
 use serde_json::Value;
+use test_support::call::text;
 use typing_overloads::{Arguments, Conclusion, ConstructorSize, Rule, ValueType};
+
+/// The number at a place.
+pub fn number(list: &Value, place: usize) -> Option<u64> {
+    list.get(place)?.as_u64()
+}
+
+fn scalar(list: &Value, place: usize) -> Option<Scalar> {
+    find_word(text(list, place))
+}
+
+// The size that stands at a place as a number.
+fn size(list: &Value, place: usize) -> Option<VectorSize> {
+    match number(list, place) {
+        Some(2) => Some(VectorSize::Bi),
+        Some(3) => Some(VectorSize::Tri),
+        Some(4) => Some(VectorSize::Quad),
+        _ => None,
+    }
+}
 
 fn typed(size: ConstructorSize, list: &Value, place: usize) -> Option<ValueType> {
     Some(ValueType {

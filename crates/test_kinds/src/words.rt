@@ -6,7 +6,22 @@ use ir_kinds::{
 };
 use std::io;
 
-fn print_space(rt: &HostRuntime, space: AddressSpace) -> io::Result<()> {
+const SPACES: [AddressSpace; 10] = [
+    AddressSpace::Function,
+    AddressSpace::Private,
+    AddressSpace::WorkGroup,
+    AddressSpace::Uniform,
+    AddressSpace::Storage {
+        access: StorageAccess::STORE,
+    },
+    AddressSpace::Handle,
+    AddressSpace::Immediate,
+    AddressSpace::TaskPayload,
+    AddressSpace::RayPayload,
+    AddressSpace::IncomingRayPayload,
+];
+
+fn print_space(rt: &impl Print, space: AddressSpace) -> io::Result<()> {
     println!(rt;
         "{space:?}: {} {}",
         space.access().0,
@@ -14,25 +29,34 @@ fn print_space(rt: &HostRuntime, space: AddressSpace) -> io::Result<()> {
     )
 }
 
-fn print_spaces(rt: &HostRuntime) -> io::Result<()> {
-    print_space(rt, AddressSpace::Function)?;
-    print_space(rt, AddressSpace::Private)?;
-    print_space(rt, AddressSpace::WorkGroup)?;
-    print_space(rt, AddressSpace::Uniform)?;
-    print_space(
-        rt,
-        AddressSpace::Storage {
-            access: StorageAccess::STORE,
+const CLASSES: [(&str, ImageClass); 6] = [
+    (
+        "sampled",
+        ImageClass::Sampled {
+            kind: ScalarKind::Float,
+            multi: false,
         },
-    )?;
-    print_space(rt, AddressSpace::Handle)?;
-    print_space(rt, AddressSpace::Immediate)?;
-    print_space(rt, AddressSpace::TaskPayload)?;
-    print_space(rt, AddressSpace::RayPayload)?;
-    print_space(rt, AddressSpace::IncomingRayPayload)
-}
+    ),
+    (
+        "samples",
+        ImageClass::Sampled {
+            kind: ScalarKind::Float,
+            multi: true,
+        },
+    ),
+    ("depth", ImageClass::Depth { multi: false }),
+    ("depths", ImageClass::Depth { multi: true }),
+    ("external", ImageClass::External),
+    (
+        "storage",
+        ImageClass::Storage {
+            format: StorageFormat::R32Uint,
+            access: StorageAccess::LOAD,
+        },
+    ),
+];
 
-fn print_image(rt: &HostRuntime, name: &str, class: ImageClass) -> io::Result<()> {
+fn print_class(rt: &impl Print, name: &str, class: ImageClass) -> io::Result<()> {
     let many = class.is_multisampled();
     println!(rt;
         "{name}: {many} {} {}",
@@ -41,21 +65,18 @@ fn print_image(rt: &HostRuntime, name: &str, class: ImageClass) -> io::Result<()
     )
 }
 
-fn print_images(rt: &HostRuntime) -> io::Result<()> {
-    let kind = ScalarKind::Float;
-    print_image(rt, "sampled", ImageClass::Sampled { kind, multi: false })?;
-    print_image(rt, "samples", ImageClass::Sampled { kind, multi: true })?;
-    print_image(rt, "depth", ImageClass::Depth { multi: false })?;
-    print_image(rt, "depths", ImageClass::Depth { multi: true })?;
-    print_image(rt, "external", ImageClass::External)?;
-    print_image(
-        rt,
-        "storage",
-        ImageClass::Storage {
-            format: StorageFormat::R32Uint,
-            access: StorageAccess::LOAD,
-        },
-    )?;
+fn print_format(rt: &impl Print, format: StorageFormat) -> io::Result<()> {
+    let scalar = Scalar::from(format);
+    println!(rt; "{format:?}: {:?} {}", scalar.kind, scalar.width)
+}
+
+fn print_types(rt: &impl Print) -> io::Result<()> {
+    for space in &SPACES {
+        print_space(rt, *space)?;
+    }
+    for class in &CLASSES {
+        print_class(rt, class.0, class.1)?;
+    }
     for format in [
         StorageFormat::R64Uint,
         StorageFormat::Rgb10a2Uint,
@@ -63,23 +84,26 @@ fn print_images(rt: &HostRuntime) -> io::Result<()> {
         StorageFormat::R16Snorm,
         StorageFormat::Rg11b10Ufloat,
     ] {
-        let scalar = Scalar::from(format);
-        println!(rt; "{format:?}: {:?} {}", scalar.kind, scalar.width)?;
+        print_format(rt, format)?;
     }
     Ok(())
 }
 
-fn print_bindings(rt: &HostRuntime) -> io::Result<()> {
-    let position = Binding::BuiltIn(BuiltIn::Position { invariant: true });
-    println!(rt; "{:?}", position.to_built_in())?;
-    let location = Binding::Location {
+const BINDINGS: [Binding; 2] = [
+    Binding::BuiltIn(BuiltIn::Position { invariant: true }),
+    Binding::Location {
         location: 3,
         interpolation: None,
         sampling: None,
         blend_src: None,
         per_primitive: false,
-    };
-    println!(rt; "{:?}", location.to_built_in())?;
+    },
+];
+
+fn print_bindings(rt: &impl Print) -> io::Result<()> {
+    for binding in &BINDINGS {
+        println!(rt; "{:?}", binding.to_built_in())?;
+    }
     for topology in [
         MeshOutputTopology::Points,
         MeshOutputTopology::Lines,
@@ -90,7 +114,7 @@ fn print_bindings(rt: &HostRuntime) -> io::Result<()> {
     Ok(())
 }
 
-fn print_stages(rt: &HostRuntime) -> io::Result<()> {
+fn print_stages(rt: &impl Print) -> io::Result<()> {
     for stage in [
         ShaderStage::Vertex,
         ShaderStage::Fragment,
@@ -104,10 +128,6 @@ fn print_stages(rt: &HostRuntime) -> io::Result<()> {
     ] {
         println!(rt; "{stage:?}: {}", stage.compute_like())?;
     }
-    Ok(())
-}
-
-fn print_functions(rt: &HostRuntime) -> io::Result<()> {
     for function in [
         MathFunction::Abs,
         MathFunction::Atan2,
@@ -124,10 +144,9 @@ fn print_functions(rt: &HostRuntime) -> io::Result<()> {
     Ok(())
 }
 
-pub fn run(rt: &HostRuntime) -> io::Result<()> {
-    print_spaces(rt)?;
-    print_images(rt)?;
+/// Prints address spaces, images, bindings, stages and math functions.
+pub fn run(rt: &impl Print) -> io::Result<()> {
+    print_types(rt)?;
     print_bindings(rt)?;
-    print_stages(rt)?;
-    print_functions(rt)
+    print_stages(rt)
 }

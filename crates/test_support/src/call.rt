@@ -1,6 +1,7 @@
 //! A call as a line of a test's input has it: a list of words, numbers and lists. Where it lacks a part, that is taken as
 //! empty or as 0.
 
+use document_forms::{Form, ReadError};
 use ir_arena::handle::Handle;
 use ir_arena::range::Range;
 use ir_arena::span::Span;
@@ -55,6 +56,31 @@ pub fn range<K>(call: &Value, place: usize) -> Range<K> {
     Range::new(number(call, place), number(call, place.saturating_add(1)))
 }
 
+/// An answer, after what it was found of is freed: in a call of its own, which is cheaper to prove than on every way out.
+pub fn freeing<A, T: Drop>(answer: A, value: T) -> A {
+    drop(value);
+    answer
+}
+
+/// A value, or the error of what was done to it, which frees the value.
+pub fn completed<T: Drop>(done: Result<(), AllocError>, value: T) -> Result<T, AllocError> {
+    match done {
+        Ok(()) => Ok(value),
+        Err(error) => {
+            drop(value);
+            Err(error)
+        }
+    }
+}
+
+/// Puts a text after another, unless there was no memory for it.
+pub fn push(text: &mut String, piece: Result<String, AllocError>) -> Result<(), AllocError> {
+    match piece {
+        Ok(piece) => freeing(text.push_str(&piece), piece),
+        Err(error) => Err(error),
+    }
+}
+
 /// The result of a call as it is printed.
 pub fn told<A: Debug + Drop>(alloc: Global, answer: A) -> Result<String, AllocError> {
     format!(in alloc; "{answer:?}")
@@ -63,4 +89,13 @@ pub fn told<A: Debug + Drop>(alloc: Global, answer: A) -> Result<String, AllocEr
 /// What is printed where there is no such call.
 pub fn no_call(alloc: Global) -> Result<String, AllocError> {
     String::from_str(alloc, "no such call")
+}
+
+/// The item that is written so, or `None` where the value is of another form.
+pub fn found<F: Form>(alloc: Global, value: &Value) -> Result<Option<F::Item>, AllocError> {
+    match F::read(alloc, value) {
+        Ok(item) => Ok(Some(item)),
+        Err(ReadError::Memory) => Err(AllocError),
+        Err(ReadError::Malformed { .. }) => Ok(None),
+    }
 }

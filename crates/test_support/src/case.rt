@@ -8,7 +8,7 @@ pub struct Case<'a> {
     /// The name of the case.
     pub name: &'a str,
     /// What is required.
-    pub asked: &'a str,
+    pub question: &'a str,
     /// The document.
     pub document: &'a str,
     /// The answer.
@@ -46,27 +46,29 @@ impl Case<'_> {
     pub fn read(line: &Value) -> Case<'_> {
         Case {
             name: text(line, 0),
-            asked: text(line, 1),
+            question: text(line, 1),
             document: text(line, 2),
             answer: text(line, 3),
             also: another(line),
         }
     }
 
-    /// Whether an answer is right.
+    /// Whether an answer is right. Of why a function is refused the types that an error ends with, and what makes control flow
+    /// differ, are not compared.
     pub fn is_right(&self, found: &str) -> bool {
-        match self.also {
-            Some(also) => found == self.answer || found == also,
-            None => found == self.answer,
-        }
-    }
-
-    /// Whether an answer begins with a right one, and goes on with a further word if it goes on.
-    pub fn begins_right(&self, found: &str) -> bool {
         let second = match self.also {
-            Some(also) => begins_with(found, also),
+            Some(also) => self.agrees(found, also),
             None => false,
         };
-        second || begins_with(found, self.answer)
+        second || self.agrees(found, self.answer)
+    }
+
+    // Whether an answer is this one, or, of why a function is refused, goes on with a further word.
+    fn agrees(&self, found: &str, right: &str) -> bool {
+        if self.question == "functions" {
+            begins_with(found, right)
+        } else {
+            found == right
+        }
     }
 }

@@ -9,10 +9,7 @@ ghost use Rattle.ir_proc.specs.found.Flat.{parts_of, PartsPrecede};
 
 use ir_arena::arena::Arena;
 use ir_arena::handle::Handle;
-use ir_items::{DiagnosticFilterNode, Expression, IrType, key};
-use ir_proc::{FlattenCompose, flatten_compose};
-use ir_sets::unique_arena::UniqueArena;
-use std::alloc::{AllocError, Global};
+use ir_items::{DiagnosticFilterNode, Expression, key};
 
 /// Whether the parent of each node comes before it.
 pub fn parents_precede(arena: &Arena<DiagnosticFilterNode, key::DiagnosticFilterNode>) -> bool
@@ -151,22 +148,4 @@ pub fn all_before(handles: &[Handle<key::Expression>], place: usize) -> bool
         }
     }
     true
-}
-
-/// The handles that a composition comes to, or `None` where a handle is not in order.
-pub fn flat(
-    alloc: Global,
-    ty: Handle<key::IrType>,
-    components: &[Handle<key::Expression>],
-    expressions: &Arena<Expression, key::Expression>,
-    types: &UniqueArena<IrType, key::IrType>,
-) -> Result<Option<FlattenCompose>, AllocError> {
-    if ty.index() < types.len()
-        && all_before(components, expressions.len())
-        && parts_precede(expressions)
-    {
-        let leaves = flatten_compose(alloc, ty, components, expressions, types)?;
-        return Ok(Some(leaves));
-    }
-    Ok(None)
 }

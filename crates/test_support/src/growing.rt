@@ -1,12 +1,11 @@
 // Arenas and sets that grow until memory is refused.
-use crate::same::{leaving, same};
+use crate::hog::Trial;
 use ir_arena::arena::Arena;
 use ir_arena::handle::Handle;
 use ir_arena::span::Span;
 use ir_sets::handle_set::HandleSet;
 use ir_sets::unique_arena::UniqueArena;
 use std::alloc::{AllocError, Global};
-use std::test::Fail;
 
 // A growing call is made so often at most. A list makes room for several values together.
 const MOST_CALLS: u32 = 1000;
@@ -15,8 +14,8 @@ const MOST_CALLS: u32 = 1000;
 #[derive(Clone, Copy)]
 pub enum Tag {}
 
-// What grows by a value a call.
-trait Growing: Drop {
+/// What grows by a value a call.
+pub trait Growing: Drop {
     fn grow(&mut self, value: u32) -> Result<(), AllocError>;
 
     /// Whether a call that needs no memory is answered.
@@ -24,6 +23,16 @@ trait Growing: Drop {
 
     /// Whether it has what it had, and so many values more, where this was the first that was refused.
     fn holds(&mut self, more: u32) -> bool;
+}
+
+/// What grows until it is refused memory.
+#[derive(Drop)]
+pub struct Growth<G: Growing> {
+    pub subject: G,
+    /// The value that was refused.
+    pub refused: Option<u32>,
+    /// Whether a call that needs no memory is answered then.
+    pub answers: bool,
 }
 
 // Makes the calls until one is refused, and answers how many were not.
@@ -36,15 +45,18 @@ fn grow_all<G: Growing>(subject: &mut G) -> Option<u32> {
     None
 }
 
-// Whether the calls are refused in the end, and a refused one leaves all as it was.
-fn is_refused<G: Growing>(alloc: Global, mut subject: G) -> Result<bool, Fail> {
-    let hog = leaving(alloc, 0)?;
-    let refused = grow_all(&mut subject);
-    let answers = subject.answers();
-    drop(hog);
-    match refused {
-        Some(more) => Ok(answers && subject.holds(more)),
-        None => Ok(false),
+impl<G: Growing> Trial for Growth<G> {
+    fn is_refused(&mut self, _alloc: Global) -> bool {
+        self.refused = grow_all(&mut self.subject);
+        self.answers = self.subject.answers();
+        self.refused.is_some()
+    }
+
+    fn is_right(&mut self, _refused: bool) -> bool {
+        match self.refused {
+            Some(more) => self.answers && self.subject.holds(more),
+            None => false,
+        }
     }
 }
 
@@ -70,7 +82,7 @@ fn holds_more(arena: &Arena<u32>, more: u32) -> bool {
 }
 
 #[derive(Drop)]
-struct Appended(Arena<u32>);
+pub struct Appended(pub Arena<u32>);
 
 impl Growing for Appended {
     fn grow(&mut self, value: u32) -> Result<(), AllocError> {
@@ -88,7 +100,7 @@ impl Growing for Appended {
 }
 
 #[derive(Drop)]
-struct Fetched(Arena<u32>);
+pub struct Fetched(pub Arena<u32>);
 
 impl Growing for Fetched {
     fn grow(&mut self, value: u32) -> Result<(), AllocError> {
@@ -106,7 +118,7 @@ impl Growing for Fetched {
 }
 
 #[derive(Drop)]
-struct FetchedEqual(Arena<u32>);
+pub struct FetchedEqual(pub Arena<u32>);
 
 fn fetch_equal(arena: &mut Arena<u32>, value: u32) -> Result<Handle<u32>, AllocError> {
     arena.fetch_if_or_append(value, Span::UNDEFINED, |old, new| *old == *new)
@@ -129,7 +141,7 @@ impl Growing for FetchedEqual {
 
 // It begins with 2000.
 #[derive(Drop)]
-struct Inserted(UniqueArena<u32>);
+pub struct Inserted(pub UniqueArena<u32>);
 
 impl Growing for Inserted {
     fn grow(&mut self, value: u32) -> Result<(), AllocError> {
@@ -150,7 +162,7 @@ impl Growing for Inserted {
 
 // It begins with 2.
 #[derive(Drop)]
-struct Members(HandleSet<Tag>);
+pub struct Members(pub HandleSet<Tag>);
 
 // A handle in a word of its own.
 fn apart(value: u32) -> Handle<Tag> {
@@ -172,38 +184,16 @@ impl Growing for Members {
     }
 }
 
-fn unique(alloc: Global) -> Result<UniqueArena<u32>, AllocError> {
+/// An arena of 2000.
+pub fn unique(alloc: Global) -> Result<UniqueArena<u32>, AllocError> {
     let mut arena = UniqueArena::new(alloc);
     arena.insert(2000, Span::new(1, 2))?;
     Ok(arena)
 }
 
-fn set_of_one(alloc: Global) -> Result<HandleSet<Tag>, AllocError> {
+/// A set of 2.
+pub fn set_of_one(alloc: Global) -> Result<HandleSet<Tag>, AllocError> {
     let mut set = HandleSet::new(alloc);
     set.insert(Handle::at(2))?;
     Ok(set)
-}
-
-#[test]
-fn growing_calls_are_refused(rt: HostRuntime) -> Result<(), Fail> {
-    let alloc = rt.alloc();
-    let begin = [2000, 3000];
-    same(
-        &rt,
-        is_refused(alloc, Appended(numbers(alloc, &begin)?))?,
-        true,
-    );
-    same(
-        &rt,
-        is_refused(alloc, Fetched(numbers(alloc, &begin)?))?,
-        true,
-    );
-    same(
-        &rt,
-        is_refused(alloc, FetchedEqual(numbers(alloc, &begin)?))?,
-        true,
-    );
-    same(&rt, is_refused(alloc, Inserted(unique(alloc)?))?, true);
-    same(&rt, is_refused(alloc, Members(set_of_one(alloc)?))?, true);
-    Ok(())
 }

@@ -1,6 +1,6 @@
 //! Programs that make the calls of standard input, a line each, and print the answers.
 
-use crate::call::no_call;
+use crate::call::{freeing, no_call};
 use serde_json::Value;
 use std::alloc::{AllocError, Global};
 use std::io;
@@ -11,15 +11,26 @@ pub trait Answers {
     fn answer(&mut self, alloc: Global, call: &Value) -> Result<String, AllocError>;
 }
 
-// The answer of a line, or `None` where it is a text, which is a heading.
+// The answer of a call, or `None` where it is a text, which is a heading.
 fn answered<S: Answers>(
+    alloc: Global,
+    subject: &mut S,
+    call: &Value,
+) -> Result<Option<String>, AllocError> {
+    if call.is_string() {
+        return Ok(None);
+    }
+    Ok(Some(subject.answer(alloc, call)?))
+}
+
+// The same of a line.
+fn line_answered<S: Answers>(
     alloc: Global,
     subject: &mut S,
     line: &str,
 ) -> Result<Option<String>, AllocError> {
     match Value::from_str(alloc, line) {
-        Ok(call) if call.is_string() => Ok(None),
-        Ok(call) => Ok(Some(subject.answer(alloc, &call)?)),
+        Ok(call) => freeing(answered(alloc, subject, &call), call),
         Err(_) => Ok(Some(no_call(alloc)?)),
     }
 }
@@ -29,8 +40,8 @@ fn print_line<S: Answers>(
     subject: &mut S,
     line: &str,
 ) -> io::Result<()> {
-    match answered(rt.alloc(), subject, line)? {
-        Some(answer) => println!(rt; "{line} -> {answer}"),
+    match line_answered(rt.alloc(), subject, line)? {
+        Some(answer) => freeing(println!(rt; "{line} -> {answer}"), answer),
         None => println!(rt; "{line}"),
     }
 }
@@ -42,7 +53,8 @@ pub fn answer_lines<S: Answers>(
     subject: &mut S,
 ) -> io::Result<()> {
     for line in rt.lines(rt.alloc()) {
-        print_line(rt, subject, line?.as_str())?;
+        let line = line?;
+        freeing(print_line(rt, subject, line.as_str()), line)?;
     }
     Ok(())
 }

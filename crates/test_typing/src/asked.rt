@@ -1,37 +1,39 @@
-// What is required of a module.
-use crate::checks::{Overrides, checks_told};
+// The questions on the types, the expressions and the functions of a document.
 use crate::conditions::{Test, tests_told};
 use crate::constness::{kinds_told, tracked};
-use crate::handles::handles_told;
 use crate::infos::{Reported, infos_told};
 use crate::layouts::{laid, layouts_told};
 use crate::left::left_told;
 use crate::summaries::{ordered, summaries_told, summarized};
 use crate::types::{typed, types_told};
-use crate::whole::{functions_reported, refusals_told};
-use document_reader::Document;
+use document_reader::{Document, DocumentError, read_document};
 use std::alloc::{AllocError, Global};
+use test_support::call::freeing;
 
-/// The answer to a question about the module of a document. `laid`, `tracked`, `typed`, `ordered`, `summarized` and `read` are
-/// there to measure by: they lay out all types, find all kinds or all types of expressions, find whether the handles of all
-/// functions are in order, find besides what is kept of each function, or do nothing, and are answered by themselves.
-pub fn answer(alloc: Global, asked: &str, document: &mut Document) -> Result<String, AllocError> {
-    match asked {
-        "functions" => functions_reported(alloc, document),
-        "refusal" => refusals_told(alloc, document),
-        "left of layouts"
-        | "left of functions"
-        | "left of a copy"
-        | "left of a report"
-        | "left of returns" => left_told(alloc, asked, document),
-        _ => answer_unchanged(alloc, asked, document),
+// What is required of the types of a document, or why one is refused.
+fn infos_of(alloc: Global, reported: Reported, document: &Document) -> Result<String, AllocError> {
+    let capabilities = document.settings.capabilities;
+    infos_told(alloc, reported, capabilities, &document.module.types)
+}
+
+// The answer to a question about a document.
+fn answer_of(alloc: Global, question: &str, document: &mut Document) -> Result<String, AllocError> {
+    match question {
+        "left of layouts" | "left of functions" | "left of a copy" | "left of returns" => {
+            left_told(alloc, question, document)
+        }
+        _ => answer_unchanged(alloc, question, document),
     }
 }
 
 // The answer to a question that changes nothing.
-fn answer_unchanged(alloc: Global, asked: &str, document: &Document) -> Result<String, AllocError> {
+fn answer_unchanged(
+    alloc: Global,
+    question: &str,
+    document: &Document,
+) -> Result<String, AllocError> {
     let module = &document.module;
-    match asked {
+    match question {
         "layouts" => layouts_told(alloc, &module.types),
         "constness" => kinds_told(alloc, module),
         "types" => types_told(alloc, module),
@@ -39,31 +41,35 @@ fn answer_unchanged(alloc: Global, asked: &str, document: &Document) -> Result<S
         "tests but callees" => tests_told(alloc, module, Some(Test::Callees)),
         "tests but filters" => tests_told(alloc, module, Some(Test::Filters)),
         "tests but arities" => tests_told(alloc, module, Some(Test::Arities)),
-        "infos" => infos_told(
-            alloc,
-            Reported::Infos,
-            document.settings.capabilities,
-            &module.types,
-        ),
-        "refused" => infos_told(
-            alloc,
-            Reported::Refusal,
-            document.settings.capabilities,
-            &module.types,
-        ),
-        "handles" => handles_told(alloc, module),
-        "checks" => checks_told(alloc, document, Overrides::Open),
-        "resolved" => checks_told(alloc, document, Overrides::Resolved),
+        "infos" => infos_of(alloc, Reported::Infos, document),
+        "refused" => infos_of(alloc, Reported::Refusal, document),
         "summaries" => summaries_told(alloc, module, document.settings.flags),
-        "laid" => String::from_str(alloc, laid(alloc, &module.types)?),
-        "tracked" => String::from_str(alloc, tracked(alloc, module)?),
-        "typed" => String::from_str(alloc, typed(alloc, module)?),
-        "ordered" => String::from_str(alloc, ordered(module)),
-        "summarized" => String::from_str(
-            alloc,
-            summarized(alloc, module, document.settings.flags)?,
-        ),
-        "read" => String::from_str(alloc, "read"),
-        _ => String::from_str(alloc, "no question"),
+        _ => measured(alloc, question, document),
+    }
+}
+
+// The answer to a question that is there to measure by: whether all types can be laid out, or all kinds or all types of
+// expressions are found, whether the handles of all functions are in order, or besides something is kept of each; or nothing is
+// done. They are answered by themselves.
+fn measured(alloc: Global, question: &str, document: &Document) -> Result<String, AllocError> {
+    let module = &document.module;
+    let word = match question {
+        "laid" => laid(alloc, &module.types),
+        "tracked" => tracked(alloc, module),
+        "typed" => typed(alloc, module),
+        "ordered" => Ok(ordered(module)),
+        "summarized" => summarized(alloc, module, document.settings.flags),
+        "read" => Ok("read"),
+        _ => Ok("no question"),
+    };
+    String::from_str(alloc, word?)
+}
+
+/// The answer to a question about the document that a text spells.
+pub fn answer(alloc: Global, question: &str, text: &str) -> Result<String, AllocError> {
+    match read_document(alloc, text.as_bytes()) {
+        Ok(mut document) => freeing(answer_of(alloc, question, &mut document), document),
+        Err(DocumentError::Memory) => Err(AllocError),
+        Err(_) => String::from_str(alloc, "no document"),
     }
 }

@@ -1,10 +1,10 @@
 // Each call of alignments, of layouters and of slots of immediate data, once.
-use anyhow::{Result, ensure};
 use ir_kinds::{CooperativeSize, Scalar, VectorSize};
 use ir_sets::unique_arena::UniqueArena;
 use ir_types::{IrType, TypeInner, key};
 use module_globals::ImmediateSlots;
 use std::io;
+use test_support::call::freeing;
 use typing_forms::types_go_back;
 use typing_layout::{Alignment, LayoutErrorInner, Layouter};
 
@@ -21,79 +21,115 @@ fn bytes_of(alignment: Option<Alignment>) -> u32 {
     }
 }
 
-// The calls that make an alignment.
-fn made(rt: &HostRuntime) -> io::Result<()> {
-    say(rt, "of 8", bytes_of(Alignment::new(8)))?;
-    say(rt, "of 12", bytes_of(Alignment::new(12)))?;
-    say(rt, "of 0", bytes_of(Alignment::new(0)))?;
-    say(rt, "of a width of 2", Alignment::from_width(2).get())?;
-    say(rt, "of two", Alignment::from(VectorSize::Bi).get())?;
-    say(rt, "of three", Alignment::from(VectorSize::Tri).get())?;
+// The calls that make an alignment, each with its answer.
+fn made_ones() -> [(&'static str, u32); 8] {
     let sixteen = Alignment::from(CooperativeSize::Sixteen);
-    say(rt, "of sixteen", sixteen.get())?;
-    say(rt, "least", u32::from(sixteen == Alignment::MIN_UNIFORM))
+    [
+        ("of 8", bytes_of(Alignment::new(8))),
+        ("of 12", bytes_of(Alignment::new(12))),
+        ("of 0", bytes_of(Alignment::new(0))),
+        ("of a width of 2", Alignment::from_width(2).get()),
+        ("of two", Alignment::from(VectorSize::Bi).get()),
+        ("of three", Alignment::from(VectorSize::Tri).get()),
+        ("of sixteen", sixteen.get()),
+        ("least", u32::from(sixteen == Alignment::MIN_UNIFORM)),
+    ]
 }
 
-// The calls of an alignment.
-fn asked(rt: &HostRuntime) -> io::Result<()> {
+fn made(rt: &HostRuntime) -> io::Result<()> {
+    for call in made_ones() {
+        say(rt, call.0, call.1)?;
+    }
+    Ok(())
+}
+
+// The calls of an alignment, each with its answer.
+fn asked_ones() -> [(&'static str, u32); 6] {
     let four = Alignment::from(VectorSize::Quad);
-    say(rt, "24 is aligned", u32::from(four.is_aligned(24)))?;
-    say(rt, "22 is aligned", u32::from(four.is_aligned(22)))?;
-    say(rt, "17 rounded up", four.round_up(17))?;
-    say(rt, "24 rounded up", four.round_up(24))?;
-    say(rt, "times 3", four * 3u32)?;
-    say(rt, "times itself", (four * four).get())?;
-    println!(rt; "{four}")
+    [
+        ("24 is aligned", u32::from(four.is_aligned(24))),
+        ("22 is aligned", u32::from(four.is_aligned(22))),
+        ("17 rounded up", four.round_up(17)),
+        ("24 rounded up", four.round_up(24)),
+        ("times 3", four * 3u32),
+        ("times itself", (four * four).get()),
+    ]
+}
+
+fn asked(rt: &HostRuntime) -> io::Result<()> {
+    for call in asked_ones() {
+        say(rt, call.0, call.1)?;
+    }
+    println!(rt; "{}", Alignment::from(VectorSize::Quad))
+}
+
+type Types = UniqueArena<IrType, key::IrType>;
+
+// Lays out no types, which they all are.
+fn lay_out(rt: &HostRuntime, layouter: &mut Layouter, types: &Types) -> io::Result<()> {
+    layouter.clear();
+    if !types_go_back(types) || layouter.update(types).is_err() {
+        return println!(rt; "no types have no layouts");
+    }
+    println!(rt; "{layouter:?}")
 }
 
 // A layouter that is cleared, and laid out again.
-fn cleared(rt: &HostRuntime) -> Result<()> {
-    let types: UniqueArena<IrType, key::IrType> = UniqueArena::new(rt.alloc());
+fn cleared(rt: &HostRuntime, types: &Types) -> io::Result<()> {
     let mut layouter = Layouter::new(rt.alloc());
-    layouter.clear();
-    ensure!(types_go_back(&types), "no types go back");
-    ensure!(layouter.update(&types).is_ok(), "no types have layouts");
-    println!(rt; "{layouter:?}")?;
-    Ok(())
+    freeing(lay_out(rt, &mut layouter, types), layouter)
+}
+
+// Prints slots that a call answers.
+fn say_slots(rt: &HostRuntime, call: &str, answer: ImmediateSlots) -> io::Result<()> {
+    println!(rt; "{call}: {answer:?}")
 }
 
 // The calls of slots, of which 1 and 2 are 6.
 fn slots_of_bytes(rt: &HostRuntime) -> io::Result<()> {
     let pair = ImmediateSlots::from_raw(6);
     let range = ImmediateSlots::from_range(2, 8);
-    println!(rt; "bytes 4 to 12: {:?}", ImmediateSlots::from_range(4, 8))?;
-    println!(rt; "bytes 2 to 10: {range:?}")?;
-    println!(rt; "either: {:?}", pair | ImmediateSlots::from_raw(8))?;
+    say_slots(rt, "bytes 4 to 12", ImmediateSlots::from_range(4, 8))?;
+    say_slots(rt, "bytes 2 to 10", range)?;
+    say_slots(rt, "either", pair | ImmediateSlots::from_raw(8))?;
     println!(rt;
         "contains: {} {}",
         range.contains(pair),
         pair.contains(range)
     )?;
-    println!(rt; "without: {:?}", range.difference(pair))
+    say_slots(rt, "without", range.difference(pair))
 }
 
 // The slots of a vector of 12 bytes.
-fn slots_of_type(rt: &HostRuntime) -> Result<()> {
-    let types: UniqueArena<IrType, key::IrType> = UniqueArena::new(rt.alloc());
-    ensure!(types_go_back(&types), "no types go back");
+fn slots_of_type(rt: &HostRuntime, types: &Types) -> io::Result<()> {
+    if !types_go_back(types) {
+        return println!(rt; "no types do not go back");
+    }
     let vector = TypeInner::Vector {
         size: VectorSize::Tri,
         scalar: Scalar::F32,
     };
-    println!(rt;
-        "a vector from 6: {:?}",
-        ImmediateSlots::from_type(&vector, 6, &types)
-    )?;
-    Ok(())
+    let slots = ImmediateSlots::from_type(&vector, 6, types);
+    freeing(say_slots(rt, "a vector from 6", slots), vector)
+}
+
+// The texts of errors, and the calls of layouters and slots over these types, which are none.
+fn over_none(rt: &HostRuntime, types: &Types) -> io::Result<()> {
+    for error in [
+        LayoutErrorInner::TooLarge,
+        LayoutErrorInner::NonPowerOfTwoWidth,
+    ] {
+        println!(rt; "{error}")?;
+    }
+    cleared(rt, types)?;
+    slots_of_bytes(rt)?;
+    slots_of_type(rt, types)
 }
 
 /// Makes each call, and prints the answers.
-pub fn every_call(rt: &HostRuntime) -> Result<()> {
+pub fn every_call(rt: &HostRuntime) -> io::Result<()> {
     made(rt)?;
     asked(rt)?;
-    println!(rt; "{}", LayoutErrorInner::TooLarge)?;
-    println!(rt; "{}", LayoutErrorInner::NonPowerOfTwoWidth)?;
-    cleared(rt)?;
-    slots_of_bytes(rt)?;
-    slots_of_type(rt)
+    let types: Types = UniqueArena::new(rt.alloc());
+    freeing(over_none(rt, &types), types)
 }

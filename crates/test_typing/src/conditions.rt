@@ -4,6 +4,7 @@ use module_handles::{
     arities_match, callees_precede, filter_parents_precede, handles_in_range, operands_precede,
 };
 use std::alloc::{AllocError, Global};
+use test_support::call::completed;
 
 /// The tests, in the order in which they are reported.
 #[derive(Clone, Copy, PartialEq)]
@@ -55,6 +56,18 @@ fn tell(
     told.push_str(";")
 }
 
+// Writes the tests of each function and each entry point.
+fn tell_all(told: &mut String, module: &Module, unasked: Option<Test>) -> Result<(), AllocError> {
+    for (handle, function) in module.functions.iter() {
+        tell(told, function, module, handle.index(), unasked)?;
+    }
+    let count = module.functions.len();
+    for entry in module.entry_points.as_slice() {
+        tell(told, &entry.function, module, count, unasked)?;
+    }
+    Ok(())
+}
+
 /// The tests of each function and each entry point, but one that is not made.
 pub fn tests_told(
     alloc: Global,
@@ -62,17 +75,5 @@ pub fn tests_told(
     unasked: Option<Test>,
 ) -> Result<String, AllocError> {
     let mut told = String::new(alloc);
-    for (handle, function) in module.functions.iter() {
-        tell(&mut told, function, module, handle.index(), unasked)?;
-    }
-    for entry in module.entry_points.as_slice() {
-        tell(
-            &mut told,
-            &entry.function,
-            module,
-            module.functions.len(),
-            unasked,
-        )?;
-    }
-    Ok(told)
+    completed(tell_all(&mut told, module, unasked), told)
 }

@@ -11,8 +11,9 @@ use ir_types::{IrType, key};
 use module_type_infos::{TypeError, TypeInfo};
 use module_types::{InvalidType, TypeSettings, validate_types};
 use std::alloc::{AllocError, Global};
+use test_support::call::{completed, freeing, push};
 use typing_forms::types_go_back;
-use typing_layout::Layouter;
+use typing_layout::{LayoutError, Layouter};
 
 /// What is required of the types of a module.
 #[derive(Clone, Copy)]
@@ -34,23 +35,28 @@ fn info_told(alloc: Global, info: &TypeInfo) -> Result<String, AllocError> {
     )
 }
 
+// Tells the infos of types.
+fn tell_infos(alloc: Global, told: &mut String, infos: &[TypeInfo]) -> Result<(), AllocError> {
+    for info in infos {
+        push(told, info_told(alloc, info))?;
+    }
+    Ok(())
+}
+
 // The infos of types.
 fn accepted_told(alloc: Global, asked: Reported, infos: &[TypeInfo]) -> Result<String, AllocError> {
     if let Reported::Refusal = asked {
         return String::from_str(alloc, "accepted");
     }
     let mut told = String::new(alloc);
-    for info in infos {
-        told.push_str(&info_told(alloc, info)?)?;
-    }
-    Ok(told)
+    completed(tell_infos(alloc, &mut told, infos), told)
 }
 
 // The first type that is refused, and why; which fault it is that sources of a blend have is not reported.
 fn refused_reported(
     alloc: Global,
     asked: Reported,
-    refused: InvalidType,
+    refused: &InvalidType,
 ) -> Result<String, AllocError> {
     if let Reported::Refusal = asked {
         return format!(in alloc; "refused {}", refused.ty.index());
@@ -74,9 +80,19 @@ fn validated_told(
     requires all { length layouter.now ≡ length types.now }
 {
     match validate_types(alloc, settings, types, layouter) {
-        Ok(infos) => accepted_told(alloc, asked, infos.as_slice()),
+        Ok(infos) => freeing(accepted_told(alloc, asked, infos.as_slice()), infos),
         Err(Refusal::Memory(error)) => Err(error),
-        Err(Refusal::Fault(fault)) => refused_reported(alloc, asked, fault.into_inner()),
+        Err(Refusal::Fault(fault)) => {
+            freeing(refused_reported(alloc, asked, fault.as_inner()), fault)
+        }
+    }
+}
+
+// What is said of types that are not laid out.
+fn unlaid(alloc: Global, refusal: Refusal<LayoutError>) -> Result<String, AllocError> {
+    match refusal {
+        Refusal::Memory(error) => Err(error),
+        Refusal::Fault(_) => String::from_str(alloc, "no layout"),
     }
 }
 
@@ -96,8 +112,13 @@ pub fn infos_told(
     };
     let mut layouter = Layouter::new(alloc);
     match layouter.update(types) {
-        Ok(()) => validated_told(alloc, asked, settings, types, &layouter),
-        Err(Refusal::Memory(error)) => Err(error),
-        Err(Refusal::Fault(_)) => String::from_str(alloc, "no layout"),
+        Ok(()) => freeing(
+            validated_told(alloc, asked, settings, types, &layouter),
+            layouter,
+        ),
+        Err(refusal) => {
+            drop(layouter);
+            unlaid(alloc, refusal)
+        }
     }
 }

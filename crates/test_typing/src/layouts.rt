@@ -1,11 +1,14 @@
 // The layouts of types.
 ghost use Rattle.std.specs.Prelude.{◌≤◌, length};
+ghost use Rattle.typing_forms.specs.judged.Resolutions.{types_view};
+ghost use Rattle.typing_layout.specs.found.Held.{AreLayouts};
 
 use ir_arena::handle::Handle;
 use ir_faults::refusal::Refusal;
 use ir_sets::unique_arena::UniqueArena;
 use ir_types::{IrType, key};
 use std::alloc::{AllocError, Global};
+use test_support::call::{completed, freeing, push};
 use typing_forms::types_go_back;
 use typing_layout::{LayoutError, Layouter, TypeLayout};
 
@@ -19,29 +22,55 @@ fn layout_told(alloc: Global, layout: TypeLayout) -> Result<String, AllocError> 
     )
 }
 
-// The layouts of the first types.
-fn first_reported(alloc: Global, layouter: &Layouter, count: usize) -> Result<String, AllocError>
+// Tells the layouts of the first types.
+fn tell_first(
+    alloc: Global,
+    told: &mut String,
+    layouter: &Layouter,
+    count: usize,
+) -> Result<(), AllocError>
     requires all { count ≤ length layouter.now }
     requires in_range { count ≤ 4294967295 }
 {
-    let mut told = String::new(alloc);
     for place in 0..count {
-        told.push_str(&layout_told(alloc, layouter[Handle::at(place)])?)?;
+        push(told, layout_told(alloc, layouter[Handle::at(place)]))?;
     }
-    Ok(told)
+    Ok(())
 }
 
-// The layouts of the types before one that has none, and why it has none.
-fn refused_reported(
+// Tells the layouts of the types before one that has none, and why it has none.
+fn tell_refused(
     alloc: Global,
+    told: &mut String,
     layouter: &Layouter,
-    error: LayoutError,
-) -> Result<String, AllocError>
-    requires { error.ty ≤ length layouter.now }
+    error: &LayoutError,
+) -> Result<(), AllocError>
+    requires { error.now.ty ≤ length layouter.now }
 {
-    let mut told = first_reported(alloc, layouter, error.ty.index())?;
-    told.push_str(&format!(in alloc; "{} {:?}", error.ty.index(), error.inner)?)?;
-    Ok(told)
+    let index = error.ty.index();
+    tell_first(alloc, told, layouter, index)?;
+    push(told, format!(in alloc; "{index} {:?}", error.inner))
+}
+
+// Tells the layouts of types by a new layouter, and the first type that has none.
+fn tell_layouts(
+    alloc: Global,
+    told: &mut String,
+    layouter: &mut Layouter,
+    types: &UniqueArena<IrType, key::IrType>,
+) -> Result<(), AllocError>
+    requires { AreLayouts (types_view types.now) layouter.old }
+{
+    if !types_go_back(types) {
+        return told.push_str("types do not go back");
+    }
+    match layouter.update(types) {
+        Ok(()) => tell_first(alloc, told, layouter, types.len()),
+        Err(Refusal::Memory(error)) => Err(error),
+        Err(Refusal::Fault(fault)) => {
+            freeing(tell_refused(alloc, told, layouter, fault.as_inner()), fault)
+        }
+    }
 }
 
 /// The layouts of the types, and the first type that has none.
@@ -49,15 +78,10 @@ pub fn layouts_told(
     alloc: Global,
     types: &UniqueArena<IrType, key::IrType>,
 ) -> Result<String, AllocError> {
-    if !types_go_back(types) {
-        return String::from_str(alloc, "types do not go back");
-    }
     let mut layouter = Layouter::new(alloc);
-    match layouter.update(types) {
-        Ok(()) => first_reported(alloc, &layouter, types.len()),
-        Err(Refusal::Memory(error)) => Err(error),
-        Err(Refusal::Fault(fault)) => refused_reported(alloc, &layouter, fault.into_inner()),
-    }
+    let mut told = String::new(alloc);
+    let done = tell_layouts(alloc, &mut told, &mut layouter, types);
+    completed(freeing(done, layouter), told)
 }
 
 /// Whether the types can be laid out, as a word.

@@ -1,63 +1,82 @@
 // What a call leaves that is refused memory: each is made, and where it is refused once more, and all is compared.
 //
 // Where no request is refused, each call is made once. `bench/rows.py` refuses each request in turn.
+ghost use Rattle.typing_forms.specs.judged.Resolutions.{types_view};
+ghost use Rattle.typing_layout.specs.found.Held.{AreLayouts};
+
 use document_reader::{Document, build_module};
-use shader_check::judge_document;
+use ir_sets::unique_arena::UniqueArena;
+use ir_types::{IrType, key};
 use std::alloc::{AllocError, Global};
-use test_support::call::told;
+use test_support::call::{freeing, told};
+use test_support::questions::{Left, came_of};
 use typing_forms::types_go_back;
 use typing_infos::{FunctionInfo, FunctionParts, ModuleInfo, SampledPairs};
 use typing_layout::Layouter;
 
-/// What came of a call.
-#[derive(Clone, Copy, Debug, PartialEq, Eq)]
-enum Left {
-    /// It was not refused.
-    Done,
-    /// It was refused, and all was as before. Made again it was not, and came to the same.
-    AsBefore,
-    /// Something else.
-    Changed,
-}
-
-fn came_of(refused: bool, right: bool) -> Left {
-    match (refused, right) {
-        (false, true) => Left::Done,
-        (true, true) => Left::AsBefore,
-        (_, false) => Left::Changed,
-    }
-}
+type Types = UniqueArena<IrType, key::IrType>;
 
 // Layouts that stand before a refusal stand after it: as texts, one begins like the other, but for what closes it.
 fn stand(before: &str, after: &str) -> bool {
     after.starts_with(before.strip_suffix("] }").unwrap_or(after))
 }
 
+// What a second `update` leaves of a layouter that was as this text says.
+fn updated_again(
+    alloc: Global,
+    layouter: &mut Layouter,
+    types: &Types,
+    refused: bool,
+    before: &str,
+) -> Result<Left, AllocError>
+    requires { AreLayouts (types_view types.now) layouter.old }
+{
+    let again = types_go_back(types) && layouter.update(types).is_ok();
+    let after = format!(in alloc; "{layouter:?}")?;
+    let stands = freeing(stand(before, &after), after);
+    Ok(came_of(refused, again && stands))
+}
+
 // What `update` leaves of a layouter.
-fn of_layouts(alloc: Global, document: &Document) -> Result<Left, AllocError> {
-    let types = &document.module.types;
+fn updated(alloc: Global, layouter: &mut Layouter, types: &Types) -> Result<Left, AllocError>
+    requires { AreLayouts (types_view types.now) layouter.old }
+{
     if !types_go_back(types) {
         return Ok(Left::Changed);
     }
-    let mut layouter = Layouter::new(alloc);
     let refused = layouter.update(types).is_err();
     let before = format!(in alloc; "{layouter:?}")?;
-    let again = layouter.update(types).is_ok();
-    let after = format!(in alloc; "{layouter:?}")?;
-    Ok(came_of(refused, again && stand(&before, &after)))
+    freeing(
+        updated_again(alloc, layouter, types, refused, &before),
+        before,
+    )
+}
+
+// The same of a new one.
+fn of_layouts(alloc: Global, document: &Document) -> Result<Left, AllocError> {
+    let mut layouter = Layouter::new(alloc);
+    freeing(
+        updated(alloc, &mut layouter, &document.module.types),
+        layouter,
+    )
 }
 
 // What is kept of a function without expressions.
 fn function_info(alloc: Global, may_kill: bool) -> Result<FunctionInfo, AllocError> {
     let sampling = SampledPairs::new(alloc);
-    let sampling_set = sampling.keys(alloc)?;
-    Ok(FunctionInfo::of_parts(FunctionParts {
-        may_kill,
-        uses: Vec::new(alloc),
-        expressions: Vec::new(alloc),
-        sampling,
-        sampling_set,
-    }))
+    match sampling.keys(alloc) {
+        Ok(sampling_set) => Ok(FunctionInfo::of_parts(FunctionParts {
+            may_kill,
+            uses: Vec::new(alloc),
+            expressions: Vec::new(alloc),
+            sampling,
+            sampling_set,
+        })),
+        Err(error) => {
+            drop(sampling);
+            Err(error)
+        }
+    }
 }
 
 // Whether there are so many functions, of which each second may end the fragment.
@@ -70,36 +89,67 @@ fn has_functions(info: &ModuleInfo, count: usize) -> bool {
             .all(|(place, function)| function.may_kill == (place % 2 == 1))
 }
 
-// What `push_function` and `push_entry_point` leave.
-fn of_infos(alloc: Global) -> Result<Left, AllocError> {
-    let mut info = ModuleInfo::new(alloc);
+// What `push_function` leaves of the infos of so many functions: whether it was refused, and made again was not; `None` where
+// the infos are others then.
+fn push_function(
+    alloc: Global,
+    info: &mut ModuleInfo,
+    place: usize,
+) -> Result<Option<bool>, AllocError> {
+    let kills = place % 2 == 1;
+    if info.push_function(function_info(alloc, kills)?).is_ok() {
+        return Ok(Some(false));
+    }
+    if !has_functions(info, place) {
+        return Ok(None);
+    }
+    info.push_function(function_info(alloc, kills)?)?;
+    Ok(Some(true))
+}
+
+// What `push_entry_point` leaves: whether it was refused, and made again was not.
+fn push_entry_point(
+    alloc: Global,
+    info: &mut ModuleInfo,
+    place: usize,
+) -> Result<bool, AllocError> {
+    let kills = place % 2 == 1;
+    if info.push_entry_point(function_info(alloc, kills)?).is_ok() {
+        return Ok(false);
+    }
+    info.push_entry_point(function_info(alloc, kills)?)?;
+    Ok(true)
+}
+
+// What both leave of the infos of no functions.
+fn pushed(alloc: Global, info: &mut ModuleInfo) -> Result<Left, AllocError> {
     let mut refused = false;
     for place in 0..20usize {
-        let kills = place % 2 == 1;
-        if info.push_function(function_info(alloc, kills)?).is_err() {
-            if !has_functions(&info, place) {
-                return Ok(Left::Changed);
-            }
-            info.push_function(function_info(alloc, kills)?)?;
-            refused = true;
+        match push_function(alloc, info, place)? {
+            Some(was_refused) => refused = refused || was_refused,
+            None => return Ok(Left::Changed),
         }
-        if info.push_entry_point(function_info(alloc, kills)?).is_err() {
-            info.push_entry_point(function_info(alloc, kills)?)?;
-            refused = true;
-        }
+        refused = push_entry_point(alloc, info, place)? || refused;
     }
-    Ok(came_of(refused, has_functions(&info, 20)))
+    Ok(came_of(refused, has_functions(info, 20)))
+}
+
+// The same of new infos.
+fn of_infos(alloc: Global) -> Result<Left, AllocError> {
+    let mut info = ModuleInfo::new(alloc);
+    freeing(pushed(alloc, &mut info), info)
 }
 
 // Whether a module of its own is refused.
 fn is_build_refused(alloc: Global, document: &Document) -> bool {
-    build_module(alloc, document).is_err()
+    let built = build_module(alloc, document);
+    freeing(built.is_err(), built)
 }
 
 // Whether a module of its own is the document's.
 fn is_built(alloc: Global, document: &Document) -> Result<bool, AllocError> {
     let again = build_module(alloc, document)?;
-    Ok(again == document.module)
+    Ok(freeing(again == document.module, again))
 }
 
 // What `build_module` leaves of the document.
@@ -107,21 +157,6 @@ fn of_module(alloc: Global, document: &Document, copy: &Document) -> Result<Left
     let refused = is_build_refused(alloc, document);
     let again = is_built(alloc, document)?;
     Ok(came_of(refused, again && copy.module == document.module))
-}
-
-// What `judge_document` leaves of a document, whose report is the last that it makes.
-fn of_judgement(
-    alloc: Global,
-    document: &mut Document,
-    copy: &mut Document,
-) -> Result<Left, AllocError> {
-    let refused = judge_document(alloc, document).is_err();
-    let again = judge_document(alloc, document)?;
-    let other = judge_document(alloc, copy)?;
-    let right = again.finding == other.finding
-        && again.report == other.report
-        && copy.module == document.module;
-    Ok(came_of(refused, right))
 }
 
 // What `ensure_block_returns` leaves of the module, into which they are put.
@@ -139,17 +174,16 @@ fn of_returns(
 }
 
 // What a call leaves of the document, of which this is a copy.
-fn asked_of(
+fn came_of_question(
     alloc: Global,
-    asked: &str,
+    question: &str,
     document: &mut Document,
     copy: &mut Document,
 ) -> Result<Left, AllocError> {
-    match asked {
+    match question {
         "left of layouts" => of_layouts(alloc, document),
         "left of functions" => of_infos(alloc),
         "left of a copy" => of_module(alloc, document, copy),
-        "left of a report" => of_judgement(alloc, document, copy),
         _ => of_returns(alloc, document, copy),
     }
 }
@@ -157,20 +191,20 @@ fn asked_of(
 // What it leaves, in a word.
 fn left_in_words(
     alloc: Global,
-    asked: &str,
+    question: &str,
     document: &mut Document,
     copy: &mut Document,
 ) -> Result<String, AllocError> {
-    let came = asked_of(alloc, asked, document, copy)?;
+    let came = came_of_question(alloc, question, document, copy)?;
     told(alloc, came)
 }
 
 /// What a call leaves where it is refused memory.
 pub fn left_told(
     alloc: Global,
-    asked: &str,
+    question: &str,
     document: &mut Document,
 ) -> Result<String, AllocError> {
     let mut copy = document.clone(alloc)?;
-    left_in_words(alloc, asked, document, &mut copy)
+    freeing(left_in_words(alloc, question, document, &mut copy), copy)
 }

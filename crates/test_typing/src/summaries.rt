@@ -13,6 +13,7 @@ use module_handles::{
 };
 use spec_analysis::{ExpressionInfo, GlobalOrArgument, GlobalUse, SamplingPair};
 use std::alloc::{AllocError, Global};
+use test_support::call::{completed, freeing, push};
 use typing_errors::{ExpressionError, FunctionError};
 use typing_infos::FunctionInfo;
 
@@ -23,14 +24,17 @@ fn tell_expression(
     told: &mut String,
     info: &ExpressionInfo,
 ) -> Result<(), AllocError> {
-    told.push_str(&format!(in alloc; "{}", info.ref_count)?)?;
+    push(told, format!(in alloc; "{}", info.ref_count))?;
     if let Some(global) = info.assignable_global {
-        told.push_str(&format!(in alloc; "g{}", global.index())?)?;
+        push(told, format!(in alloc; "g{}", global.index()))?;
     }
     if info.uniformity.non_uniform_result.is_some() {
         told.push_str("n")?;
     }
-    told.push_str(&format!(in alloc; "r{};", info.uniformity.requirements.0)?)
+    push(
+        told,
+        format!(in alloc; "r{};", info.uniformity.requirements.0),
+    )
 }
 
 // Tells the expressions of a function, a piece each.
@@ -48,7 +52,7 @@ fn tell_expressions(
 // Tells the use of each global variable, as the number of its bits.
 fn tell_uses(alloc: Global, told: &mut String, uses: &[GlobalUse]) -> Result<(), AllocError> {
     for kind in uses {
-        told.push_str(&format!(in alloc; "{}.", kind.0)?)?;
+        push(told, format!(in alloc; "{}.", kind.0))?;
     }
     Ok(())
 }
@@ -82,7 +86,7 @@ fn tell_pairs_of(
     let globals = info.global_variable_count();
     for sampler in 0..count {
         if is_pair(info.pairs(), image, sampler, globals) {
-            told.push_str(&format!(in alloc; "{image}-{sampler}.")?)?;
+            push(told, format!(in alloc; "{image}-{sampler}."))?;
         }
     }
     Ok(())
@@ -129,10 +133,10 @@ fn tell_expression_error(
 ) -> Result<(), AllocError> {
     match error {
         ExpressionError::Typing(error) => {
-            told.push_str(&format!(in alloc; "untyped {index} {error:?}\n")?)
+            push(told, format!(in alloc; "untyped {index} {error:?}\n"))
         }
         ExpressionError::ExpectedGlobalOrArgument => {
-            told.push_str(&format!(in alloc; "wrong form {index}\n")?)
+            push(told, format!(in alloc; "wrong form {index}\n"))
         }
         _ => told.push_str("another fault\n"),
     }
@@ -148,7 +152,10 @@ fn tell_error(alloc: Global, told: &mut String, error: &FunctionError) -> Result
             told.push_str("not uniform 1\n")
         }
         FunctionError::NonUniformControlFlow(asked, handle, _) => {
-            told.push_str(&format!(in alloc; "not uniform {} {}\n", asked.0, handle.index())?)
+            push(
+                told,
+                format!(in alloc; "not uniform {} {}\n", asked.0, handle.index()),
+            )
         }
         _ => told.push_str("another fault\n"),
     }
@@ -181,13 +188,10 @@ fn reported_info(
         return Ok(None);
     }
     match process_function(alloc, module, function, callees, flags) {
-        Ok(info) => {
-            tell_info(alloc, told, function, &info)?;
-            Ok(Some(info))
-        }
+        Ok(info) => completed(tell_info(alloc, told, function, &info), info).map(Some),
         Err(Refusal::Memory(error)) => Err(error),
         Err(Refusal::Fault(fault)) => {
-            tell_error(alloc, told, fault.as_inner())?;
+            freeing(tell_error(alloc, told, fault.as_inner()), fault)?;
             Ok(None)
         }
     }
@@ -219,7 +223,21 @@ fn tell_entries(
     infos: &[FunctionInfo],
 ) -> Result<(), AllocError> {
     for entry in module.entry_points.as_slice() {
-        reported_info(alloc, told, module, &entry.function, infos, flags)?;
+        drop(reported_info(alloc, told, module, &entry.function, infos, flags)?);
+    }
+    Ok(())
+}
+
+// Says what is found of the functions of a module, and then of its entry points.
+fn tell_all(
+    alloc: Global,
+    told: &mut String,
+    module: &Module,
+    flags: ValidationFlags,
+    infos: &mut Vec<FunctionInfo>,
+) -> Result<(), AllocError> {
+    if tell_functions(alloc, told, module, flags, infos)? {
+        tell_entries(alloc, told, module, flags, infos.as_slice())?;
     }
     Ok(())
 }
@@ -232,10 +250,8 @@ pub fn summaries_told(
 ) -> Result<String, AllocError> {
     let mut told = String::new(alloc);
     let mut infos: Vec<FunctionInfo> = Vec::new(alloc);
-    if tell_functions(alloc, &mut told, module, flags, &mut infos)? {
-        tell_entries(alloc, &mut told, module, flags, infos.as_slice())?;
-    }
-    Ok(told)
+    let done = tell_all(alloc, &mut told, module, flags, &mut infos);
+    completed(freeing(done, infos), told)
 }
 
 // What is kept of a function, or nothing where its handles are not in order or it is refused.
@@ -256,6 +272,22 @@ fn kept_of(
     }
 }
 
+// Keeps what is found of each function in a list, up to one of which nothing is. Returns whether there is none.
+fn keep_all(
+    alloc: Global,
+    module: &Module,
+    flags: ValidationFlags,
+    infos: &mut Vec<FunctionInfo>,
+) -> Result<bool, AllocError> {
+    for (_, function) in module.functions.iter() {
+        match kept_of(alloc, module, function, infos.as_slice(), flags)? {
+            Some(info) => infos.push(info)?,
+            None => return Ok(false),
+        }
+    }
+    Ok(true)
+}
+
 /// Whether something is kept of each function, as a word.
 pub fn summarized(
     alloc: Global,
@@ -263,13 +295,11 @@ pub fn summarized(
     flags: ValidationFlags,
 ) -> Result<&'static str, AllocError> {
     let mut infos: Vec<FunctionInfo> = Vec::with_capacity(alloc, module.functions.len())?;
-    for (_, function) in module.functions.iter() {
-        match kept_of(alloc, module, function, infos.as_slice(), flags)? {
-            Some(info) => infos.push(info)?,
-            None => return Ok("not summarized"),
-        }
+    match freeing(keep_all(alloc, module, flags, &mut infos), infos) {
+        Ok(true) => Ok("summarized"),
+        Ok(false) => Ok("not summarized"),
+        Err(error) => Err(error),
     }
-    Ok("summarized")
 }
 
 /// Whether the handles of all functions are in order, as a word.

@@ -4,6 +4,7 @@ use ir_arena::handle::Handle;
 use ir_items::{Expression, Function, Module, key};
 use ir_types::TypeInner;
 use std::alloc::{AllocError, Global};
+use test_support::call::{completed, freeing, push};
 use typing_errors::ResolveRefusal;
 use typing_forms::{TypeResolution, form_of};
 use typing_resolve::ResolveContext;
@@ -38,22 +39,23 @@ fn type_pointed(
     Some(given)
 }
 
-// Tells the types of these expressions, a line each, up to the first that has none.
+// Tells the types of these expressions, a line each, up to the first that has none, and puts them into a list.
 fn tell(
     alloc: Global,
     told: &mut String,
     context: &ResolveContext<'_>,
     expressions: &Expressions,
+    found: &mut Vec<TypeResolution>,
 ) -> Result<(), AllocError> {
-    let mut found: Vec<TypeResolution> = Vec::with_capacity(alloc, expressions.len())?;
     for (_, expression) in expressions.iter() {
         match type_pointed(alloc, context, found.as_slice(), expression) {
             Some(Ok(given)) => {
-                told.push_str(&format!(in alloc; "{:?}\n", form_of(context.types, &given))?)?;
-                found.push(given)?;
+                let line = format!(in alloc; "{:?}\n", form_of(context.types, &given));
+                found.push(completed(push(told, line), given)?)?;
             }
             Some(Err(ResolveRefusal::Fault(error))) => {
-                return told.push_str(&format!(in alloc; "{error:?}\n")?);
+                let line = format!(in alloc; "{error:?}\n");
+                return push(told, freeing(line, error));
             }
             Some(Err(ResolveRefusal::Memory(error))) => return Err(error),
             None => return told.push_str("names what is not there\n"),
@@ -76,7 +78,11 @@ fn tell_function(
         &function.local_variables,
         &function.arguments,
     );
-    tell(alloc, told, &context, &function.expressions)
+    let mut found: Vec<TypeResolution> = Vec::with_capacity(alloc, function.expressions.len())?;
+    freeing(
+        tell(alloc, told, &context, &function.expressions, &mut found),
+        found,
+    )
 }
 
 // Tells the types of the global expressions.
@@ -84,29 +90,42 @@ fn tell_globals(alloc: Global, told: &mut String, module: &Module) -> Result<(),
     told.push_str("globals\n")?;
     let none = Arena::new(alloc);
     let context = ResolveContext::with_locals(module, &none, &[]);
-    tell(alloc, told, &context, &module.global_expressions)
+    let mut found: Vec<TypeResolution> = Vec::new(alloc);
+    let done = tell(
+        alloc,
+        told,
+        &context,
+        &module.global_expressions,
+        &mut found,
+    );
+    freeing(freeing(done, found), none)
+}
+
+// Tells the types of all expressions of a module.
+fn tell_all(alloc: Global, told: &mut String, module: &Module) -> Result<(), AllocError> {
+    tell_globals(alloc, told, module)?;
+    for (_, function) in module.functions.iter() {
+        tell_function(alloc, told, "function\n", module, function)?;
+    }
+    for entry in module.entry_points.as_slice() {
+        tell_function(alloc, told, "entry\n", module, &entry.function)?;
+    }
+    Ok(())
 }
 
 /// The types of the global expressions, and of those of each function and each entry point.
 pub fn types_told(alloc: Global, module: &Module) -> Result<String, AllocError> {
     let mut told = String::new(alloc);
-    tell_globals(alloc, &mut told, module)?;
-    for (_, function) in module.functions.iter() {
-        tell_function(alloc, &mut told, "function\n", module, function)?;
-    }
-    for entry in module.entry_points.as_slice() {
-        tell_function(alloc, &mut told, "entry\n", module, &entry.function)?;
-    }
-    Ok(told)
+    completed(tell_all(alloc, &mut told, module), told)
 }
 
-// Whether these expressions have types.
+// Whether these expressions have types, which are put into a list.
 fn are_typed(
     alloc: Global,
     context: &ResolveContext<'_>,
     expressions: &Expressions,
+    found: &mut Vec<TypeResolution>,
 ) -> Result<bool, AllocError> {
-    let mut found: Vec<TypeResolution> = Vec::with_capacity(alloc, expressions.len())?;
     for (_, expression) in expressions.iter() {
         match type_pointed(alloc, context, found.as_slice(), expression) {
             Some(Ok(given)) => found.push(given)?,
@@ -117,15 +136,24 @@ fn are_typed(
     Ok(true)
 }
 
+// Whether the expressions of a function have types.
+fn is_typed(alloc: Global, module: &Module, function: &Function) -> Result<bool, AllocError> {
+    let context = ResolveContext::with_locals(
+        module,
+        &function.local_variables,
+        &function.arguments,
+    );
+    let mut found: Vec<TypeResolution> = Vec::with_capacity(alloc, function.expressions.len())?;
+    freeing(
+        are_typed(alloc, &context, &function.expressions, &mut found),
+        found,
+    )
+}
+
 /// Whether the expressions of each function have types, as a word.
 pub fn typed(alloc: Global, module: &Module) -> Result<&'static str, AllocError> {
     for (_, function) in module.functions.iter() {
-        let context = ResolveContext::with_locals(
-            module,
-            &function.local_variables,
-            &function.arguments,
-        );
-        if !are_typed(alloc, &context, &function.expressions)? {
+        if !is_typed(alloc, module, function)? {
             return Ok("not typed");
         }
     }

@@ -1,6 +1,6 @@
 use Rattle.ir_items.specs.found.View.{module_view}
 use Rattle.function_tiny_lower.specs.Readings.{IsMadeOf}
-use Rattle.test_code.proofs.layer_judged.tell_all.Given as goal
+use Rattle.test_cases.proofs.layer_judged.tell_all.Given as goal
 
 -- the layer stays the one that was made for the module
 abbrev pub invariant-loop-function : goal.invariant-loop-function

@@ -1,6 +1,6 @@
 use Rattle.std.proofs.Common.{refl}
 use Rattle.typing_layout.proofs.Powers.{sixteen}
-use Rattle.test_typing.proofs.calls.made.Goals as goal
+use Rattle.test_typing.proofs.calls.made_ones.Goals as goal
 
 pub from_width-requires : goal.from_width-requires
 from_width-requires c = (1, refl)

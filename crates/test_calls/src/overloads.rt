@@ -1,0 +1,47 @@
+// Makes each call of overload sets once, looks up in the sets of all math functions what data/overloads.json names, and says
+// which answers are not those that are known. These come from two implementations that were written independently of this
+// one.
+use anyhow::{Context, Result, ensure};
+use serde_json::Value;
+use std::{fs, io};
+use test_kinds::{every_call, is_met};
+use test_support::call::items;
+
+// Makes each call once, and says whether something else than what is expected was answered.
+fn call_all(rt: &HostRuntime) -> io::Result<()> {
+    match every_call(rt.alloc())? {
+        Some(wrong) => println!(rt; "{wrong}: something else is answered"),
+        None => println!(rt; "each call answers what is expected"),
+    }
+}
+
+// Looks up what these cases name. Answers how many differ.
+fn ask_all(rt: &HostRuntime, cases: &[Value]) -> io::Result<usize> {
+    let mut differing = 0usize;
+    for (place, case) in cases.iter().enumerate() {
+        if !is_met(rt.alloc(), case)? {
+            differing = differing.saturating_add(1);
+            println!(rt; "case {place} differs")?;
+        }
+    }
+    println!(rt; "{} cases, {differing} differ", cases.len())?;
+    Ok(differing)
+}
+
+fn read_cases(rt: &HostRuntime) -> Result<Value> {
+    let text = fs::read_to_string(rt, "overloads.json").context("reading overloads.json")?;
+    Value::from_str(rt.alloc(), text.as_str()).context("reading overloads.json")
+}
+
+// Looks up what the cases of a file name.
+fn ask_file(rt: &HostRuntime, cases: &Value) -> Result<()> {
+    let differing = ask_all(rt, items(cases))?;
+    ensure!(differing == 0, "{differing} cases differ");
+    Ok(())
+}
+
+/// Makes all calls of overload sets.
+pub fn run(rt: &HostRuntime) -> Result<()> {
+    call_all(rt)?;
+    ask_file(rt, &read_cases(rt)?)
+}
