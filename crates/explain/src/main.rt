@@ -56,6 +56,21 @@ fn form_of(word: &str) -> Option<Form> {
     }
 }
 
+// Takes what an argument says, and returns whether it says something.
+fn take_word(wanted: &mut Arguments, word: &str) -> bool {
+    if word == "--spirv" {
+        wanted.is_spirv = true;
+        return true;
+    }
+    match form_of(word) {
+        Some(found) => {
+            wanted.form = found;
+            true
+        }
+        None => false,
+    }
+}
+
 // What the arguments say, the last of them that names a form, or else what is wrong with them.
 fn read_arguments(rt: &HostRuntime) -> Result<Arguments, &'static str> {
     let Ok(words) = args(rt) else {
@@ -66,13 +81,10 @@ fn read_arguments(rt: &HostRuntime) -> Result<Arguments, &'static str> {
         is_spirv: false,
     };
     for word in words.skip(1) {
-        if word.as_str() == "--spirv" {
-            wanted.is_spirv = true;
-            continue;
-        }
-        match form_of(word.as_str()) {
-            Some(found) => wanted.form = found,
-            None => return Err("an argument is no form (see shader-check --help), and not --spirv"),
+        let is_taken = take_word(&mut wanted, word.as_str());
+        drop(word);
+        if !is_taken {
+            return Err("an argument is no form (see shader-check --help), and not --spirv");
         }
     }
     Ok(wanted)
@@ -103,7 +115,11 @@ fn print_text(
     status: u8,
 ) -> ExitCode {
     match text {
-        Ok(text) => ended(rt, print!(rt; "{text}{end}"), status),
+        Ok(text) => {
+            let written = print!(rt; "{text}{end}");
+            drop(text);
+            ended(rt, written, status)
+        }
         Err(_) => fault(rt, "memory"),
     }
 }
@@ -134,6 +150,13 @@ fn print_explanation(rt: &HostRuntime, form: Form, traced: &Traced) -> ExitCode 
             print_text(rt, traced.explanation.listing(rt.alloc()), "", status)
         }
     }
+}
+
+// The same of an explanation that is not needed after that. It is freed by a call, which is cheaper to prove than on the way out.
+fn print_traced(rt: &HostRuntime, form: Form, traced: Traced) -> ExitCode {
+    let code = print_explanation(rt, form, &traced);
+    drop(traced);
+    code
 }
 
 // The status of what a module of SPIR-V is found to be.
@@ -177,7 +200,7 @@ fn print_spirv(rt: &HostRuntime, form: Form, bytes: &[u8]) -> ExitCode {
         },
         Form::Line | Form::LineWithNames | Form::Leaves | Form::Object | Form::Measure =>
             match explain_spirv(rt.alloc(), requested_by(form), bytes) {
-                Ok(traced) => print_explanation(rt, form, &traced),
+                Ok(traced) => print_traced(rt, form, traced),
                 Err(error) => print_unread(rt, form, &error),
             },
     }
@@ -187,11 +210,15 @@ fn print_spirv(rt: &HostRuntime, form: Form, bytes: &[u8]) -> ExitCode {
 fn print_document(rt: &HostRuntime, form: Form, bytes: &[u8]) -> ExitCode {
     match explain(rt.alloc(), requested_by(form), bytes) {
         Ok(explanation) => {
-            let traced = Traced {
-                explanation,
-                origin: None,
-            };
-            print_explanation(rt, form, &traced)
+            let origin = None;
+            print_traced(
+                rt,
+                form,
+                Traced {
+                    explanation,
+                    origin,
+                },
+            )
         }
         Err(_) => fault(rt, "memory"),
     }
@@ -206,6 +233,17 @@ fn print_measured(rt: &HostRuntime, bytes: &[u8]) -> ExitCode {
     }
 }
 
+// Prints what the arguments want of these bytes.
+fn print_all(rt: &HostRuntime, wanted: Arguments, bytes: &[u8]) -> ExitCode {
+    if let Form::Measure = wanted.form {
+        print_measured(rt, bytes)
+    } else if wanted.is_spirv {
+        print_spirv(rt, wanted.form, bytes)
+    } else {
+        print_document(rt, wanted.form, bytes)
+    }
+}
+
 fn main(rt: HostRuntime) -> ExitCode {
     let wanted = match read_arguments(&rt) {
         Ok(wanted) => wanted,
@@ -217,11 +255,7 @@ fn main(rt: HostRuntime) -> ExitCode {
         Err(TakeError::Memory) => return fault(&rt, "memory"),
         Err(TakeError::Read) => return fault(&rt, "read"),
     };
-    if let Form::Measure = wanted.form {
-        print_measured(&rt, &bytes)
-    } else if wanted.is_spirv {
-        print_spirv(&rt, wanted.form, &bytes)
-    } else {
-        print_document(&rt, wanted.form, &bytes)
-    }
+    let code = print_all(&rt, wanted, &bytes);
+    drop(bytes);
+    code
 }

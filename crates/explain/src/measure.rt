@@ -133,9 +133,9 @@ impl Measured {
         }
         match Value::from_str(alloc, text) {
             Ok(document) => {
-                self.naming = self
-                    .naming
-                    .saturating_add(usize::from(names(&document, path, slip)));
+                let is_named = names(&document, path, slip);
+                drop(document);
+                self.naming = self.naming.saturating_add(usize::from(is_named));
                 Ok(())
             }
             Err(error) if error.is_memory() => Err(AllocError),
@@ -149,7 +149,11 @@ impl Measured {
             return Ok(());
         };
         match explain(alloc, Requested::Nothing, text.as_bytes()) {
-            Ok(explanation) => self.note(alloc, slip, text, &explanation),
+            Ok(explanation) => {
+                let noted = self.note(alloc, slip, text, &explanation);
+                drop(explanation);
+                noted
+            }
             Err(memory) => Err(memory),
         }
     }
