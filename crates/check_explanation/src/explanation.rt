@@ -123,7 +123,11 @@ fn explained(
     ensures lines { IfOk result (FollowsOn requested (module_view «module».now)) }
 {
     match examined {
-        Examined::Accepted { strict, info } => accepted(alloc, requested, strict, module, &info),
+        Examined::Accepted { strict, info } => {
+            let explanation = accepted(alloc, requested, strict, module, &info);
+            drop(info);
+            explanation
+        }
         Examined::Refused(error) => {
             let item = item(alloc, bytes, module, &error);
             refused(error, item)
@@ -200,7 +204,11 @@ pub fn explain(alloc: Global, requested: Requested, bytes: &[u8]) -> Result<Expl
     ensures lines { IfOk result (Follows requested bytes.now) }
 {
     match read_document(alloc, bytes) {
-        Ok(mut document) => explain_document(alloc, requested, bytes, &mut document),
+        Ok(mut document) => {
+            let explanation = explain_document(alloc, requested, bytes, &mut document);
+            drop(document);
+            explanation
+        }
         Err(error) => misread(alloc, bytes, error),
     }
 }

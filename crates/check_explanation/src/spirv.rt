@@ -57,7 +57,11 @@ fn judge_spirv(alloc: Global, bytes: &[u8]) -> Result<Judgement, SpirvError>
     ensures { IfOk result IsOfSome }
 {
     match read_spirv(alloc, bytes) {
-        Ok(mut document) => judge_read(alloc, &mut document),
+        Ok(mut document) => {
+            let judgement = judge_read(alloc, &mut document);
+            drop(document);
+            judgement
+        }
         Err(error) => Err(error),
     }
 }
@@ -105,7 +109,11 @@ pub(crate) fn written(alloc: Global, document: &Document) -> Result<String, Spir
 /// The document that the module says, as JSON in one line without its end.
 pub fn document_text(alloc: Global, bytes: &[u8]) -> Result<String, SpirvError> {
     match read_spirv(alloc, bytes) {
-        Ok(document) => written(alloc, &document),
+        Ok(document) => {
+            let text = written(alloc, &document);
+            drop(document);
+            text
+        }
         Err(error) => Err(error),
     }
 }

@@ -115,7 +115,11 @@ pub fn explain_spirv(
     ensures { IfOk result (λ t. IsExplained requested t.explanation) }
 {
     match read_spirv(alloc, bytes) {
-        Ok(mut document) => explain_read(alloc, requested, bytes, &mut document),
+        Ok(mut document) => {
+            let traced = explain_read(alloc, requested, bytes, &mut document);
+            drop(document);
+            traced
+        }
         Err(error) => Err(error),
     }
 }
