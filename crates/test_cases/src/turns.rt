@@ -26,7 +26,7 @@ fn validator_for(alloc: Global, settings: Settings) -> Validator<RealLower> {
     validator
 }
 
-fn answered(answer: &Result<ModuleInfo, Refusal<ValidationError>>) -> Answered {
+fn answer_of(answer: &Result<ModuleInfo, Refusal<ValidationError>>) -> Answered {
     match answer {
         Ok(_) => Answered::Accepted,
         Err(Refusal::Memory(_)) => Answered::Memory,
@@ -36,7 +36,7 @@ fn answered(answer: &Result<ModuleInfo, Refusal<ValidationError>>) -> Answered {
 
 fn judged(validator: &mut Validator<RealLower>, module: &Module) -> Answered {
     let answer = validator.validate(module);
-    freeing(answered(&answer), answer)
+    freeing(answer_of(&answer), answer)
 }
 
 // Puts the documents that these texts spell after a list, up to one that spells none.
