@@ -15,7 +15,7 @@ verdict_word (findings.Refused step index) = codes "refused"
 
 -- the verdict of an object is the word for what is found
 abbrev pub SaysVerdict : Finding → Data → Type 0
-SaysVerdict finding object = Has object (codes "verdict") (string (verdict_word finding))
+SaysVerdict finding value = Has value (codes "verdict") (string (verdict_word finding))
 
 -- The text spells an object whose verdict is the word for what is found.
 pub record IsObjectText (finding : Finding) (text : List ℕ) : Type 0 where
