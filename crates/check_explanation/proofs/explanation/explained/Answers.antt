@@ -7,11 +7,11 @@ use Rattle.check_explanation.proofs.ExplainedLaws.{accepted_if, accepted_lines, 
 use Rattle.check_explanation.proofs.explanation.explained.Goals as goal
 
 pub returns-in-Accepted-clause-finding : goal.returns-in-Accepted-clause-finding
-returns-in-Accepted-clause-finding c = subst (λ x. IfOk c.accepted.result (λ e. finding_of e ≡ finding_in x)) (sym c.in-Accepted.is)
-    (accepted_if c.args.requested (module_view c.args.«module».now) c.in-Accepted.strict c.accepted.result c.accepted.ensures)
+returns-in-Accepted-clause-finding c = subst (λ x. IfOk c.accepted-explanation.result (λ e. finding_of e ≡ finding_in x)) (sym c.in-Accepted.is)
+    (accepted_if c.args.requested (module_view c.args.«module».now) c.in-Accepted.strict c.accepted-explanation.result c.accepted-explanation.ensures)
 
 pub returns-in-Accepted-clause-lines : goal.returns-in-Accepted-clause-lines
-returns-in-Accepted-clause-lines c = accepted_lines c.args.requested (module_view c.args.«module».now) c.in-Accepted.strict c.accepted.result c.accepted.ensures
+returns-in-Accepted-clause-lines c = accepted_lines c.args.requested (module_view c.args.«module».now) c.in-Accepted.strict c.accepted-explanation.result c.accepted-explanation.ensures
 
 pub returns-in-Refused-clause-finding : goal.returns-in-Refused-clause-finding
 returns-in-Refused-clause-finding c = subst (λ x. IfOk c.refused.result (λ e. finding_of e ≡ finding_in x)) (sym c.in-Refused.is)
