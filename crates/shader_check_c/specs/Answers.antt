@@ -7,6 +7,7 @@ use Rattle.shader_check.specs.judged.Theorem.{IsExpected, Judged, SoundText}
 use Rattle.shader_check.specs.declared.check.Verdict.{Verdict}
 use Rattle.shader_check.specs.declared.check.Verdict.TheVariants.{Accepted, Refused}
 use Rattle.check_explanation.specs.Answered.{IsAnswered}
+use Rattle.check_explanation.specs.Objects.{IsObjectText}
 use Rattle.check_explanation.specs.declared.spirv.SpirvVerdict.{SpirvVerdict}
 use Rattle.check_explanation.specs.declared.spirv.SpirvVerdict.TheVariants as spirv
 
@@ -40,12 +41,14 @@ status_in findings.RefusedDocument = 1
 status_in findings.RefusedHandles = 1
 status_in (findings.Refused step index) = 1
 
--- The host is given the front of a text and its length, and the status is that of what is found of the document.
+-- The host is given the front of the text of an object and its length; its verdict and the status are those of what is found of the
+-- document.
 pub record IsExplained (document : List ℕ) (status : ℕ) (old new : List ℕ) (needed : ℕ) : Type 0 where
   pub finding : Finding
   pub judged : Judged document finding
   pub status_is : status ≡ status_in finding
   pub text : List ℕ
+  pub object : IsObjectText finding text
   pub written : new ≡ front_of text old
   pub whole : needed ≡ length text
 

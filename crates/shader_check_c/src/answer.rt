@@ -3,6 +3,7 @@
 ghost use Rattle.std.specs.Prelude.{◌≡◌, ◌<◌, ◌≢◌, ◌≤◌, IfSome, string_bytes};
 ghost use Rattle.shader_check.specs.judged.Theorem.{Judged};
 ghost use Rattle.check_explanation.specs.Answered.{IsAnswered};
+ghost use Rattle.check_explanation.specs.Objects.{IsObjectText};
 ghost use Rattle.shader_check_c.specs.Answers.{IsAnswerOn, front_of, status_in, status_of};
 ghost use Rattle.shader_check_c.specs.Answers.{status_of_spirv};
 
@@ -41,7 +42,8 @@ pub(crate) struct Explained {
 
 /// What is explained of these bytes; nothing where memory was refused.
 pub(crate) fn explained_on(alloc: Global, document: &[u8]) -> Option<Explained>
-    ensures { IfSome result (λ found. Judged document.now found.finding) }
+    ensures judged { IfSome result (λ found. Judged document.now found.finding) }
+    ensures object { IfSome result (λ found. IsObjectText found.finding (string_bytes found.text)) }
 {
     match explain(alloc, Requested::Report, document) {
         Ok(explanation) => match explanation.json(alloc) {
