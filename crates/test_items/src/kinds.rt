@@ -50,7 +50,7 @@ impl Told for Expression {
 }
 
 impl Told for IrType {
-    // What the equality of types that is proved tells of two types and a copy.
+    // What the equality of types that is proved says of two types and a copy.
     fn tell(
         &mut self,
         alloc: Global,
