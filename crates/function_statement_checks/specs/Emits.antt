@@ -18,13 +18,40 @@ IsEmitFault c first end _ = ⊥
 
 -- whether an expression denotes the result of a statement
 abbrev pub is_answer_itself : Expression → Bool
+is_answer_itself (x.Literal value) = false
+is_answer_itself (x.Constant constant) = false
+is_answer_itself (x.Override override) = false
+is_answer_itself (x.ZeroValue type) = false
+is_answer_itself (x.Compose type components) = false
+is_answer_itself (x.Access base index) = false
+is_answer_itself (x.AccessIndex base index) = false
+is_answer_itself (x.Splat size value) = false
+is_answer_itself (x.Swizzle size vector pattern) = false
+is_answer_itself (x.FunctionArgument place) = false
+is_answer_itself (x.GlobalVariable global) = false
+is_answer_itself (x.LocalVariable local) = false
+is_answer_itself (x.Load pointer) = false
+is_answer_itself (x.ImageSample image sampler gather coordinate array_index offset level depth_ref clamp_to_edge) = false
+is_answer_itself (x.ImageLoad image coordinate array_index sample level) = false
+is_answer_itself (x.ImageQuery image query) = false
+is_answer_itself (x.Unary op expr) = false
+is_answer_itself (x.Binary op left right) = false
+is_answer_itself (x.Select condition accept reject) = false
+is_answer_itself (x.Derivative axis ctrl expr) = false
+is_answer_itself (x.Relational fun argument) = false
+is_answer_itself (x.Math fun arg arg1 arg2 arg3) = false
+is_answer_itself (x.As expr kind convert) = false
 is_answer_itself (x.CallResult function) = true
 is_answer_itself (x.AtomicResult type comparison) = true
 is_answer_itself (x.WorkGroupUniformLoadResult type) = true
+is_answer_itself (x.ArrayLength array) = false
+is_answer_itself (x.RayQueryVertexPositions query committed) = false
 is_answer_itself x.RayQueryProceedResult = true
+is_answer_itself (x.RayQueryGetIntersection query committed) = false
 is_answer_itself x.SubgroupBallotResult = true
 is_answer_itself (x.SubgroupOperationResult type) = true
-is_answer_itself _ = false
+is_answer_itself (x.CooperativeLoad columns rows role block) = false
+is_answer_itself (x.CooperativeMultiplyAdd a b c) = false
 
 abbrev pub is_answer : PlainExpression → Bool
 is_answer (compose type components) = false

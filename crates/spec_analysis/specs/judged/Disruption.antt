@@ -80,12 +80,29 @@ abbrev pub enter : (ℕ → Bool) → Bool → PlainStatement → Part → Bool
 enter varies d (if_ h accept reject) part = d || varies h
 enter varies d (switch h cases) part = d || varies h
 enter varies d (loop body continuing break_if) loop_continuing = d || ends_in varies d body
-enter varies d s part = d
+enter varies d (loop body continuing break_if) part = d
+enter varies d (emit first end) part = d
+enter varies d (block b) part = d
+enter varies d break part = d
+enter varies d continue part = d
+enter varies d (return value) part = d
+enter varies d kill part = d
+enter varies d (operation a) part = d
+enter varies d (call function arguments result) part = d
 
 -- whether a loop's condition is
 abbrev pub at_condition : (ℕ → Bool) → Bool → PlainStatement → Bool
 at_condition varies d (loop body continuing break_if) = d || ends_at varies d (loop body continuing break_if)
-at_condition varies d s = d
+at_condition varies d (emit first end) = d
+at_condition varies d (block b) = d
+at_condition varies d (if_ h accept reject) = d
+at_condition varies d (switch h cases) = d
+at_condition varies d break = d
+at_condition varies d continue = d
+at_condition varies d (return value) = d
+at_condition varies d kill = d
+at_condition varies d (operation a) = d
+at_condition varies d (call function arguments result) = d
 
 abbrev pub disrupted_at : (ℕ → Bool) → Bool → Place → PlainBlock → Bool
 disrupted_at varies d here body = d
