@@ -1,30 +1,13 @@
-//! Where the stages of functions are read that a body calls.
+//! Where the stages of functions are read of which something is kept.
 
-ghost use Rattle.std.specs.Prelude.{◌≡◌, List, map};
-ghost use Rattle.ir_flags.specs.declared.stages.ShaderStages.{ShaderStages};
-ghost use Rattle.spec_statements.specs.judged.ExpressionStages.{callee_stages};
+ghost use Rattle.std.specs.Prelude.{map};
 
 use bitflags::Flags;
 use ir_arena::handle::Handle;
 use ir_flags::ShaderStages;
 use ir_types::key;
+use module_context::CalleeStages;
 use typing_infos::FunctionInfo;
-
-/// The stages that may run the module's functions, as far as they are known.
-pub trait CalleeStages {
-    ghost stages: { Self → List ShaderStages };
-
-    /// Those that may run a function, and all where none are known.
-    fn stages_at(&self, function: Handle<key::Function>) -> ShaderStages
-        ensures { result ≡ callee_stages (stages self.now) function };
-}
-
-/// Stages that stand in a list, one for each function.
-#[derive(Clone, Copy)]
-pub struct ListedStages<'a>(
-    /// The list.
-    pub &'a [ShaderStages],
-);
 
 /// Stages that are noted in what is kept of functions (`available_stages` of naga's `FunctionInfo`).
 #[derive(Clone, Copy)]
@@ -32,17 +15,6 @@ pub struct NotedStages<'a>(
     /// What is kept of each.
     pub &'a [FunctionInfo],
 );
-
-impl CalleeStages for ListedStages<'_> {
-    ghost stages = { λ s. s.0.now };
-
-    fn stages_at(&self, function: Handle<key::Function>) -> ShaderStages {
-        match self.0.get(function.index()) {
-            Some(stages) => *stages,
-            None => ShaderStages::all(),
-        }
-    }
-}
 
 impl CalleeStages for NotedStages<'_> {
     ghost use Rattle.function_interface.specs.Callees.{noted};

@@ -4,10 +4,10 @@ ghost use Rattle.std.specs.Prelude.{◌≡◌};
 ghost use Rattle.ir_blocks.specs.found.View.{statement_view};
 ghost use Rattle.spec_statements.specs.judged.Stages.{statement_stages};
 
-use crate::callees::CalleeStages;
 use bitflags::Flags;
 use ir_blocks::Statement;
 use ir_flags::ShaderStages;
+use module_context::CalleeStages;
 
 /// The stages that may run a statement, what stands inside it aside (what naga's `validate_block_impl` joins a kind at a time).
 /// `subgroup_stages` are those that have operations of subgroups.

@@ -7,11 +7,11 @@ ghost use Rattle.ir_flags.specs.Sets.{Has};
 ghost use Rattle.function_interface.specs.Bodies.{MayRun};
 ghost use Rattle.function_interface.specs.Left.{left_in, left_within, left_in_cases};
 
-use crate::callees::CalleeStages;
 use crate::statements::statement_stages;
 use bitflags::Flags;
 use ir_blocks::{Block, Statement, SwitchCase, plain_operation};
 use ir_flags::ShaderStages;
+use module_context::CalleeStages;
 
 // Which stages may run a statement, what stands inside it aside. The walk is the same whatever they are.
 trait RunBy {

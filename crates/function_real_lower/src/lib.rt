@@ -6,7 +6,6 @@
 mod infos;
 mod process;
 mod real;
-mod stages;
 mod summary;
 
 pub use process::process_function;

@@ -6,8 +6,7 @@ ghost use Rattle.ir_proc.specs.found.Filters.{ParentsPrecede};
 ghost use Rattle.function_real_lower.specs.Severities.{AreKnown, severities_in};
 
 use crate::process::process_by;
-use crate::stages::stages_by;
-use function_interface::Lower;
+use function_interface::{Lower, NotedStages};
 use function_statement_checks::BlockContext;
 use ir_arena::handle::Handle;
 use ir_faults::refusal::Refusal;
@@ -16,7 +15,7 @@ use ir_items::{Function, Module};
 use ir_kinds::Severity;
 use ir_types::key;
 use module_context::CheckContext;
-use module_expressions::validate_expression;
+use module_expressions::{expression_stages, validate_expression};
 use module_type_infos::TypeInfo;
 use spec_analysis::{GlobalUse, SamplingPair};
 use std::alloc::{AllocError, Global};
@@ -166,7 +165,10 @@ impl Lower for RealLower {
             callees: &[],
         };
         match validate_expression(&own, expression) {
-            Ok(stages) => Ok(stages_by(stages, &context.function.expressions[expression], callees)),
+            Ok(_) => Ok(expression_stages(
+                &NotedStages(callees),
+                &context.function.expressions[expression],
+            )),
             Err(error) => Err(error),
         }
     }

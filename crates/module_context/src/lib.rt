@@ -1,11 +1,13 @@
 //! What the checks of expressions and of statements look at: the types of a function's expressions and what these are made of
-//! ([`CheckContext`]), shapes of values and images, and how an expression is refused.
+//! ([`CheckContext`]), shapes of values and images, the stages of the functions that these name, and how an expression is refused.
 #![tactic(auto)]
 
+mod callees;
 mod check_context;
 mod refused;
 mod shapes;
 
+pub use callees::{CalleeStages, ListedStages};
 pub use check_context::CheckContext;
 pub use refused::refused_unless;
 pub use shapes::{

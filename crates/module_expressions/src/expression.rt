@@ -7,12 +7,12 @@ ghost use Rattle.ir_types.specs.judged.ExpressionPlain.{expression_view};
 ghost use Rattle.spec_statements.specs.judged.Expressions.{RequiredOf, ExpressionOK};
 ghost use Rattle.spec_statements.specs.judged.ExpressionStages.{IsRunBy};
 
-use crate::stages::stages_of;
+use crate::stages::expression_stages;
 use crate::{check_image_load, check_image_query, check_image_sample};
 use ir_arena::handle::Handle;
 use ir_flags::ShaderStages;
 use ir_types::{Expression, key};
-use module_context::CheckContext;
+use module_context::{CheckContext, ListedStages};
 use module_expression_checks::{
     check_access, check_access_index, check_array_length, check_as, check_atomic_result,
     check_binary, check_compose, check_cooperative_load, check_derivative, check_intersection,
@@ -134,7 +134,7 @@ pub fn validate_expression(
 {
     let expression = &context.expressions[handle];
     match check_expression(context, expression) {
-        Ok(()) => Ok(stages_of(context.callees, expression)),
+        Ok(()) => Ok(expression_stages(&ListedStages(context.callees), expression)),
         Err(error) => Err(error),
     }
 }

@@ -2,12 +2,12 @@
 
 ghost use Rattle.std.specs.Prelude.{◌≡◌};
 ghost use Rattle.ir_types.specs.judged.ExpressionPlain.{expression_view};
-ghost use Rattle.spec_statements.specs.judged.ExpressionStages.{all_stages, sample_stages, callee_stages, stages_of};
+ghost use Rattle.spec_statements.specs.judged.ExpressionStages.{sample_stages, stages_of};
 
 use bitflags::Flags;
-use ir_arena::handle::Handle;
 use ir_flags::ShaderStages;
-use ir_types::{Expression, SampleLevel, key};
+use ir_types::{Expression, SampleLevel};
+use module_context::CalleeStages;
 
 // Those that may sample an image at a level.
 fn sample_stages(level: SampleLevel) -> ShaderStages
@@ -21,24 +21,14 @@ fn sample_stages(level: SampleLevel) -> ShaderStages
     }
 }
 
-// Those that may run a function, as far as they are known.
-fn callee_stages(callees: &[ShaderStages], function: Handle<key::Function>) -> ShaderStages
-    ensures { result ≡ callee_stages callees.now function }
-{
-    match callees.get(function.index()) {
-        Some(stages) => *stages,
-        None => ShaderStages::all(),
-    }
-}
-
-/// The stages that may run an expression, where `callees` has those of the functions.
-pub(crate) fn stages_of(callees: &[ShaderStages], expression: &Expression) -> ShaderStages
-    ensures { result ≡ stages_of callees.now (expression_view expression.now) }
+/// The stages that may run an expression, where `callees` says which may run the functions.
+pub fn expression_stages<C: CalleeStages>(callees: &C, expression: &Expression) -> ShaderStages
+    ensures { result ≡ stages_of (C.stages callees.now) (expression_view expression.now) }
 {
     match *expression {
         Expression::ImageSample { level, .. } => sample_stages(level),
         Expression::Derivative { .. } => ShaderStages::FRAGMENT,
-        Expression::CallResult(function) => callee_stages(callees, function),
+        Expression::CallResult(function) => callees.stages_at(function),
         Expression::CooperativeLoad { .. } | Expression::CooperativeMultiplyAdd { .. } => {
             ShaderStages::COMPUTE
         }
