@@ -15,8 +15,8 @@ fn name_in(names: &'static str, number: u32) -> &'static str {
     ""
 }
 
-// The opcodes of the core (section 3.52), without `Op`.
-const CORE: &str = "\
+// The opcodes (section 3.52), without `Op`: those of the core, and then those of extensions.
+const OPCODES: &str = "\
     0 Nop 1 Undef 2 SourceContinued 3 Source 4 SourceExtension 5 Name 6 MemberName 7 String 8 Line 10 Extension \
     11 ExtInstImport 12 ExtInst 14 MemoryModel 15 EntryPoint 16 ExecutionMode 17 Capability 19 TypeVoid \
     20 TypeBool 21 TypeInt 22 TypeFloat 23 TypeVector 24 TypeMatrix 25 TypeImage 26 TypeSampler \
@@ -83,10 +83,7 @@ const CORE: &str = "\
     359 GroupNonUniformBitwiseAnd 360 GroupNonUniformBitwiseOr 361 GroupNonUniformBitwiseXor \
     362 GroupNonUniformLogicalAnd 363 GroupNonUniformLogicalOr 364 GroupNonUniformLogicalXor \
     365 GroupNonUniformQuadBroadcast 366 GroupNonUniformQuadSwap 400 CopyLogical 401 PtrEqual 402 PtrNotEqual \
-    403 PtrDiff";
-
-// Those of extensions.
-const EXTENDED: &str = "\
+    403 PtrDiff \
     4416 TerminateInvocation 4421 SubgroupBallotKHR 4422 SubgroupFirstInvocationKHR 4428 SubgroupAllKHR \
     4429 SubgroupAnyKHR 4430 SubgroupAllEqualKHR 4431 GroupNonUniformRotateKHR 4432 SubgroupReadInvocationKHR \
     4445 TraceRayKHR 4446 ExecuteCallableKHR 4447 ConvertUToAccelerationStructureKHR 4448 IgnoreIntersectionKHR \
@@ -117,35 +114,15 @@ const EXTENDED: &str = "\
     5393 ConvertImageToUNV 5394 ConvertSamplerToUNV 5395 ConvertUToSampledImageNV 5396 ConvertSampledImageToUNV \
     5397 SamplerImageAddressingModeNV";
 
-/// The name of an opcode without `Op`, empty where it has none.
-pub fn opcode_name(number: u16) -> &'static str {
-    let name = name_in(CORE, u32::from(number));
-    if name.is_empty() {
-        name_in(EXTENDED, u32::from(number))
-    } else {
-        name
-    }
-}
-
 // Execution models (section 3.3).
 const MODELS: &str = "\
     0 Vertex 1 TessellationControl 2 TessellationEvaluation 3 Geometry 4 Fragment 5 GLCompute 6 Kernel \
     5267 TaskNV 5268 MeshNV 5313 RayGenerationNV 5314 IntersectionNV 5315 AnyHitNV 5316 ClosestHitNV 5317 MissNV \
     5318 CallableNV 5364 TaskEXT 5365 MeshEXT";
 
-/// The name of an execution model, empty where it has none.
-pub fn model_name(number: u32) -> &'static str {
-    name_in(MODELS, number)
-}
-
 // Dimensions (section 3.8).
 const DIMENSIONS: &str = "\
     0 1D 1 2D 2 3D 3 Cube 4 Rect 5 Buffer 6 SubpassData";
-
-/// The name of a dimension, empty where it has none.
-pub fn dimension_name(number: u32) -> &'static str {
-    name_in(DIMENSIONS, number)
-}
 
 // Storage classes (section 3.7).
 const CLASSES: &str = "\
@@ -154,11 +131,6 @@ const CLASSES: &str = "\
     5338 RayPayloadNV 5339 HitAttributeNV 5342 IncomingRayPayloadNV 5343 ShaderRecordBufferNV \
     5349 PhysicalStorageBuffer 5385 HitObjectAttributeNV 5402 TaskPayloadWorkgroupEXT";
 
-/// The name of a storage class, empty where it has none.
-pub fn class_name(number: u32) -> &'static str {
-    name_in(CLASSES, number)
-}
-
 // Formats of images (section 3.11).
 const FORMATS: &str = "\
     0 Unknown 1 Rgba32f 2 Rgba16f 3 R32f 4 Rgba8 5 Rgba8Snorm 6 Rg32f 7 Rg16f 8 R11fG11fB10f 9 R16f 10 Rgba16 \
@@ -166,19 +138,9 @@ const FORMATS: &str = "\
     21 Rgba32i 22 Rgba16i 23 Rgba8i 24 R32i 25 Rg32i 26 Rg16i 27 Rg8i 28 R16i 29 R8i 30 Rgba32ui 31 Rgba16ui \
     32 Rgba8ui 33 R32ui 34 Rgb10a2ui 35 Rg32ui 36 Rg16ui 37 Rg8ui 38 R16ui 39 R8ui 40 R64ui 41 R64i";
 
-/// The name of a format of images, empty where it has none.
-pub fn format_name(number: u32) -> &'static str {
-    name_in(FORMATS, number)
-}
-
 // The decorations that are not translated (section 3.20).
 const DECORATIONS: &str = "\
     15 Patch 29 Stream 31 Component 36 XfbBuffer";
-
-/// The name of a decoration that is not translated, empty for all others.
-pub fn decoration_name(number: u32) -> &'static str {
-    name_in(DECORATIONS, number)
-}
 
 // Built-ins (section 3.21).
 const BUILT_INS: &str = "\
@@ -205,24 +167,42 @@ const BUILT_INS: &str = "\
     5332 HitTNV 5333 HitKindNV 5334 CurrentRayTimeNV 5351 IncomingRayFlagsNV 5352 RayGeometryIndexKHR \
     5374 WarpsPerSMNV 5375 SMCountNV 5376 WarpIDNV 5377 SMIDNV 6021 CullMaskKHR";
 
-/// The name of a built-in, empty where it has none.
-pub fn built_in_name(number: u32) -> &'static str {
-    name_in(BUILT_INS, number)
+/// Numbers that have names.
+#[derive(Clone, Copy)]
+pub enum Names {
+    /// Opcodes, without `Op`.
+    Opcode,
+    /// Execution models.
+    Model,
+    /// Dimensions of images.
+    Dimension,
+    /// Storage classes.
+    StorageClass,
+    /// Formats of images.
+    Format,
+    /// Decorations that are not translated.
+    Decoration,
+    /// Built-ins.
+    BuiltIn,
 }
 
-// The functions of GLSL.std.450.
-const FUNCTIONS: &str = "\
-    1 Round 2 RoundEven 3 Trunc 4 FAbs 5 SAbs 6 FSign 7 SSign 8 Floor 9 Ceil 10 Fract 11 Radians 12 Degrees \
-    13 Sin 14 Cos 15 Tan 16 Asin 17 Acos 18 Atan 19 Sinh 20 Cosh 21 Tanh 22 Asinh 23 Acosh 24 Atanh 25 Atan2 \
-    26 Pow 27 Exp 28 Log 29 Exp2 30 Log2 31 Sqrt 32 InverseSqrt 33 Determinant 34 MatrixInverse 35 Modf \
-    36 ModfStruct 37 FMin 38 UMin 39 SMin 40 FMax 41 UMax 42 SMax 43 FClamp 44 UClamp 45 SClamp 46 FMix 47 IMix \
-    48 Step 49 SmoothStep 50 Fma 51 Frexp 52 FrexpStruct 53 Ldexp 54 PackSnorm4x8 55 PackUnorm4x8 \
-    56 PackSnorm2x16 57 PackUnorm2x16 58 PackHalf2x16 59 PackDouble2x32 60 UnpackSnorm2x16 61 UnpackUnorm2x16 \
-    62 UnpackHalf2x16 63 UnpackSnorm4x8 64 UnpackUnorm4x8 65 UnpackDouble2x32 66 Length 67 Distance 68 Cross \
-    69 Normalize 70 FaceForward 71 Reflect 72 Refract 73 FindILsb 74 FindSMsb 75 FindUMsb \
-    76 InterpolateAtCentroid 77 InterpolateAtSample 78 InterpolateAtOffset 79 NMin 80 NMax 81 NClamp";
+impl Names {
+    /// The name of one of these numbers, empty where it has none.
+    pub fn name(self, number: u32) -> &'static str {
+        let names = match self {
+            Names::Opcode => OPCODES,
+            Names::Model => MODELS,
+            Names::Dimension => DIMENSIONS,
+            Names::StorageClass => CLASSES,
+            Names::Format => FORMATS,
+            Names::Decoration => DECORATIONS,
+            Names::BuiltIn => BUILT_INS,
+        };
+        name_in(names, number)
+    }
+}
 
-/// The name of a function of GLSL.std.450, empty where it has none.
-pub fn function_name(number: u32) -> &'static str {
-    name_in(FUNCTIONS, number)
+/// The name of an opcode without `Op`, empty where it has none.
+pub fn opcode_name(number: u16) -> &'static str {
+    name_in(OPCODES, u32::from(number))
 }

@@ -3,8 +3,8 @@ ghost use Rattle.std.specs.Prelude.{◌≡◌};
 ghost use Rattle.spirv_words.specs.declared.error.SpirvError.TheVariants.{Memory};
 
 use crate::unsupported::{Feature, Unsupported};
-use spirv_numbers::WordsError;
-use std::alloc::{AllocError, AllocFailed};
+use spirv_numbers::{Groups, WordsError};
+use std::alloc::{AllocError, AllocFailed, Global};
 use std::fmt;
 use thiserror::Error;
 
@@ -55,51 +55,43 @@ pub enum Malformed {
     OpenBlock,
 }
 
-// What is wrong, in words.
-static TEXTS: [(Malformed, &str); 21] = [
-    (Malformed::Length, "no whole words, or no header"),
-    (Malformed::TooLong, "too many bytes"),
-    (Malformed::Magic, "no magic number"),
-    (Malformed::InstructionLength, "the length of an instruction"),
-    (Malformed::MissingOperand, "a missing operand"),
-    (Malformed::IdBound, "an id that is not below the bound"),
-    (Malformed::DefinedTwice, "an id that is defined twice"),
-    (Malformed::Undefined, "an id that is not defined before"),
-    (Malformed::NoType, "an id that is not a type"),
-    (Malformed::NoConstant, "an id that is not a constant"),
-    (Malformed::NoValue, "an id that is not a value"),
-    (Malformed::NoPointer, "an id that is not a pointer"),
-    (Malformed::NoBlock, "an id that is not a block"),
-    (Malformed::NoFunction, "an id that is not a function"),
-    (Malformed::WrongType, "a type that is not wanted here"),
-    (Malformed::Index, "an index out of its type"),
-    (Malformed::Text, "a text without an end"),
-    (Malformed::Member, "a member that its struct does not have"),
-    (Malformed::Misplaced, "an instruction out of its place"),
-    (Malformed::Unfinished, "a function without an end"),
-    (Malformed::OpenBlock, "a block without an end"),
+// What is wrong in words, in the order of the variants.
+static TEXTS: [&str; 21] = [
+    "no whole words, or no header",
+    "too many bytes",
+    "no magic number",
+    "the length of an instruction",
+    "a missing operand",
+    "an id that is not below the bound",
+    "an id that is defined twice",
+    "an id that is not defined before",
+    "an id that is not a type",
+    "an id that is not a constant",
+    "an id that is not a value",
+    "an id that is not a pointer",
+    "an id that is not a block",
+    "an id that is not a function",
+    "a type that is not wanted here",
+    "an index out of its type",
+    "a text without an end",
+    "a member that its struct does not have",
+    "an instruction out of its place",
+    "a function without an end",
+    "a block without an end",
 ];
 
 impl Malformed {
     /// The same in words.
     pub fn text(self) -> &'static str {
-        for row in &TEXTS {
-            if row.0 as u8 == self as u8 {
-                return row.1;
-            }
+        match TEXTS.get(self as usize) {
+            Some(text) => *text,
+            None => "",
         }
-        ""
-    }
-}
-
-impl fmt::Debug for Malformed {
-    fn fmt<W: fmt::Write>(&self, f: &mut fmt::Formatter<W>) -> fmt::Result {
-        f.write_str(self.text())
     }
 }
 
 /// Why no module was read.
-#[derive(Clone, Copy, Debug, Error)]
+#[derive(Clone, Copy, Error)]
 pub enum SpirvError {
     /// Out of memory.
     #[error("out of memory")]
@@ -139,6 +131,12 @@ impl SpirvError {
     }
 }
 
+impl fmt::Debug for SpirvError {
+    fn fmt<W: fmt::Write>(&self, f: &mut fmt::Formatter<W>) -> fmt::Result {
+        fmt::Display::fmt(self, f)
+    }
+}
+
 impl From<WordsError> for SpirvError {
     fn from(error: WordsError) -> SpirvError {
         match error {
@@ -163,5 +161,86 @@ impl<T: Drop> From<AllocFailed<T>> for SpirvError {
 
     fn from(_e: AllocFailed<T>) -> SpirvError {
         SpirvError::Memory
+    }
+}
+
+/// What was wrong first, if anything was. What is made after that is of no use.
+#[derive(Clone, Copy)]
+pub struct Failure {
+    /// What was wrong.
+    pub first: Option<SpirvError>,
+}
+
+impl Failure {
+    /// Nothing was wrong so far.
+    pub const NONE: Failure = Failure { first: None };
+
+    /// This is wrong. It is kept where nothing was before.
+    pub fn fail(&mut self, error: SpirvError) {
+        if self.first.is_none() {
+            self.first = Some(error);
+        }
+    }
+
+    /// What was made; this in its place where it was refused.
+    pub fn take<T: Drop>(&mut self, made: Result<T, SpirvError>, otherwise: T) -> T {
+        match made {
+            Ok(made) => made,
+            Err(error) => {
+                self.fail(error);
+                otherwise
+            }
+        }
+    }
+
+    /// A list with room for so many.
+    pub fn list<T: Drop>(&mut self, alloc: Global, count: usize) -> Vec<T> {
+        match Vec::with_capacity(alloc, count) {
+            Ok(list) => list,
+            Err(_) => {
+                self.fail(SpirvError::Memory);
+                Vec::new(alloc)
+            }
+        }
+    }
+
+    /// One more in a list.
+    pub fn push<T: Drop>(&mut self, list: &mut Vec<T>, item: T) {
+        if list.push(item).is_err() {
+            self.fail(SpirvError::Memory);
+        }
+    }
+
+    /// A table in which each of so many places has this; an empty one where there is no memory for it.
+    pub fn table<T: Clone + Drop>(&mut self, alloc: Global, item: T, count: usize) -> Vec<T> {
+        match vec![in alloc; item; count] {
+            Ok(table) => table,
+            Err(_) => {
+                self.fail(SpirvError::Memory);
+                Vec::new(alloc)
+            }
+        }
+    }
+
+    /// The items of these pairs of place and item, by place; none where there is no memory for it.
+    pub fn groups(&mut self, alloc: Global, places: usize, pairs: &[(u32, u32)]) -> Groups {
+        match Groups::of_pairs(alloc, places, pairs) {
+            Ok(groups) => groups,
+            Err(_) => {
+                self.fail(SpirvError::Memory);
+                Groups::none(alloc)
+            }
+        }
+    }
+
+    /// What was made, if nothing was wrong.
+    pub fn answer<T: Drop>(&self, made: T) -> Result<T, SpirvError> {
+        match self.first {
+            None => Ok(made),
+            Some(error) => {
+                drop(made);
+                Err(error)
+            }
+        }
     }
 }

@@ -8,8 +8,8 @@ mod pieces;
 mod text;
 mod unsupported;
 
-pub use error::{Malformed, SpirvError};
-pub use listing::{Instruction, Listing, list, number_at};
+pub use error::{Failure, Malformed, SpirvError};
+pub use listing::{Instruction, Listing, as_word, list, number_at};
 pub use parts::{FunctionParts, Parts};
 pub use pieces::{HEADER, Piece, cut};
 pub use spirv_numbers::{Groups, MAX_LEN};

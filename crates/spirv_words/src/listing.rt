@@ -1,12 +1,12 @@
 // What each id is defined by, and what is said of it.
 
-use crate::error::{Malformed, SpirvError};
+use crate::error::{Failure, Malformed, SpirvError};
 use crate::parts::{Parts, sort_out};
 use crate::pieces::{HEADER, Piece, cut};
 use crate::text::read_text;
 use crate::unsupported::{Feature, Unsupported};
 use spirv_numbers::{Groups, Results, ops, read_words, results_of};
-use std::alloc::{AllocError, Global};
+use std::alloc::Global;
 
 // How many ids there may be for each word, so that a table of ids is linear in the words.
 const IDS_A_WORD: usize = 16;
@@ -98,27 +98,34 @@ struct Said {
 
 /// The module that the bytes are.
 pub fn list(alloc: Global, bytes: &[u8]) -> Result<Listing, SpirvError> {
-    let words = read_words(alloc, bytes)?;
-    let pieces = cut(alloc, &words)?;
-    let instructions = read_instructions(alloc, &words, &pieces)?;
-    sort(alloc, words, instructions)
+    let words = match read_words(alloc, bytes) {
+        Ok(words) => words,
+        Err(error) => return Err(SpirvError::from(error)),
+    };
+    match cut(alloc, &words) {
+        Ok(pieces) => list_pieces(alloc, words, pieces),
+        Err(error) => {
+            drop(words);
+            Err(error)
+        }
+    }
 }
 
-// The same of its words and instructions.
-fn sort(
-    alloc: Global,
-    words: Vec<u32>,
-    instructions: Vec<Instruction>,
-) -> Result<Listing, SpirvError> {
-    let ids = Ids::of(alloc, &words, &instructions)?;
-    let parts = sort_out(alloc, &instructions)?;
+// The same of its words, which are cut so.
+fn list_pieces(alloc: Global, words: Vec<u32>, pieces: Vec<Piece>) -> Result<Listing, SpirvError> {
+    let mut failed = Failure::NONE;
+    let mut instructions = failed.list(alloc, pieces.len());
+    read_instructions(&words, &pieces, &mut instructions, &mut failed);
+    drop(pieces);
+    let ids = Ids::of(alloc, &words, &instructions, &mut failed);
+    let parts = sort_out(alloc, &instructions, &mut failed);
     let finder = Finder {
         words: &words,
         instructions: &instructions,
         ids: &ids,
     };
-    let said = finder.find(alloc, &parts)?;
-    Ok(Listing {
+    let said = finder.find(alloc, &parts, &mut failed);
+    failed.answer(Listing {
         words,
         instructions,
         ids,
@@ -135,12 +142,17 @@ pub fn number_at(numbers: &[u32], place: u32) -> u32 {
     }
 }
 
+/// A place or a count as a word; the greatest word where it is none.
+pub fn as_word(place: usize) -> u32 {
+    u32::try_from(place).unwrap_or(u32::MAX)
+}
+
 impl Ids {
     // Those that these instructions define.
-    fn of(alloc: Global, words: &[u32], instructions: &[Instruction]) -> Result<Ids, SpirvError> {
-        let defined = define(alloc, words, instructions)?;
-        let slots = number_slots(alloc, instructions)?;
-        Ok(Ids { defined, slots })
+    fn of(alloc: Global, words: &[u32], instructions: &[Instruction], failed: &mut Failure) -> Ids {
+        let defined = define(alloc, words, instructions, failed);
+        let slots = number_slots(alloc, instructions, failed);
+        Ids { defined, slots }
     }
 
     // The place of the instruction that defines an id.
@@ -174,56 +186,44 @@ impl Ids {
     }
 }
 
-// The instruction of these words.
-fn instruction_of(words: &[u32], piece: &Piece) -> Result<Instruction, SpirvError> {
-    let start = u32::try_from(piece.start).unwrap_or(u32::MAX);
-    let len = u32::try_from(piece.len).unwrap_or(u32::MAX);
-    let results = match results_of(piece.opcode) {
-        Results::Nothing => 0,
-        Results::Alone => 1,
-        Results::Typed => 2,
-    };
-    if len <= results {
-        return Err(SpirvError::malformed(Malformed::MissingOperand, start));
+// All instructions, one after the other.
+fn read_instructions(
+    words: &[u32],
+    pieces: &[Piece],
+    all: &mut Vec<Instruction>,
+    failed: &mut Failure,
+) {
+    for piece in pieces {
+        let instruction = instruction_of(words, piece, failed);
+        failed.push(all, instruction);
     }
-    let first = number_at(words, start.saturating_add(1));
-    let second = number_at(words, start.saturating_add(2));
-    let (ty, id) = match results {
-        0 => (0, 0),
-        1 => (0, first),
-        _ => (first, second),
+}
+
+// The instruction of these words.
+fn instruction_of(words: &[u32], piece: &Piece, failed: &mut Failure) -> Instruction {
+    let start = as_word(piece.start);
+    let end = start.saturating_add(as_word(piece.len));
+    let (ty, id, first) = match results_of(piece.opcode) {
+        Results::Nothing => (0, 0, 1),
+        Results::Alone => (0, number_at(words, start.saturating_add(1)), 2),
+        Results::Typed => (
+            number_at(words, start.saturating_add(1)),
+            number_at(words, start.saturating_add(2)),
+            3,
+        ),
     };
-    Ok(Instruction {
+    let first = start.saturating_add(first);
+    if end < first {
+        failed.fail(SpirvError::malformed(Malformed::MissingOperand, start));
+    }
+    Instruction {
         opcode: piece.opcode,
         ty,
         id,
         start,
-        first: start.saturating_add(1).saturating_add(results),
-        end: start.saturating_add(len),
-    })
-}
-
-// All instructions.
-fn read_instructions(
-    alloc: Global,
-    words: &[u32],
-    pieces: &[Piece],
-) -> Result<Vec<Instruction>, SpirvError> {
-    let mut all = Vec::with_capacity(alloc, pieces.len())?;
-    add_instructions(words, pieces, &mut all)?;
-    Ok(all)
-}
-
-// Those of these words.
-fn add_instructions(
-    words: &[u32],
-    pieces: &[Piece],
-    all: &mut Vec<Instruction>,
-) -> Result<(), SpirvError> {
-    for piece in pieces {
-        all.push(instruction_of(words, piece)?)?;
+        first,
+        end,
     }
-    Ok(())
 }
 
 // For each id the instruction that defines it.
@@ -231,19 +231,20 @@ fn define(
     alloc: Global,
     words: &[u32],
     instructions: &[Instruction],
-) -> Result<Vec<u32>, SpirvError> {
+    failed: &mut Failure,
+) -> Vec<u32> {
     // the fourth word is the bound (section 2.3)
     let bound = number_at(words, 3);
     let most = words.len().saturating_mul(IDS_A_WORD);
-    let mut defined = vec![in alloc; 0u32; most.min(bound as usize)]?;
+    let mut defined = failed.table(alloc, 0u32, most.min(bound as usize));
     let mut place = 0u32;
     for instruction in instructions {
         place = place.saturating_add(1);
         if has_result(instruction.opcode) {
-            define_one(&mut defined, instruction, bound, place)?;
+            define_one(&mut defined, instruction, bound, place, failed);
         }
     }
-    Ok(defined)
+    defined
 }
 
 // Whether the opcode has a result.
@@ -257,26 +258,24 @@ fn define_one(
     instruction: &Instruction,
     bound: u32,
     place: u32,
-) -> Result<(), SpirvError> {
+    failed: &mut Failure,
+) {
     if instruction.id == 0 || instruction.id >= bound {
-        return Err(instruction.malformed(Malformed::IdBound));
+        failed.fail(instruction.malformed(Malformed::IdBound));
     }
-    let Some(slot) = defined.get_mut(instruction.id as usize) else {
-        return Err(instruction.unsupported_by(Feature::LargeId));
-    };
-    if *slot != 0 {
-        return Err(instruction.malformed(Malformed::DefinedTwice));
+    match defined.get_mut(instruction.id as usize) {
+        Some(slot) if *slot == 0 => *slot = place,
+        Some(_) => failed.fail(instruction.malformed(Malformed::DefinedTwice)),
+        None => failed.fail(instruction.unsupported_by(Feature::LargeId)),
     }
-    *slot = place;
-    Ok(())
 }
 
 // For each instruction the first of its slots: one for its result, one for each of a struct's members.
-fn number_slots(alloc: Global, instructions: &[Instruction]) -> Result<Vec<u32>, AllocError> {
-    let mut slots = Vec::with_capacity(alloc, instructions.len().saturating_add(1))?;
+fn number_slots(alloc: Global, instructions: &[Instruction], failed: &mut Failure) -> Vec<u32> {
+    let mut slots = failed.list(alloc, instructions.len().saturating_add(1));
     let mut next = 0u32;
     for instruction in instructions {
-        slots.push(next)?;
+        failed.push(&mut slots, next);
         if instruction.id != 0 {
             next = next.saturating_add(1);
         }
@@ -284,8 +283,8 @@ fn number_slots(alloc: Global, instructions: &[Instruction]) -> Result<Vec<u32>,
             next = next.saturating_add(instruction.end.saturating_sub(instruction.first));
         }
     }
-    slots.push(next)?;
-    Ok(slots)
+    failed.push(&mut slots, next);
+    slots
 }
 
 // What names, decorations and modes are found with.
@@ -298,15 +297,15 @@ struct Finder<'a> {
 
 impl Finder<'_> {
     // What is said in these parts.
-    fn find(&self, alloc: Global, parts: &Parts) -> Result<Said, SpirvError> {
-        let names = self.find_names(alloc, &parts.names)?;
-        let decorations = self.find_decorations(alloc, &parts.decorations, &parts.groups)?;
-        let modes = self.find_modes(alloc, &parts.modes)?;
-        Ok(Said {
+    fn find(&self, alloc: Global, parts: &Parts, failed: &mut Failure) -> Said {
+        let names = self.find_names(alloc, &parts.names, failed);
+        let decorations = self.find_decorations(alloc, parts, failed);
+        let modes = self.find_modes(alloc, &parts.modes, failed);
+        Said {
             names,
             decorations,
             modes,
-        })
+        }
     }
 
     // The word at this place.
@@ -331,113 +330,111 @@ impl Finder<'_> {
     }
 
     // For each slot the word where its name begins.
-    fn find_names(&self, alloc: Global, places: &[u32]) -> Result<Vec<u32>, AllocError> {
-        let mut names = vec![in alloc; 0u32; self.ids.count()]?;
+    fn find_names(&self, alloc: Global, places: &[u32], failed: &mut Failure) -> Vec<u32> {
+        let mut names = failed.table(alloc, 0u32, self.ids.count());
         for place in places {
-            let Some(instruction) = self.instructions.get(*place as usize) else {
-                continue;
-            };
+            let instruction = instruction_at(self.instructions, *place);
             let of_member = instruction.opcode == ops::MEMBER_NAME;
-            let text = instruction
-                .first
-                .saturating_add(if of_member { 2 } else { 1 });
-            if let Some(slot) = self.slot(instruction, of_member) {
-                if let Some(name) = names.get_mut(slot as usize) {
-                    *name = text;
-                }
+            let slot = self.slot(&instruction, of_member).unwrap_or(u32::MAX);
+            if let Some(name) = names.get_mut(slot as usize) {
+                *name = instruction
+                    .first
+                    .saturating_add(if of_member { 2 } else { 1 });
             }
         }
-        Ok(names)
+        names
     }
 
     // For each slot the instructions that decorate it, itself or by a group.
-    fn find_decorations(
-        &self,
-        alloc: Global,
-        places: &[u32],
-        groups: &[u32],
-    ) -> Result<Groups, SpirvError> {
+    fn find_decorations(&self, alloc: Global, parts: &Parts, failed: &mut Failure) -> Groups {
         let mut pairs = Vec::new(alloc);
-        self.add_decorations(places, &mut pairs)?;
-        self.add_groups(alloc, groups, &mut pairs)?;
-        Ok(Groups::of_pairs(alloc, self.ids.count(), &pairs)?)
+        self.add_decorations(&parts.decorations, &mut pairs, failed);
+        if !parts.groups.is_empty() {
+            let own = failed.groups(alloc, self.ids.count(), &pairs);
+            self.add_groups(&parts.groups, &own, &mut pairs, failed);
+            drop(own);
+        }
+        let found = failed.groups(alloc, self.ids.count(), &pairs);
+        drop(pairs);
+        found
     }
 
     // Adds each slot that is decorated itself, with the instruction.
-    fn add_decorations(
-        &self,
-        places: &[u32],
-        pairs: &mut Vec<(u32, u32)>,
-    ) -> Result<(), SpirvError> {
+    fn add_decorations(&self, places: &[u32], pairs: &mut Vec<(u32, u32)>, failed: &mut Failure) {
         for place in places {
-            if let Some(instruction) = self.instructions.get(*place as usize) {
-                let of_member = instruction.opcode == ops::MEMBER_DECORATE;
-                if let Some(slot) = self.slot(instruction, of_member) {
-                    pairs.push((slot, *place))?;
-                }
+            let instruction = instruction_at(self.instructions, *place);
+            let of_member = instruction.opcode == ops::MEMBER_DECORATE;
+            if let Some(slot) = self.slot(&instruction, of_member) {
+                failed.push(pairs, (slot, *place));
             }
         }
-        Ok(())
     }
 
     // Adds each slot that a group decorates.
     fn add_groups(
         &self,
-        alloc: Global,
         groups: &[u32],
+        own: &Groups,
         pairs: &mut Vec<(u32, u32)>,
-    ) -> Result<(), SpirvError> {
-        if groups.is_empty() {
-            return Ok(());
-        }
-        let own = Groups::of_pairs(alloc, self.ids.count(), pairs)?;
+        failed: &mut Failure,
+    ) {
         for place in groups {
-            if let Some(instruction) = self.instructions.get(*place as usize) {
-                self.add_group(instruction, &own, pairs)?;
+            let instruction = instruction_at(self.instructions, *place);
+            match self.slot(&instruction, false) {
+                Some(group) => {
+                    self.add_group(&instruction, own.of(group as usize), pairs, failed);
+                }
+                None => failed.fail(instruction.malformed(Malformed::Undefined)),
             }
         }
-        Ok(())
     }
 
     // Adds what a group's decorations say of others.
     fn add_group(
         &self,
         instruction: &Instruction,
-        own: &Groups,
+        decorations: &[u32],
         pairs: &mut Vec<(u32, u32)>,
-    ) -> Result<(), SpirvError> {
-        let Some(group) = self.slot(instruction, false) else {
-            return Err(instruction.malformed(Malformed::Undefined));
-        };
+        failed: &mut Failure,
+    ) {
         let of_member = instruction.opcode == ops::GROUP_MEMBER_DECORATE;
         let most = self.words.len().saturating_mul(DECORATIONS_A_WORD);
-        let mut word = instruction.first.saturating_add(1);
-        for _ in instruction.first..instruction.end {
-            if word >= instruction.end {
-                break;
+        for target in 1..instruction.end.saturating_sub(instruction.first) {
+            // a member is named by the word after its struct
+            if of_member && target % 2 == 0 {
+                continue;
             }
+            let word = instruction.first.saturating_add(target);
             if let Some(slot) = self.slot_at(word, of_member) {
-                for place in own.of(group as usize) {
-                    if pairs.len() >= most {
-                        return Err(instruction.unsupported_by(Feature::LargeGroups));
-                    }
-                    pairs.push((slot, *place))?;
+                if failed.first.is_some() || pairs.len().saturating_add(decorations.len()) > most {
+                    failed.fail(instruction.unsupported_by(Feature::LargeGroups));
+                    return;
+                }
+                for place in decorations {
+                    failed.push(pairs, (slot, *place));
                 }
             }
-            word = word.saturating_add(if of_member { 2 } else { 1 });
         }
-        Ok(())
     }
 
     // For each id the instructions that say how its function is executed.
-    fn find_modes(&self, alloc: Global, places: &[u32]) -> Result<Groups, AllocError> {
-        let mut pairs = Vec::with_capacity(alloc, places.len())?;
+    fn find_modes(&self, alloc: Global, places: &[u32], failed: &mut Failure) -> Groups {
+        let mut pairs = failed.list(alloc, places.len());
         for place in places {
-            if let Some(instruction) = self.instructions.get(*place as usize) {
-                pairs.push((self.word(instruction.first), *place))?;
-            }
+            let instruction = instruction_at(self.instructions, *place);
+            failed.push(&mut pairs, (self.word(instruction.first), *place));
         }
-        Groups::of_pairs(alloc, self.ids.defined.len(), &pairs)
+        let modes = failed.groups(alloc, self.ids.defined.len(), &pairs);
+        drop(pairs);
+        modes
+    }
+}
+
+// The instruction at this place.
+fn instruction_at(instructions: &[Instruction], place: u32) -> Instruction {
+    match instructions.get(place as usize) {
+        Some(instruction) => *instruction,
+        None => Instruction::NONE,
     }
 }
 
@@ -449,10 +446,7 @@ impl Listing {
 
     /// The instruction at this place.
     pub fn at(&self, place: u32) -> Instruction {
-        match self.instructions.get(place as usize) {
-            Some(instruction) => *instruction,
-            None => Instruction::NONE,
-        }
+        instruction_at(&self.instructions, place)
     }
 
     /// The place of the instruction that defines an id.
@@ -518,17 +512,12 @@ impl Listing {
         id: u32,
         member: Option<u32>,
     ) -> Result<Option<String>, SpirvError> {
-        let Some(slot) = self.ids.slot(id, member) else {
-            return Ok(None);
-        };
+        let slot = self.ids.slot(id, member).unwrap_or(u32::MAX);
         let start = number_at(&self.said.names, slot);
         if (start as usize) < HEADER {
             return Ok(None);
         }
-        let words = match self.words.get(start as usize..) {
-            Some(words) => words,
-            None => &[],
-        };
+        let words = self.words.get(start as usize..).unwrap_or(&[]);
         match read_text(alloc, words, start) {
             Ok((text, _)) => Ok(Some(text)),
             Err(error) => Err(error),

@@ -1,6 +1,6 @@
 // The parts of a module (section 2.4): which instructions are names, declarations, functions.
 
-use crate::error::{Malformed, SpirvError};
+use crate::error::{Failure, Malformed, SpirvError};
 use crate::listing::Instruction;
 use spirv_numbers::ops;
 use std::alloc::Global;
@@ -90,53 +90,49 @@ impl Parts {
     }
 
     // Takes an instruction outside of functions to its part.
-    fn add(&mut self, opcode: u16, place: u32) -> Result<(), SpirvError> {
-        let added = match part_of(opcode) {
-            Part::Ignored => Ok(()),
-            Part::Name => self.names.push(place),
-            Part::Decoration => self.decorations.push(place),
-            Part::Group => self.groups.push(place),
-            Part::Mode => self.modes.push(place),
-            Part::EntryPoint => self.entry_points.push(place),
-            Part::Capability => self.capabilities.push(place),
-            Part::Declaration => self.declarations.push(place),
+    fn add(&mut self, opcode: u16, place: u32, failed: &mut Failure) {
+        let part = match part_of(opcode) {
+            Part::Ignored => return,
+            Part::Name => &mut self.names,
+            Part::Decoration => &mut self.decorations,
+            Part::Group => &mut self.groups,
+            Part::Mode => &mut self.modes,
+            Part::EntryPoint => &mut self.entry_points,
+            Part::Capability => &mut self.capabilities,
+            Part::Declaration => &mut self.declarations,
         };
-        match added {
-            Ok(()) => Ok(()),
-            Err(_) => Err(SpirvError::Memory),
-        }
+        failed.push(part, place);
     }
 
     // Takes all instructions to their parts.
-    fn add_all(&mut self, instructions: &[Instruction]) -> Result<(), SpirvError> {
+    fn add_all(&mut self, instructions: &[Instruction], failed: &mut Failure) {
         let mut place = 0u32;
         // the place of the function that is open
         let mut open = None;
         for instruction in instructions {
             match (instruction.opcode, open) {
                 (ops::FUNCTION, None) => open = Some(place),
-                (ops::FUNCTION, Some(_)) | (ops::FUNCTION_END, None) => {
-                    return Err(instruction.malformed(Malformed::Misplaced));
-                }
                 (ops::FUNCTION_END, Some(start)) => {
-                    self.functions.push(FunctionParts { start, end: place })?;
+                    failed.push(&mut self.functions, FunctionParts { start, end: place });
                     open = None;
                 }
+                (ops::FUNCTION, Some(_)) | (ops::FUNCTION_END, None) => {
+                    failed.fail(instruction.malformed(Malformed::Misplaced));
+                }
                 (_, Some(_)) => {}
-                (number, None) => self.add(number, place)?,
+                (number, None) => self.add(number, place, failed),
             }
             place = place.saturating_add(1);
         }
-        match open {
-            None => Ok(()),
-            Some(_) => Err(SpirvError::malformed(Malformed::Unfinished, 0)),
+        if open.is_some() {
+            failed.fail(SpirvError::malformed(Malformed::Unfinished, 0));
         }
     }
 }
 
 /// The parts of a module.
-pub fn sort_out(alloc: Global, instructions: &[Instruction]) -> Result<Parts, SpirvError> {
+pub fn sort_out(alloc: Global, instructions: &[Instruction], failed: &mut Failure) -> Parts {
     let mut parts = Parts::new(alloc);
-    parts.add_all(instructions)?;
-    Ok(parts)
+    parts.add_all(instructions, failed);
+    parts
 }

@@ -1,9 +1,7 @@
 // What of a module is not translated.
 
-use spirv_numbers::names::{
-    built_in_name, class_name, decoration_name, dimension_name, format_name, model_name,
-    opcode_name,
-};
+use crate::unsupported::After::{Name, Nothing, Number};
+use spirv_numbers::names::Names;
 use std::fmt::{self, Display};
 
 /// Something that a module says and the IR can't say, or that is not translated.
@@ -149,214 +147,86 @@ pub enum Feature {
     LargeGroups,
 }
 
-// What they are in words.
-static TEXTS: [(Feature, &str); 69] = [
-    (
-        Feature::ExpressionLimit,
-        "more than 64 expressions for each word",
-    ),
-    (
-        Feature::DeepComposite,
-        "composites of specialization constants more than 32 deep",
-    ),
-    (Feature::ValueOutOfScope, "a value out of its scope"),
-    (Feature::PairAsValue, "a combined image sampler as a value"),
-    (
-        Feature::NoSampler,
-        "an image that is sampled without a sampler",
-    ),
-    (Feature::PointerOutOfScope, "a pointer out of its scope"),
-    (Feature::LongPointer, "a pointer of more than 255 steps"),
-    (
-        Feature::DynamicMember,
-        "OpAccessChain with a member that is no constant",
-    ),
-    (
-        Feature::LoadOfRowMajor,
-        "OpLoad of an array of row-major matrices",
-    ),
-    (
-        Feature::StoreIntoColumn,
-        "OpStore into a column of a row-major matrix",
-    ),
-    (Feature::StoreOfRowMajor, "OpStore of row-major matrices"),
-    (
-        Feature::ArrayLength,
-        "OpTypeArray with a length that is no number",
-    ),
-    (Feature::LooseUniform, "a uniform outside of a block"),
-    (
-        Feature::MixedComparison,
-        "sampled with and without a comparison",
-    ),
-    (Feature::BufferArrays, "an array of arrays of buffers"),
-    (
-        Feature::UnboundVarying,
-        "an input or output that is not bound",
-    ),
-    (
-        Feature::BlockInitializer,
-        "an initializer of a block between stages",
-    ),
-    (
-        Feature::BlockWithoutLocations,
-        "a block between stages without locations",
-    ),
-    (Feature::NoEntryPoint, "no entry point"),
-    (
-        Feature::WorkgroupSize,
-        "a size of workgroups that is no number",
-    ),
-    (
-        Feature::DeepCopy,
-        "OpCopyLogical of types more than 16 deep",
-    ),
-    (
-        Feature::ExtractOfRowMajor,
-        "OpCompositeExtract of an array of row-major matrices",
-    ),
-    (
-        Feature::RowMajorStruct,
-        "a struct with row-major matrices put together",
-    ),
-    (
-        Feature::LargeInsert,
-        "OpCompositeInsert into more than 1024 parts",
-    ),
-    (Feature::Recursion, "recursion"),
-    (
-        Feature::AtomicParts,
-        "more than 255 atomic parts of one value",
-    ),
-    (Feature::AtomicArgument, "an atomic through an argument"),
-    (Feature::ControlFlow, "control flow"),
-    (
-        Feature::ImagePointerArgument,
-        "a pointer to an image as an argument",
-    ),
-    (
-        Feature::ImageArrayArgument,
-        "an argument of an array of images",
-    ),
-    (Feature::InstructionSet, "an extended instruction set"),
-    (
-        Feature::GatherComponent,
-        "OpImageGather of a component that is no constant",
-    ),
-    (Feature::IntegerLod, "image operand Lod of an integer"),
-    (Feature::ConstOffsets, "image operand ConstOffsets"),
-    (Feature::MinLod, "image operand MinLod"),
-    (Feature::Offset, "image operand Offset"),
-    (
-        Feature::CubeArrayTexel,
-        "a texel of a cube array by its coordinates",
-    ),
-    (Feature::ImageAtomic, "such an atomic on an image"),
-    (Feature::ImageWriteOperands, "OpImageWrite with operands"),
-    (
-        Feature::RowMajorArgument,
-        "a pointer to row-major matrices as an argument",
-    ),
-    (
-        Feature::BarrierOperand,
-        "a barrier with what is no constant",
-    ),
-    (Feature::BarrierScope, "OpControlBarrier with another scope"),
-    (
-        Feature::GroupScope,
-        "an operation of another scope than a subgroup",
-    ),
-    (
-        Feature::PartOfSubgroup,
-        "an operation of a part of a subgroup",
-    ),
-    (
-        Feature::QuadSwapDirection,
-        "OpGroupNonUniformQuadSwap in no direction",
-    ),
-    (Feature::StoreOfPair, "OpStore of a combined image sampler"),
-    (
-        Feature::FallsToOther,
-        "control flow: a case that falls to one that is not next",
-    ),
-    (Feature::NoBody, "a function without a body"),
-    (
-        Feature::BranchOutOfTwo,
-        "control flow: a branch out of two selections",
-    ),
-    (
-        Feature::BreakInContinuing,
-        "control flow: a break in a continuing part",
-    ),
-    (
-        Feature::OuterBreak,
-        "control flow: a break out of an outer loop or switch",
-    ),
-    (
-        Feature::OuterContinue,
-        "control flow: a continue of an outer loop",
-    ),
-    (
-        Feature::OuterHeader,
-        "control flow: a branch to an outer loop's header",
-    ),
-    (
-        Feature::DeepControlFlow,
-        "control flow nested more than 255 deep",
-    ),
-    (
-        Feature::BlockReachedTwice,
-        "control flow: a block that is reached twice",
-    ),
-    (Feature::MergeAtBranch, "control flow: a merge at a branch"),
-    (
-        Feature::SwitchWithoutMerge,
-        "control flow: a switch without a merge",
-    ),
-    (
-        Feature::SwitchSelector,
-        "OpSwitch on what is no integer of 16, 32 or 64 bits",
-    ),
-    (Feature::ImageOfNoNumber, "OpTypeImage of what is no number"),
-    (Feature::ResourceArrays, "an array of arrays of resources"),
-    (
-        Feature::MultisampledStorage,
-        "OpTypeImage for storage, multisampled",
-    ),
-    (Feature::ImageWidth, "OpTypeImage of what has not 32 bits"),
-    (Feature::LargeStruct, "OpTypeStruct too large"),
-    (
-        Feature::HandleMember,
-        "OpTypeStruct with a member of an image or a sampler",
-    ),
-    (Feature::RowMajorOfNoMatrix, "RowMajor of what is no matrix"),
-    (Feature::DeepAtomic, "an atomic more than 255 steps inside"),
-    (Feature::AtomicOfNoNumber, "an atomic of what is no number"),
-    (
-        Feature::LargeId,
-        "an id above sixteen times the count of words",
-    ),
-    (
-        Feature::LargeGroups,
-        "more than sixteen decorations for each word, by groups",
-    ),
+// What they are in words, in the order of the variants.
+static TEXTS: [&str; 69] = [
+    "more than 64 expressions for each word",
+    "composites of specialization constants more than 32 deep",
+    "a value out of its scope",
+    "a combined image sampler as a value",
+    "an image that is sampled without a sampler",
+    "a pointer out of its scope",
+    "a pointer of more than 255 steps",
+    "OpAccessChain with a member that is no constant",
+    "OpLoad of an array of row-major matrices",
+    "OpStore into a column of a row-major matrix",
+    "OpStore of row-major matrices",
+    "OpTypeArray with a length that is no number",
+    "a uniform outside of a block",
+    "sampled with and without a comparison",
+    "an array of arrays of buffers",
+    "an input or output that is not bound",
+    "an initializer of a block between stages",
+    "a block between stages without locations",
+    "no entry point",
+    "a size of workgroups that is no number",
+    "OpCopyLogical of types more than 16 deep",
+    "OpCompositeExtract of an array of row-major matrices",
+    "a struct with row-major matrices put together",
+    "OpCompositeInsert into more than 1024 parts",
+    "recursion",
+    "more than 255 atomic parts of one value",
+    "an atomic through an argument",
+    "control flow",
+    "a pointer to an image as an argument",
+    "an argument of an array of images",
+    "an extended instruction set",
+    "OpImageGather of a component that is no constant",
+    "image operand Lod of an integer",
+    "image operand ConstOffsets",
+    "image operand MinLod",
+    "image operand Offset",
+    "a texel of a cube array by its coordinates",
+    "such an atomic on an image",
+    "OpImageWrite with operands",
+    "a pointer to row-major matrices as an argument",
+    "a barrier with what is no constant",
+    "OpControlBarrier with another scope",
+    "an operation of another scope than a subgroup",
+    "an operation of a part of a subgroup",
+    "OpGroupNonUniformQuadSwap in no direction",
+    "OpStore of a combined image sampler",
+    "control flow: a case that falls to one that is not next",
+    "a function without a body",
+    "control flow: a branch out of two selections",
+    "control flow: a break in a continuing part",
+    "control flow: a break out of an outer loop or switch",
+    "control flow: a continue of an outer loop",
+    "control flow: a branch to an outer loop's header",
+    "control flow nested more than 255 deep",
+    "control flow: a block that is reached twice",
+    "control flow: a merge at a branch",
+    "control flow: a switch without a merge",
+    "OpSwitch on what is no integer of 16, 32 or 64 bits",
+    "OpTypeImage of what is no number",
+    "an array of arrays of resources",
+    "OpTypeImage for storage, multisampled",
+    "OpTypeImage of what has not 32 bits",
+    "OpTypeStruct too large",
+    "OpTypeStruct with a member of an image or a sampler",
+    "RowMajor of what is no matrix",
+    "an atomic more than 255 steps inside",
+    "an atomic of what is no number",
+    "an id above sixteen times the count of words",
+    "more than sixteen decorations for each word, by groups",
 ];
 
 impl Feature {
     /// The same in words.
     pub fn text(self) -> &'static str {
-        for row in &TEXTS {
-            if row.0 as u8 == self as u8 {
-                return row.1;
-            }
+        match TEXTS.get(self as usize) {
+            Some(text) => *text,
+            None => "",
         }
-        ""
-    }
-}
-
-impl fmt::Debug for Feature {
-    fn fmt<W: fmt::Write>(&self, f: &mut fmt::Formatter<W>) -> fmt::Result {
-        f.write_str(self.text())
     }
 }
 
@@ -399,85 +269,63 @@ pub enum Unsupported {
     Feature(Feature),
 }
 
-// What it is, with its name or its number.
+// What stands after what it is.
 #[derive(Clone, Copy)]
-struct Described {
-    what: &'static str,
-    // what stands between them
-    between: &'static str,
-    name: &'static str,
-    number: Option<u32>,
-}
-
-// What has this name, which may be empty.
-fn named(what: &'static str, name: &'static str) -> Described {
-    Described {
-        what,
-        between: " ",
-        name,
-        number: None,
-    }
-}
-
-// What has this number.
-fn numbered(what: &'static str, number: u32) -> Described {
-    Described {
-        what,
-        between: " ",
-        name: "",
-        number: Some(number),
-    }
+enum After {
+    Nothing,
+    Number,
+    Name(Names),
 }
 
 impl Unsupported {
-    // The same in words.
-    fn described(self) -> Described {
+    // What it is in words, and what stands after these with which number.
+    fn described(self) -> (&'static str, After, u32) {
         match self {
-            Unsupported::Instruction(opcode) => Described {
-                what: "Op",
-                between: "",
-                name: opcode_name(opcode),
-                number: None,
-            },
-            Unsupported::ValueOf(opcode) => named("a value of", opcode_name(opcode)),
-            Unsupported::ChainInto(opcode) => named("an access chain into", opcode_name(opcode)),
-            Unsupported::SpecOperation(opcode) => named("OpSpecConstantOp", opcode_name(opcode)),
-            Unsupported::Decoration(number) => named("decoration", decoration_name(number)),
-            Unsupported::StorageClass(number) => named("storage class", class_name(number)),
-            Unsupported::BuiltIn(number) => named("built-in", built_in_name(number)),
-            Unsupported::Stage(number) => named("stage", model_name(number)),
-            Unsupported::Dimension(number) => {
-                named("OpTypeImage dimension", dimension_name(number))
+            Unsupported::Instruction(opcode) => ("Op", Name(Names::Opcode), opcode as u32),
+            Unsupported::ValueOf(opcode) => ("a value of ", Name(Names::Opcode), opcode as u32),
+            Unsupported::ChainInto(opcode) => {
+                ("an access chain into ", Name(Names::Opcode), opcode as u32)
             }
-            Unsupported::Format(number) => named("OpTypeImage format", format_name(number)),
-            Unsupported::SpecId(number) => numbered("SpecId", number),
-            Unsupported::MathFunction(number) => numbered("GLSL.std.450", number),
-            Unsupported::VectorSize(number) => numbered("OpTypeVector", number),
-            Unsupported::IntWidth(number) => numbered("OpTypeInt", number),
-            Unsupported::FloatWidth(number) => numbered("OpTypeFloat", number),
-            Unsupported::MatrixStride(number) => numbered("MatrixStride", number),
-            Unsupported::Feature(feature) => named(feature.text(), ""),
+            Unsupported::SpecOperation(opcode) => {
+                ("OpSpecConstantOp ", Name(Names::Opcode), opcode as u32)
+            }
+            Unsupported::Decoration(number) => ("decoration ", Name(Names::Decoration), number),
+            Unsupported::StorageClass(number) => (
+                "storage class ",
+                Name(Names::StorageClass),
+                number,
+            ),
+            Unsupported::BuiltIn(number) => ("built-in ", Name(Names::BuiltIn), number),
+            Unsupported::Stage(number) => ("stage ", Name(Names::Model), number),
+            Unsupported::Dimension(number) => (
+                "OpTypeImage dimension ",
+                Name(Names::Dimension),
+                number,
+            ),
+            Unsupported::Format(number) => ("OpTypeImage format ", Name(Names::Format), number),
+            Unsupported::SpecId(number) => ("SpecId ", Number, number),
+            Unsupported::MathFunction(number) => ("GLSL.std.450 ", Number, number),
+            Unsupported::VectorSize(number) => ("OpTypeVector ", Number, number),
+            Unsupported::IntWidth(number) => ("OpTypeInt ", Number, number),
+            Unsupported::FloatWidth(number) => ("OpTypeFloat ", Number, number),
+            Unsupported::MatrixStride(number) => ("MatrixStride ", Number, number),
+            Unsupported::Feature(feature) => (feature.text(), Nothing, 0),
         }
     }
 }
 
 impl Display for Unsupported {
     fn fmt<W: fmt::Write>(&self, f: &mut fmt::Formatter<W>) -> fmt::Result {
-        let said = self.described();
-        f.write_str(said.what)?;
-        match said.number {
-            Some(number) => write!(f, " {number}"),
-            None if said.name.is_empty() => Ok(()),
-            None => {
-                f.write_str(said.between)?;
-                f.write_str(said.name)
-            }
+        let (what, after, number) = self.described();
+        let name = match after {
+            Nothing => return f.write_str(what),
+            Number => return write!(f, "{what}{number}"),
+            Name(names) => names.name(number),
+        };
+        if name.is_empty() {
+            return f.write_str(what.trim_ascii_end());
         }
-    }
-}
-
-impl fmt::Debug for Unsupported {
-    fn fmt<W: fmt::Write>(&self, f: &mut fmt::Formatter<W>) -> fmt::Result {
-        Display::fmt(self, f)
+        f.write_str(what)?;
+        f.write_str(name)
     }
 }
