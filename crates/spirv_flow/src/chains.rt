@@ -1,7 +1,9 @@
 // The steps of access chains.
 
 use spirv_numbers::ops;
-use spirv_words::{Feature, Instruction, Listing, Malformed, SpirvError, Unsupported, starts_text};
+use spirv_words::{
+    Failure, Feature, Instruction, Listing, Malformed, SpirvError, Unsupported, starts_text,
+};
 
 /// A step from a type into one of its parts.
 #[derive(Clone, Copy)]
@@ -12,6 +14,22 @@ pub struct Part {
     pub member: Option<u32>,
     /// The type of the part.
     pub ty: u32,
+}
+
+/// The operand at this place; where it is missing, 0.
+pub(crate) fn need(
+    listing: &Listing,
+    instruction: &Instruction,
+    place: usize,
+    failed: &mut Failure,
+) -> u32 {
+    match listing.operand(instruction, place) {
+        Some(word) => word,
+        None => {
+            failed.fail(instruction.malformed(Malformed::MissingOperand));
+            0
+        }
+    }
 }
 
 /// The value of a constant whole number, its low 32 bits.
@@ -44,31 +62,18 @@ pub fn part_at(
     let Some(ty) = listing.definition(from) else {
         return Err(chain.malformed(Malformed::NoType));
     };
-    match ty.opcode {
-        ops::TYPE_STRUCT => {
-            let Some(member) = constant_word(listing, index) else {
-                return Err(chain.unsupported_by(Feature::DynamicMember));
-            };
-            match listing.operand(&ty, member as usize) {
-                Some(part) => Ok(Part {
-                    from,
-                    member: Some(member),
-                    ty: part,
-                }),
-                None => Err(chain.malformed(Malformed::Member)),
-            }
-        }
-        ops::TYPE_ARRAY | ops::TYPE_RUNTIME_ARRAY | ops::TYPE_VECTOR | ops::TYPE_MATRIX => {
-            match listing.need(&ty, 0) {
-                Ok(part) => Ok(Part {
-                    from,
-                    member: None,
-                    ty: part,
-                }),
-                Err(error) => Err(error),
-            }
-        }
-        _ => Err(chain.unsupported_as(Unsupported::ChainInto(ty.opcode))),
+    let member = match ty.opcode {
+        ops::TYPE_STRUCT => match constant_word(listing, index) {
+            Some(member) => Some(member),
+            None => return Err(chain.unsupported_by(Feature::DynamicMember)),
+        },
+        ops::TYPE_ARRAY | ops::TYPE_RUNTIME_ARRAY | ops::TYPE_VECTOR | ops::TYPE_MATRIX => None,
+        opcode => return Err(chain.unsupported_as(Unsupported::ChainInto(opcode))),
+    };
+    match (listing.operand(&ty, member.unwrap_or(0) as usize), member) {
+        (Some(ty), _) => Ok(Part { from, member, ty }),
+        (None, Some(_)) => Err(chain.malformed(Malformed::Member)),
+        (None, None) => Err(ty.malformed(Malformed::MissingOperand)),
     }
 }
 

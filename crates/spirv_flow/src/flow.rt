@@ -3,8 +3,8 @@
 use crate::kept::Kept;
 use crate::order::Order;
 use crate::uses::Uses;
-use spirv_steps::{Blocks, Steps, Walk};
-use spirv_words::{Listing, SpirvError};
+use spirv_steps::{Blocks, FunctionBlocks, Steps, Walk};
+use spirv_words::{Failure, Listing, SpirvError};
 use std::alloc::Global;
 
 /// The steps of one function.
@@ -37,12 +37,13 @@ pub struct Flow {
 
 /// What is known of a module's functions.
 pub fn flow_of(alloc: Global, listing: &Listing) -> Result<Flow, SpirvError> {
-    let blocks = Blocks::of_module(alloc, listing)?;
-    let order = Order::of_module(alloc, listing, &blocks)?;
-    let uses = Uses::of_module(alloc, listing, &blocks, &order)?;
-    let Walked { steps, functions } = walk_all(alloc, listing, &blocks, &order)?;
-    let kept = Kept::of_module(alloc, listing, &blocks, &steps.scopes)?;
-    Ok(Flow {
+    let mut failed = Failure::NONE;
+    let blocks = Blocks::of_module(alloc, listing, &mut failed);
+    let order = Order::of_module(alloc, listing, &blocks, &mut failed);
+    let uses = Uses::of_module(alloc, listing, &blocks, &order, &mut failed);
+    let (steps, functions) = walk_all(alloc, listing, &blocks, &order, &mut failed);
+    let kept = Kept::of_module(alloc, listing, &blocks, &steps.scopes, &mut failed);
+    failed.answer(Flow {
         blocks,
         order,
         uses,
@@ -53,46 +54,31 @@ pub fn flow_of(alloc: Global, listing: &Listing) -> Result<Flow, SpirvError> {
 }
 
 // The steps of all functions.
-#[derive(Drop)]
-struct Walked {
-    steps: Steps,
-    functions: Vec<FunctionSteps>,
-}
-
-// Walks all functions.
 fn walk_all(
     alloc: Global,
     listing: &Listing,
     blocks: &Blocks,
     order: &Order,
-) -> Result<Walked, SpirvError> {
+    failed: &mut Failure,
+) -> (Steps, Vec<FunctionSteps>) {
     let mut functions = Vec::new(alloc);
-    let mut walk = Walk::new(alloc, listing, blocks)?;
-    walk_each(&mut walk, blocks, order, &mut functions)?;
-    Ok(Walked {
-        steps: walk.finish(),
-        functions,
-    })
-}
-
-// Walks each function.
-fn walk_each(
-    walk: &mut Walk,
-    blocks: &Blocks,
-    order: &Order,
-    functions: &mut Vec<FunctionSteps>,
-) -> Result<(), SpirvError> {
+    let mut walk = Walk::new(alloc, listing, blocks);
     for number in &order.functions {
         if let Some(function) = blocks.functions.get(*number as usize) {
-            let first = walk.count();
-            walk.walk_function(*function)?;
-            let end = walk.count();
-            functions.push(FunctionSteps {
-                function: *number,
-                first,
-                end,
-            })?;
+            let steps = walk_one(&mut walk, *number, *function);
+            failed.push(&mut functions, steps);
         }
     }
-    Ok(())
+    (walk.finish(failed), functions)
+}
+
+// Walks one function.
+fn walk_one(walk: &mut Walk, number: u32, function: FunctionBlocks) -> FunctionSteps {
+    let first = walk.count();
+    walk.walk_function(function);
+    FunctionSteps {
+        function: number,
+        first,
+        end: walk.count(),
+    }
 }

@@ -2,8 +2,8 @@
 
 use crate::chains::is_chain;
 use spirv_numbers::ops;
-use spirv_steps::{Block, Blocks, FunctionBlocks, Scopes};
-use spirv_words::{Feature, Groups, Instruction, Listing, SpirvError};
+use spirv_steps::{Block, Blocks, Scopes};
+use spirv_words::{Failure, Feature, Groups, Instruction, Listing, Malformed, as_word, number_at};
 use std::alloc::Global;
 
 // How many steps a pointer may have from its variable (universal limit of the standard).
@@ -43,17 +43,21 @@ impl Kept {
         listing: &Listing,
         blocks: &Blocks,
         scopes: &Scopes,
-    ) -> Result<Kept, SpirvError> {
-        let known = define(alloc, listing, blocks)?;
-        let Comings { incoming, pairs } = Comings::of_module(alloc, listing, blocks)?;
-        let from = Groups::of_pairs(alloc, blocks.blocks.len(), &pairs)?;
+        failed: &mut Failure,
+    ) -> Kept {
+        let known = define(alloc, listing, blocks, failed);
+        let mut incoming = Vec::new(alloc);
+        let mut pairs = Vec::new(alloc);
+        add_comings(listing, blocks, &mut incoming, &mut pairs, failed);
+        let from = failed.groups(alloc, blocks.blocks.len(), &pairs);
+        drop(pairs);
         let mut kept = Kept {
             known,
             incoming,
             from,
         };
-        kept.use_all(listing, blocks, scopes)?;
-        Ok(kept)
+        kept.use_all(listing, blocks, scopes, failed);
+        kept
     }
 
     // What all blocks use.
@@ -62,16 +66,26 @@ impl Kept {
         listing: &Listing,
         blocks: &Blocks,
         scopes: &Scopes,
-    ) -> Result<(), SpirvError> {
+        failed: &mut Failure,
+    ) {
         let mut number = 0u32;
         for block in &blocks.blocks {
             if let Some(scope) = scopes.of_block(number) {
-                self.use_in_block(listing, scopes, block, scope)?;
-                self.use_behind(listing, scopes, number, scope)?;
+                let mut uses = Scope {
+                    known: &mut self.known,
+                    listing,
+                    scopes,
+                    scope,
+                };
+                uses.use_in_block(block, failed);
+                for item in self.from.of(number as usize) {
+                    if let Some(incoming) = self.incoming.get(*item as usize) {
+                        uses.use_id(incoming.value, failed);
+                    }
+                }
             }
             number = number.saturating_add(1);
         }
-        Ok(())
     }
 
     /// Whether a value is kept in a local.
@@ -86,105 +100,80 @@ impl Kept {
     pub fn from_block(&self, block: u32) -> &[u32] {
         self.from.of(block as usize)
     }
+}
 
-    // The scope in which an id is defined, if it is defined in a block.
-    fn scope_of(&self, scopes: &Scopes, id: u32) -> Option<u32> {
+// What is used in a scope.
+#[derive(Drop)]
+struct Scope<'a> {
+    known: &'a mut [Known],
+    listing: &'a Listing,
+    scopes: &'a Scopes,
+    scope: u32,
+}
+
+impl Scope<'_> {
+    // Whether an id is defined in a block whose scope does not reach this one.
+    fn is_out(&self, id: u32) -> bool {
         let block = match self.known.get(id as usize) {
             Some(known) => known.block.checked_sub(1),
             None => None,
         };
-        match block {
-            Some(block) => scopes.of_block(block),
-            None => None,
+        match self.scopes.of_block(block.unwrap_or(u32::MAX)) {
+            Some(defined) => !self.scopes.reaches(defined, self.scope),
+            None => false,
         }
     }
 
     // What the instructions of a block use, its end included.
-    fn use_in_block(
-        &mut self,
-        listing: &Listing,
-        scopes: &Scopes,
-        block: &Block,
-        scope: u32,
-    ) -> Result<(), SpirvError> {
+    fn use_in_block(&mut self, block: &Block, failed: &mut Failure) {
         for place in block.first..block.end.saturating_add(1) {
-            let instruction = listing.at(place);
+            let instruction = self.listing.at(place);
             if instruction.opcode != ops::PHI {
-                for id in listing.operands(&instruction) {
-                    self.use_id(listing, scopes, *id, scope)?;
+                for id in self.listing.operands(&instruction) {
+                    self.use_id(*id, failed);
                 }
             }
         }
-        Ok(())
     }
 
-    // What is stored at the end of a block for those that it goes to.
-    fn use_behind(
-        &mut self,
-        listing: &Listing,
-        scopes: &Scopes,
-        block: u32,
-        scope: u32,
-    ) -> Result<(), SpirvError> {
-        for place in 0..self.from.of(block as usize).len() {
-            if let Some(value) = self.value_from(block, place) {
-                self.use_id(listing, scopes, value, scope)?;
-            }
-        }
-        Ok(())
-    }
-
-    // What comes from a block at this place.
-    fn value_from(&self, block: u32, place: usize) -> Option<u32> {
-        let Some(item) = self.from.of(block as usize).get(place) else {
-            return None;
-        };
-        match self.incoming.get(*item as usize) {
-            Some(incoming) => Some(incoming.value),
-            None => None,
-        }
-    }
-
-    // An id is used in a scope: where that of its definition does not reach it, it is kept, and a pointer is made there
-    // anew out of what its steps name.
-    fn use_id(
-        &mut self,
-        listing: &Listing,
-        scopes: &Scopes,
-        id: u32,
-        scope: u32,
-    ) -> Result<(), SpirvError> {
-        match self.scope_of(scopes, id) {
-            Some(defined) if !scopes.reaches(defined, scope) => {}
-            _ => return Ok(()),
+    // An id is used: where the scope of its definition does not reach, it is kept, and a pointer is made there anew out of
+    // what its steps name.
+    fn use_id(&mut self, id: u32, failed: &mut Failure) {
+        if !self.is_out(id) {
+            return;
         }
         let mut at = id;
         for _ in 0..MAX_STEPS {
-            let made = listing.defined(at);
+            let made = self.listing.defined(at);
             if is_chain(made.opcode) {
-                for index in listing.operands_from(&made, 1) {
-                    self.keep(scopes, *index, scope);
+                for index in self.listing.operands_from(&made, 1) {
+                    self.keep(*index);
                 }
             } else {
-                self.keep(scopes, at, scope);
-                if made.opcode != ops::COPY_OBJECT && !gives_handle(listing, &made) {
-                    return Ok(());
+                self.keep(at);
+                if made.opcode != ops::COPY_OBJECT && !gives_handle(self.listing, &made) {
+                    return;
                 }
             }
-            at = listing.need(&made, 0)?;
+            let Some(base) = self.listing.operand(&made, 0) else {
+                failed.fail(made.malformed(Malformed::MissingOperand));
+                return;
+            };
+            at = base;
         }
-        Err(listing.defined(id).unsupported_by(Feature::LongPointer))
+        failed.fail(
+            self.listing
+                .defined(id)
+                .unsupported_by(Feature::LongPointer),
+        );
     }
 
-    // Keeps what is used in a scope that its own does not reach.
-    fn keep(&mut self, scopes: &Scopes, id: u32, scope: u32) {
-        match self.scope_of(scopes, id) {
-            Some(defined) if !scopes.reaches(defined, scope) => {
-                if let Some(known) = self.known.get_mut(id as usize) {
-                    known.kept = true;
-                }
+    // Keeps what is used where the scope of its definition does not reach.
+    fn keep(&mut self, id: u32) {
+        if self.is_out(id) {
+            if let Some(known) = self.known.get_mut(id as usize) {
+                known.kept = true;
             }
-            _ => {}
         }
     }
 }
@@ -200,12 +189,12 @@ fn gives_handle(listing: &Listing, made: &Instruction) -> bool {
 }
 
 // For each id the block that defines it; none is kept.
-fn define(alloc: Global, listing: &Listing, blocks: &Blocks) -> Result<Vec<Known>, SpirvError> {
+fn define(alloc: Global, listing: &Listing, blocks: &Blocks, failed: &mut Failure) -> Vec<Known> {
     let nothing = Known {
         kept: false,
         block: 0,
     };
-    let mut known = vec![in alloc; nothing; listing.bound()]?;
+    let mut known = failed.table(alloc, nothing, listing.bound());
     let mut number = 0u32;
     for block in &blocks.blocks {
         number = number.saturating_add(1);
@@ -215,63 +204,33 @@ fn define(alloc: Global, listing: &Listing, blocks: &Blocks) -> Result<Vec<Known
             }
         }
     }
-    Ok(known)
+    known
 }
 
-// What comes from blocks into others.
-#[derive(Drop)]
-struct Comings {
-    incoming: Vec<Incoming>,
-    // the block from which each comes, with its place among them
-    pairs: Vec<(u32, u32)>,
-}
-
-impl Comings {
-    // That of a module.
-    fn of_module(alloc: Global, listing: &Listing, blocks: &Blocks) -> Result<Comings, SpirvError> {
-        let mut comings = Comings {
-            incoming: Vec::new(alloc),
-            pairs: Vec::new(alloc),
-        };
-        comings.add_all(listing, blocks)?;
-        Ok(comings)
-    }
-
-    // Adds what comes from the blocks of all functions.
-    fn add_all(&mut self, listing: &Listing, blocks: &Blocks) -> Result<(), SpirvError> {
-        for function in &blocks.functions {
-            for number in function.first..function.end {
-                let Some(block) = blocks.get(number) else {
-                    continue;
-                };
-                for place in block.first..block.end {
-                    let phi = listing.at(place);
-                    if phi.opcode == ops::PHI {
-                        self.add(listing, blocks, function, &phi)?;
-                    }
+// Adds what comes from the blocks of all functions into others, and the block from which each comes with its place among
+// them.
+fn add_comings(
+    listing: &Listing,
+    blocks: &Blocks,
+    incoming: &mut Vec<Incoming>,
+    pairs: &mut Vec<(u32, u32)>,
+    failed: &mut Failure,
+) {
+    for function in &blocks.functions {
+        for place in function.parts.start..function.parts.end {
+            let phi = listing.at(place);
+            if phi.opcode != ops::PHI {
+                continue;
+            }
+            let operands = listing.operands(&phi);
+            for pair in 0..as_word(operands.len() / 2) {
+                let value = number_at(operands, pair.saturating_mul(2));
+                let label = number_at(operands, pair.saturating_mul(2).saturating_add(1));
+                if let Some(from) = blocks.labelled(function, label) {
+                    failed.push(pairs, (from, as_word(incoming.len())));
+                    failed.push(incoming, Incoming { phi: phi.id, value });
                 }
             }
         }
-        Ok(())
-    }
-
-    // Adds what comes into a block as this.
-    fn add(
-        &mut self,
-        listing: &Listing,
-        blocks: &Blocks,
-        function: &FunctionBlocks,
-        phi: &Instruction,
-    ) -> Result<(), SpirvError> {
-        for pair in 0..listing.operands(phi).len() / 2 {
-            let value = listing.need(phi, pair.saturating_mul(2))?;
-            let label = listing.need(phi, pair.saturating_mul(2).saturating_add(1))?;
-            if let Some(from) = blocks.labelled(function, label) {
-                let place = u32::try_from(self.incoming.len()).unwrap_or(u32::MAX);
-                self.pairs.push((from, place))?;
-                self.incoming.push(Incoming { phi: phi.id, value })?;
-            }
-        }
-        Ok(())
     }
 }

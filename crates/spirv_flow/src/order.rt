@@ -2,11 +2,11 @@
 
 use spirv_numbers::ops;
 use spirv_steps::Blocks;
-use spirv_words::{Feature, Instruction, Listing, Malformed, SpirvError, number_at};
+use spirv_words::{Failure, Feature, Instruction, Listing, Malformed, as_word, number_at};
 use std::alloc::Global;
 
 // How far a function is.
-#[derive(Clone, Copy, PartialEq, Eq)]
+#[derive(Clone, Copy)]
 enum State {
     New,
     Open,
@@ -32,23 +32,7 @@ struct Visit<'a> {
     states: Vec<State>,
     // functions that are open, each with the instruction that comes next
     open: Vec<(u32, u32)>,
-}
-
-// For each id the number of the function that it is and one.
-fn number_functions(
-    alloc: Global,
-    listing: &Listing,
-    blocks: &Blocks,
-) -> Result<Vec<u32>, SpirvError> {
-    let mut numbers = vec![in alloc; 0u32; listing.bound()]?;
-    let mut number = 0u32;
-    for function in &blocks.functions {
-        number = number.saturating_add(1);
-        if let Some(place) = numbers.get_mut(listing.at(function.parts.start).id as usize) {
-            *place = number;
-        }
-    }
-    Ok(numbers)
+    order: Order,
 }
 
 impl Order {
@@ -57,23 +41,23 @@ impl Order {
         alloc: Global,
         listing: &Listing,
         blocks: &Blocks,
-    ) -> Result<Order, SpirvError> {
-        let places = vec![in alloc; 0u32; listing.bound()]?;
-        let functions = Vec::new(alloc);
-        let mut order = Order { functions, places };
-        order.add_all(alloc, listing, blocks)?;
-        Ok(order)
-    }
-
-    // Takes all functions to the order.
-    fn add_all(
-        &mut self,
-        alloc: Global,
-        listing: &Listing,
-        blocks: &Blocks,
-    ) -> Result<(), SpirvError> {
-        let mut visit = Visit::new(alloc, listing, blocks)?;
-        visit.visit_each(self)
+        failed: &mut Failure,
+    ) -> Order {
+        let mut visit = Visit {
+            listing,
+            blocks,
+            numbers: number_functions(alloc, listing, blocks, failed),
+            states: failed.table(alloc, State::New, blocks.functions.len()),
+            open: Vec::new(alloc),
+            order: Order {
+                functions: Vec::new(alloc),
+                places: failed.table(alloc, 0u32, listing.bound()),
+            },
+        };
+        for number in 0..as_word(blocks.functions.len()) {
+            visit.visit_all(number, failed);
+        }
+        visit.into_order()
     }
 
     /// The place in the order of the function with this id.
@@ -81,105 +65,110 @@ impl Order {
         number_at(&self.places, id).checked_sub(1)
     }
 
-    fn add(&mut self, number: u32, id: u32) -> Result<(), SpirvError> {
-        self.functions.push(number)?;
-        let place = u32::try_from(self.functions.len()).unwrap_or(u32::MAX);
+    fn add(&mut self, number: u32, id: u32, failed: &mut Failure) {
+        failed.push(&mut self.functions, number);
         if let Some(at) = self.places.get_mut(id as usize) {
-            *at = place;
+            *at = as_word(self.functions.len());
         }
-        Ok(())
     }
 }
 
-impl<'a> Visit<'a> {
-    // One that has gone through nothing.
-    fn new(
-        alloc: Global,
-        listing: &'a Listing,
-        blocks: &'a Blocks,
-    ) -> Result<Visit<'a>, SpirvError> {
-        let numbers = number_functions(alloc, listing, blocks)?;
-        let states = vec![in alloc; State::New; blocks.functions.len()]?;
-        Ok(Visit {
-            listing,
-            blocks,
+// For each id the number of the function that it is and one.
+fn number_functions(
+    alloc: Global,
+    listing: &Listing,
+    blocks: &Blocks,
+    failed: &mut Failure,
+) -> Vec<u32> {
+    let mut numbers = failed.table(alloc, 0u32, listing.bound());
+    let mut number = 0u32;
+    for function in &blocks.functions {
+        number = number.saturating_add(1);
+        if let Some(place) = numbers.get_mut(listing.at(function.parts.start).id as usize) {
+            *place = number;
+        }
+    }
+    numbers
+}
+
+impl Visit<'_> {
+    // The order of what it has gone through.
+    fn into_order(self) -> Order {
+        let Visit {
+            listing: _,
+            blocks: _,
             numbers,
             states,
-            open: Vec::new(alloc),
-        })
-    }
-
-    // Takes each function to the order.
-    fn visit_each(&mut self, order: &mut Order) -> Result<(), SpirvError> {
-        let count = u32::try_from(self.blocks.functions.len()).unwrap_or(u32::MAX);
-        for number in 0..count {
-            self.visit_all(order, number)?;
-        }
-        Ok(())
+            open,
+            order,
+        } = self;
+        drop(numbers);
+        drop(states);
+        drop(open);
+        order
     }
 
     // Takes this function, and before it all that it calls, to the order.
-    fn visit_all(&mut self, order: &mut Order, number: u32) -> Result<(), SpirvError> {
-        self.open_function(number)?;
+    fn visit_all(&mut self, number: u32, failed: &mut Failure) {
+        self.open_function(number, failed);
         // each instruction of a function is passed once, and each function ended once
         for _ in 0..self.listing.instructions.len().saturating_mul(2) {
-            let Some((function, place)) = self.open.pop() else {
-                return Ok(());
-            };
-            self.step(order, function, place)?;
+            match self.open.pop() {
+                Some((function, place)) => self.step(function, place, failed),
+                None => return,
+            }
         }
-        Ok(())
     }
 
-    fn open_function(&mut self, number: u32) -> Result<(), SpirvError> {
-        let Some(function) = self.blocks.functions.get(number as usize) else {
-            return Ok(());
+    fn open_function(&mut self, number: u32, failed: &mut Failure) {
+        let (Some(function), Some(state)) = (
+            self.blocks.functions.get(number as usize),
+            self.states.get_mut(number as usize),
+        ) else {
+            return;
         };
-        let Some(state) = self.states.get_mut(number as usize) else {
-            return Ok(());
-        };
+        let start = function.parts.start;
         match *state {
-            State::Done => Ok(()),
-            State::Open => {
-                Err(
-                    self.listing
-                        .at(function.parts.start)
-                        .unsupported_by(Feature::Recursion),
-                )
-            }
+            State::Done => {}
+            State::Open => failed.fail(self.listing.at(start).unsupported_by(Feature::Recursion)),
             State::New => {
                 *state = State::Open;
-                self.open.push((number, function.parts.start))?;
-                Ok(())
+                failed.push(&mut self.open, (number, start));
             }
         }
     }
 
     // Goes on with a function from this instruction to its next call, or ends it.
-    fn step(&mut self, order: &mut Order, number: u32, from: u32) -> Result<(), SpirvError> {
+    fn step(&mut self, number: u32, from: u32, failed: &mut Failure) {
         let Some(function) = self.blocks.functions.get(number as usize).copied() else {
-            return Ok(());
+            return;
         };
         for place in from..function.parts.end {
             let instruction = self.listing.at(place);
             if instruction.opcode == ops::FUNCTION_CALL {
-                self.open.push((number, place.saturating_add(1)))?;
-                let callee = self.callee(&instruction)?;
-                return self.open_function(callee);
+                failed.push(&mut self.open, (number, place.saturating_add(1)));
+                let callee = self.callee(&instruction, failed);
+                self.open_function(callee, failed);
+                return;
             }
         }
         if let Some(state) = self.states.get_mut(number as usize) {
             *state = State::Done;
         }
-        order.add(number, self.listing.at(function.parts.start).id)
+        let id = self.listing.at(function.parts.start).id;
+        self.order.add(number, id, failed);
     }
 
-    // The number of the function that is called.
-    fn callee(&self, call: &Instruction) -> Result<u32, SpirvError> {
-        let id = self.listing.need(call, 0)?;
-        match number_at(&self.numbers, id).checked_sub(1) {
-            Some(number) => Ok(number),
-            None => Err(call.malformed(Malformed::NoFunction)),
-        }
+    // The number of the function that is called; none has the greatest.
+    fn callee(&self, call: &Instruction, failed: &mut Failure) -> u32 {
+        let what = match self.listing.operand(call, 0) {
+            Some(id) => match number_at(&self.numbers, id).checked_sub(1) {
+                Some(number) => return number,
+                None => Malformed::NoFunction,
+            },
+            None => Malformed::MissingOperand,
+        };
+        failed.fail(call.malformed(what));
+        u32::MAX
     }
 }

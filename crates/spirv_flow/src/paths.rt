@@ -1,9 +1,9 @@
 // Which parts of variables are changed atomically.
 
-use crate::chains::{is_chain, part_at, pointee};
+use crate::chains::{is_chain, need, part_at, pointee};
 use spirv_numbers::ops;
-use spirv_words::{Feature, Instruction, Listing, SpirvError, number_at};
-use std::alloc::{AllocError, Global};
+use spirv_words::{Failure, Feature, Instruction, Listing, as_word, number_at};
+use std::alloc::Global;
 
 // How many steps an access chain may have from its variable (universal limit of the standard), and how many parts of one
 // value may be atomic.
@@ -31,10 +31,11 @@ pub struct Paths {
 
 impl Paths {
     /// None.
-    pub fn new(alloc: Global, bound: usize) -> Result<Paths, AllocError> {
-        let variables = vec![in alloc; 0u32; bound]?;
-        let parts = Vec::new(alloc);
-        Ok(Paths { parts, variables })
+    pub fn new(alloc: Global, bound: usize, failed: &mut Failure) -> Paths {
+        Paths {
+            parts: Vec::new(alloc),
+            variables: failed.table(alloc, 0u32, bound),
+        }
     }
 
     /// Whether a part of this variable is changed.
@@ -72,27 +73,27 @@ impl Paths {
     }
 
     // A new part.
-    fn make(&mut self, member: Option<u32>, next: u32) -> Result<u32, AllocError> {
-        let place = u32::try_from(self.parts.len()).unwrap_or(u32::MAX);
-        self.parts.push(PathPart {
+    fn make(&mut self, member: Option<u32>, next: u32, failed: &mut Failure) -> u32 {
+        let part = PathPart {
             member,
             is_atomic: false,
             first: 0,
             next,
-        })?;
-        Ok(place)
+        };
+        failed.push(&mut self.parts, part);
+        as_word(self.parts.len()).saturating_sub(1)
     }
 
     // The place of a variable, which is made where it has none.
-    fn variable(&mut self, variable: u32) -> Result<u32, AllocError> {
+    fn variable(&mut self, variable: u32, failed: &mut Failure) -> u32 {
         if let Some(place) = self.of(variable) {
-            return Ok(place);
+            return place;
         }
-        let place = self.make(None, 0)?;
+        let place = self.make(None, 0, failed);
         if let Some(at) = self.variables.get_mut(variable as usize) {
             *at = place.saturating_add(1);
         }
-        Ok(place)
+        place
     }
 
     // The part inside another, which is made where there is none.
@@ -101,31 +102,33 @@ impl Paths {
         place: u32,
         member: Option<u32>,
         atomic: &Instruction,
-    ) -> Result<u32, SpirvError> {
+        failed: &mut Failure,
+    ) -> u32 {
         let mut at = self.first(place);
         for _ in 0..MAX_STEPS {
             let Some(found) = at else {
-                return Ok(self.add_inside(place, member)?);
+                return self.add_inside(place, member, failed);
             };
             match self.part(found) {
-                Some(part) if part.member == member => return Ok(found),
+                Some(part) if part.member == member => return found,
                 _ => at = self.next(found),
             }
         }
-        Err(atomic.unsupported_by(Feature::AtomicParts))
+        failed.fail(atomic.unsupported_by(Feature::AtomicParts));
+        place
     }
 
     // A part more inside another.
-    fn add_inside(&mut self, place: u32, member: Option<u32>) -> Result<u32, AllocError> {
+    fn add_inside(&mut self, place: u32, member: Option<u32>, failed: &mut Failure) -> u32 {
         let next = match self.part(place) {
             Some(part) => part.first,
             None => 0,
         };
-        let made = self.make(member, next)?;
+        let made = self.make(member, next, failed);
         if let Some(part) = self.parts.get_mut(place as usize) {
             part.first = made.saturating_add(1);
         }
-        Ok(made)
+        made
     }
 
     /// The part of a variable that a pointer leads to is changed atomically.
@@ -135,27 +138,18 @@ impl Paths {
         pointer: u32,
         variable: u32,
         atomic: &Instruction,
-    ) -> Result<(), SpirvError> {
-        let chains = chains_of(*self.parts.allocator(), listing, pointer, atomic)?;
-        let from = self.variable(variable)?;
-        self.follow_all(listing, &chains, from)
-    }
-
-    // The part that these chains lead to from this one, the last first, is changed.
-    fn follow_all(
-        &mut self,
-        listing: &Listing,
-        chains: &[Instruction],
-        from: u32,
-    ) -> Result<(), SpirvError> {
-        let mut place = from;
+        failed: &mut Failure,
+    ) {
+        let mut chains = Vec::new(*self.parts.allocator());
+        add_chains(listing, pointer, atomic, &mut chains, failed);
+        let mut place = self.variable(variable, failed);
         for chain in chains.iter().rev() {
-            place = self.follow(listing, chain, place)?;
+            place = self.follow(listing, chain, place, failed);
         }
+        drop(chains);
         if let Some(part) = self.parts.get_mut(place as usize) {
             part.is_atomic = true;
         }
-        Ok(())
     }
 
     // The part that a chain leads to from this one.
@@ -164,49 +158,46 @@ impl Paths {
         listing: &Listing,
         chain: &Instruction,
         from: u32,
-    ) -> Result<u32, SpirvError> {
-        let base = listing.need(chain, 0)?;
-        let Some(mut ty) = pointee(listing, listing.defined(base).ty) else {
-            return Ok(from);
-        };
+        failed: &mut Failure,
+    ) -> u32 {
         let mut place = from;
+        let base = need(listing, chain, 0, failed);
+        let Some(mut ty) = pointee(listing, listing.defined(base).ty) else {
+            return place;
+        };
         for index in listing.operands_from(chain, 1) {
-            let part = part_at(listing, ty, *index, chain)?;
-            place = self.inside(place, part.member, chain)?;
-            ty = part.ty;
+            match part_at(listing, ty, *index, chain) {
+                Ok(part) => {
+                    place = self.inside(place, part.member, chain, failed);
+                    ty = part.ty;
+                }
+                Err(error) => {
+                    failed.fail(error);
+                    return place;
+                }
+            }
         }
-        Ok(place)
+        place
     }
 }
 
-// The access chains that lead to a pointer, the last first.
-fn chains_of(
-    alloc: Global,
-    listing: &Listing,
-    pointer: u32,
-    atomic: &Instruction,
-) -> Result<Vec<Instruction>, SpirvError> {
-    let mut chains = Vec::new(alloc);
-    add_chains(listing, pointer, atomic, &mut chains)?;
-    Ok(chains)
-}
-
-// Adds them to a list.
+// Adds the access chains that lead to a pointer to a list, the last first.
 fn add_chains(
     listing: &Listing,
     pointer: u32,
     atomic: &Instruction,
     chains: &mut Vec<Instruction>,
-) -> Result<(), SpirvError> {
+    failed: &mut Failure,
+) {
     let mut id = pointer;
     for _ in 0..MAX_STEPS {
         let made = listing.defined(id);
         if is_chain(made.opcode) {
-            chains.push(made)?;
+            failed.push(chains, made);
         } else if made.opcode != ops::COPY_OBJECT {
-            return Ok(());
+            return;
         }
-        id = listing.need(&made, 0)?;
+        id = need(listing, &made, 0, failed);
     }
-    Err(atomic.unsupported_by(Feature::LongPointer))
+    failed.fail(atomic.unsupported_by(Feature::LongPointer));
 }

@@ -1,11 +1,11 @@
 // What variables and arguments are used for.
 
-use crate::chains::{is_chain, part_at, pointee};
+use crate::chains::{is_chain, need, part_at, pointee};
 use crate::order::Order;
 use crate::paths::Paths;
 use spirv_numbers::{numbers, ops};
 use spirv_steps::{Blocks, FunctionBlocks};
-use spirv_words::{Feature, Instruction, Listing, SpirvError};
+use spirv_words::{Failure, Feature, Instruction, Listing};
 use std::alloc::Global;
 
 /// What a variable or an argument is used for.
@@ -165,48 +165,41 @@ impl Uses {
         listing: &Listing,
         blocks: &Blocks,
         order: &Order,
-    ) -> Result<Uses, SpirvError> {
+        failed: &mut Failure,
+    ) -> Uses {
         let nothing = Known {
             root: 0,
             used: Use::NONE,
             passed: 0,
         };
-        let known = vec![in alloc; nothing; listing.bound()]?;
-        let atomics = Paths::new(alloc, listing.bound())?;
         let mut uses = Uses {
-            known,
+            known: failed.table(alloc, nothing, listing.bound()),
             touched: 0,
-            atomics,
+            atomics: Paths::new(alloc, listing.bound(), failed),
             numbered: false,
             placed: false,
         };
-        uses.take_all(listing, blocks, order)?;
-        Ok(uses)
-    }
-
-    // What all functions do.
-    fn take_all(
-        &mut self,
-        listing: &Listing,
-        blocks: &Blocks,
-        order: &Order,
-    ) -> Result<(), SpirvError> {
         for number in &order.functions {
             if let Some(function) = blocks.functions.get(*number as usize) {
                 for place in function.parts.start..function.parts.end {
-                    self.take(listing, &listing.at(place))?;
+                    uses.take(listing, &listing.at(place), failed);
                 }
             }
         }
+        uses.pass_on(listing, blocks, order, failed);
+        uses
+    }
+
+    // What is passed from function to function, callers first.
+    fn pass_on(&mut self, listing: &Listing, blocks: &Blocks, order: &Order, failed: &mut Failure) {
         for number in order.functions.iter().rev() {
             if let Some(function) = blocks.functions.get(*number as usize) {
                 self.pass_down(listing, function);
             }
         }
         for function in &blocks.functions {
-            self.check_calls(listing, function)?;
+            self.check_calls(listing, function, failed);
         }
-        Ok(())
     }
 
     // An image that is sampled with a comparison somewhere is one of depths wherever it is passed to.
@@ -217,7 +210,7 @@ impl Uses {
             for argument in arguments_of(listing, &call) {
                 at = at.saturating_add(1);
                 let parameter = listing.at(at);
-                if self.of(self.root(*argument)).compared && takes_image(listing, &parameter) {
+                if self.is_compared(*argument) && takes_image(listing, &parameter) {
                     if let Some(known) = self.known.get_mut(parameter.id as usize) {
                         known.used.compared = true;
                     }
@@ -226,20 +219,23 @@ impl Uses {
         }
     }
 
+    // Whether what an id leads from is sampled with a comparison.
+    fn is_compared(&self, id: u32) -> bool {
+        self.of(self.root(id)).compared
+    }
+
     // Refuses other images where one of depths is taken.
-    fn check_calls(&self, listing: &Listing, function: &FunctionBlocks) -> Result<(), SpirvError> {
+    fn check_calls(&self, listing: &Listing, function: &FunctionBlocks, failed: &mut Failure) {
         for place in function.parts.start..function.parts.end {
             let call = listing.at(place);
             let mut at = parameters_of(listing, &call);
             for argument in arguments_of(listing, &call) {
                 at = at.saturating_add(1);
-                let is_compared = self.of(listing.at(at).id).compared;
-                if is_compared && !self.of(self.root(*argument)).compared {
-                    return Err(call.unsupported_by(Feature::MixedComparison));
+                if self.of(listing.at(at).id).compared && !self.is_compared(*argument) {
+                    failed.fail(call.unsupported_by(Feature::MixedComparison));
                 }
             }
         }
-        Ok(())
     }
 
     /// The variable or argument from which an id leads.
@@ -285,48 +281,52 @@ impl Uses {
     }
 
     // What one instruction does.
-    fn take(&mut self, listing: &Listing, instruction: &Instruction) -> Result<(), SpirvError> {
+    fn take(&mut self, listing: &Listing, instruction: &Instruction, failed: &mut Failure) {
         let opcode = instruction.opcode;
+        self.numbered |= is_numbered(listing, instruction);
+        self.placed |= opcode == ops::IMAGE_READ && reads_attachment(listing, instruction);
         if leads_on(opcode) {
-            let root = self.root(listing.need(instruction, 0)?);
+            let root = self.root(need(listing, instruction, 0, failed));
             if let Some(known) = self.known.get_mut(instruction.id as usize) {
                 known.root = root;
             }
         }
         if is_chain(opcode) {
-            return self.touch(listing, instruction);
+            self.touch(listing, instruction, failed);
+        } else if let Some(compared) = samples(opcode) {
+            self.sample(listing, instruction, compared, failed);
+        } else if opcode == ops::FUNCTION_CALL {
+            self.call(listing, instruction, failed);
+        } else if is_atomic(opcode) {
+            self.change(listing, instruction, failed);
         }
-        if let Some(compared) = samples(opcode) {
-            return self.sample(listing, instruction, compared);
-        }
-        if opcode == ops::FUNCTION_CALL {
-            return self.call(listing, instruction);
-        }
-        if is_atomic(opcode) {
-            return self.change(listing, instruction);
-        }
-        self.numbered |= is_numbered(listing, instruction);
-        self.placed |= opcode == ops::IMAGE_READ && reads_attachment(listing, instruction);
-        Ok(())
     }
 
     // The members of blocks that an access chain goes through.
-    fn touch(&mut self, listing: &Listing, chain: &Instruction) -> Result<(), SpirvError> {
-        let base = listing.need(chain, 0)?;
+    fn touch(&mut self, listing: &Listing, chain: &Instruction, failed: &mut Failure) {
+        let base = need(listing, chain, 0, failed);
         let Some(mut ty) = pointee(listing, listing.defined(base).ty) else {
-            return Ok(());
+            return;
         };
         for index in listing.operands_from(chain, 1) {
-            let part = part_at(listing, ty, *index, chain)?;
-            if part.member.is_some() {
-                self.touch_member(listing, part.from, part.member);
+            match part_at(listing, ty, *index, chain) {
+                Ok(part) => {
+                    self.touch_member(listing, part.from, part.member);
+                    ty = part.ty;
+                }
+                Err(error) => {
+                    failed.fail(error);
+                    return;
+                }
             }
-            ty = part.ty;
         }
-        Ok(())
     }
 
+    // What is said of a member of a block; nothing where it is none.
     fn touch_member(&mut self, listing: &Listing, ty: u32, member: Option<u32>) {
+        if member.is_none() {
+            return;
+        }
         for place in listing.decorations(ty, member) {
             let decoration = listing.at(*place);
             // a group's decorations speak of no member
@@ -359,42 +359,40 @@ impl Uses {
         listing: &Listing,
         instruction: &Instruction,
         compared: bool,
-    ) -> Result<(), SpirvError> {
+        failed: &mut Failure,
+    ) {
         let more = Use {
             compared,
             sampled: !compared,
             atomic: false,
         };
-        let image = self.root(listing.need(instruction, 0)?);
+        let image = self.root(need(listing, instruction, 0, failed));
         let made = listing.defined(image);
         if made.opcode == ops::SAMPLED_IMAGE {
-            self.add(listing.need(&made, 0)?, more);
-            self.add(listing.need(&made, 1)?, more);
+            self.add(need(listing, &made, 0, failed), more);
+            self.add(need(listing, &made, 1, failed), more);
         } else {
             self.add(image, more);
         }
-        Ok(())
     }
 
     // What the arguments of a call are used for in the callee, whose parameters stand after its `OpFunction`.
-    fn call(&mut self, listing: &Listing, call: &Instruction) -> Result<(), SpirvError> {
-        let callee = listing.need(call, 0)?;
-        let Some(start) = listing.place_of(callee) else {
-            return Ok(());
+    fn call(&mut self, listing: &Listing, call: &Instruction, failed: &mut Failure) {
+        let callee = need(listing, call, 0, failed);
+        let Some(mut place) = listing.place_of(callee) else {
+            return;
         };
-        let mut place = start;
         for argument in listing.operands_from(call, 1) {
             place = place.saturating_add(1);
             let parameter = listing.at(place);
             if parameter.opcode == ops::FUNCTION_PARAMETER {
                 if self.atomics.has(parameter.id) {
-                    return Err(call.unsupported_by(Feature::AtomicArgument));
+                    failed.fail(call.unsupported_by(Feature::AtomicArgument));
                 }
                 self.add(*argument, self.of(parameter.id));
                 self.pass(parameter.id, *argument);
             }
         }
-        Ok(())
     }
 
     // A call passes this for a parameter.
@@ -409,22 +407,19 @@ impl Uses {
     }
 
     // An atomic operation on a texel or on a part of a variable.
-    fn change(&mut self, listing: &Listing, atomic: &Instruction) -> Result<(), SpirvError> {
-        let pointer = listing.need(atomic, 0)?;
+    fn change(&mut self, listing: &Listing, atomic: &Instruction, failed: &mut Failure) {
+        let pointer = need(listing, atomic, 0, failed);
         let texel = listing.defined(pointer);
         if texel.opcode != ops::IMAGE_TEXEL_POINTER {
             let root = self.root(pointer);
-            return self.atomics.add(listing, pointer, root, atomic);
+            self.atomics.add(listing, pointer, root, atomic, failed);
+            return;
         }
-        let image = listing.need(&texel, 0)?;
-        self.add(
-            image,
-            Use {
-                compared: false,
-                sampled: false,
-                atomic: true,
-            },
-        );
-        Ok(())
+        let more = Use {
+            compared: false,
+            sampled: false,
+            atomic: true,
+        };
+        self.add(need(listing, &texel, 0, failed), more);
     }
 }

@@ -1,7 +1,7 @@
 // The blocks of functions (section 2.2.5).
 
 use spirv_numbers::ops;
-use spirv_words::{FunctionParts, Instruction, Listing, Malformed, SpirvError, number_at};
+use spirv_words::{Failure, FunctionParts, Instruction, Listing, Malformed, as_word, number_at};
 use std::alloc::Global;
 
 /// A block, by the places of its instructions.
@@ -70,84 +70,82 @@ struct Open {
     merge: Option<u32>,
 }
 
-impl Open {
-    // Takes one more instruction; answers the block where this ends it.
-    fn take(&mut self, instruction: &Instruction, place: u32) -> Result<Option<Block>, SpirvError> {
-        if is_end(instruction.opcode) {
-            return Ok(Some(Block {
-                label: self.label,
-                first: self.first,
-                merge: self.merge,
-                end: place,
-            }));
-        }
-        match instruction.opcode {
-            ops::LABEL => Err(instruction.malformed(Malformed::OpenBlock)),
-            ops::SELECTION_MERGE | ops::LOOP_MERGE => {
-                self.merge = Some(place);
-                Ok(None)
-            }
-            _ => Ok(None),
-        }
-    }
-}
-
 impl Blocks {
     /// The blocks of all functions.
-    pub fn of_module(alloc: Global, listing: &Listing) -> Result<Blocks, SpirvError> {
-        let labelled = vec![in alloc; 0u32; listing.bound()]?;
+    pub fn of_module(alloc: Global, listing: &Listing, failed: &mut Failure) -> Blocks {
+        let labelled = failed.table(alloc, 0u32, listing.bound());
         let mut all = Blocks {
             functions: Vec::new(alloc),
             blocks: Vec::new(alloc),
             labelled,
         };
-        all.add_all(listing)?;
-        Ok(all)
-    }
-
-    fn add_all(&mut self, listing: &Listing) -> Result<(), SpirvError> {
         for parts in &listing.parts.functions {
-            self.add_function(listing, *parts)?;
+            all.add_function(listing, *parts, failed);
         }
-        Ok(())
+        all
     }
 
     // The number of the next block.
     fn next(&self) -> u32 {
-        u32::try_from(self.blocks.len()).unwrap_or(u32::MAX)
+        as_word(self.blocks.len())
     }
 
-    fn add_function(&mut self, listing: &Listing, parts: FunctionParts) -> Result<(), SpirvError> {
+    fn add_function(&mut self, listing: &Listing, parts: FunctionParts, failed: &mut Failure) {
         let first = self.next();
-        let mut open: Option<Open> = None;
+        let mut open = None;
         for place in parts.start.saturating_add(1)..parts.end {
             let instruction = listing.at(place);
             open = match open {
-                Some(mut block) => match block.take(&instruction, place)? {
-                    None => Some(block),
-                    Some(whole) => {
-                        self.add_block(whole)?;
-                        None
-                    }
-                },
-                None => begin(&instruction, place)?,
+                Some(block) => self.take(block, &instruction, place, failed),
+                None => begin(&instruction, place, failed),
             };
         }
         if open.is_some() {
-            return Err(listing.at(parts.end).malformed(Malformed::OpenBlock));
+            failed.fail(listing.at(parts.end).malformed(Malformed::OpenBlock));
         }
         let end = self.next();
-        self.functions.push(FunctionBlocks { parts, first, end })?;
-        Ok(())
+        failed.push(&mut self.functions, FunctionBlocks { parts, first, end });
     }
 
-    fn add_block(&mut self, block: Block) -> Result<(), SpirvError> {
+    // Takes one more instruction to a block, which ends it or not.
+    fn take(
+        &mut self,
+        open: Open,
+        instruction: &Instruction,
+        place: u32,
+        failed: &mut Failure,
+    ) -> Option<Open> {
+        match instruction.opcode {
+            ops::SELECTION_MERGE | ops::LOOP_MERGE => Some(Open {
+                label: open.label,
+                first: open.first,
+                merge: Some(place),
+            }),
+            ops::LABEL => {
+                failed.fail(instruction.malformed(Malformed::OpenBlock));
+                None
+            }
+            opcode if is_end(opcode) => {
+                self.add_block(&open, place, failed);
+                None
+            }
+            _ => Some(open),
+        }
+    }
+
+    // Ends a block with the instruction at this place.
+    fn add_block(&mut self, open: &Open, end: u32, failed: &mut Failure) {
         let number = self.next().saturating_add(1);
-        if let Some(at) = self.labelled.get_mut(block.label as usize) {
+        if let Some(at) = self.labelled.get_mut(open.label as usize) {
             *at = number;
         }
-        self.blocks.push(block)?;
-        Ok(())
+        let block = Block {
+            label: open.label,
+            first: open.first,
+            merge: open.merge,
+            end,
+        };
+        failed.push(&mut self.blocks, block);
     }
 
     /// The number of the block with this label, if it is one of the function's.
@@ -168,17 +166,16 @@ impl Blocks {
 }
 
 // What an instruction outside of blocks begins.
-fn begin(instruction: &Instruction, place: u32) -> Result<Option<Open>, SpirvError> {
+fn begin(instruction: &Instruction, place: u32, failed: &mut Failure) -> Option<Open> {
     if instruction.opcode == ops::LABEL {
-        return Ok(Some(Open {
+        return Some(Open {
             label: instruction.id,
             first: place.saturating_add(1),
             merge: None,
-        }));
+        });
     }
-    if is_aside(instruction.opcode) {
-        Ok(None)
-    } else {
-        Err(instruction.malformed(Malformed::Misplaced))
+    if !is_aside(instruction.opcode) {
+        failed.fail(instruction.malformed(Malformed::Misplaced));
     }
+    None
 }

@@ -1,9 +1,10 @@
 // What a branch to a block means.
 
-use std::alloc::{AllocError, Global};
+use spirv_words::Failure;
+use std::alloc::Global;
 
 /// What a branch to a block means. The number says of which construct.
-#[derive(Clone, Copy, PartialEq, Eq)]
+#[derive(Clone, Copy)]
 pub enum Meaning {
     /// It goes on with the block.
     Nothing,
@@ -60,10 +61,12 @@ pub struct Meanings {
 
 impl Meanings {
     /// Each block means nothing.
-    pub fn new(alloc: Global, count: usize) -> Result<Meanings, AllocError> {
-        let now = vec![in alloc; Meaning::Nothing; count]?;
-        let before = Vec::new(alloc);
-        Ok(Meanings { now, before })
+    pub fn new(alloc: Global, count: usize, failed: &mut Failure) -> Meanings {
+        let now = failed.table(alloc, Meaning::Nothing, count);
+        Meanings {
+            now,
+            before: Vec::new(alloc),
+        }
     }
 
     /// What a branch to this block means.
@@ -75,13 +78,12 @@ impl Meanings {
     }
 
     /// It means this from now on.
-    pub fn set(&mut self, block: u32, meaning: Meaning) -> Result<(), AllocError> {
+    pub fn set(&mut self, block: u32, meaning: Meaning, failed: &mut Failure) {
         if let Some(place) = self.now.get_mut(block as usize) {
             let old = *place;
             *place = meaning;
-            self.before.push((block, old))?;
+            failed.push(&mut self.before, (block, old));
         }
-        Ok(())
     }
 
     /// How many meanings were changed.

@@ -1,7 +1,7 @@
 // Where a value is in scope.
 
-use spirv_words::number_at;
-use std::alloc::{AllocError, Global};
+use spirv_words::{Failure, as_word, number_at};
+use std::alloc::Global;
 
 /// The scopes of all functions, numbered as they are opened, so that those inside a scope have the numbers after its own.
 #[derive(Drop)]
@@ -16,30 +16,25 @@ pub struct Scopes {
 
 impl Scopes {
     /// None.
-    pub fn new(alloc: Global, blocks: usize) -> Result<Scopes, AllocError> {
-        let of_block = vec![in alloc; 0u32; blocks]?;
-        Ok(Scopes {
+    pub fn new(alloc: Global, blocks: usize, failed: &mut Failure) -> Scopes {
+        let of_block = failed.table(alloc, 0u32, blocks);
+        Scopes {
             ends: Vec::new(alloc),
             of_block,
             open: Vec::new(alloc),
-        })
-    }
-
-    fn next(&self) -> u32 {
-        u32::try_from(self.ends.len()).unwrap_or(u32::MAX)
+        }
     }
 
     /// Opens one inside the innermost that is open.
-    pub fn open(&mut self) -> Result<(), AllocError> {
-        let number = self.next();
-        self.ends.push(u32::MAX)?;
-        self.open.push(number)?;
-        Ok(())
+    pub fn open(&mut self, failed: &mut Failure) {
+        let number = as_word(self.ends.len());
+        failed.push(&mut self.ends, u32::MAX);
+        failed.push(&mut self.open, number);
     }
 
     /// Closes the innermost.
     pub fn close(&mut self) {
-        let next = self.next();
+        let next = as_word(self.ends.len());
         if let Some(number) = self.open.pop() {
             if let Some(end) = self.ends.get_mut(number as usize) {
                 *end = next;

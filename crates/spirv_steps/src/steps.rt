@@ -57,7 +57,7 @@ pub struct BreakIf {
 }
 
 /// The value that chooses a case.
-#[derive(Clone, Copy, PartialEq, Eq)]
+#[derive(Clone, Copy)]
 pub enum Choice {
     /// A word.
     Word(u32),

@@ -1,15 +1,22 @@
 // The cases of switches, and in which order they stand.
 
 use crate::steps::{Case, CaseBody, Choice, Step};
-use spirv_words::{Feature, Groups, SpirvError, number_at};
-use std::alloc::{AllocError, Global};
+use spirv_words::{Failure, Feature, Groups, SpirvError, as_word, number_at};
+use std::alloc::Global;
 
 // To which block a case goes on.
-#[derive(Clone, Copy, PartialEq, Eq)]
+#[derive(Clone, Copy)]
 enum Falls {
     Nowhere,
     To(u32),
     ToSeveral,
+}
+
+impl Falls {
+    // Whether it is this block.
+    fn is_to(self, block: u32) -> bool {
+        matches!(self, Falls::To(to) if to == block)
+    }
 }
 
 // A block that a switch goes to.
@@ -78,9 +85,9 @@ pub struct Switches {
 
 impl Switches {
     /// None.
-    pub fn new(alloc: Global, blocks: usize) -> Result<Switches, AllocError> {
-        let target_of = vec![in alloc; 0u32; blocks]?;
-        Ok(Switches {
+    pub fn new(alloc: Global, blocks: usize, failed: &mut Failure) -> Switches {
+        let target_of = failed.table(alloc, 0u32, blocks);
+        Switches {
             alloc,
             cases: Vec::new(alloc),
             open: Vec::new(alloc),
@@ -88,7 +95,7 @@ impl Switches {
             choices: Vec::new(alloc),
             target_of,
             pending: Falls::Nowhere,
-        })
+        }
     }
 
     /// Opens the switch at the end of a block, for which this step is kept.
@@ -99,8 +106,9 @@ impl Switches {
         word: u32,
         step: u32,
         merge: u32,
-    ) -> Result<(), AllocError> {
-        self.open.push(Open {
+        failed: &mut Failure,
+    ) {
+        let open = Open {
             looping,
             leaves: false,
             block,
@@ -113,8 +121,8 @@ impl Switches {
             alone: false,
             next: self.targets.len(),
             current: 0,
-        })?;
-        Ok(())
+        };
+        failed.push(&mut self.open, open);
     }
 
     /// The cases of those that are ended.
@@ -144,41 +152,40 @@ impl Switches {
     }
 
     // The target of the innermost switch that the block is; a new one where it is none.
-    fn target(&mut self, block: u32) -> Result<(usize, bool), AllocError> {
+    fn target(&mut self, block: u32, failed: &mut Failure) -> (usize, bool) {
         let first = self.innermost().targets;
         let known = number_at(&self.target_of, block) as usize;
         if known > first {
-            return Ok((known.saturating_sub(1), false));
+            return (known.saturating_sub(1), false);
         }
         let number = self.targets.len();
-        self.targets.push(Target {
+        let target = Target {
             block,
             start: 0,
             falls: Falls::Nowhere,
-        })?;
+        };
+        failed.push(&mut self.targets, target);
         if let Some(place) = self.target_of.get_mut(block as usize) {
-            *place = u32::try_from(number.saturating_add(1)).unwrap_or(u32::MAX);
+            *place = as_word(number.saturating_add(1));
         }
-        Ok((number, true))
+        (number, true)
     }
 
     /// A word that chooses a block.
-    pub fn add(&mut self, block: u32, word: u32) -> Result<(), AllocError> {
+    pub fn add(&mut self, block: u32, word: u32, failed: &mut Failure) {
         let first = self.innermost().targets;
-        let (number, _) = self.target(block)?;
-        let place = u32::try_from(number.saturating_sub(first)).unwrap_or(u32::MAX);
-        self.choices.push((place, word))?;
-        Ok(())
+        let (number, _) = self.target(block, failed);
+        let place = as_word(number.saturating_sub(first));
+        failed.push(&mut self.choices, (place, word));
     }
 
     /// The block that is chosen where no word is.
-    pub fn add_default(&mut self, block: u32) -> Result<(), AllocError> {
-        let (number, alone) = self.target(block)?;
+    pub fn add_default(&mut self, block: u32, failed: &mut Failure) {
+        let (number, alone) = self.target(block, failed);
         if let Some(open) = self.open.last_mut() {
             open.default = number;
             open.alone = alone;
         }
-        Ok(())
     }
 
     /// The targets of the innermost switch, by their numbers.
@@ -215,7 +222,7 @@ impl Switches {
         for number in self.innermost().next..self.targets.len() {
             if let Some(block) = self.block_of(number) {
                 self.begin_target(number, step);
-                return Some((u32::try_from(number).unwrap_or(u32::MAX), block));
+                return Some((as_word(number), block));
             }
         }
         None
@@ -258,22 +265,22 @@ impl Switches {
 
     /// Ends the innermost switch, whose last case ends before this step. Answers the step that was kept for it, what
     /// stands there, and the block where it merges.
-    pub fn close(&mut self, after: u32) -> Result<(u32, Step, u32), SpirvError> {
+    pub fn close(&mut self, after: u32, failed: &mut Failure) -> (u32, Step, u32) {
         let open = self.innermost();
-        let first = u32::try_from(self.cases.len()).unwrap_or(u32::MAX);
+        let first = as_word(self.cases.len());
         let choices = self.choices.get(open.choices..).unwrap_or(&[]);
         let count = self.targets.len().saturating_sub(open.targets);
-        let words = Groups::of_pairs(self.alloc, count, choices)?;
-        self.list_cases(&open, &words)?;
+        let words = failed.groups(self.alloc, count, choices);
+        self.list_cases(&open, &words, failed);
+        drop(words);
         self.forget(&open);
-        let end = u32::try_from(self.cases.len()).unwrap_or(u32::MAX);
         let step = Step::Switch {
             block: open.block,
             first,
-            count: end.saturating_sub(first),
+            count: as_word(self.cases.len()).saturating_sub(first),
             after,
         };
-        Ok((open.step, step, open.merge))
+        (open.step, step, open.merge)
     }
 
     // The switch is ended.
@@ -288,75 +295,65 @@ impl Switches {
         let _ = self.open.pop();
     }
 
-    // The target after which the default stands, or before which, where it is listed by no word: after the one that
-    // goes on with it, before the one that it goes on with.
-    fn place_of_default(&self, open: &Open) -> (Option<usize>, Option<usize>) {
+    // The target before which the default stands, where it is listed by no word: after the one that goes on with it, before
+    // the one that it goes on with, else last.
+    fn place_of_default(&self, open: &Open) -> usize {
+        let mut place = open.default;
         let Some(default) = self.targets.get(open.default) else {
-            return (None, None);
+            return place;
         };
-        let mut before = None;
         for number in open.targets..self.targets.len() {
             if let Some(target) = self.targets.get(number) {
-                if target.falls == Falls::To(default.block) && number != open.default {
-                    return (Some(number), None);
+                if number != open.default && target.falls.is_to(default.block) {
+                    return number.saturating_add(1);
                 }
-                if default.falls == Falls::To(target.block) {
-                    before = Some(number);
+                if default.falls.is_to(target.block) {
+                    place = number;
                 }
             }
         }
-        (None, before)
+        place
     }
 
     // Lists the cases of a switch in their order.
-    fn list_cases(&mut self, open: &Open, words: &Groups) -> Result<(), SpirvError> {
-        let (after, before) = if open.alone {
-            self.place_of_default(open)
-        } else {
-            (None, None)
-        };
-        let end = if open.alone {
-            open.default
-        } else {
-            self.targets.len()
-        };
+    fn list_cases(&mut self, open: &Open, words: &Groups, failed: &mut Failure) {
+        let mut end = self.targets.len();
+        let mut place = end;
+        if open.alone {
+            end = open.default;
+            place = self.place_of_default(open);
+        }
         for number in open.targets..end {
-            if before == Some(number) {
-                self.list_case(open, words, open.default)?;
+            if number == place {
+                self.list_case(open, words, open.default, failed);
             }
-            self.list_case(open, words, number)?;
-            if after == Some(number) {
-                self.list_case(open, words, open.default)?;
-            }
+            self.list_case(open, words, number, failed);
         }
-        if open.alone && after.is_none() && before.is_none() {
-            self.list_case(open, words, open.default)?;
+        if open.alone && place >= end {
+            self.list_case(open, words, open.default, failed);
         }
-        self.end_list(open)
-    }
-
-    // Nothing is after the last case that it could go on with.
-    fn end_list(&mut self, open: &Open) -> Result<(), SpirvError> {
-        match self.pending {
-            Falls::Nowhere => Ok(()),
-            Falls::To(_) | Falls::ToSeveral => Err(not_next(open)),
+        // nothing is after the last case that it could go on with
+        if !matches!(self.pending, Falls::Nowhere) {
+            failed.fail(not_next(open));
         }
     }
 
     // Lists what chooses a target, and its body with the last of these.
-    fn list_case(&mut self, open: &Open, words: &Groups, number: usize) -> Result<(), SpirvError> {
+    fn list_case(&mut self, open: &Open, words: &Groups, number: usize, failed: &mut Failure) {
         let Some(target) = self.targets.get(number).copied() else {
-            return Ok(());
+            return;
         };
-        if self.pending != Falls::Nowhere && self.pending != Falls::To(target.block) {
-            return Err(not_next(open));
+        match self.pending {
+            Falls::Nowhere => {}
+            Falls::To(block) if block == target.block => {}
+            Falls::To(_) | Falls::ToSeveral => failed.fail(not_next(open)),
         }
         self.pending = target.falls;
         for word in words.of(number.saturating_sub(open.targets)) {
-            self.list_choice(Choice::Word(*word))?;
+            failed.push(&mut self.cases, empty_case(Choice::Word(*word)));
         }
         if number == open.default {
-            self.list_choice(Choice::Default)?;
+            failed.push(&mut self.cases, empty_case(Choice::Default));
         }
         if let Some(case) = self.cases.last_mut() {
             case.body = if target.block == open.merge {
@@ -364,19 +361,17 @@ impl Switches {
             } else {
                 CaseBody::Steps(target.start)
             };
-            case.falls_through = target.falls != Falls::Nowhere;
+            case.falls_through = !matches!(target.falls, Falls::Nowhere);
         }
-        Ok(())
     }
+}
 
-    // One choice, which so far does nothing and goes on with the next one.
-    fn list_choice(&mut self, choice: Choice) -> Result<(), AllocError> {
-        self.cases.push(Case {
-            choice,
-            body: CaseBody::Empty,
-            falls_through: true,
-        })?;
-        Ok(())
+// A case that does nothing and goes on with the next one.
+fn empty_case(choice: Choice) -> Case {
+    Case {
+        choice,
+        body: CaseBody::Empty,
+        falls_through: true,
     }
 }
 

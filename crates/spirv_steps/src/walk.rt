@@ -6,7 +6,9 @@ use crate::scopes::Scopes;
 use crate::steps::{BreakIf, Case, Step};
 use crate::switches::Switches;
 use spirv_numbers::ops;
-use spirv_words::{Feature, FunctionParts, Instruction, Listing, Malformed, SpirvError};
+use spirv_words::{
+    Failure, Feature, FunctionParts, Instruction, Listing, Malformed, as_word, number_at,
+};
 use std::alloc::Global;
 
 // How deep control flow may nest: the statements that are made of it are gone through by recursion.
@@ -74,7 +76,7 @@ pub struct Walk<'a> {
     // the loops that are open and left from a switch in them
     flagged: Vec<u32>,
     // what is wrong first
-    failed: Option<SpirvError>,
+    failed: Failure,
 }
 
 // The block where the walk goes on; none where a path ends.
@@ -82,24 +84,20 @@ type Next = Option<u32>;
 
 impl<'a> Walk<'a> {
     /// One that has walked nothing.
-    pub fn new(
-        alloc: Global,
-        listing: &'a Listing,
-        blocks: &'a Blocks,
-    ) -> Result<Walk<'a>, SpirvError> {
+    pub fn new(alloc: Global, listing: &'a Listing, blocks: &'a Blocks) -> Walk<'a> {
         let count = blocks.blocks.len();
-        let switches = Switches::new(alloc, count)?;
-        let meanings = Meanings::new(alloc, count)?;
-        let scopes = Scopes::new(alloc, count)?;
-        let none = FunctionBlocks {
-            parts: FunctionParts { start: 0, end: 0 },
-            first: 0,
-            end: 0,
-        };
-        Ok(Walk {
+        let mut failed = Failure::NONE;
+        let switches = Switches::new(alloc, count, &mut failed);
+        let meanings = Meanings::new(alloc, count, &mut failed);
+        let scopes = Scopes::new(alloc, count, &mut failed);
+        Walk {
             listing,
             blocks,
-            function: none,
+            function: FunctionBlocks {
+                parts: FunctionParts { start: 0, end: 0 },
+                first: 0,
+                end: 0,
+            },
             steps: Vec::new(alloc),
             frames: Vec::new(alloc),
             meanings,
@@ -108,12 +106,12 @@ impl<'a> Walk<'a> {
             environment: Environment::START,
             tokens: 0,
             flagged: Vec::new(alloc),
-            failed: None,
-        })
+            failed,
+        }
     }
 
-    /// What it has walked.
-    pub fn finish(self) -> Steps {
+    /// What it has walked, and what was wrong first.
+    pub fn finish(self, failed: &mut Failure) -> Steps {
         let Walk {
             listing: _,
             blocks: _,
@@ -126,8 +124,11 @@ impl<'a> Walk<'a> {
             environment: _,
             tokens: _,
             flagged,
-            failed: _,
+            failed: own,
         } = self;
+        if let Some(error) = own.first {
+            failed.fail(error);
+        }
         drop(frames);
         drop(meanings);
         drop(flagged);
@@ -140,79 +141,68 @@ impl<'a> Walk<'a> {
 
     /// How many steps there are.
     pub fn count(&self) -> u32 {
-        u32::try_from(self.steps.len()).unwrap_or(u32::MAX)
+        as_word(self.steps.len())
     }
 
     /// Walks the blocks of a function.
-    pub fn walk_function(&mut self, function: FunctionBlocks) -> Result<(), SpirvError> {
+    pub fn walk_function(&mut self, function: FunctionBlocks) {
         self.function = function;
         self.environment = Environment::START;
         self.open_scope();
-        if function.first >= function.end {
-            let end = self.listing.at(function.parts.end);
-            return Err(end.unsupported_by(Feature::NoBody));
+        let mut next = None;
+        if function.first < function.end {
+            next = Some(function.first);
+        } else {
+            self.fail_at(function.parts.end, Feature::NoBody);
         }
-        let mut next = Some(function.first);
         let words = function.parts.end.saturating_sub(function.parts.start);
         for _ in 0..u64::from(words).saturating_mul(16).saturating_add(64) {
-            next = match next {
-                Some(block) => self.visit(block),
-                None => match self.frames.pop() {
+            next = match (next, self.failed.first) {
+                (_, Some(_)) => return,
+                (Some(block), None) => self.visit(block),
+                (None, None) => match self.frames.pop() {
                     Some(frame) => self.leave(frame),
                     None => {
                         self.scopes.close();
                         self.meanings.undo(0);
-                        return Ok(());
+                        return;
                     }
                 },
             };
-            if let Some(error) = self.failed {
-                return Err(error);
-            }
         }
-        let start = self.listing.at(function.parts.start);
-        Err(start.unsupported_by(Feature::ControlFlow))
+        self.fail_at(function.parts.start, Feature::ControlFlow);
     }
 
-    // Something is wrong.
-    fn fail(&mut self, error: SpirvError) {
-        if self.failed.is_none() {
-            self.failed = Some(error);
-        }
+    // This of the instruction at this place is not translated.
+    fn fail_at(&mut self, place: u32, feature: Feature) {
+        let error = self.listing.at(place).unsupported_by(feature);
+        self.failed.fail(error);
     }
 
     // Control flow that is not structured as it is wanted here, at this block.
     fn refuse(&mut self, feature: Feature, block: u32) {
-        let error = self.end_of(block).unsupported_by(feature);
-        self.fail(error);
+        let end = self.block(block).end;
+        self.fail_at(end, feature);
     }
 
     // A step more.
     fn add(&mut self, step: Step) {
-        if self.steps.push(step).is_err() {
-            self.fail(SpirvError::Memory);
-        }
+        self.failed.push(&mut self.steps, step);
     }
 
     // Opens a construct.
     fn open(&mut self, frame: Frame) {
-        if self.frames.push(frame).is_err() {
-            self.fail(SpirvError::Memory);
-        }
+        self.failed.push(&mut self.frames, frame);
     }
 
     // Opens a scope inside the innermost one.
     fn open_scope(&mut self) {
-        if self.scopes.open().is_err() {
-            self.fail(SpirvError::Memory);
-        }
+        self.scopes.open(&mut self.failed);
     }
 
     // A branch to a block means this from now on.
     fn set_meaning(&mut self, block: u32, meaning: Meaning) {
-        if self.meanings.set(block, meaning).is_err() {
-            self.fail(SpirvError::Memory);
-        }
+        self.meanings.set(block, meaning, &mut self.failed);
     }
 
     // The block with this number, which is one.
@@ -228,22 +218,17 @@ impl<'a> Walk<'a> {
         }
     }
 
-    // The instruction that ends a block.
-    fn end_of(&self, block: u32) -> Instruction {
-        self.listing.at(self.block(block).end)
-    }
-
     // The block that an operand names; none is wrong.
     fn target(&mut self, instruction: &Instruction, place: usize) -> Option<u32> {
-        let Some(label) = self.listing.operand(instruction, place) else {
-            self.fail(instruction.malformed(Malformed::MissingOperand));
-            return None;
+        let what = match self.listing.operand(instruction, place) {
+            Some(label) => match self.blocks.labelled(&self.function, label) {
+                Some(block) => return Some(block),
+                None => Malformed::NoBlock,
+            },
+            None => Malformed::MissingOperand,
         };
-        let block = self.blocks.labelled(&self.function, label);
-        if block.is_none() {
-            self.fail(instruction.malformed(Malformed::NoBlock));
-        }
-        block
+        self.failed.fail(instruction.malformed(what));
+        None
     }
 
     // Walks to a block: does what a branch there means, or the block's own instructions. Answers where to go on.
@@ -260,31 +245,38 @@ impl<'a> Walk<'a> {
     // A branch to a block that means something.
     fn branch(&mut self, block: u32, meaning: Meaning) {
         let here = self.environment;
-        match meaning {
-            Meaning::Nothing => {}
-            Meaning::Merge(token) if token == here.selection => {}
-            Meaning::Fall(token) if token == here.selection => self.switches.fall(here.case, block),
-            Meaning::Merge(_) | Meaning::Fall(_) => self.refuse(Feature::BranchOutOfTwo, block),
-            Meaning::Break(token) if token < here.floor => {
-                self.refuse(Feature::BreakInContinuing, block);
+        let refused = match meaning {
+            Meaning::Nothing => return,
+            Meaning::Merge(token) | Meaning::Fall(token) if token != here.selection => {
+                Feature::BranchOutOfTwo
             }
-            Meaning::Break(token) if token == here.breakable => self.add(Step::Break),
-            Meaning::Break(token) if token == here.looping => self.leave_loop(token),
-            Meaning::Break(_) => self.refuse(Feature::OuterBreak, block),
-            Meaning::Continue(token) if token == here.looping => self.add(Step::Continue),
-            Meaning::Continue(_) => self.refuse(Feature::OuterContinue, block),
-            Meaning::Back(token) if token == here.back => {}
-            Meaning::Back(_) => self.refuse(Feature::OuterHeader, block),
+            Meaning::Merge(_) => return,
+            Meaning::Fall(_) => return self.switches.fall(here.case, block),
+            Meaning::Break(token) if token < here.floor => Feature::BreakInContinuing,
+            Meaning::Break(token) if token == here.breakable => return self.add(Step::Break),
+            Meaning::Break(token) if token == here.looping => return self.leave_loop(token),
+            Meaning::Break(_) => Feature::OuterBreak,
+            Meaning::Continue(token) if token == here.looping => return self.add(Step::Continue),
+            Meaning::Continue(_) => Feature::OuterContinue,
+            Meaning::Back(token) if token == here.back => return,
+            Meaning::Back(_) => Feature::OuterHeader,
+        };
+        self.refuse(refused, block);
+    }
+
+    // Whether the loop that was left last from a switch in it is this one.
+    fn is_flagged(&self, token: u32) -> bool {
+        match self.flagged.last() {
+            Some(last) => *last == token,
+            None => false,
         }
     }
 
     // Leaves the innermost loop from a switch in it: a flag says so after the switch.
     fn leave_loop(&mut self, token: u32) {
         self.switches.leave(token);
-        if self.flagged.last() != Some(&token) {
-            if self.flagged.push(token).is_err() {
-                self.fail(SpirvError::Memory);
-            }
+        if !self.is_flagged(token) {
+            self.failed.push(&mut self.flagged, token);
         }
         self.add(Step::SetFlag(token));
         self.add(Step::Break);
@@ -292,8 +284,8 @@ impl<'a> Walk<'a> {
 
     // A loop is ended: its flag is taken back where it has one.
     fn end_loop(&mut self, token: u32, condition: Option<BreakIf>) {
-        self.add(Step::EndLoop(condition));
-        if self.flagged.last() == Some(&token) {
+        self.end_scope(Step::EndLoop(condition));
+        if self.is_flagged(token) {
             let _ = self.flagged.pop();
             self.add(Step::ClearFlag(token));
         }
@@ -309,19 +301,16 @@ impl<'a> Walk<'a> {
             self.refuse(Feature::BlockReachedTwice, number);
             return None;
         }
-        let place = match self.block(number).merge {
-            None => return self.finish_block(number, None),
-            Some(place) => place,
-        };
-        let merge = self.listing.at(place);
-        if merge.opcode == ops::SELECTION_MERGE {
-            return match self.target(&merge, 0) {
-                Some(to) => self.finish_block(number, Some(to)),
-                None => None,
-            };
+        let mut selected = None;
+        if let Some(place) = self.block(number).merge {
+            let merge = self.listing.at(place);
+            if merge.opcode == ops::SELECTION_MERGE {
+                selected = self.target(&merge, 0);
+            } else {
+                self.begin_loop(number, &merge);
+            }
         }
-        self.begin_loop(number, &merge);
-        self.finish_block(number, None)
+        self.finish_block(number, selected)
     }
 
     // Opens the loop that this block begins.
@@ -351,7 +340,7 @@ impl<'a> Walk<'a> {
     fn finish_block(&mut self, number: u32, merge: Option<u32>) -> Next {
         self.scopes.enter(number);
         self.add(Step::Block(number));
-        let end = self.end_of(number);
+        let end = self.listing.at(self.block(number).end);
         match end.opcode {
             ops::BRANCH if merge.is_some() => self.refuse(Feature::MergeAtBranch, number),
             ops::BRANCH => return self.target(&end, 0),
@@ -364,9 +353,13 @@ impl<'a> Walk<'a> {
         None
     }
 
+    // Whether a branch to this block goes back to the header of the loop whose continuing part is nearest.
+    fn goes_back(&self, block: u32) -> bool {
+        matches!(self.meanings.of(block), Meaning::Back(token) if token == self.environment.back)
+    }
+
     // Whether the branch is the one that ends a loop: to its header and to its merge.
     fn ends_loop(&mut self, block: u32, accept: u32, reject: u32) -> bool {
-        let back = Meaning::Back(self.environment.back);
         let Some(
             Frame::Continuing {
                 merge,
@@ -378,8 +371,8 @@ impl<'a> Walk<'a> {
         else {
             return false;
         };
-        let accepts = self.meanings.of(accept) == back && reject == merge;
-        let rejects = self.meanings.of(reject) == back && accept == merge;
+        let accepts = reject == merge && self.goes_back(accept);
+        let rejects = accept == merge && self.goes_back(reject);
         if !accepts && !rejects {
             return false;
         }
@@ -425,7 +418,7 @@ impl<'a> Walk<'a> {
 
     // A selection ends at this block, unless a branch there means something else.
     fn merge_at(&mut self, to: u32) {
-        if self.meanings.of(to) == Meaning::Nothing {
+        if matches!(self.meanings.of(to), Meaning::Nothing) {
             let token = self.token();
             self.set_meaning(to, Meaning::Merge(token));
             self.environment.selection = token;
@@ -442,10 +435,7 @@ impl<'a> Walk<'a> {
         let token = self.token();
         let fall = self.token();
         self.set_meaning(to, Meaning::Break(token));
-        if let Err(error) = self.add_targets(number, end, to) {
-            self.fail(error);
-            return None;
-        }
+        self.add_targets(number, end, to);
         for target in self.switches.first()..self.switches.count() {
             if let Some(block) = self.switches.block_of(target) {
                 self.set_meaning(block, Meaning::Fall(fall));
@@ -457,39 +447,48 @@ impl<'a> Walk<'a> {
     }
 
     // The values and blocks that a switch names; a value of two words is chosen by its place among them.
-    fn add_targets(&mut self, number: u32, end: &Instruction, to: u32) -> Result<(), SpirvError> {
+    fn add_targets(&mut self, number: u32, end: &Instruction, to: u32) {
         let step = self.count();
         self.add(Step::Kill);
         let looping = self.environment.looping;
-        self.switches.open(looping, number, end.start, step, to)?;
-        let words = self.words_of(end)?;
+        self.switches
+            .open(looping, number, end.start, step, to, &mut self.failed);
+        let words = self.words_of(end);
         let mut at = 2usize;
         for place in 0..u32::MAX {
             let label = at.saturating_add(words);
-            if label >= self.listing.operands(end).len() {
+            let (Some(word), Some(_)) = (
+                self.listing.operand(end, at),
+                self.listing.operand(end, label),
+            ) else {
                 break;
-            }
-            let word = self.listing.need(end, at)?;
+            };
             if let Some(block) = self.target(end, label) {
-                self.switches
-                    .add(block, if words == 1 { word } else { place })?;
+                let chosen = if words == 1 { word } else { place };
+                self.switches.add(block, chosen, &mut self.failed);
             }
             at = label.saturating_add(1);
         }
         if let Some(default) = self.target(end, 1) {
-            self.switches.add_default(default)?;
+            self.switches.add_default(default, &mut self.failed);
         }
-        Ok(())
     }
 
     // How many words each value of a switch has.
-    fn words_of(&self, end: &Instruction) -> Result<usize, SpirvError> {
-        let selector = self.listing.need(end, 0)?;
+    fn words_of(&mut self, end: &Instruction) -> usize {
+        let Some(selector) = self.listing.operand(end, 0) else {
+            self.failed.fail(end.malformed(Malformed::MissingOperand));
+            return 1;
+        };
         let ty = self.listing.defined(self.listing.defined(selector).ty);
         match self.listing.operand(&ty, 0) {
-            Some(16 | 32) if ty.opcode == ops::TYPE_INT => Ok(1),
-            Some(64) if ty.opcode == ops::TYPE_INT => Ok(2),
-            _ => Err(end.unsupported_by(Feature::SwitchSelector)),
+            Some(16 | 32) if ty.opcode == ops::TYPE_INT => 1,
+            Some(64) if ty.opcode == ops::TYPE_INT => 2,
+            _ => {
+                self.failed
+                    .fail(end.unsupported_by(Feature::SwitchSelector));
+                1
+            }
         }
     }
 
@@ -511,13 +510,7 @@ impl<'a> Walk<'a> {
     // Ends the innermost switch, whose last case ends before this step.
     fn end_switch(&mut self, step: u32, outside: Environment) -> Next {
         let left = self.switches.left();
-        let (at, whole, merge) = match self.switches.close(step) {
-            Ok(closed) => closed,
-            Err(error) => {
-                self.fail(error);
-                return None;
-            }
-        };
+        let (at, whole, merge) = self.switches.close(step, &mut self.failed);
         if let Some(place) = self.steps.get_mut(at as usize) {
             *place = whole;
         }
@@ -555,15 +548,13 @@ impl<'a> Walk<'a> {
                 merge,
                 outside,
             } => {
-                self.scopes.close();
-                self.add(Step::Else);
+                self.end_scope(Step::Else);
                 self.open_scope();
                 self.open(Frame::Reject { merge, outside });
                 reject
             }
             Frame::Reject { merge, outside } => {
-                self.scopes.close();
-                self.add(Step::EndIf);
+                self.end_scope(Step::EndIf);
                 self.restore(outside);
                 merge
             }
@@ -580,7 +571,6 @@ impl<'a> Walk<'a> {
                 outside,
             } => {
                 self.scopes.close();
-                self.scopes.close();
                 self.end_loop(token, condition);
                 self.restore(outside);
                 Some(merge)
@@ -589,10 +579,15 @@ impl<'a> Walk<'a> {
         }
     }
 
+    // Ends the innermost scope with this step.
+    fn end_scope(&mut self, step: Step) {
+        self.scopes.close();
+        self.add(step);
+    }
+
     // Ends a case of the innermost switch.
     fn end_case(&mut self, outside: Environment) -> Next {
-        self.scopes.close();
-        self.add(Step::EndCase);
+        self.end_scope(Step::EndCase);
         if let Some(block) = self.switches.walked() {
             self.set_meaning(block, Meaning::Fall(self.environment.selection));
         }
