@@ -7,26 +7,25 @@ use spirv_words::{Instruction, Listing, SpirvError, Unsupported};
 
 /// The scalar of a type of numbers.
 pub fn scalar_type(listing: &Listing, instruction: &Instruction) -> Result<Scalar, SpirvError> {
-    let bits = listing.need(instruction, 0)?;
-    let kind = if instruction.opcode == ops::TYPE_FLOAT {
-        ScalarKind::Float
-    } else if listing.need(instruction, 1)? == 1 {
-        ScalarKind::Sint
+    let bits = match listing.need(instruction, 0) {
+        Ok(bits) => bits,
+        Err(error) => return Err(error),
+    };
+    let (kind, unsupported) = if instruction.opcode == ops::TYPE_FLOAT {
+        (ScalarKind::Float, Unsupported::FloatWidth(bits))
     } else {
-        ScalarKind::Uint
+        let kind = match listing.need(instruction, 1) {
+            Ok(1) => ScalarKind::Sint,
+            Ok(_) => ScalarKind::Uint,
+            Err(error) => return Err(error),
+        };
+        (kind, Unsupported::IntWidth(bits))
     };
     let width = match bits {
         16 => 2,
         32 => 4,
         64 => 8,
-        _ => {
-            let what = if kind == ScalarKind::Float {
-                Unsupported::FloatWidth(bits)
-            } else {
-                Unsupported::IntWidth(bits)
-            };
-            return Err(instruction.unsupported_as(what));
-        }
+        _ => return Err(instruction.unsupported_as(unsupported)),
     };
     Ok(Scalar { kind, width })
 }
@@ -36,7 +35,10 @@ pub fn image_format(
     listing: &Listing,
     instruction: &Instruction,
 ) -> Result<StorageFormat, SpirvError> {
-    let number = listing.need(instruction, 6)?;
+    let number = match listing.need(instruction, 6) {
+        Ok(number) => number,
+        Err(error) => return Err(error),
+    };
     match format(number) {
         Some(format) => Ok(format),
         None => Err(instruction.unsupported_as(Unsupported::Format(number))),

@@ -68,7 +68,10 @@ pub fn folded(opcode: u16, to: Scalar, from: Scalar, values: [i64; 3]) -> Option
         ops::LOGICAL_NOT => u64::from(pair.left == 0),
         _ => match compared(opcode, &pair) {
             Some(holds) => u64::from(holds),
-            None => combined(opcode, &pair)?,
+            None => match combined(opcode, &pair) {
+                Some(bits) => bits,
+                None => return None,
+            },
         },
     };
     match to.kind {
@@ -108,15 +111,9 @@ fn combined(opcode: u16, pair: &Pair) -> Option<u64> {
         ops::BITWISE_AND => Some(pair.left & pair.right),
         ops::U_DIV => pair.left.checked_div(pair.right),
         ops::U_MOD => pair.left.checked_rem(pair.right),
-        ops::S_DIV => {
-            let quotient = pair.signed_left.checked_div(pair.signed_right)?;
-            Some(quotient.cast_unsigned())
-        }
-        ops::S_REM => {
-            let remainder = pair.signed_left.checked_rem(pair.signed_right)?;
-            Some(remainder.cast_unsigned())
-        }
-        ops::S_MOD => signed_modulo(pair),
+        ops::S_DIV => unsigned(pair.signed_left.checked_div(pair.signed_right)),
+        ops::S_REM => unsigned(pair.signed_left.checked_rem(pair.signed_right)),
+        ops::S_MOD => unsigned(signed_modulo(pair)),
         ops::SHIFT_LEFT_LOGICAL if pair.right < pair.bits => {
             Some(pair.left << (pair.right % 64))
         }
@@ -130,15 +127,21 @@ fn combined(opcode: u16, pair: &Pair) -> Option<u64> {
     }
 }
 
+// The bits of a number.
+fn unsigned(value: Option<i64>) -> Option<u64> {
+    match value {
+        Some(value) => Some(value.cast_unsigned()),
+        None => None,
+    }
+}
+
 // The remainder with the sign of the divisor.
-fn signed_modulo(pair: &Pair) -> Option<u64> {
+fn signed_modulo(pair: &Pair) -> Option<i64> {
     let right = pair.signed_right;
-    let remainder = pair.signed_left.checked_rem(right)?;
-    let is_other = remainder != 0 && (remainder < 0) != (right < 0);
-    let modulo = if is_other {
-        remainder.checked_add(right)?
-    } else {
-        remainder
-    };
-    Some(modulo.cast_unsigned())
+    match pair.signed_left.checked_rem(right) {
+        Some(remainder) if remainder != 0 && (remainder < 0) != (right < 0) => {
+            remainder.checked_add(right)
+        }
+        remainder => remainder,
+    }
 }

@@ -2,7 +2,7 @@
 
 use spirv_flow::pointee;
 use spirv_numbers::{numbers, ops};
-use spirv_words::{Instruction, Listing, SpirvError, Unsupported};
+use spirv_words::{Failure, Instruction, Listing, Malformed, SpirvError, Unsupported};
 use std::alloc::Global;
 
 // What is known of an id.
@@ -35,9 +35,10 @@ pub struct Scan {
 impl Scan {
     /// Finds it in the declarations of a module, which have no decoration that is not translated.
     pub fn of_module(alloc: Global, listing: &Listing) -> Result<Scan, SpirvError> {
-        refuse_decorations(listing)?;
+        let mut failed = Failure::NONE;
+        refuse_decorations(listing, &mut failed);
         let mut scan = Scan {
-            known: vec![in alloc; NOTHING; listing.bound()]?,
+            known: failed.table(alloc, NOTHING, listing.bound()),
         };
         for place in &listing.parts.entry_points {
             scan.take_entry(listing.operands(&listing.at(*place)));
@@ -45,7 +46,7 @@ impl Scan {
         for place in &listing.parts.declarations {
             scan.take(listing, &listing.at(*place));
         }
-        Ok(scan)
+        failed.answer(scan)
     }
 
     fn at(&self, id: u32) -> Known {
@@ -140,7 +141,7 @@ fn is_refused(number: u32) -> bool {
 }
 
 // Refuses decorations that are not translated.
-fn refuse_decorations(listing: &Listing) -> Result<(), SpirvError> {
+fn refuse_decorations(listing: &Listing, failed: &mut Failure) {
     for place in &listing.parts.decorations {
         let instruction = listing.at(*place);
         let after = if instruction.opcode == ops::MEMBER_DECORATE {
@@ -148,10 +149,12 @@ fn refuse_decorations(listing: &Listing) -> Result<(), SpirvError> {
         } else {
             1
         };
-        let number = listing.need(&instruction, after)?;
-        if is_refused(number) {
-            return Err(instruction.unsupported_as(Unsupported::Decoration(number)));
+        match listing.operand(&instruction, after) {
+            Some(number) if is_refused(number) => {
+                failed.fail(instruction.unsupported_as(Unsupported::Decoration(number)));
+            }
+            Some(_) => {}
+            None => failed.fail(instruction.malformed(Malformed::MissingOperand)),
         }
     }
-    Ok(())
 }
