@@ -111,11 +111,7 @@ impl ModuleInfo {
 
     /// The same, but what is kept of the functions is this, in order. It takes no memory.
     pub fn with_functions(self, functions: Vec<FunctionInfo>) -> ModuleInfo
-        ensures functions { result.functions ≡ functions }
-        ensures types { result.types ≡ self.types }
-        ensures layouts { result.layouter ≡ self.layouter }
-        ensures expressions { result.const_expression_types ≡ self.const_expression_types }
-        ensures entry_points { result.entry_points ≡ self.entry_points }
+        ensures { result ≡ record self { functions = functions } }
     {
         ModuleInfo {
             types: self.types,
@@ -128,11 +124,7 @@ impl ModuleInfo {
 
     /// The same, but what is kept of the functions of entry points is this, in order. It takes no memory.
     pub fn with_entry_points(self, entry_points: Vec<FunctionInfo>) -> ModuleInfo
-        ensures entry_points { result.entry_points ≡ entry_points }
-        ensures types { result.types ≡ self.types }
-        ensures layouts { result.layouter ≡ self.layouter }
-        ensures expressions { result.const_expression_types ≡ self.const_expression_types }
-        ensures functions { result.functions ≡ self.functions }
+        ensures { result ≡ record self { entry_points = entry_points } }
     {
         ModuleInfo {
             types: self.types,
@@ -147,10 +139,7 @@ impl ModuleInfo {
     pub fn push_function(&mut self, info: FunctionInfo) -> Result<(), AllocError>
         ensures added { OnOk result (self.new.functions.items ≡ self.old.functions.items ++ info ∷ []) }
         ensures kept { OnErr result (self.new.functions.items ≡ self.old.functions.items) }
-        ensures types { self.new.types ≡ self.old.types }
-        ensures layouts { self.new.layouter ≡ self.old.layouter }
-        ensures expressions { self.new.const_expression_types ≡ self.old.const_expression_types }
-        ensures entry_points { self.new.entry_points ≡ self.old.entry_points }
+        ensures rest { self.new ≡ record self.old { functions = self.new.functions } }
     {
         self.functions.push(info)?;
         Ok(())
@@ -161,10 +150,7 @@ impl ModuleInfo {
     pub fn push_entry_point(&mut self, info: FunctionInfo) -> Result<(), AllocError>
         ensures added { OnOk result (self.new.entry_points.items ≡ self.old.entry_points.items ++ info ∷ []) }
         ensures kept { OnErr result (self.new.entry_points.items ≡ self.old.entry_points.items) }
-        ensures types { self.new.types ≡ self.old.types }
-        ensures layouts { self.new.layouter ≡ self.old.layouter }
-        ensures expressions { self.new.const_expression_types ≡ self.old.const_expression_types }
-        ensures functions { self.new.functions ≡ self.old.functions }
+        ensures rest { self.new ≡ record self.old { entry_points = self.new.entry_points } }
     {
         self.entry_points.push(info)?;
         Ok(())
