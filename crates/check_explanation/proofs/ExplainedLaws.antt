@@ -87,7 +87,7 @@ can_report d m (examined.Accepted strict info) h = record {
 can_report d m (examined.Refused e) h = tt
 
 -- the lines of a module are those of its document
-pub listed_in : (requested : Requested) (d : PlainDocument) (m : PlainModule) (r : Result Explanation AllocError) → IsPrepared d.settings.returns d.content m → IfOk r (FollowsOn requested m)
+pub listed_in : (requested : Requested) (d : PlainDocument) (m : PlainModule) (r : Result Explanation AllocError) → IsPrepared d.returns d.content m → IfOk r (FollowsOn requested m)
     → IfOk r (FollowsIn requested d)
 listed_in requested d m (Ok (NoDocument error hint)) prepared h = tt
 listed_in requested d m (Ok (Accepted strict lines)) prepared h = record { judged = m; prepared = prepared; are = h }

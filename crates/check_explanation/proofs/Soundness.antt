@@ -1,8 +1,8 @@
 -- The text of an accepted module of SPIR-V comes with all that is promised.
 use Rattle.std.proofs.Common.{◌≡◌, ◌++◌, ℕ, List, string_bytes, ap, subst}
 use Rattle.std.specs.Int.RustNames.{bit_and}
-use Rattle.ir_flags.specs.Settings.{PlainSettings}
 use Rattle.ir_flags.specs.declared.settings.TheConstants.ValidationFlags.{BLOCKS, EXPRESSIONS, STRUCT_LAYOUTS}
+use Rattle.ir_flags.specs.declared.settings.Settings.{Settings}
 use Rattle.document_reader.specs.judged.Plain.{PlainDocument}
 use Rattle.judgement.specs.judged.Text.{text_of}
 use Rattle.judgement.specs.declared.finding.Finding.{Finding}
@@ -18,7 +18,7 @@ use Rattle.check_explanation.specs.declared.spirv.SpirvVerdict.{SpirvVerdict}
 use Rattle.check_explanation.specs.declared.spirv.SpirvVerdict.TheVariants as verdict
 
 -- the six checks are those for layouts, bodies and expressions, and three more
-pub checked : (s : PlainSettings) → MakesSixChecks s.flags → AreChecked s
+pub checked : (s : Settings) → MakesSixChecks s.flags → AreChecked s
 checked s h = record {
   layouts = ap (λ n. bit_and n STRUCT_LAYOUTS.0) h;
   blocks = ap (λ n. bit_and n BLOCKS.0) h;
@@ -28,7 +28,7 @@ checked s h = record {
 sound_finding : (d : PlainDocument) → AreChecked d.settings → (f : Finding) (report text : List ℕ) → verdict.Accepted ≡ verdict_of f → JudgedDocument d f → IsReportedOf d f report → text ≡ text_of f ++ report → IsSoundText text
 sound_finding d checked (Accepted strict) report text is judged told t =
     let m = judged.judged in
-    let reports : IsReport m report = subst (λ x. IsReport x report) (prepared_once d.settings.returns d.content told.judged m told.prepared judged.prepared) told.is in
+    let reports : IsReport m report = subst (λ x. IsReport x report) (prepared_once d.returns d.content told.judged m told.prepared judged.prepared) told.is in
     record {
       document = d;
       judged = m;
@@ -38,7 +38,7 @@ sound_finding d checked (Accepted strict) report text is judged told t =
       report = report;
       reports = reports;
       text_is = t;
-      sound = accepted_is_sound d.settings.returns d.settings d.content m strict judged.prepared judged.finding checked report reports;
+      sound = accepted_is_sound d.returns d.settings d.content m strict judged.prepared judged.finding checked report reports;
     }
 sound_finding d checked RefusedDocument report text is judged told t = absurd (cc is)
 sound_finding d checked RefusedHandles report text is judged told t = absurd (cc is)

@@ -42,9 +42,9 @@ pub record IsTextOfSome (verdict : SpirvVerdict) (text : List ℕ) : Type 0 wher
 pub record IsSoundText (text : List ℕ) : Type 0 where
   -- The document that it is read as,
   pub document : PlainDocument
-  -- whose module, with returns put in where its settings want them, is judged
+  -- whose module, with returns put in where it requires them, is judged
   pub judged : PlainModule
-  pub prepared : IsPrepared document.settings.returns document.content judged
+  pub prepared : IsPrepared document.returns document.content judged
   -- and accepted, its scope checked strictly or not.
   pub strict : Bool
   pub accepted : IsFinding document.settings judged (findings.Accepted strict)
@@ -53,7 +53,7 @@ pub record IsSoundText (text : List ℕ) : Type 0 where
   pub reports : IsReport judged report
   pub text_is : text ≡ text_of (findings.Accepted strict) ++ report
   -- What lies in each buffer is in order, and every run of each entry point is good, with what it names and samples in this report.
-  pub sound : ModuleIsSound document.settings.returns document.settings judged report
+  pub sound : ModuleIsSound document.returns document.settings judged report
 
 -- of a module that was not read nothing is said
 abbrev pub IsAnswered : SpirvVerdict → (text : List ℕ) → Type 0

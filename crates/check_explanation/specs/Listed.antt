@@ -51,10 +51,10 @@ IsAccepted requested m strict (NoDocument error hint) = ⊥
 IsAccepted requested m strict (Accepted found lines) = (found ≡ strict) × ListsAsRequested requested m (string_bytes lines)
 IsAccepted requested m strict (Refused error item) = ⊥
 
--- They are those of the document's module, with returns put in where its settings require them.
+-- They are those of the document's module, with returns put in where it requires them.
 pub record AreListedIn (requested : Requested) (d : PlainDocument) (lines : List ℕ) : Type 0 where
   pub judged : PlainModule
-  pub prepared : IsPrepared d.settings.returns d.content judged
+  pub prepared : IsPrepared d.returns d.content judged
   pub are : ListsAsRequested requested judged lines
 
 abbrev pub FollowsIn : (requested : Requested) → PlainDocument → Explanation → Type 0
@@ -62,12 +62,12 @@ FollowsIn requested d (NoDocument error hint) = Unit {0}
 FollowsIn requested d (Accepted strict lines) = AreListedIn requested d (string_bytes lines)
 FollowsIn requested d (Refused error item) = Unit {0}
 
--- They are those of the module of the document that the bytes spell, with returns put in where its settings require them.
+-- They are those of the module of the document that the bytes spell, with returns put in where it requires them.
 pub record AreListed (requested : Requested) (bytes lines : List ℕ) : Type 0 where
   pub document : PlainDocument
   pub reads : Reads bytes document
   pub judged : PlainModule
-  pub prepared : IsPrepared document.settings.returns document.content judged
+  pub prepared : IsPrepared document.returns document.content judged
   pub are : ListsAsRequested requested judged lines
 
 abbrev pub Follows : (requested : Requested) → (bytes : List ℕ) → Explanation → Type 0

@@ -157,7 +157,7 @@ fn looks(alloc: Global, bytes: &[u8]) -> Result<String, AllocError> {
 }
 
 /// The explanation of a document, with the lines of its module that are wanted, where that is accepted; `text` is the document as
-/// JSON, of which a reason quotes parts. Returns are put into its module where its settings require them, and the module is left
+/// JSON, of which a reason quotes parts. Returns are put into its module where it requires them, and the module is left
 /// so. The error says that there is no memory.
 pub fn explain_document(
     alloc: Global,

@@ -14,7 +14,7 @@ ghost use Rattle.document_reader.specs.found.View.{document_view};
 ghost use Rattle.document_reader.specs.found.Documents.{a_version, content_of, content_in, document_in};
 
 use crate::first::take_first;
-use crate::model::{Document, Settings};
+use crate::model::Document;
 use crate::{EntryForm, FunctionForm};
 use document_expressions::ExpressionForm;
 use document_forms::{
@@ -22,7 +22,7 @@ use document_forms::{
     take_into, take_part,
 };
 use document_items::{ConstantForm, FilterForm, GlobalForm, OverrideForm, SpecialForm, TypeForm};
-use ir_flags::{Capabilities, ShaderStages, SubgroupOperationSet, ValidationFlags};
+use ir_flags::{Capabilities, Settings, ShaderStages, SubgroupOperationSet, ValidationFlags};
 use ir_items::Module;
 use ir_sets::keyed::KeyedState;
 use ir_sets::unique_arena::UniqueArena;
@@ -163,7 +163,10 @@ pub fn read_value(alloc: Global, value: Value, key: KeyedState) -> Result<Docume
         capabilities,
         subgroup_stages,
         subgroup_operations,
-        returns,
     };
-    Ok(Document { settings, module })
+    Ok(Document {
+        settings,
+        returns,
+        module,
+    })
 }

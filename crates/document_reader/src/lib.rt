@@ -18,7 +18,7 @@ mod statements;
 pub use document::VersionForm;
 pub use error::DocumentError;
 pub use functions::{ArgumentForm, EntryForm, FunctionForm, LocalForm, ResultForm};
-pub use model::{Document, Settings, build_module};
+pub use model::{Document, build_module};
 pub use parts::{AtomicForm, GatherForm, PipelineForm, RayQueryForm, ValueForm};
 pub use reading::{MAX_LEN, read_document, take_document};
 pub use statements::BodyForm;

@@ -4,30 +4,17 @@ ghost use Rattle.ir_items.specs.found.Copies.{spanned_module};
 ghost use Rattle.ir_items.specs.found.View.{module_view};
 ghost use Rattle.document_reader.specs.found.View.{document_view};
 
-use ir_flags::{Capabilities, ShaderStages, SubgroupOperationSet, ValidationFlags};
+use ir_flags::Settings;
 use ir_items::Module;
 use std::alloc::{AllocError, Global};
-
-/// What a document requires of the validator.
-#[derive(Clone, Copy, Debug, PartialEq, Eq)]
-pub struct Settings {
-    /// The checks that are made.
-    pub flags: ValidationFlags,
-    /// What the shader may use.
-    pub capabilities: Capabilities,
-    /// The stages at which subgroup operations may stand.
-    pub subgroup_stages: ShaderStages,
-    /// The subgroup operations that may stand there.
-    pub subgroup_operations: SubgroupOperationSet,
-    /// Whether missing returns are put in before the checks.
-    pub returns: bool,
-}
 
 /// Everything that the bytes of a document say. An item's place in its list is its handle.
 #[derive(Debug, Drop)]
 pub struct Document {
-    /// What the document requires.
+    /// The settings by which it is to be judged.
     pub settings: Settings,
+    /// Whether missing returns are put in before the checks.
+    pub returns: bool,
     /// The module that it writes.
     pub module: Module,
 }
@@ -49,6 +36,7 @@ impl Document {
         let module = build_module(alloc, self)?;
         Ok(Document {
             settings: self.settings,
+            returns: self.returns,
             module,
         })
     }

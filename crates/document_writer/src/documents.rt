@@ -1,8 +1,9 @@
 // How a whole document is written.
 
 use crate::writer::Writer;
-use document_reader::{Document, Settings};
+use document_reader::Document;
 use ir_arena::handle::Handle;
+use ir_flags::Settings;
 use ir_items::{
     Constant, DiagnosticFilterNode, FilterableTriggeringRule, GlobalVariable, Module, Override,
     SpecialTypes,
@@ -18,7 +19,8 @@ pub fn write_document(alloc: Global, document: &Document) -> Result<String, Allo
     let mut writer = Writer::new(alloc);
     writer.open();
     writer.number(VERSION);
-    writer.settings(&document.settings);
+    writer.settings(document.settings);
+    writer.truth(document.returns);
     writer.declarations(&document.module);
     writer.items(&document.module);
     writer.close();
@@ -26,14 +28,13 @@ pub fn write_document(alloc: Global, document: &Document) -> Result<String, Allo
 }
 
 impl Writer {
-    fn settings(&mut self, settings: &Settings) {
+    fn settings(&mut self, settings: Settings) {
         self.set_of(settings.flags);
         self.set_of(settings.capabilities);
         self.open();
         self.set_of(settings.subgroup_stages);
         self.set_of(settings.subgroup_operations);
         self.close();
-        self.truth(settings.returns);
     }
 
     // Types and filters.

@@ -1,5 +1,5 @@
 -- An entry point that is accepted or refused, put together of its parts.
-use Rattle.std.proofs.Common.{◌≡◌, ◌↔◌, inl, inr, ◌<◌, ◌||◌, ℕ, List, Bool, IsTrue, false, length, ◌^◌, ◌-◌, refl, sym, ap, subst, ◌∙◌}
+use Rattle.std.proofs.Common.{◌≡◌, ◌↔◌, inl, inr, ◌<◌, ◌||◌, ℕ, Option, true, List, Bool, IsTrue, false, length, ◌^◌, ◌-◌, refl, sym, ap, subst, ◌∙◌}
 use Rattle.function_entry_checks.specs.Faults.{IsPayloadFault, IsRefusedFor, IsStageFault}
 use Rattle.function_entry_checks.specs.declared.error.EntryPointError.{EntryPointError}
 use Rattle.function_entry_checks.specs.declared.error.EntryPointError.TheVariants.{ForbiddenStageOperations}
@@ -19,6 +19,7 @@ use Rattle.ir_flags.specs.Sets.{Has}
 use Rattle.ir_flags.specs.declared.settings.Capabilities.{Capabilities}
 use Rattle.ir_flags.specs.declared.settings.ValidationFlags.{ValidationFlags}
 use Rattle.ir_flags.specs.declared.stages.ShaderStages.{ShaderStages}
+use Rattle.ir_flags.specs.declared.settings.Settings.{Settings}
 use Rattle.ir_items.specs.judged.Plain.{PlainEntry, PlainModule}
 use Rattle.ir_kinds.specs.declared.stages.ShaderStage.{ShaderStage}
 use Rattle.ir_kinds.specs.declared.stages.ShaderStage.TheVariants.{Vertex, Fragment, Compute, Mesh, Task, RayGeneration, AnyHit, ClosestHit, Miss}
@@ -28,7 +29,7 @@ use Rattle.spec_analysis.specs.judged.Summaries.{HasUseBit, IsSummary, Summary}
 use Rattle.spec_interface.specs.judged.Entries.{ConnectionsOK}
 use Rattle.spec_interface.specs.judged.Uses.{EntryUses}
 use Rattle.spec_statements.specs.judged.ExpressionStages.{all_stages}
-use Rattle.spec_statements.specs.judged.Functions.{AllowsStage, FunctionOK, FunctionSettings, Reading}
+use Rattle.spec_statements.specs.judged.Functions.{AllowsStage, FunctionOK, Reading}
 use Rattle.spec_interface.specs.judged.Contexts.{stage_set}
 
 -- ---- refusals
@@ -101,9 +102,9 @@ unconnected flags capabilities m e Uses x fault = record { refused = λ ok. conn
 
 -- ---- all parts
 
-module _ (R : Reading) (F : Faults) (callees : List ShaderStages) (s : FunctionSettings) (m : PlainModule) (e : PlainEntry) where
+module _ (R : Reading) (F : Faults) (callees : List ShaderStages) (s : Settings) (held : Option ℕ) (m : PlainModule) (e : PlainEntry) where
   abbrev Refused : EntryPointError → Type 0
-  Refused x = IsRefusedAs R F callees (HasUse m e.function) s m e x
+  Refused x = IsRefusedAs R F callees (HasUse m e.function) s held m e x
 
   pub by_stage : (x : EntryPointError) → IsStageFault s.capabilities e x → Refused x
   by_stage x fault = record { refused = λ ok. stage_fault_refutes s.capabilities e x fault ok.stage; fault = of_stage fault }
@@ -111,7 +112,7 @@ module _ (R : Reading) (F : Faults) (callees : List ShaderStages) (s : FunctionS
   pub by_payload : (x : EntryPointError) → IsPayloadFault m e x → Refused x
   by_payload x fault = record { refused = λ ok. payload_fault_refutes m e x fault ok.payload; fault = of_payload fault }
 
-  pub by_function : (r : Refusal FunctionError) (t : Refusal EntryPointError) → IsReportedAs r t → IsFunctionRefusedFor (λ y. FunctionOK R s m e.function → ⊥) r → IsFunctionRefusedFor (IsFunctionFault R F s m e.function) r
+  pub by_function : (r : Refusal FunctionError) (t : Refusal EntryPointError) → IsReportedAs r t → IsFunctionRefusedFor (λ y. FunctionOK R s true held m e.function → ⊥) r → IsFunctionRefusedFor (IsFunctionFault R F s true held m e.function) r
       → IsRefusedFor Refused t
   by_function (refusal.Memory a) (refusal.Memory b) told refused fault = tt
   by_function (refusal.Memory a) (refusal.Fault f) told refused fault = absurd told
@@ -143,7 +144,7 @@ module _ (R : Reading) (F : Faults) (callees : List ShaderStages) (s : FunctionS
     connected ok = connections_to m e (EntryUses e (HasUseBit before.uses)) (EntryUses e (HasUse m e.function)) same_own s.flags s.capabilities ok
 
 -- what is noted is noted still where its bits are the same
-pub noted_still : (R : Reading) (callees : List ShaderStages) (s : FunctionSettings) (e : PlainEntry) (noted last : ShaderStages) → last.0 ≡ noted.0
+pub noted_still : (R : Reading) (callees : List ShaderStages) (s : Settings) (e : PlainEntry) (noted last : ShaderStages) → last.0 ≡ noted.0
     → ((stage : ℕ) → Has noted.0 stage ↔ (Has all_stages.0 stage × AllowsStage R s callees e.function stage)) → (stage : ℕ) → Has last.0 stage ↔ (Has all_stages.0 stage × AllowsStage R s callees e.function stage)
 noted_still R callees s e noted last same exact stage = subst (λ bits. Has bits stage ↔ (Has all_stages.0 stage × AllowsStage R s callees e.function stage)) (sym same) (exact stage)
 

@@ -1,5 +1,5 @@
 -- A function with a fault is not accepted.
-use Rattle.std.proofs.Common.{◌≡◌, inl, inr, ◌<◌, suc, ℕ, List, [], ◌∷◌, Some, length, refl, sym, ap, subst, slice_get, ◌∙◌, arith}
+use Rattle.std.proofs.Common.{◌≡◌, inl, inr, ◌<◌, suc, ℕ, Option, Bool, List, [], ◌∷◌, Some, length, refl, sym, ap, subst, slice_get, ◌∙◌, arith}
 use Rattle.function_body_checks.proofs.ControlRefuted.{faults_refute_lem as by_control}
 use Rattle.typing_errors.specs.declared.expressions.ExpressionError.{ExpressionError}
 use Rattle.typing_errors.specs.declared.error.FunctionError.{FunctionError}
@@ -12,12 +12,13 @@ use Rattle.ir_flags.specs.Sets.{Has}
 use Rattle.ir_flags.specs.declared.settings.Capabilities.{Capabilities}
 use Rattle.ir_flags.specs.declared.settings.TheConstants.ValidationFlags.{EXPRESSIONS}
 use Rattle.ir_flags.specs.declared.settings.ValidationFlags.{ValidationFlags}
+use Rattle.ir_flags.specs.declared.settings.Settings.{Settings}
 use Rattle.ir_items.specs.judged.Plain.{PlainFunction, PlainModule}
 use Rattle.function_operation_checks.proofs.Refuted.{faults_refute_lem as by_ray}
 use Rattle.function_body_checks.proofs.Refuted.{faults_refute_lem as by_scope}
 use Rattle.spec_handles.specs.Conditions.{AritiesMatch}
 use Rattle.spec_statements.specs.judged.BlockContext.{BlockContext}
-use Rattle.spec_statements.specs.judged.Functions.{Reading, FunctionSettings, AreFormsBy, BodyOK, FunctionOK, block_context}
+use Rattle.spec_statements.specs.judged.Functions.{Reading, AreFormsBy, BodyOK, FunctionOK, block_context}
 use Rattle.spec_statements.specs.judged.Interfaces.{InterfaceOK}
 use Rattle.function_statements.proofs.Refuted.{faults_refute_lem as by_statement}
 use Rattle.function_strict_scope.proofs.Refuted.{strict_faults_refute_lem as by_strict}
@@ -54,12 +55,12 @@ arities_refuted : (m : PlainModule) (f : PlainFunction) (e : FunctionError) → 
 arities_refuted m f (error.InvalidCall function e) w ok = arity_refuted m f function e w ok
 arities_refuted m f _ w ok = absurd w
 
-body_refuted : (s : FunctionSettings) (c : BlockContext) (e : FunctionError) → IsFaultOfBody s c e → BodyOK s c → ⊥
-body_refuted s c e (inl control) ok = by_control c.f.body e control ok.control
-body_refuted s c e (inr (inl scope)) ok = by_scope s.flags c.f e scope ok.scope ok.answered.once ok.answered.asked
-body_refuted s c e (inr (inr (inl rule))) ok = (by_statement c e).body rule ok.statements
-body_refuted s c e (inr (inr (inr (inl payloads)))) ok = (by_ray c e).payloads s.held payloads ok.payloads
-body_refuted s c e (inr (inr (inr (inr strict)))) ok = by_strict c.f e strict.1 (ok.strict strict.0)
+body_refuted : (s : Settings) (before : Option ℕ) (c : BlockContext) (e : FunctionError) → IsFaultOfBody s before c e → BodyOK s before c → ⊥
+body_refuted s before c e (inl control) ok = by_control c.f.body e control ok.control
+body_refuted s before c e (inr (inl scope)) ok = by_scope s.flags c.f e scope ok.scope ok.answered.once ok.answered.asked
+body_refuted s before c e (inr (inr (inl rule))) ok = (by_statement c e).body rule ok.statements
+body_refuted s before c e (inr (inr (inr (inl payloads)))) ok = (by_ray c e).payloads before payloads ok.payloads
+body_refuted s before c e (inr (inr (inr (inr strict)))) ok = by_strict c.f e strict.1 (ok.strict strict.0)
 
 abbrev pub AnalysisRefutes : Reading → Faults → Type 0
 AnalysisRefutes R F = (flags : ValidationFlags) (e : FunctionError) → F.IsAnalysisFault flags e → R.IsAnalysed flags → ⊥
@@ -67,23 +68,23 @@ AnalysisRefutes R F = (flags : ValidationFlags) (e : FunctionError) → F.IsAnal
 abbrev pub ExpressionsRefute : Reading → Faults → Type 0
 ExpressionsRefute R F = (capabilities : Capabilities) (forms : List Form) (e : ℕ) (x : ExpressionError) → F.IsFaultAt capabilities forms e x → R.IsAccepted capabilities forms e → ⊥
 
-module _ (R : Reading) (F : Faults) (s : FunctionSettings) where
+module _ (R : Reading) (F : Faults) (s : Settings) (entry : Bool) (before : Option ℕ) where
   expressions_refuted : (c : BlockContext) (e : FunctionError) → ExpressionsRefute R F → IsExpressionFault R F c e → ((k : ℕ) → k < length c.f.expressions → R.IsAccepted c.capabilities c.forms k) → ⊥
   expressions_refuted c (error.Expression e x) refutes w ok = refutes c.capabilities c.forms e x w.wrong (ok e w.within)
   expressions_refuted c _ refutes w ok = absurd w
 
-  unanswered_refuted : (f : PlainFunction) (e : FunctionError) → IsUnanswered f e → (m : PlainModule) (forms : List Form) → BodyOK s (block_context s m f forms) → Has s.flags.0 EXPRESSIONS.0 → ⊥
+  unanswered_refuted : (f : PlainFunction) (e : FunctionError) → IsUnanswered f e → (m : PlainModule) (forms : List Form) → BodyOK s before (block_context s m f forms) → Has s.flags.0 EXPRESSIONS.0 → ⊥
   unanswered_refuted f (error.UnvisitedExpression e) w m forms ok asked = let found = ok.answered.each asked e w.stands in w.none found.0 found.1
   unanswered_refuted f _ w m forms ok asked = absurd w
 
   behind_refuted : (m : PlainModule) (f : PlainFunction) (forms : List Form) (e : FunctionError) → ExpressionsRefute R F
-      → IsFaultAfter R F s (block_context s m f forms) e → (ok : FunctionOK R s m f) → ok.forms ≡ forms → ⊥
-  behind_refuted m f forms e refutes (in_interface w) ok same = (by_interface (block_context s m f forms) s.entry e).interface w (subst (λ (x : List Form). InterfaceOK (block_context s m f x) s.entry) same ok.interface)
+      → IsFaultAfter R F s entry before (block_context s m f forms) e → (ok : FunctionOK R s entry before m f) → ok.forms ≡ forms → ⊥
+  behind_refuted m f forms e refutes (in_interface w) ok same = (by_interface (block_context s m f forms) entry e).interface w (subst (λ (x : List Form). InterfaceOK (block_context s m f x) entry) same ok.interface)
   behind_refuted m f forms e refutes (in_expressions interface asked w) ok same = expressions_refuted (block_context s m f forms) e refutes w (λ k lt. subst (λ (x : List Form). R.IsAccepted s.capabilities x k) same (ok.expressions asked k lt))
-  behind_refuted m f forms e refutes (in_body interface accepted asked w) ok same = body_refuted s (block_context s m f forms) e w (subst (λ (x : List Form). BodyOK s (block_context s m f x)) same (ok.body asked))
+  behind_refuted m f forms e refutes (in_body interface accepted asked w) ok same = body_refuted s before (block_context s m f forms) e w (subst (λ (x : List Form). BodyOK s before (block_context s m f x)) same (ok.body asked))
   behind_refuted m f forms e refutes (unanswered interface accepted asked ordered expressions w) ok same = unanswered_refuted f e w m ok.forms (ok.body asked) expressions
 
-  pub function_refuted : (m : PlainModule) (f : PlainFunction) (e : FunctionError) → OneForm R → AnalysisRefutes R F → ExpressionsRefute R F → IsFunctionFault R F s m f e → FunctionOK R s m f → ⊥
+  pub function_refuted : (m : PlainModule) (f : PlainFunction) (e : FunctionError) → OneForm R → AnalysisRefutes R F → ExpressionsRefute R F → IsFunctionFault R F s entry before m f e → FunctionOK R s entry before m f → ⊥
   function_refuted m f e one analysis refutes (in_arity w) ok = arities_refuted m f e w ok.arity
   function_refuted m f e one analysis refutes (in_analysis arity w) ok = analysis s.flags e w ok.analysed
   function_refuted m f e one analysis refutes (behind arity analysed forms typed w) ok = behind_refuted m f forms e refutes w ok (same_forms R f ok.forms forms one ok.typed typed)

@@ -1,5 +1,5 @@
 -- What is wrong with an entry point, over what a lower layer says.
-use Rattle.std.specs.Prelude.{◌≡◌, ℕ, List}
+use Rattle.std.specs.Prelude.{◌≡◌, ℕ, Option, true, List}
 use Rattle.function_entry_checks.specs.Faults.{IsPayloadFault, IsStageFault}
 use Rattle.function_entry_checks.specs.declared.error.EntryPointError.{EntryPointError}
 use Rattle.function_entry_checks.specs.declared.error.EntryPointError.TheVariants.{ForbiddenStageOperations, Function}
@@ -13,26 +13,27 @@ use Rattle.ir_faults.specs.declared.refusal.Refusal.TheVariants as refusal
 use Rattle.ir_flags.specs.declared.settings.Capabilities.{Capabilities}
 use Rattle.ir_flags.specs.declared.settings.ValidationFlags.{ValidationFlags}
 use Rattle.ir_flags.specs.declared.stages.ShaderStages.{ShaderStages}
+use Rattle.ir_flags.specs.declared.settings.Settings.{Settings}
 use Rattle.ir_items.specs.judged.Plain.{PlainEntry, PlainModule}
 use Rattle.spec_interface.specs.judged.Entries.{ConnectionsOK, EntryOK}
 use Rattle.spec_interface.specs.judged.Uses.{EntryUses}
-use Rattle.spec_statements.specs.judged.Functions.{Reading, FunctionSettings, AllowsStage}
+use Rattle.spec_statements.specs.judged.Functions.{Reading, AllowsStage}
 use Rattle.spec_interface.specs.judged.Contexts.{stage_set}
 
 -- What is wrong with an entry point of whose function the lower layer says this, where these stages may run its callees and its
 -- function uses global variables so: with its stage, its function, its payload, what its function does at its stage, or what
 -- connects it with other stages and with hosts.
-pub data IsEntryPointFault (reading : Reading) (faults : Faults) (callees : List ShaderStages) (Uses : ℕ → ℕ → Type 0) (s : FunctionSettings) (m : PlainModule) (e : PlainEntry) : EntryPointError → Type 0 where
-  of_stage : {x : EntryPointError} → IsStageFault s.capabilities e x → IsEntryPointFault reading faults callees Uses s m e x
-  of_function : {x : FunctionError} → IsFunctionFault reading faults s m e.function x → IsEntryPointFault reading faults callees Uses s m e (Function x)
-  of_payload : {x : EntryPointError} → IsPayloadFault m e x → IsEntryPointFault reading faults callees Uses s m e x
-  of_runs : ¬ AllowsStage reading s callees e.function (stage_set e.stage).0 → IsEntryPointFault reading faults callees Uses s m e ForbiddenStageOperations
-  of_connections : {x : EntryPointError} → IsConnectionFault s.flags s.capabilities m e (EntryUses e Uses) x → IsEntryPointFault reading faults callees Uses s m e x
+pub data IsEntryPointFault (reading : Reading) (faults : Faults) (callees : List ShaderStages) (Uses : ℕ → ℕ → Type 0) (s : Settings) (before : Option ℕ) (m : PlainModule) (e : PlainEntry) : EntryPointError → Type 0 where
+  of_stage : {x : EntryPointError} → IsStageFault s.capabilities e x → IsEntryPointFault reading faults callees Uses s before m e x
+  of_function : {x : FunctionError} → IsFunctionFault reading faults s true before m e.function x → IsEntryPointFault reading faults callees Uses s before m e (Function x)
+  of_payload : {x : EntryPointError} → IsPayloadFault m e x → IsEntryPointFault reading faults callees Uses s before m e x
+  of_runs : ¬ AllowsStage reading s callees e.function (stage_set e.stage).0 → IsEntryPointFault reading faults callees Uses s before m e ForbiddenStageOperations
+  of_connections : {x : EntryPointError} → IsConnectionFault s.flags s.capabilities m e (EntryUses e Uses) x → IsEntryPointFault reading faults callees Uses s before m e x
 
 -- The entry point is not accepted, and this is wrong with it.
-pub record IsRefusedAs (reading : Reading) (faults : Faults) (callees : List ShaderStages) (Uses : ℕ → ℕ → Type 0) (s : FunctionSettings) (m : PlainModule) (e : PlainEntry) (x : EntryPointError) : Type 0 where
-  pub refused : ¬ EntryOK reading callees Uses s m e
-  pub fault : IsEntryPointFault reading faults callees Uses s m e x
+pub record IsRefusedAs (reading : Reading) (faults : Faults) (callees : List ShaderStages) (Uses : ℕ → ℕ → Type 0) (s : Settings) (before : Option ℕ) (m : PlainModule) (e : PlainEntry) (x : EntryPointError) : Type 0 where
+  pub refused : ¬ EntryOK reading callees Uses s before m e
+  pub fault : IsEntryPointFault reading faults callees Uses s before m e x
 
 -- What connects the entry point with other stages and with hosts is not as it may be, and this is wrong with it.
 pub record IsUnconnected (flags : ValidationFlags) (capabilities : Capabilities) (m : PlainModule) (e : PlainEntry) (Uses : ℕ → ℕ → Type 0) (x : EntryPointError) : Type 0 where

@@ -1,5 +1,5 @@
 -- What is wrong with a function: of its parts in their order the first with which something is wrong.
-use Rattle.std.specs.Prelude.{◌⊎◌, ◌<◌, ℕ, List, length}
+use Rattle.std.specs.Prelude.{◌⊎◌, ◌<◌, ℕ, Option, Bool, List, length}
 use Rattle.function_body_checks.specs.ControlFaults.{IsControlFault}
 use Rattle.typing_errors.specs.declared.expressions.ExpressionError.{ExpressionError}
 use Rattle.typing_errors.specs.declared.error.FunctionError.{FunctionError}
@@ -12,13 +12,14 @@ use Rattle.ir_blocks.specs.judged.Places.{Place, OccursAt}
 use Rattle.ir_blocks.specs.judged.Plain.{PlainStatement}
 use Rattle.ir_flags.specs.Sets.{Has}
 use Rattle.ir_flags.specs.declared.settings.TheConstants.ValidationFlags.{EXPRESSIONS, BLOCKS, STRICT_SCOPE}
+use Rattle.ir_flags.specs.declared.settings.Settings.{Settings}
 use Rattle.ir_items.specs.judged.Plain.{PlainFunction, PlainModule}
 use Rattle.function_operation_checks.specs.Payloads.{IsPayloadsFault}
 use Rattle.function_body_checks.specs.Faults.{IsScopeFault}
 use Rattle.spec_handles.specs.Conditions.{AritiesMatch}
 use Rattle.spec_statements.specs.found.Answered.{EachOnce}
 use Rattle.spec_statements.specs.judged.BlockContext.{BlockContext}
-use Rattle.spec_statements.specs.judged.Functions.{Reading, FunctionSettings, AreFormsBy, block_context}
+use Rattle.spec_statements.specs.judged.Functions.{Reading, AreFormsBy, block_context}
 use Rattle.spec_statements.specs.judged.Interfaces.{InterfaceOK}
 use Rattle.spec_statements.specs.judged.Payloads.{PayloadsOK}
 use Rattle.spec_statements.specs.judged.Results.{AnswersBy, DenotesResult}
@@ -42,22 +43,22 @@ IsExpressionFault reading faults c (error.Expression e x) = IsRefusedAt reading 
 IsExpressionFault reading faults c _ = ⊥
 
 -- where expressions are checked, all are accepted
-abbrev pub AllAccepted : Reading → FunctionSettings → BlockContext → Type 0
+abbrev pub AllAccepted : Reading → Settings → BlockContext → Type 0
 AllAccepted reading s c = Has s.flags.0 EXPRESSIONS.0 → (e : ℕ) → e < length c.f.expressions → reading.IsAccepted c.capabilities c.forms e
 
 -- ---- the body
 
 -- how statements leave their blocks, what is in scope, what they answer by, their rules, the payloads of rays, or strict scope where it is required
-abbrev pub IsFaultOfBody : FunctionSettings → BlockContext → FunctionError → Type 0
-IsFaultOfBody s c e = IsControlFault c.f.body e ⊎ (IsScopeFault s.flags c.f e ⊎ (IsBodyFault c e ⊎ (IsPayloadsFault c.m c.f s.held e ⊎ (Has s.flags.0 STRICT_SCOPE.0 × IsStrictFault c.f e))))
+abbrev pub IsFaultOfBody : Settings → (before : Option ℕ) → BlockContext → FunctionError → Type 0
+IsFaultOfBody s before c e = IsControlFault c.f.body e ⊎ (IsScopeFault s.flags c.f e ⊎ (IsBodyFault c e ⊎ (IsPayloadsFault c.m c.f before e ⊎ (Has s.flags.0 STRICT_SCOPE.0 × IsStrictFault c.f e))))
 
 -- nothing of this is wrong with the body
-pub record IsBodyInOrder (s : FunctionSettings) (c : BlockContext) : Type 0 where
+pub record IsBodyInOrder (s : Settings) (before : Option ℕ) (c : BlockContext) : Type 0 where
   pub control : ControlOK c.f.body
   pub scope : ScopeOK c.f
   pub once : EachOnce c.f.body
   pub statements : (p : Place) (u : PlainStatement) → OccursAt c.f.body p u → StatementOK c u
-  pub payloads : PayloadsOK c.m c.f s.held
+  pub payloads : PayloadsOK c.m c.f before
   pub strict : Has s.flags.0 STRICT_SCOPE.0 → StrictOK c.f
 
 -- what denotes an answer is answered by no statement
@@ -72,15 +73,15 @@ IsUnanswered f _ = ⊥
 -- ---- all parts
 
 -- after the arity of calls and the analysis
-pub data IsFaultAfter (reading : Reading) (faults : Faults) (s : FunctionSettings) (c : BlockContext) (e : FunctionError) : Type 0 where
-  in_interface : IsInterfaceFault c s.entry e → IsFaultAfter reading faults s c e
-  in_expressions : InterfaceOK c s.entry → Has s.flags.0 EXPRESSIONS.0 → IsExpressionFault reading faults c e → IsFaultAfter reading faults s c e
-  in_body : InterfaceOK c s.entry → AllAccepted reading s c → Has s.flags.0 BLOCKS.0 → IsFaultOfBody s c e → IsFaultAfter reading faults s c e
-  unanswered : InterfaceOK c s.entry → AllAccepted reading s c → Has s.flags.0 BLOCKS.0 → IsBodyInOrder s c → Has s.flags.0 EXPRESSIONS.0 → IsUnanswered c.f e → IsFaultAfter reading faults s c e
+pub data IsFaultAfter (reading : Reading) (faults : Faults) (s : Settings) (entry : Bool) (before : Option ℕ) (c : BlockContext) (e : FunctionError) : Type 0 where
+  in_interface : IsInterfaceFault c entry e → IsFaultAfter reading faults s entry before c e
+  in_expressions : InterfaceOK c entry → Has s.flags.0 EXPRESSIONS.0 → IsExpressionFault reading faults c e → IsFaultAfter reading faults s entry before c e
+  in_body : InterfaceOK c entry → AllAccepted reading s c → Has s.flags.0 BLOCKS.0 → IsFaultOfBody s before c e → IsFaultAfter reading faults s entry before c e
+  unanswered : InterfaceOK c entry → AllAccepted reading s c → Has s.flags.0 BLOCKS.0 → IsBodyInOrder s before c → Has s.flags.0 EXPRESSIONS.0 → IsUnanswered c.f e → IsFaultAfter reading faults s entry before c e
 
 -- The arity of calls, the analysis, the variables with the arguments and the result, the expressions, the body, and what stands
 -- for answers: the fault is one of the first of these with which something is wrong.
-pub data IsFunctionFault (reading : Reading) (faults : Faults) (s : FunctionSettings) (m : PlainModule) (f : PlainFunction) (e : FunctionError) : Type 0 where
-  in_arity : IsArityFault m f e → IsFunctionFault reading faults s m f e
-  in_analysis : AritiesMatch m f → faults.IsAnalysisFault s.flags e → IsFunctionFault reading faults s m f e
-  behind : AritiesMatch m f → reading.IsAnalysed s.flags → (forms : List Form) → AreFormsBy reading f forms → IsFaultAfter reading faults s (block_context s m f forms) e → IsFunctionFault reading faults s m f e
+pub data IsFunctionFault (reading : Reading) (faults : Faults) (s : Settings) (entry : Bool) (before : Option ℕ) (m : PlainModule) (f : PlainFunction) (e : FunctionError) : Type 0 where
+  in_arity : IsArityFault m f e → IsFunctionFault reading faults s entry before m f e
+  in_analysis : AritiesMatch m f → faults.IsAnalysisFault s.flags e → IsFunctionFault reading faults s entry before m f e
+  behind : AritiesMatch m f → reading.IsAnalysed s.flags → (forms : List Form) → AreFormsBy reading f forms → IsFaultAfter reading faults s entry before (block_context s m f forms) e → IsFunctionFault reading faults s entry before m f e

@@ -1,19 +1,17 @@
 -- What is kept of an entry point that is accepted, over what a lower layer says.
 use Rattle.std.specs.Prelude.{◌≡◌, ◌<◌, ◌↔◌, ℕ, Bool, IsTrue, List, Option, length}
 use Rattle.spec_analysis.specs.judged.Pairs.{SamplingPair}
-use Rattle.function_validator.specs.Settings.{settings_view}
-use Rattle.function_validator.specs.declared.settings.FunctionSettings.{FunctionSettings as OwnSettings}
 use Rattle.ir_flags.specs.Sets.{Has}
 use Rattle.ir_flags.specs.declared.stages.ShaderStages.{ShaderStages}
+use Rattle.ir_flags.specs.declared.settings.Settings.{Settings}
 use Rattle.ir_items.specs.judged.Plain.{PlainEntry, PlainModule}
 use Rattle.typing_rules.specs.judged.Laws.{IsAmong}
 use Rattle.spec_analysis.specs.judged.Chains.{HasUse, HasPair, MayKill}
 use Rattle.spec_analysis.specs.judged.Summaries.{Summary, HasUseBit}
 use Rattle.spec_interface.specs.judged.Entries.{EntryOK}
-use Rattle.spec_interface.specs.judged.Modules.{entry_settings}
 use Rattle.spec_interface.specs.judged.Uses.{EntryUses}
 use Rattle.spec_statements.specs.judged.ExpressionStages.{all_stages}
-use Rattle.spec_statements.specs.judged.Functions.{Reading, FunctionSettings, AllowsStage}
+use Rattle.spec_statements.specs.judged.Functions.{Reading, AllowsStage}
 use Rattle.spec_statements.specs.judged.Payloads.{IsPayloadAfter}
 use Rattle.spec_interface.specs.judged.Varyings.{HasBlendSources, result_varyings}
 
@@ -26,20 +24,17 @@ pub record IsEntrySummary (m : PlainModule) (e : PlainEntry) (t : Summary) : Typ
   pub may_kill : IsTrue t.may_kill ↔ MayKill m e.function
 
 -- What is noted of its function: which stages may run it, and whether two sources of a blend are among what it answers.
-pub record IsEntryNoted (reading : Reading) (callees : List ShaderStages) (s : FunctionSettings) (m : PlainModule) (e : PlainEntry) (stages : ShaderStages) (blending : Bool) : Type 0 where
+pub record IsEntryNoted (reading : Reading) (callees : List ShaderStages) (s : Settings) (m : PlainModule) (e : PlainEntry) (stages : ShaderStages) (blending : Bool) : Type 0 where
   pub run : (stage : ℕ) → Has stages.0 stage ↔ (Has all_stages.0 stage × AllowsStage reading s callees e.function stage)
   pub blended : IsTrue blending ↔ HasBlendSources (result_varyings m.types e.function.result)
 
--- The entry point is accepted, this is its summary and this is noted, and payloads of this type are kept after it.
-pub record IsEntryValidated (reading : Reading) (callees : List ShaderStages) (s : FunctionSettings) (m : PlainModule) (e : PlainEntry) (t : Summary) (stages : ShaderStages) (blending : Bool) (held : Option ℕ) : Type 0 where
-  pub ok : EntryOK reading callees (HasUse m e.function) s m e
+-- The entry point is accepted after payloads of one type, this is its summary and this is noted, and payloads of this type are kept
+-- after it.
+pub record IsEntryValidated (reading : Reading) (callees : List ShaderStages) (s : Settings) (before : Option ℕ) (m : PlainModule) (e : PlainEntry) (t : Summary) (stages : ShaderStages) (blending : Bool) (held : Option ℕ) : Type 0 where
+  pub ok : EntryOK reading callees (HasUse m e.function) s before m e
   pub summary : IsEntrySummary m e t
   pub noted : IsEntryNoted reading callees s m e stages blending
-  pub after : IsPayloadAfter s.flags m e.function s.held held
-
--- with what the function of an entry point is judged
-abbrev pub own_settings : OwnSettings → FunctionSettings
-own_settings s = entry_settings (settings_view s) s.held
+  pub after : IsPayloadAfter s.flags m e.function before held
 
 -- ---- on the way
 

@@ -3,7 +3,6 @@
 ghost use Rattle.std.specs.Prelude.{IfErr, MatchResult, OnOk};
 ghost use Rattle.function_validator.specs.Faults.{IsFaultOfBody};
 ghost use Rattle.function_validator.specs.Judged.{IsBodyMet};
-ghost use Rattle.function_validator.specs.Settings.{settings_view};
 ghost use Rattle.function_interface.specs.Analysis.{IsRefusedFor};
 ghost use Rattle.ir_flags.specs.Sets.{Has};
 ghost use Rattle.ir_flags.specs.declared.settings.TheConstants.ValidationFlags.{STRICT_SCOPE};
@@ -15,7 +14,6 @@ ghost use Rattle.spec_statements.specs.judged.Strict.{StrictOK};
 ghost use Rattle.function_statement_checks.specs.View.{context_view, IsKnown};
 ghost use Rattle.function_strict_scope.specs.Faults.{IsStrictFault};
 
-use crate::settings::FunctionSettings;
 use bitflags::Flags;
 use function_body_checks::{ExpressionList, check_control, check_scope};
 use function_operation_checks::payload_of;
@@ -25,7 +23,7 @@ use function_strict_scope::check_strict;
 use ir_arena::handle::Handle;
 use ir_faults::refusal::Refusal;
 use ir_faults::with_span::WithSpan;
-use ir_flags::ValidationFlags;
+use ir_flags::{Settings, ValidationFlags};
 use ir_items::Function;
 use ir_types::key;
 use std::alloc::Global;
@@ -60,15 +58,16 @@ fn check_strictly(
 /// answered.
 pub(crate) fn check_body(
     alloc: Global,
-    settings: &FunctionSettings,
+    settings: Settings,
+    held: Option<Handle<key::IrType>>,
     context: &BlockContext<'_>,
 ) -> Result<BodyFound, Refusal<FunctionError>>
     requires known { IsKnown context.now }
     requires precede { BasesPrecede (context_view context.now).f.expressions }
     requires arities { AritiesMatch (context_view context.now).m (context_view context.now).f }
     ensures { MatchResult result
-        (λ found. IsBodyMet (settings_view settings.now) (context_view context.now) found.answered found.held)
-        (IsRefusedFor (IsFaultOfBody (settings_view settings.now) (context_view context.now))) }
+        (λ found. IsBodyMet settings held (context_view context.now) found.answered found.held)
+        (IsRefusedFor (IsFaultOfBody settings held (context_view context.now))) }
 {
     match check_control(&context.function.body) {
         Ok(()) => {}
@@ -86,7 +85,7 @@ pub(crate) fn check_body(
         Ok(()) => {}
         Err(refusal) => return Err(refusal),
     }
-    match payload_of(context, settings.held) {
+    match payload_of(context, held) {
         Ok(held) => Ok(BodyFound { answered, held }),
         Err(error) => Err(Refusal::Fault(WithSpan::new(alloc, error))),
     }

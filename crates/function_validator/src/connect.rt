@@ -12,12 +12,12 @@ ghost use Rattle.spec_interface.specs.judged.Entries.{ConnectionsOK};
 ghost use Rattle.spec_interface.specs.judged.Uses.{EntryUses, mesh_output};
 ghost use Rattle.spec_interface.specs.judged.Varyings.{HasBlendSources, result_varyings};
 
-use crate::settings::FunctionSettings;
 use crate::uses::{note_own, uses_of};
 use function_entries::{EntryContext, KnownInterfaces, check_connections_with};
 use function_entry_checks::EntryPointError;
 use function_interface::Lower;
 use ir_faults::refusal::Refusal;
+use ir_flags::Settings;
 use ir_items::{EntryPoint, Module};
 use std::alloc::Global;
 
@@ -26,7 +26,7 @@ use std::alloc::Global;
 fn judge<L: Lower>(
     lower: &L,
     alloc: Global,
-    settings: &FunctionSettings,
+    settings: Settings,
     module: &Module,
     entry: &EntryPoint,
     info: &L::Info,
@@ -35,14 +35,14 @@ fn judge<L: Lower>(
     requires made { L.is_for lower.now (module_view «module».now) }
     requires many { length (L.summary lower.now info.now).uses ≡ length (module_view «module».now).globals }
     requires output { IfSome entry.now.mesh_info (λ (i : MeshStageInfo). i.output_variable < length (module_view «module».now).globals) }
-    requires known { AreInterfacesKnown settings.now.flags settings.now.capabilities (module_view «module».now).types known.old }
-    ensures known { OnOk result (AreInterfacesKnown settings.now.flags settings.now.capabilities (module_view «module».now).types known.new) }
+    requires known { AreInterfacesKnown settings.flags settings.capabilities (module_view «module».now).types known.old }
+    ensures known { OnOk result (AreInterfacesKnown settings.flags settings.capabilities (module_view «module».now).types known.new) }
     ensures judged { let m = module_view «module».now in
         let e = entry_view entry.now in
         let Uses = HasUseBit (L.summary lower.now info.now).uses in
         MatchResult result
-        (λ blended. ConnectionsOK settings.now.flags settings.now.capabilities m e Uses × (IsTrue blended ↔ HasBlendSources (result_varyings m.types e.function.result)))
-        (IsRefusedFor (IsUnconnected settings.now.flags settings.now.capabilities m e Uses)) }
+        (λ blended. ConnectionsOK settings.flags settings.capabilities m e Uses × (IsTrue blended ↔ HasBlendSources (result_varyings m.types e.function.result)))
+        (IsRefusedFor (IsUnconnected settings.flags settings.capabilities m e Uses)) }
 {
     let uses = match uses_of(lower, alloc, info, module.global_variables.len()) {
         Ok(uses) => uses,
@@ -98,7 +98,7 @@ fn with_blending<L: Lower>(lower: &L, info: L::Info, blended: bool) -> L::Info
 pub(crate) fn connect<L: Lower>(
     lower: &L,
     alloc: Global,
-    settings: &FunctionSettings,
+    settings: Settings,
     module: &Module,
     entry: &EntryPoint,
     info: L::Info,
@@ -109,14 +109,14 @@ pub(crate) fn connect<L: Lower>(
     requires output { IfSome entry.now.mesh_info (λ (i : MeshStageInfo). i.output_variable < length (module_view «module».now).globals) }
     requires many { length (L.summary lower.now info).uses ≡ length (module_view «module».now).globals }
     requires unblended { L.blending lower.now info ≡ false }
-    requires known { AreInterfacesKnown settings.now.flags settings.now.capabilities (module_view «module».now).types known.old }
-    ensures known { OnOk result (AreInterfacesKnown settings.now.flags settings.now.capabilities (module_view «module».now).types known.new) }
+    requires known { AreInterfacesKnown settings.flags settings.capabilities (module_view «module».now).types known.old }
+    ensures known { OnOk result (AreInterfacesKnown settings.flags settings.capabilities (module_view «module».now).types known.new) }
     ensures judged { let m = module_view «module».now in
         let e = entry_view entry.now in
         let Uses = EntryUses e (HasUseBit (L.summary lower.now info).uses) in
         MatchResult result
-        (λ kept. ConnectionsOK settings.now.flags settings.now.capabilities m e Uses × AddsOwnUses e (L.summary lower.now info) (L.summary lower.now kept))
-        (IsRefusedFor (IsUnconnected settings.now.flags settings.now.capabilities m e Uses)) }
+        (λ kept. ConnectionsOK settings.flags settings.capabilities m e Uses × AddsOwnUses e (L.summary lower.now info) (L.summary lower.now kept))
+        (IsRefusedFor (IsUnconnected settings.flags settings.capabilities m e Uses)) }
     ensures stages { IfOk result (λ kept. (L.noted lower.now kept).0 ≡ (L.noted lower.now info).0) }
     ensures blended { IfOk result (λ kept. IsTrue (L.blending lower.now kept) ↔ HasBlendSources (result_varyings (module_view «module».now).types (entry_view entry.now).function.result)) }
 {

@@ -1,13 +1,11 @@
 //! Whether a module may have an entry point.
 
-ghost use Rattle.std.specs.Prelude.{◌≡◌, ◌<◌, ◌↔◌, IfSome, IsTrue, MatchResult, OnOk, length, map};
+ghost use Rattle.std.specs.Prelude.{◌<◌, ◌↔◌, IfSome, IsTrue, MatchResult, OnOk, length, map};
 ghost use Rattle.function_entry_checks.specs.Faults.{IsRefusedFor};
 ghost use Rattle.function_entries.specs.Interfaces.{AreInterfacesKnown};
 ghost use Rattle.function_validator.specs.EntryFaults.{IsRefusedAs, IsReportedAs};
-ghost use Rattle.function_validator.specs.Validated.{IsEntryValidated, own_settings};
-ghost use Rattle.function_validator.specs.Settings.{settings_view};
+ghost use Rattle.function_validator.specs.Validated.{IsEntryValidated};
 ghost use Rattle.function_interface.specs.Question.{question};
-ghost use Rattle.ir_faults.specs.Faults.{error_of};
 ghost use Rattle.ir_flags.specs.Sets.{Has};
 ghost use Rattle.ir_items.specs.found.View.{entry_view, module_view};
 ghost use Rattle.ir_items.specs.declared.entries.MeshStageInfo.{MeshStageInfo};
@@ -19,16 +17,18 @@ ghost use Rattle.spec_interface.specs.judged.Contexts.{stage_set};
 ghost use Rattle.function_statement_checks.specs.Descriptors.{AreDescriptors};
 
 use crate::connect::connect;
-use crate::settings::FunctionSettings;
 use crate::validate::{Validated, validate_function_with};
 use bitflags::Flags;
 use function_entries::KnownInterfaces;
 use function_entry_checks::{EntryPointError, check_payload, check_stage, stage_set};
 use function_interface::Lower;
+use ir_arena::handle::Handle;
 use ir_faults::refusal::Refusal;
 use ir_faults::with_span::WithSpan;
+use ir_flags::Settings;
 use ir_items::{EntryPoint, Module};
 use ir_kinds::ShaderStage;
+use ir_types::key;
 use std::alloc::Global;
 use typing_errors::FunctionError;
 
@@ -45,20 +45,6 @@ fn reported_of_function(alloc: Global, refusal: Refusal<FunctionError>) -> Refus
     }
 }
 
-// With what the function of an entry point is judged.
-fn own_settings(settings: &FunctionSettings) -> FunctionSettings
-    ensures { settings_view result ≡ own_settings settings.now }
-{
-    FunctionSettings {
-        flags: settings.flags,
-        capabilities: settings.capabilities,
-        operations: settings.operations,
-        subgroup_stages: settings.subgroup_stages,
-        entry: true,
-        held: settings.held,
-    }
-}
-
 // Whether what is kept of a function says that a stage may run it.
 fn allows_stage<L: Lower>(lower: &L, info: &L::Info, stage: ShaderStage) -> bool
     ensures { IsTrue result ↔ Has (L.noted lower.now info.now).0 (stage_set stage).0 }
@@ -68,8 +54,8 @@ fn allows_stage<L: Lower>(lower: &L, info: &L::Info, stage: ShaderStage) -> bool
 
 /// Whether a module may have an entry point, and what is kept of it (naga's `validate_entry_point`); that an earlier one of the
 /// stage has its name is checked elsewhere. `callees` has what [`validate_function`](crate::validate_function)
-/// answered for the functions of the module, in order, where stages and uses may have been noted since. Its function
-/// is judged as an entry point's, whatever the settings say.
+/// answered for the functions of the module, in order, where stages and uses may have been noted since. `held`
+/// is the type of the payloads of the functions and the entry points before it, if one has any.
 ///
 /// Requires that the layer was made for the module, and that its handles are in order, as in a module that `validate_module_handles`
 /// accepts.
@@ -83,7 +69,8 @@ fn allows_stage<L: Lower>(lower: &L, info: &L::Info, stage: ShaderStage) -> bool
 pub fn validate_entry_point<L: Lower>(
     lower: &L,
     alloc: Global,
-    settings: &FunctionSettings,
+    settings: Settings,
+    held: Option<Handle<key::IrType>>,
     module: &Module,
     entry: &EntryPoint,
     callees: &[L::Info],
@@ -98,16 +85,16 @@ pub fn validate_entry_point<L: Lower>(
     ensures { let m = module_view «module».now in
         let e = entry_view entry.now in
         let q = question m e.function (map (L.summary lower.now) callees.now) (map (L.noted lower.now) callees.now) in
-        let s = own_settings settings.now in
         MatchResult result
-        (λ v. IsEntryValidated (L.reading lower.now q) q.stages s m e (L.summary lower.now v.info) (L.noted lower.now v.info) (L.blending lower.now v.info) v.held)
-        (IsRefusedFor (IsRefusedAs (L.reading lower.now q) (L.faults lower.now q) q.stages (HasUse m e.function) s m e)) }
+        (λ v. IsEntryValidated (L.reading lower.now q) q.stages settings held m e (L.summary lower.now v.info) (L.noted lower.now v.info) (L.blending lower.now v.info) v.held)
+        (IsRefusedFor (IsRefusedAs (L.reading lower.now q) (L.faults lower.now q) q.stages (HasUse m e.function) settings held m e)) }
 {
     let mut known = KnownInterfaces::new(alloc);
     validate_entry_point_with(
         lower,
         alloc,
         settings,
+        held,
         module,
         entry,
         callees,
@@ -126,7 +113,8 @@ pub fn validate_entry_point<L: Lower>(
 pub fn validate_entry_point_with<L: Lower>(
     lower: &L,
     alloc: Global,
-    settings: &FunctionSettings,
+    settings: Settings,
+    held: Option<Handle<key::IrType>>,
     module: &Module,
     entry: &EntryPoint,
     callees: &[L::Info],
@@ -138,28 +126,28 @@ pub fn validate_entry_point_with<L: Lower>(
     requires precede { OperandsPrecede (entry_view entry.now).function.expressions }
     requires parents { ParentsPrecede (module_view «module».now).filters }
     requires marked { AreDescriptors (module_view «module».now).types (module_view «module».now).special.ray_desc descriptors.now }
-    requires interfaces { AreInterfacesKnown settings.now.flags settings.now.capabilities (module_view «module».now).types known.old }
+    requires interfaces { AreInterfacesKnown settings.flags settings.capabilities (module_view «module».now).types known.old }
     requires payload { IfSome entry.now.task_payload (λ g. g < length (module_view «module».now).globals) }
     requires output { IfSome entry.now.mesh_info (λ (i : MeshStageInfo). i.output_variable < length (module_view «module».now).globals) }
     requires known { CalleesKnown (module_view «module».now) (entry_view entry.now).function (map (L.summary lower.now) callees.now) }
-    ensures interfaces { OnOk result (AreInterfacesKnown settings.now.flags settings.now.capabilities (module_view «module».now).types known.new) }
+    ensures interfaces { OnOk result (AreInterfacesKnown settings.flags settings.capabilities (module_view «module».now).types known.new) }
     ensures judged { let m = module_view «module».now in
         let e = entry_view entry.now in
         let q = question m e.function (map (L.summary lower.now) callees.now) (map (L.noted lower.now) callees.now) in
-        let s = own_settings settings.now in
         MatchResult result
-        (λ v. IsEntryValidated (L.reading lower.now q) q.stages s m e (L.summary lower.now v.info) (L.noted lower.now v.info) (L.blending lower.now v.info) v.held)
-        (IsRefusedFor (IsRefusedAs (L.reading lower.now q) (L.faults lower.now q) q.stages (HasUse m e.function) s m e)) }
+        (λ v. IsEntryValidated (L.reading lower.now q) q.stages settings held m e (L.summary lower.now v.info) (L.noted lower.now v.info) (L.blending lower.now v.info) v.held)
+        (IsRefusedFor (IsRefusedAs (L.reading lower.now q) (L.faults lower.now q) q.stages (HasUse m e.function) settings held m e)) }
 {
     match check_stage(settings.capabilities, entry) {
         Ok(()) => {}
         Err(error) => return Err(Refusal::Fault(WithSpan::new(alloc, error))),
     }
-    let own = own_settings(settings);
     let validated = match validate_function_with(
         lower,
         alloc,
-        &own,
+        settings,
+        true,
+        held,
         module,
         &entry.function,
         callees,

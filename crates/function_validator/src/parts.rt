@@ -3,7 +3,6 @@
 ghost use Rattle.std.specs.Prelude.{◌↔◌, ℕ, Contains, IsTrue, MatchResult, map};
 ghost use Rattle.function_validator.specs.Faults.{IsExpressionFault, IsFaultAfter, IsUnanswered};
 ghost use Rattle.function_validator.specs.Judged.{AllAnswer, AreExpressionsMet, AreBlocksMet, ArePartsMet, IsBlocksFault};
-ghost use Rattle.function_validator.specs.Settings.{settings_view};
 ghost use Rattle.function_interface.specs.Analysis.{IsRefusedFor};
 ghost use Rattle.function_interface.specs.Question.{question};
 ghost use Rattle.ir_flags.specs.Sets.{Has};
@@ -18,7 +17,6 @@ use crate::answers::check_answers;
 use crate::body::check_body;
 use crate::callees::KeptStages;
 use crate::expressions::check_expressions;
-use crate::settings::FunctionSettings;
 use bitflags::Flags;
 use function_body_checks::ExpressionList;
 use function_interface::{Lower, stages_of};
@@ -27,7 +25,7 @@ use function_statement_checks::BlockContext;
 use ir_arena::handle::Handle;
 use ir_faults::refusal::Refusal;
 use ir_faults::with_span::WithSpan;
-use ir_flags::{ShaderStages, ValidationFlags};
+use ir_flags::{Settings, ShaderStages, ValidationFlags};
 use ir_types::key;
 use std::alloc::Global;
 use typing_errors::FunctionError;
@@ -59,7 +57,7 @@ fn requires_blocks(flags: ValidationFlags) -> bool
 #[tactic(auto, using(crate::proofs::PartLaws::unasked_expressions, crate::proofs::PartLaws::asked_expressions))]
 fn expressions_met<L: Lower>(
     lower: &L,
-    settings: &FunctionSettings,
+    settings: Settings,
     context: &BlockContext<'_>,
     callees: &[L::Info],
 ) -> Result<ShaderStages, FunctionError>
@@ -67,8 +65,8 @@ fn expressions_met<L: Lower>(
     requires known { IsKnown context.now }
     ensures { let q = question (context_view context.now).m (context_view context.now).f (map (L.summary lower.now) callees.now) (map (L.noted lower.now) callees.now) in
         MatchResult result
-        (AreExpressionsMet (L.reading lower.now q) (settings_view settings.now) (context_view context.now))
-        (λ e. Has settings.now.flags.0 EXPRESSIONS.0 × IsExpressionFault (L.reading lower.now q) (L.faults lower.now q) (context_view context.now) e) }
+        (AreExpressionsMet (L.reading lower.now q) settings (context_view context.now))
+        (λ e. Has settings.flags.0 EXPRESSIONS.0 × IsExpressionFault (L.reading lower.now q) (L.faults lower.now q) (context_view context.now) e) }
 {
     if !requires_expressions(settings.flags) {
         return Ok(ShaderStages::all());
@@ -83,14 +81,14 @@ fn expressions_met<L: Lower>(
 #[tactic(auto, using(crate::proofs::PartLaws::asked_answers))]
 fn answers_met(
     alloc: Global,
-    settings: &FunctionSettings,
+    settings: Settings,
     context: &BlockContext<'_>,
     answered: &ExpressionList,
 ) -> Result<(), Refusal<FunctionError>>
     requires { (e : ℕ) → Contains answered.now e ↔ ((p : Place) × AnswersBy (context_view context.now).f.body p e) }
     ensures { MatchResult result
-        (λ _. Has settings.now.flags.0 EXPRESSIONS.0 → AllAnswer (context_view context.now))
-        (IsRefusedFor (λ e. Has settings.now.flags.0 EXPRESSIONS.0 × IsUnanswered (context_view context.now).f e)) }
+        (λ _. Has settings.flags.0 EXPRESSIONS.0 → AllAnswer (context_view context.now))
+        (IsRefusedFor (λ e. Has settings.flags.0 EXPRESSIONS.0 × IsUnanswered (context_view context.now).f e)) }
 {
     if !requires_expressions(settings.flags) {
         return Ok(());
@@ -106,7 +104,8 @@ fn answers_met(
 fn blocks_met<L: Lower>(
     lower: &L,
     alloc: Global,
-    settings: &FunctionSettings,
+    settings: Settings,
+    held: Option<Handle<key::IrType>>,
     context: &BlockContext<'_>,
     callees: &[L::Info],
 ) -> Result<Met, Refusal<FunctionError>>
@@ -114,16 +113,16 @@ fn blocks_met<L: Lower>(
     requires precede { BasesPrecede (context_view context.now).f.expressions }
     requires arities { AritiesMatch (context_view context.now).m (context_view context.now).f }
     ensures { MatchResult result
-        (λ met. AreBlocksMet (settings_view settings.now) (context_view context.now) (map (L.noted lower.now) callees.now) met.stages met.held)
-        (IsRefusedFor (IsBlocksFault (settings_view settings.now) (context_view context.now))) }
+        (λ met. AreBlocksMet settings held (context_view context.now) (map (L.noted lower.now) callees.now) met.stages met.held)
+        (IsRefusedFor (IsBlocksFault settings held (context_view context.now))) }
 {
     if !requires_blocks(settings.flags) {
         return Ok(Met {
             stages: ShaderStages::all(),
-            held: settings.held,
+            held,
         });
     }
-    let found = match check_body(alloc, settings, context) {
+    let found = match check_body(alloc, settings, held, context) {
         Ok(found) => found,
         Err(refusal) => return Err(refusal),
     };
@@ -151,7 +150,9 @@ fn blocks_met<L: Lower>(
 pub(crate) fn check_parts<L: Lower>(
     lower: &L,
     alloc: Global,
-    settings: &FunctionSettings,
+    settings: Settings,
+    entry_point: bool,
+    held: Option<Handle<key::IrType>>,
     context: &BlockContext<'_>,
     callees: &[L::Info],
 ) -> Result<Met, Refusal<FunctionError>>
@@ -161,10 +162,10 @@ pub(crate) fn check_parts<L: Lower>(
     requires arities { AritiesMatch (context_view context.now).m (context_view context.now).f }
     ensures { let q = question (context_view context.now).m (context_view context.now).f (map (L.summary lower.now) callees.now) (map (L.noted lower.now) callees.now) in
         MatchResult result
-        (λ met. ArePartsMet (L.reading lower.now q) (settings_view settings.now) (context_view context.now) (map (L.noted lower.now) callees.now) met.stages met.held)
-        (IsRefusedFor (IsFaultAfter (L.reading lower.now q) (L.faults lower.now q) (settings_view settings.now) (context_view context.now))) }
+        (λ met. ArePartsMet (L.reading lower.now q) settings entry_point held (context_view context.now) (map (L.noted lower.now) callees.now) met.stages met.held)
+        (IsRefusedFor (IsFaultAfter (L.reading lower.now q) (L.faults lower.now q) settings entry_point held (context_view context.now))) }
 {
-    match check_interface(alloc, context, lower.type_infos(), settings.entry) {
+    match check_interface(alloc, context, lower.type_infos(), entry_point) {
         Ok(()) => {}
         Err(refusal) => return Err(refusal),
     }
@@ -172,7 +173,7 @@ pub(crate) fn check_parts<L: Lower>(
         Ok(stages) => stages,
         Err(error) => return Err(Refusal::Fault(WithSpan::new(alloc, error))),
     };
-    match blocks_met(lower, alloc, settings, context, callees) {
+    match blocks_met(lower, alloc, settings, held, context, callees) {
         Ok(met) => Ok(Met {
             stages: ShaderStages(met.stages.0 & own.0),
             held: met.held,

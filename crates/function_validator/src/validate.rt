@@ -3,7 +3,6 @@
 ghost use Rattle.std.specs.Prelude.{◌≡◌, ◌↔◌, ◌||◌, ℕ, IfErr, IfOk, MatchResult, OnOk, bit_and, false, length, map};
 ghost use Rattle.function_validator.specs.Faults.{IsFaultAfter, IsFunctionFault};
 ghost use Rattle.function_validator.specs.Judged.{ArePartsMet};
-ghost use Rattle.function_validator.specs.Settings.{settings_view};
 ghost use Rattle.function_interface.specs.Analysis.{IsRefusedFor};
 ghost use Rattle.function_interface.specs.Question.{question};
 ghost use Rattle.ir_flags.specs.Sets.{Has};
@@ -19,12 +18,12 @@ ghost use Rattle.typing_errors.specs.Answers.{form_given};
 
 use crate::forms::forms_of;
 use crate::parts::{Met, check_parts};
-use crate::settings::FunctionSettings;
 use function_interface::{Lower, analyse_function};
 use function_statement_checks::BlockContext;
 use function_statements::next_answers;
 use ir_arena::handle::Handle;
 use ir_faults::refusal::Refusal;
+use ir_flags::Settings;
 use ir_items::{Function, Module};
 use ir_types::key;
 use std::alloc::Global;
@@ -44,7 +43,9 @@ pub struct Validated<I> {
 fn judge<L: Lower>(
     lower: &L,
     alloc: Global,
-    settings: &FunctionSettings,
+    settings: Settings,
+    entry_point: bool,
+    held: Option<Handle<key::IrType>>,
     module: &Module,
     function: &Function,
     callees: &[L::Info],
@@ -57,10 +58,10 @@ fn judge<L: Lower>(
     requires many { length (function_view function.now).expressions ≡ length (L.types lower.now info.now) }
     requires marked { AreDescriptors (module_view «module».now).types (module_view «module».now).special.ray_desc descriptors.now }
     ensures { let q = question (module_view «module».now) (function_view function.now) (map (L.summary lower.now) callees.now) (map (L.noted lower.now) callees.now) in
-        let c = block_context (settings_view settings.now) q.m q.f (map (form_given q.m.types) (L.types lower.now info.now)) in
+        let c = block_context settings q.m q.f (map (form_given q.m.types) (L.types lower.now info.now)) in
         MatchResult result
-        (λ met. ArePartsMet (L.reading lower.now q) (settings_view settings.now) c q.stages met.stages met.held)
-        (IsRefusedFor (IsFaultAfter (L.reading lower.now q) (L.faults lower.now q) (settings_view settings.now) c)) }
+        (λ met. ArePartsMet (L.reading lower.now q) settings entry_point held c q.stages met.stages met.held)
+        (IsRefusedFor (IsFaultAfter (L.reading lower.now q) (L.faults lower.now q) settings entry_point held c)) }
 {
     let count = function.expressions.len();
     let forms = match forms_of(lower, alloc, &module.types, info, count) {
@@ -77,7 +78,7 @@ fn judge<L: Lower>(
     };
     let context = BlockContext {
         capabilities: settings.capabilities,
-        operations: settings.operations,
+        operations: settings.subgroup_operations,
         module,
         function,
         forms: &forms,
@@ -85,7 +86,7 @@ fn judge<L: Lower>(
         answers: &answers,
         descriptors,
     };
-    match check_parts(lower, alloc, settings, &context, callees) {
+    match check_parts(lower, alloc, settings, entry_point, held, &context, callees) {
         Ok(met) => Ok(met),
         Err(refusal) => Err(refusal),
     }
@@ -111,7 +112,8 @@ fn noted<L: Lower>(lower: &L, info: L::Info, met: Met) -> Validated<L::Info>
 }
 
 /// Whether a function is accepted, and what is kept of it (naga's `validate_function`). `callees` has what this call answered
-/// for the functions before it, in order, where stages and uses may have been noted since.
+/// for the functions before it, in order, where stages and uses may have been noted since. `entry_point` says that the function is
+/// an entry point's, and `held` is the type of the payloads of the functions and the entry points before it, if one has any.
 ///
 /// Requires that the layer was made for the module, and that the handles of the function are in order, as those of a module are
 /// that `validate_module_handles` accepts.
@@ -126,7 +128,9 @@ fn noted<L: Lower>(lower: &L, info: L::Info, met: Met) -> Validated<L::Info>
 pub fn validate_function<L: Lower>(
     lower: &L,
     alloc: Global,
-    settings: &FunctionSettings,
+    settings: Settings,
+    entry_point: bool,
+    held: Option<Handle<key::IrType>>,
     module: &Module,
     function: &Function,
     callees: &[L::Info],
@@ -136,21 +140,31 @@ pub fn validate_function<L: Lower>(
     requires precede { OperandsPrecede (function_view function.now).expressions }
     requires parents { ParentsPrecede (module_view «module».now).filters }
     ensures accepted { let q = question (module_view «module».now) (function_view function.now) (map (L.summary lower.now) callees.now) (map (L.noted lower.now) callees.now) in
-        OnOk result (FunctionOK (L.reading lower.now q) (settings_view settings.now) q.m q.f) }
+        OnOk result (FunctionOK (L.reading lower.now q) settings entry_point held q.m q.f) }
     ensures refused { let q = question (module_view «module».now) (function_view function.now) (map (L.summary lower.now) callees.now) (map (L.noted lower.now) callees.now) in
-        IfErr result (IsRefusedFor (λ _. FunctionOK (L.reading lower.now q) (settings_view settings.now) q.m q.f → ⊥)) }
+        IfErr result (IsRefusedFor (λ _. FunctionOK (L.reading lower.now q) settings entry_point held q.m q.f → ⊥)) }
     ensures fault { let q = question (module_view «module».now) (function_view function.now) (map (L.summary lower.now) callees.now) (map (L.noted lower.now) callees.now) in
-        IfErr result (IsRefusedFor (IsFunctionFault (L.reading lower.now q) (L.faults lower.now q) (settings_view settings.now) q.m q.f)) }
+        IfErr result (IsRefusedFor (IsFunctionFault (L.reading lower.now q) (L.faults lower.now q) settings entry_point held q.m q.f)) }
     ensures stages { let q = question (module_view «module».now) (function_view function.now) (map (L.summary lower.now) callees.now) (map (L.noted lower.now) callees.now) in
-        IfOk result (λ v. (stage : ℕ) → Has (L.noted lower.now v.info).0 stage ↔ (Has all_stages.0 stage × AllowsStage (L.reading lower.now q) (settings_view settings.now) q.stages q.f stage)) }
+        IfOk result (λ v. (stage : ℕ) → Has (L.noted lower.now v.info).0 stage ↔ (Has all_stages.0 stage × AllowsStage (L.reading lower.now q) settings q.stages q.f stage)) }
     ensures joined { IfOk result (λ v. IsJoined (length (module_view «module».now).globals) (function_view function.now) (map (L.summary lower.now) callees.now) (L.summary lower.now v.info)) }
     ensures chains { CalleesKnown (module_view «module».now) (function_view function.now) (map (L.summary lower.now) callees.now)
         → IfOk result (λ v. IsSummary (module_view «module».now) (function_view function.now) (L.summary lower.now v.info)) }
     ensures globals { IfOk result (λ v. length (L.summary lower.now v.info).uses ≡ length (module_view «module».now).globals) }
     ensures unblended { IfOk result (λ v. L.blending lower.now v.info ≡ false) }
-    ensures held { IfOk result (λ v. IsPayloadAfter settings.now.flags (module_view «module».now) (function_view function.now) settings.now.held v.held) }
+    ensures held { IfOk result (λ v. IsPayloadAfter settings.flags (module_view «module».now) (function_view function.now) held v.held) }
 {
-    validate_function_with(lower, alloc, settings, module, function, callees, &[])
+    validate_function_with(
+        lower,
+        alloc,
+        settings,
+        entry_point,
+        held,
+        module,
+        function,
+        callees,
+        &[],
+    )
 }
 
 /// The same, where `descriptors` has marks of the types that are made as the module's type of rays is, found once for all its
@@ -162,7 +176,9 @@ pub fn validate_function<L: Lower>(
 pub fn validate_function_with<L: Lower>(
     lower: &L,
     alloc: Global,
-    settings: &FunctionSettings,
+    settings: Settings,
+    entry_point: bool,
+    held: Option<Handle<key::IrType>>,
     module: &Module,
     function: &Function,
     callees: &[L::Info],
@@ -174,19 +190,19 @@ pub fn validate_function_with<L: Lower>(
     requires parents { ParentsPrecede (module_view «module».now).filters }
     requires marked { AreDescriptors (module_view «module».now).types (module_view «module».now).special.ray_desc descriptors.now }
     ensures accepted { let q = question (module_view «module».now) (function_view function.now) (map (L.summary lower.now) callees.now) (map (L.noted lower.now) callees.now) in
-        OnOk result (FunctionOK (L.reading lower.now q) (settings_view settings.now) q.m q.f) }
+        OnOk result (FunctionOK (L.reading lower.now q) settings entry_point held q.m q.f) }
     ensures refused { let q = question (module_view «module».now) (function_view function.now) (map (L.summary lower.now) callees.now) (map (L.noted lower.now) callees.now) in
-        IfErr result (IsRefusedFor (λ _. FunctionOK (L.reading lower.now q) (settings_view settings.now) q.m q.f → ⊥)) }
+        IfErr result (IsRefusedFor (λ _. FunctionOK (L.reading lower.now q) settings entry_point held q.m q.f → ⊥)) }
     ensures fault { let q = question (module_view «module».now) (function_view function.now) (map (L.summary lower.now) callees.now) (map (L.noted lower.now) callees.now) in
-        IfErr result (IsRefusedFor (IsFunctionFault (L.reading lower.now q) (L.faults lower.now q) (settings_view settings.now) q.m q.f)) }
+        IfErr result (IsRefusedFor (IsFunctionFault (L.reading lower.now q) (L.faults lower.now q) settings entry_point held q.m q.f)) }
     ensures stages { let q = question (module_view «module».now) (function_view function.now) (map (L.summary lower.now) callees.now) (map (L.noted lower.now) callees.now) in
-        IfOk result (λ v. (stage : ℕ) → Has (L.noted lower.now v.info).0 stage ↔ (Has all_stages.0 stage × AllowsStage (L.reading lower.now q) (settings_view settings.now) q.stages q.f stage)) }
+        IfOk result (λ v. (stage : ℕ) → Has (L.noted lower.now v.info).0 stage ↔ (Has all_stages.0 stage × AllowsStage (L.reading lower.now q) settings q.stages q.f stage)) }
     ensures joined { IfOk result (λ v. IsJoined (length (module_view «module».now).globals) (function_view function.now) (map (L.summary lower.now) callees.now) (L.summary lower.now v.info)) }
     ensures chains { CalleesKnown (module_view «module».now) (function_view function.now) (map (L.summary lower.now) callees.now)
         → IfOk result (λ v. IsSummary (module_view «module».now) (function_view function.now) (L.summary lower.now v.info)) }
     ensures globals { IfOk result (λ v. length (L.summary lower.now v.info).uses ≡ length (module_view «module».now).globals) }
     ensures unblended { IfOk result (λ v. L.blending lower.now v.info ≡ false) }
-    ensures held { IfOk result (λ v. IsPayloadAfter settings.now.flags (module_view «module».now) (function_view function.now) settings.now.held v.held) }
+    ensures held { IfOk result (λ v. IsPayloadAfter settings.flags (module_view «module».now) (function_view function.now) held v.held) }
 {
     let info = match analyse_function(lower, alloc, module, function, callees, settings.flags) {
         Ok(info) => info,
@@ -196,6 +212,8 @@ pub fn validate_function_with<L: Lower>(
         lower,
         alloc,
         settings,
+        entry_point,
+        held,
         module,
         function,
         callees,

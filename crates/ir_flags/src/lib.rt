@@ -9,5 +9,5 @@ mod stages;
 
 pub use debug::write_set;
 pub use memory::{Barrier, MemoryDecorations, StorageAccess};
-pub use settings::{Capabilities, ValidationFlags};
+pub use settings::{Capabilities, Settings, ValidationFlags};
 pub use stages::{ShaderStages, SubgroupOperationSet};

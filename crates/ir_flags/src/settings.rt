@@ -1,10 +1,24 @@
-//! Sets of checks and of capabilities.
+//! Sets of checks and of capabilities, and the settings of a validator.
 
 ghost use Rattle.std.specs.Prelude.{◌≡◌, ◌-◌, ◌^◌};
 
 use crate::debug::write_set;
+use crate::stages::{ShaderStages, SubgroupOperationSet};
 use bitflags::{Flag, Flags, bitflag_items};
 use std::fmt;
+
+/// The settings of a validator: by these a module is judged, from its types to its entry points.
+#[derive(Clone, Copy, Debug, PartialEq, Eq)]
+pub struct Settings {
+    /// The checks that are made.
+    pub flags: ValidationFlags,
+    /// What shaders may use beyond the common part.
+    pub capabilities: Capabilities,
+    /// The stages that have operations of subgroups.
+    pub subgroup_stages: ShaderStages,
+    /// The operations of subgroups that may be used there.
+    pub subgroup_operations: SubgroupOperationSet,
+}
 
 /// The checks that a validator makes (naga's `ValidationFlags`). A contract sees
 /// the number of its bits, as `set.0`.

@@ -5,30 +5,26 @@ use Rattle.ir_flags.specs.declared.settings.TheConstants.ValidationFlags.{CONSTA
 use Rattle.ir_flags.specs.declared.settings.ValidationFlags.{ValidationFlags}
 use Rattle.ir_items.specs.judged.Plain.{PlainModule}
 use Rattle.spec_expressions.proofs.Capable.{more_capabilities as expressions_more}
-use Rattle.spec_expressions.specs.judged.GlobalExpressions.{GlobalExpressionOK}
-use Rattle.spec_expressions.specs.judged.Overrides.{OverrideOK}
 use Rattle.typing_layout.proofs.Capable.{more_capabilities as types_more}
-use Rattle.typing_layout.specs.judged.Rules.{TypeOK}
 use Rattle.judgement.specs.found.ModuleLaws.{MayUseMore, MoreCapabilities}
-use Rattle.judgement.specs.declared.settings.ModuleSettings.{ModuleSettings}
+use Rattle.ir_flags.specs.declared.settings.Settings.{Settings}
 use Rattle.judgement.specs.judged.ModuleSteps.{ModuleStep, layout, type, typing, expression, constant, override, StepOK}
 
-asked_too : (few many : ModuleSettings) → MayUseMore few many → Has many.flags.0 CONSTANTS.0 → Has few.flags.0 CONSTANTS.0
+asked_too : (few many : Settings) → MayUseMore few many → Has many.flags.0 CONSTANTS.0 → Has few.flags.0 CONSTANTS.0
 asked_too few many more has = subst (λ (f : ValidationFlags). Has f.0 CONSTANTS.0) (sym more.flags) has
 
-step_more : (few many : ModuleSettings) (m : PlainModule) (step : ModuleStep) (index : ℕ) → MayUseMore few many → StepOK few m step index → StepOK many m step index
-step_more few many m layout index more ok = ok
-step_more few many m type index more ok =
-    subst (λ (r : Bool). TypeOK many.capabilities r m.types index) more.resolved (types_more few.capabilities many.capabilities more.within few.overrides_resolved m.types index ok)
-step_more few many m typing index more ok = ok
-step_more few many m expression index more ok =
-    λ has. subst (λ (r : Bool). GlobalExpressionOK many.capabilities r m index) more.resolved
-    (expressions_more few.capabilities many.capabilities more.within few.overrides_resolved m index (ok (asked_too few many more has)))
-step_more few many m constant index more ok = λ has. ok (asked_too few many more has)
-step_more few many m override index more ok = λ has. subst (λ (r : Bool). OverrideOK r m index) more.resolved (ok (asked_too few many more has))
+step_more : (few many : Settings) (resolved : Bool) (m : PlainModule) (step : ModuleStep) (index : ℕ) → MayUseMore few many → StepOK few resolved m step index → StepOK many resolved m step index
+step_more few many resolved m layout index more ok = ok
+step_more few many resolved m type index more ok =
+    types_more few.capabilities many.capabilities more.within resolved m.types index ok
+step_more few many resolved m typing index more ok = ok
+step_more few many resolved m expression index more ok =
+    λ has. expressions_more few.capabilities many.capabilities more.within resolved m index (ok (asked_too few many more has))
+step_more few many resolved m constant index more ok = λ has. ok (asked_too few many more has)
+step_more few many resolved m override index more ok = λ has. ok (asked_too few many more has)
 
 pub module_more : MoreCapabilities
-module_more few many m more ok = record {
+module_more few many resolved m more ok = record {
   handles = ok.handles;
-  steps = λ step. record { each = λ index within. step_more few many m step index more ((ok.steps step).each index within) };
+  steps = λ step. record { each = λ index within. step_more few many resolved m step index more ((ok.steps step).each index within) };
 }

@@ -7,7 +7,5 @@ mod finding;
 pub mod module_laws;
 pub mod report_laws;
 pub mod report_worked;
-mod settings;
 
 pub use finding::{Finding, Step};
-pub use settings::ModuleSettings;

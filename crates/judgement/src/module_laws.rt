@@ -3,7 +3,6 @@
 ghost use Rattle.judgement.specs.found.ModuleLaws.{MoreCapabilities, OneFailure, NoneFails};
 
 /// What is accepted where shaders may use less is accepted where they may use more.
-#[tactic(auto, using(crate::proofs::Capable::module_more))]
 pub fn more_capabilities()
     ensures { MoreCapabilities }
 {}

@@ -8,6 +8,7 @@ use Rattle.ir_types.specs.judged.ExpressionPlain.{PlainExpression, plain}
 use Rattle.ir_types.specs.declared.expressions.Expression.TheVariants as x
 use Rattle.ir_flags.specs.Sets.{Has}
 use Rattle.ir_flags.specs.declared.settings.TheConstants.ValidationFlags.{BLOCKS, EXPRESSIONS}
+use Rattle.ir_flags.specs.declared.settings.Settings.{Settings}
 use Rattle.ir_items.specs.judged.Plain.{PlainFunction, PlainModule}
 use Rattle.judgement_laws.specs.Laws.{IsCallOf, IsOperationOf, OccursOnce, EachAnswered, AnsweredByOne}
 use Rattle.spec_statements.specs.judged.ModuleFunctions.{FunctionAtOK}
@@ -15,7 +16,7 @@ use Rattle.ir_kinds.specs.declared.scalars.Scalar.{Scalar}
 use Rattle.spec_handles.specs.Operands.{compared}
 use Rattle.spec_statements.specs.judged.Atomics.{AnswerOK, AtomicAnswer, AtomicChangeOK, changed_scalar, declared_answer}
 use Rattle.spec_statements.specs.judged.BlockContext.{BlockContext, form_at}
-use Rattle.spec_statements.specs.judged.Functions.{FunctionSettings, BodyOK}
+use Rattle.spec_statements.specs.judged.Functions.{BodyOK}
 use Rattle.spec_statements.specs.judged.Results.{AnswersBy, DenotesResult, of_call, of_atomic, answer_of, operation_answer}
 use Rattle.spec_statements.specs.judged.Statements.{OperationOK, StatementOK}
 
@@ -97,7 +98,7 @@ answers_operation e (return value) is = absurd is
 answers_operation e kill is = absurd is
 answers_operation e (call function arguments result) is = absurd is
 
-module _ (s : FunctionSettings) (c : BlockContext) (body : BodyOK s c) (expressions : Has s.flags.0 EXPRESSIONS.0) where
+module _ (s : Settings) (held : Option ℕ) (c : BlockContext) (body : BodyOK s held c) (expressions : Has s.flags.0 EXPRESSIONS.0) where
   each_answered : EachAnswered c.f
   each_answered = record {
     calls = λ e function at.
@@ -124,4 +125,4 @@ pub answered_by_one : AnsweredByOne
 answered_by_one s m ok blocks expressions index f at =
     let here = ok index (slice_get_within m.functions index f at) in
     let same : here.function ≡ f = some_is (sym here.at ∙ at) in
-    subst EachAnswered same (each_answered _ _ ((here.ok []).body blocks) expressions)
+    subst EachAnswered same (each_answered _ _ _ ((here.ok []).body blocks) expressions)

@@ -6,6 +6,7 @@ use Rattle.ir_types.specs.judged.ExpressionPlain.{PlainExpression, plain}
 use Rattle.ir_types.specs.declared.expressions.Expression.TheVariants as x
 use Rattle.ir_flags.specs.Sets.{Has}
 use Rattle.ir_flags.specs.declared.settings.TheConstants.ValidationFlags.{BINDINGS, BLOCKS, EXPRESSIONS}
+use Rattle.ir_flags.specs.declared.settings.Settings.{Settings}
 use Rattle.ir_items.specs.judged.Plain.{PlainEntry, PlainFunction, PlainModule}
 use Rattle.ir_kinds.specs.declared.bindings.ResourceBinding.{ResourceBinding}
 use Rattle.spec_analysis.specs.judged.Chains.{Step, IsChain, end_of}
@@ -17,7 +18,6 @@ use Rattle.spec_statements.specs.judged.ModuleFunctions.{FunctionsOK}
 use Rattle.spec_handles.specs.InOrder.{HandlesOK}
 use Rattle.judgement.specs.judged.Lines.{is_own, is_used}
 use Rattle.judgement.specs.judged.Reports.{IsEntryReport}
-use Rattle.spec_statements.specs.judged.Functions.{FunctionSettings}
 use Rattle.spec_statements.specs.judged.Results.{answer_of}
 
 -- ---- chains of calls
@@ -58,7 +58,7 @@ pub record IsReported (m : PlainModule) (number : ℕ) (e : PlainEntry) (lines :
 
 abbrev pub BindingsDiffer : Type 0
 BindingsDiffer =
-    (s : FunctionSettings) (m : PlainModule) → EntriesOK s m → Has s.flags.0 BINDINGS.0 → (number : ℕ) (e : PlainEntry) → slice_get m.entries number ≡ Some e → (lines : List ℕ) (r : IsEntryReport m number e lines)
+    (s : Settings) (m : PlainModule) → EntriesOK s m → Has s.flags.0 BINDINGS.0 → (number : ℕ) (e : PlainEntry) → slice_get m.entries number ≡ Some e → (lines : List ℕ) (r : IsEntryReport m number e lines)
     → (g h : ℕ) (b : ResourceBinding) → IsReported m number e lines r g → IsReported m number e lines r h → binding_at m g ≡ Some b → binding_at m h ≡ Some b → g ≡ h
 
 -- ---- answers
@@ -86,4 +86,4 @@ pub record EachAnswered (f : PlainFunction) : Type 0 where
 
 abbrev pub AnsweredByOne : Type 0
 AnsweredByOne =
-    (s : FunctionSettings) (m : PlainModule) → FunctionsOK s m → Has s.flags.0 BLOCKS.0 → Has s.flags.0 EXPRESSIONS.0 → (index : ℕ) (f : PlainFunction) → slice_get m.functions index ≡ Some f → EachAnswered f
+    (s : Settings) (m : PlainModule) → FunctionsOK s m → Has s.flags.0 BLOCKS.0 → Has s.flags.0 EXPRESSIONS.0 → (index : ℕ) (f : PlainFunction) → slice_get m.functions index ≡ Some f → EachAnswered f

@@ -1,11 +1,12 @@
 -- An entry point is accepted alike with other returns.
-use Rattle.std.proofs.Common.{inl, inr, ℕ, Option, List, refl, sym, ap, subst, ◌∙◌}
+use Rattle.std.proofs.Common.{inl, inr, ℕ, true, Option, List, refl, sym, ap, subst, ◌∙◌}
 use Rattle.std.specs.Prelude.{◌<◌, ◌-◌, ◌^◌, length}
 use Rattle.ir_flags.proofs.SetLaws.{all_shader_stages}
 use Rattle.ir_flags.specs.Sets.{Has}
 use Rattle.ir_flags.specs.declared.settings.Capabilities.{Capabilities}
 use Rattle.ir_flags.specs.declared.settings.ValidationFlags.{ValidationFlags}
 use Rattle.ir_flags.specs.declared.stages.ShaderStages.{ShaderStages}
+use Rattle.ir_flags.specs.declared.settings.Settings.{Settings}
 use Rattle.ir_items.specs.judged.GlobalPlain.{PlainGlobal}
 use Rattle.ir_items.specs.judged.Plain.{PlainFunction, PlainEntry, PlainModule}
 use Rattle.ir_items.specs.declared.entries.MeshStageInfo.{MeshStageInfo}
@@ -13,7 +14,7 @@ use Rattle.ir_kinds.specs.declared.stages.ShaderStage.{ShaderStage}
 use Rattle.ir_kinds.specs.declared.stages.ShaderStage.TheVariants.{Vertex, Fragment, Compute, Mesh, Task, RayGeneration, AnyHit, ClosestHit, Miss}
 use Rattle.spec_analysis.specs.judged.Chains.{HasUse}
 use Rattle.spec_statements.specs.judged.ExpressionStages.{all_stages}
-use Rattle.spec_statements.specs.judged.Functions.{FunctionSettings, AllowsStage}
+use Rattle.spec_statements.specs.judged.Functions.{AllowsStage}
 use Rattle.spec_statements.specs.judged.ModuleFunctions.{reading_over}
 use Rattle.spec_interface.specs.judged.Contexts.{stage_set}
 use Rattle.spec_interface.specs.judged.Entries.{ConnectionsOK, EntryOK}
@@ -21,7 +22,8 @@ use Rattle.spec_interface.specs.judged.EarlierPayloads.{HasEntryPayload, HasPayl
 use Rattle.spec_interface.specs.declared.parts.MeshParts.{MeshParts}
 use Rattle.spec_interface.specs.judged.Meshes.{HasParts, ImpliesMeshInfo, without_overrides, IsSaid, MeshOK}
 use Rattle.spec_interface.specs.judged.Modules as entries
-use Rattle.spec_interface.specs.judged.Modules.{IsConflict, AreStages, entry_settings, EntryAtOK, EntriesOK}
+use Rattle.spec_interface.specs.judged.EntryNames.{IsConflict}
+use Rattle.spec_interface.specs.judged.Modules.{AreStages, EntryAtOK, EntriesOK}
 use Rattle.spec_interface.specs.judged.Payloads.{PayloadOK}
 use Rattle.spec_interface.specs.judged.Stages.{StageOK}
 use Rattle.spec_interface.specs.judged.Uses.{OwnUse, EntryUses}
@@ -112,7 +114,7 @@ uses_move l k g bit (inr own) = inr (subst (λ z. OwnUse z g bit) (sym k.rest) o
 
 -- ---- which stages may run functions
 
-stages_move : {m n : PlainModule} → LikeModule m n → (s : FunctionSettings) (stages : List ShaderStages) → AreStages s m stages → AreStages s n stages
+stages_move : {m n : PlainModule} → LikeModule m n → (s : Settings) (stages : List ShaderStages) → AreStages s m stages → AreStages s n stages
 stages_move l s stages h = record {
   many = h.many ∙ l.functions.many;
   each = λ index g own at at_own stage.
@@ -140,11 +142,11 @@ among_all stage = subst (λ bits. Has bits (stage_set stage).0) (sym all_shader_
 
 -- ---- the entry point
 
-entry_moves : {m n : PlainModule} {x y : PlainEntry} → LikeModule m n → LikeEntry x y → (stages : List ShaderStages) (s : FunctionSettings)
-    → EntryOK (reading_over stages m x.function) stages (HasUse m x.function) s m x → EntryOK (reading_over stages n y.function) stages (HasUse n y.function) s n y
-entry_moves {m} {n} {x} {y} l k stages s h = record {
+entry_moves : {m n : PlainModule} {x y : PlainEntry} → LikeModule m n → LikeEntry x y → (stages : List ShaderStages) (s : Settings) (held : Option ℕ)
+    → EntryOK (reading_over stages m x.function) stages (HasUse m x.function) s held m x → EntryOK (reading_over stages n y.function) stages (HasUse n y.function) s held n y
+entry_moves {m} {n} {x} {y} l k stages s held h = record {
   stage = over_entry (λ a z. StageOK s.capabilities z) l k (stage m n.functions n.entries x y.function s.capabilities h.stage);
-  function = function_moves l k.function s stages h.function;
+  function = function_moves l k.function s true held stages h.function;
   payload = over_entry PayloadOK l k (payload m n.functions n.entries x y.function h.payload);
   runs = subst (λ (z : PlainEntry). AllowsStage (reading_over stages n y.function) s stages y.function (stage_set z.stage).0) (sym k.rest)
       (stage_moves l k.function s stages stages (stage_set x.stage).0 (among_all x.stage) h.runs);
@@ -181,7 +183,7 @@ held_moves l flags count held h = record {
   none = λ no. h.none (λ type flag x. no type flag (payload_so_far l count type x));
 }
 
-entry_at_moves : {m n : PlainModule} → LikeModule m n → (s : FunctionSettings) (i : ℕ) → EntryAtOK s m i → EntryAtOK s n i
+entry_at_moves : {m n : PlainModule} → LikeModule m n → (s : Settings) (i : ℕ) → EntryAtOK s m i → EntryAtOK s n i
 entry_at_moves l s i h =
     let y = l.entries.there i h.entry h.at in
     record {
@@ -192,13 +194,13 @@ entry_at_moves l s i h =
       stages = h.stages;
       run = stages_move l s h.stages h.run;
       apart = λ conflict. h.apart (conflict_moves (module_back l) (entry_back y.2) i conflict);
-      ok = entry_moves l y.2 h.stages (entry_settings s h.held) h.ok;
+      ok = entry_moves l y.2 h.stages s h.held h.ok;
     }
 
-pub entries_move : {m n : PlainModule} → LikeModule m n → (s : FunctionSettings) → EntriesOK s m → EntriesOK s n
+pub entries_move : {m n : PlainModule} → LikeModule m n → (s : Settings) → EntriesOK s m → EntriesOK s n
 entries_move l s h i within = entry_at_moves l s i (h i (subst (λ k. i < k) (sym l.entries.many) within))
 
-pub first_entry_moves : {m n : PlainModule} → LikeModule m n → (s : FunctionSettings) (i : ℕ) → entries.IsFirstFailing s m i → entries.IsFirstFailing s n i
+pub first_entry_moves : {m n : PlainModule} → LikeModule m n → (s : Settings) (i : ℕ) → entries.IsFirstFailing s m i → entries.IsFirstFailing s n i
 first_entry_moves l s i h = record {
   within = subst (λ k. i < k) l.entries.many h.within;
   before = λ earlier less. entry_at_moves l s earlier (h.before earlier less);

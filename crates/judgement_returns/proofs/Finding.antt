@@ -1,8 +1,8 @@
 -- What is found of modules that differ in returns alone is the same.
 use Rattle.std.proofs.Common.{Bool, true, false, sym, subst}
-use Rattle.ir_flags.specs.Settings.{PlainSettings}
+use Rattle.ir_flags.specs.declared.settings.Settings.{Settings}
 use Rattle.ir_items.specs.judged.Plain.{PlainModule}
-use Rattle.judgement.specs.judged.Steps.{module_settings, function_settings, IsPrepared, IsFinding}
+use Rattle.judgement.specs.judged.Steps.{IsPrepared, IsFinding}
 use Rattle.judgement.specs.declared.finding.Finding.{Finding}
 use Rattle.judgement.specs.declared.finding.Finding.TheVariants.{Accepted, RefusedDocument, RefusedHandles, Refused}
 use Rattle.judgement.specs.declared.finding.Step.TheVariants.{Layout, «Type», Typing, Expression, Constant, Override, Global, Function, Entry}
@@ -16,34 +16,33 @@ use Rattle.judgement_returns.proofs.Likeness.{module_back, like_itself, like_ret
 use Rattle.judgement_returns.proofs.Modules.{module_move, first_move, globals_move, first_global_move}
 use Rattle.judgement_returns.proofs.Reports.{report_moves}
 
--- whether the settings require returns is seen only in which module is judged
-finding_moves : (m n : PlainModule) → LikeModule m n → (s : PlainSettings) (returns : Bool) (f : Finding) → IsFinding s m f → IsFinding (record s { returns = returns }) n f
-finding_moves m n l s returns (Accepted strict) h =
-    (module_move m n l (module_settings s) h.0, globals_move m n l s.flags s.capabilities h.1, functions_move l (function_settings s) h.2, entries_move l (function_settings s) h.3, h.4)
-finding_moves m n l s returns RefusedDocument h = h
-finding_moves m n l s returns RefusedHandles h = λ ok. h (handles_move n m (module_back l) ok)
-finding_moves m n l s returns (Refused Layout i) h = first_move m n l (module_settings s) step.layout i h
-finding_moves m n l s returns (Refused «Type» i) h = first_move m n l (module_settings s) step.type i h
-finding_moves m n l s returns (Refused Typing i) h = first_move m n l (module_settings s) step.typing i h
-finding_moves m n l s returns (Refused Expression i) h = first_move m n l (module_settings s) step.expression i h
-finding_moves m n l s returns (Refused Constant i) h = first_move m n l (module_settings s) step.constant i h
-finding_moves m n l s returns (Refused Override i) h = first_move m n l (module_settings s) step.override i h
-finding_moves m n l s returns (Refused Global i) h = (module_move m n l (module_settings s) h.0, first_global_move m n l s.flags s.capabilities i h.1)
-finding_moves m n l s returns (Refused Function i) h =
-    (module_move m n l (module_settings s) h.0, globals_move m n l s.flags s.capabilities h.1, first_function_moves l (function_settings s) i h.2)
-finding_moves m n l s returns (Refused Entry i) h =
-    (module_move m n l (module_settings s) h.0, globals_move m n l s.flags s.capabilities h.1, functions_move l (function_settings s) h.2, first_entry_moves l (function_settings s) i h.3)
+finding_moves : (m n : PlainModule) → LikeModule m n → (s : Settings) (f : Finding) → IsFinding s m f → IsFinding s n f
+finding_moves m n l s (Accepted strict) h =
+    (module_move m n l s false h.0, globals_move m n l s.flags s.capabilities h.1, functions_move l s h.2, entries_move l s h.3, h.4)
+finding_moves m n l s RefusedDocument h = h
+finding_moves m n l s RefusedHandles h = λ ok. h (handles_move n m (module_back l) ok)
+finding_moves m n l s (Refused Layout i) h = first_move m n l s false step.layout i h
+finding_moves m n l s (Refused «Type» i) h = first_move m n l s false step.type i h
+finding_moves m n l s (Refused Typing i) h = first_move m n l s false step.typing i h
+finding_moves m n l s (Refused Expression i) h = first_move m n l s false step.expression i h
+finding_moves m n l s (Refused Constant i) h = first_move m n l s false step.constant i h
+finding_moves m n l s (Refused Override i) h = first_move m n l s false step.override i h
+finding_moves m n l s (Refused Global i) h = (module_move m n l s false h.0, first_global_move m n l s.flags s.capabilities i h.1)
+finding_moves m n l s (Refused Function i) h =
+    (module_move m n l s false h.0, globals_move m n l s.flags s.capabilities h.1, first_function_moves l s i h.2)
+finding_moves m n l s (Refused Entry i) h =
+    (module_move m n l s false h.0, globals_move m n l s.flags s.capabilities h.1, functions_move l s h.2, first_entry_moves l s i h.3)
 
 judged_alike : (m n : PlainModule) → LikeModule m n → AreJudgedAlike m n
 judged_alike m n l = record {
-  finding = λ s returns f. (finding_moves m n l s returns f, finding_moves n m (module_back l) (record s { returns = returns }) s.returns f);
+  finding = λ s f. (finding_moves m n l s f, finding_moves n m (module_back l) s f);
   report = λ text. (report_moves m n l text, report_moves n m (module_back l) text);
 }
 
 pub returns_keep_finding : ReturnsKeepFinding
-returns_keep_finding d m none r s f = (judged_alike d m (like_returned d m none r)).finding s s.returns f
+returns_keep_finding d m none r s f = (judged_alike d m (like_returned d m none r)).finding s f
 
--- ---- whatever the settings of a document say of returns
+-- ---- whatever a document says of returns
 
 like_prepared : (d p : PlainModule) (returns : Bool) → HasNoResult d → IsPrepared returns d p → LikeModule d p
 like_prepared d p true none r = like_returned d p none r
@@ -54,6 +53,6 @@ returns_dont_matter d p q returns other none first second =
     let a = judged_alike d p (like_prepared d p returns none first) in
     let b = judged_alike d q (like_prepared d q other none second) in
     record {
-      finding = λ s asked f. (λ h. (b.finding s asked f).0 ((a.finding s s.returns f).1 h), λ h. (a.finding s s.returns f).0 ((b.finding s asked f).1 h));
+      finding = λ s f. (λ h. (b.finding s f).0 ((a.finding s f).1 h), λ h. (a.finding s f).0 ((b.finding s f).1 h));
       report = λ text. (λ h. (b.report text).0 ((a.report text).1 h), λ h. (a.report text).0 ((b.report text).1 h));
     }

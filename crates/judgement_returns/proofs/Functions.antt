@@ -1,22 +1,23 @@
 -- A function is accepted alike with other returns.
-use Rattle.std.proofs.Common.{◌≡◌, ℕ, Option, None, List, refl, sym, ap, subst, ◌∙◌}
+use Rattle.std.proofs.Common.{◌≡◌, ℕ, Bool, false, Option, None, List, refl, sym, ap, subst, ◌∙◌}
 use Rattle.std.specs.Prelude.{◌<◌, length}
 use Rattle.ir_blocks.specs.judged.Places.{Place, OccursAt}
 use Rattle.ir_blocks.specs.judged.Plain.{PlainStatement, return, call}
 use Rattle.ir_flags.specs.Sets.{Has}
 use Rattle.ir_flags.specs.declared.settings.ValidationFlags.{ValidationFlags}
 use Rattle.ir_flags.specs.declared.stages.ShaderStages.{ShaderStages}
+use Rattle.ir_flags.specs.declared.settings.Settings.{Settings}
 use Rattle.ir_items.specs.judged.Plain.{PlainFunction, PlainModule}
 use Rattle.typing_forms.specs.declared.form.Form.{Form}
 use Rattle.spec_expressions.specs.judged.Context.{inside}
 use Rattle.spec_handles.specs.Conditions.{AritiesMatch}
 use Rattle.spec_statements.specs.judged.ExpressionStages.{all_stages}
-use Rattle.spec_statements.specs.judged.Functions.{FunctionSettings, AreFormsBy, block_context, BodyOK, FunctionOK, AllowsStage}
+use Rattle.spec_statements.specs.judged.Functions.{AreFormsBy, block_context, BodyOK, FunctionOK, AllowsStage}
 use Rattle.spec_statements.specs.judged.Payloads.{HasPayload}
 use Rattle.spec_statements.specs.judged.Stages.{statement_stages}
 use Rattle.spec_statements.specs.judged.Statements.{StatementOK}
 use Rattle.spec_statements.specs.judged.ModuleFunctions as functions
-use Rattle.spec_statements.specs.judged.ModuleFunctions.{reading_over, settings_with, FunctionAtOK, FunctionsOK}
+use Rattle.spec_statements.specs.judged.ModuleFunctions.{reading_over, FunctionAtOK, FunctionsOK}
 use Rattle.spec_statements.specs.judged.EarlierPayloads.{HasPayloadBefore, IsPayloadBefore}
 use Rattle.judgement_returns.specs.found.Alike.{Carried, kept, extra}
 use Rattle.judgement_returns.specs.judged.Like.{LikeFunction, LikeModule}
@@ -56,7 +57,7 @@ payload_like {m} {n} {f} {g} l k type h =
 
 -- ---- the function
 
-module _ {m n : PlainModule} {f g : PlainFunction} (l : LikeModule m n) (k : LikeFunction f g) (s : FunctionSettings) where
+module _ {m n : PlainModule} {f g : PlainFunction} (l : LikeModule m n) (k : LikeFunction f g) (s : Settings) where
   abbrev other : PlainModule
   other = record m { functions = n.functions; entries = n.entries }
 
@@ -81,8 +82,8 @@ module _ {m n : PlainModule} {f g : PlainFunction} (l : LikeModule m n) (k : Lik
       rule_moves (block_context s m f forms) n.functions n.entries g.body l.functions u (ok_by_head (block_context s m f forms) t u (sym head) (h p t at))
   statement_moves forms h p u (extra is rest may_return behind) = subst (StatementOK (block_context s other changed forms)) (sym is) k.no_result
 
-  body_moves : (forms : List Form) → BodyOK s (block_context s m f forms) → BodyOK s (block_context s other changed forms)
-  body_moves forms h = record {
+  body_moves : (held : Option ℕ) (forms : List Form) → BodyOK s held (block_context s m f forms) → BodyOK s held (block_context s other changed forms)
+  body_moves held forms h = record {
     statements = λ p u stands. statement_moves forms h.statements p u (k.body.back.statements p u stands);
     scope = scope_moves f g.body k.body h.scope;
     control = control_moves f.body g.body k.body.back h.control;
@@ -94,15 +95,15 @@ module _ {m n : PlainModule} {f g : PlainFunction} (l : LikeModule m n) (k : Lik
     strict = λ asked. strict_moves f g.body k.body (h.strict asked);
   }
 
-  pub function_moves : (stages : List ShaderStages) → FunctionOK (reading_over stages m f) s m f → FunctionOK (reading_over stages n g) s n g
-  function_moves stages h = over_like (λ a b. FunctionOK (reading_over stages a b) s a b) l k (record {
+  pub function_moves : (by_entry : Bool) (held : Option ℕ) (stages : List ShaderStages) → FunctionOK (reading_over stages m f) s by_entry held m f → FunctionOK (reading_over stages n g) s by_entry held n g
+  function_moves by_entry held stages h = over_like (λ a b. FunctionOK (reading_over stages a b) s by_entry held a b) l k (record {
     arity = arity_moves module_like function_like h.arity;
     analysed = analysed_moves module_like function_like s.flags h.analysed;
     forms = h.forms;
     typed = forms_typed stages h.forms h.typed;
-    interface = interface_moves (block_context s m f h.forms) n.functions n.entries g.body l.functions s.entry h.interface;
+    interface = interface_moves (block_context s m f h.forms) n.functions n.entries g.body l.functions by_entry h.interface;
     expressions = h.expressions;
-    body = λ flag. body_moves h.forms (h.body flag);
+    body = λ flag. body_moves held h.forms (h.body flag);
   })
 
   -- ---- which stages may run it
@@ -133,7 +134,7 @@ held_moves l flags count held h = record {
   none = λ no. h.none (λ type flag x. no type flag (payload_before l count type x));
 }
 
-function_at_moves : {m n : PlainModule} → LikeModule m n → (s : FunctionSettings) (i : ℕ) → FunctionAtOK s m i → FunctionAtOK s n i
+function_at_moves : {m n : PlainModule} → LikeModule m n → (s : Settings) (i : ℕ) → FunctionAtOK s m i → FunctionAtOK s n i
 function_at_moves l s i h =
     let g = l.functions.there i h.function h.at in
     record {
@@ -141,13 +142,13 @@ function_at_moves l s i h =
       at = g.1;
       held = h.held;
       before = held_moves l s.flags i h.held h.before;
-      ok = λ callees. function_moves l g.2 (settings_with s h.held) callees (h.ok callees);
+      ok = λ callees. function_moves l g.2 s false h.held callees (h.ok callees);
     }
 
-pub functions_move : {m n : PlainModule} → LikeModule m n → (s : FunctionSettings) → FunctionsOK s m → FunctionsOK s n
+pub functions_move : {m n : PlainModule} → LikeModule m n → (s : Settings) → FunctionsOK s m → FunctionsOK s n
 functions_move l s h i within = function_at_moves l s i (h i (subst (λ k. i < k) (sym l.functions.many) within))
 
-pub first_function_moves : {m n : PlainModule} → LikeModule m n → (s : FunctionSettings) (i : ℕ) → functions.IsFirstFailing s m i → functions.IsFirstFailing s n i
+pub first_function_moves : {m n : PlainModule} → LikeModule m n → (s : Settings) (i : ℕ) → functions.IsFirstFailing s m i → functions.IsFirstFailing s n i
 first_function_moves l s i h = record {
   within = subst (λ k. i < k) l.functions.many h.within;
   before = λ earlier less. function_at_moves l s earlier (h.before earlier less);

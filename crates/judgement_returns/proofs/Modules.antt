@@ -3,6 +3,7 @@ use Rattle.std.proofs.Common.{◌≡◌, ℕ, Bool, Option, Some, None, List, re
 use Rattle.std.specs.Prelude.{◌<◌, length}
 use Rattle.ir_flags.specs.declared.settings.Capabilities.{Capabilities}
 use Rattle.ir_flags.specs.declared.settings.ValidationFlags.{ValidationFlags}
+use Rattle.ir_flags.specs.declared.settings.Settings.{Settings}
 use Rattle.ir_items.specs.judged.GlobalPlain.{PlainGlobal}
 use Rattle.ir_items.specs.judged.Plain.{PlainFunction, PlainEntry, PlainModule}
 use Rattle.typing_forms.specs.declared.form.Form.{Form}
@@ -16,7 +17,6 @@ use Rattle.spec_expressions.specs.judged.Typing.{HasGlobalType}
 use Rattle.spec_interface.specs.judged.Globals as globals
 use Rattle.spec_interface.specs.judged.Globals.{BeginsOK, VariableOK, GlobalOK, GlobalsOK}
 use Rattle.judgement.specs.judged.ModuleSteps.{ModuleStep, layout, type, typing, expression, constant, override, item_count, StepOK, StepPasses, ModuleOK, IsFirstFailing}
-use Rattle.judgement.specs.declared.settings.ModuleSettings.{ModuleSettings}
 use Rattle.judgement_returns.specs.judged.Like.{LikeModule}
 use Rattle.judgement_returns.proofs.Handles.{handles_move}
 use Rattle.judgement_returns.proofs.Likeness.{module_back}
@@ -62,13 +62,13 @@ module _ (m : PlainModule) (functions : List PlainFunction) (entries : List Plai
     default = default_ok resolved h.override.ty h.override.init h.default;
   }
 
-  step_ok : (s : ModuleSettings) (step : ModuleStep) (i : ℕ) → StepOK s m step i → StepOK s n step i
-  step_ok s layout i h = h
-  step_ok s type i h = h
-  step_ok s typing i h = (h.0, global_typed i h.0 h.1)
-  step_ok s expression i h = λ flag. expression_ok s.capabilities s.overrides_resolved i (h flag)
-  step_ok s constant i h = λ flag. constant_ok i (h flag)
-  step_ok s override i h = λ flag. override_ok s.overrides_resolved i (h flag)
+  step_ok : (s : Settings) (resolved : Bool) (step : ModuleStep) (i : ℕ) → StepOK s resolved m step i → StepOK s resolved n step i
+  step_ok s resolved layout i h = h
+  step_ok s resolved type i h = h
+  step_ok s resolved typing i h = (h.0, global_typed i h.0 h.1)
+  step_ok s resolved expression i h = λ flag. expression_ok s.capabilities resolved i (h flag)
+  step_ok s resolved constant i h = λ flag. constant_ok i (h flag)
+  step_ok s resolved override i h = λ flag. override_ok resolved i (h flag)
 
   count_is : (step : ModuleStep) → item_count n step ≡ item_count m step
   count_is layout = refl
@@ -103,8 +103,8 @@ module _ (m n : PlainModule) (l : LikeModule m n) where
   same : SameResults m.functions n.functions
   same = same_results m.functions n.functions l.functions
 
-  step_move : (s : ModuleSettings) (step : ModuleStep) (i : ℕ) → StepOK s m step i → StepOK s n step i
-  step_move s step i h = subst (λ z. StepOK s z step i) (sym l.rest) (step_ok m n.functions n.entries same s step i h)
+  step_move : (s : Settings) (resolved : Bool) (step : ModuleStep) (i : ℕ) → StepOK s resolved m step i → StepOK s resolved n step i
+  step_move s resolved step i h = subst (λ z. StepOK s resolved z step i) (sym l.rest) (step_ok m n.functions n.entries same s resolved step i h)
 
   within_move : (step : ModuleStep) (i : ℕ) → i < item_count m step → i < item_count n step
   within_move step i h = subst (λ z. i < item_count z step) (sym l.rest) (subst (λ k. i < k) (sym (count_is m n.functions n.entries same step)) h)
@@ -112,19 +112,19 @@ module _ (m n : PlainModule) (l : LikeModule m n) where
   global_move : (flags : ValidationFlags) (capabilities : Capabilities) (i : ℕ) → GlobalOK flags capabilities m i → GlobalOK flags capabilities n i
   global_move flags capabilities i h = subst (λ z. GlobalOK flags capabilities z i) (sym l.rest) (global_ok m n.functions n.entries same flags capabilities i h)
 
-passes_move : (m n : PlainModule) → LikeModule m n → (s : ModuleSettings) (step : ModuleStep) → StepPasses s m step → StepPasses s n step
-passes_move m n l s step h = record { each = λ i within. step_move m n l s step i (h.each i (within_move n m (module_back l) step i within)) }
+passes_move : (m n : PlainModule) → LikeModule m n → (s : Settings) (resolved : Bool) (step : ModuleStep) → StepPasses s resolved m step → StepPasses s resolved n step
+passes_move m n l s resolved step h = record { each = λ i within. step_move m n l s resolved step i (h.each i (within_move n m (module_back l) step i within)) }
 
-pub module_move : (m n : PlainModule) → LikeModule m n → (s : ModuleSettings) → ModuleOK s m → ModuleOK s n
-module_move m n l s h = record { handles = handles_move m n l h.handles; steps = λ step. passes_move m n l s step (h.steps step) }
+pub module_move : (m n : PlainModule) → LikeModule m n → (s : Settings) (resolved : Bool) → ModuleOK s resolved m → ModuleOK s resolved n
+module_move m n l s resolved h = record { handles = handles_move m n l h.handles; steps = λ step. passes_move m n l s resolved step (h.steps step) }
 
-pub first_move : (m n : PlainModule) → LikeModule m n → (s : ModuleSettings) (step : ModuleStep) (i : ℕ) → IsFirstFailing s m step i → IsFirstFailing s n step i
-first_move m n l s step i h = record {
-  reached = record { handles = handles_move m n l h.reached.handles; earlier = λ other before. passes_move m n l s other (h.reached.earlier other before) };
+pub first_move : (m n : PlainModule) → LikeModule m n → (s : Settings) (resolved : Bool) (step : ModuleStep) (i : ℕ) → IsFirstFailing s resolved m step i → IsFirstFailing s resolved n step i
+first_move m n l s resolved step i h = record {
+  reached = record { handles = handles_move m n l h.reached.handles; earlier = λ other before. passes_move m n l s resolved other (h.reached.earlier other before) };
   item = record {
     within = within_move m n l step i h.item.within;
-    before = λ other less. step_move m n l s step other (h.item.before other less);
-    fails = λ ok. h.item.fails (step_move n m (module_back l) s step i ok);
+    before = λ other less. step_move m n l s resolved step other (h.item.before other less);
+    fails = λ ok. h.item.fails (step_move n m (module_back l) s resolved step i ok);
   };
 }
 

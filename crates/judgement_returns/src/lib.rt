@@ -28,7 +28,7 @@ pub fn returns_keep_report()
     ensures { ReturnsKeepReport }
 {}
 
-/// A document without results has the same finding and the same report, whether its settings require returns or not.
+/// A document without results has the same finding and the same report, whether it requires returns or not.
 pub fn returns_dont_matter()
     ensures { ReturnsDontMatter }
 {}

@@ -1,5 +1,5 @@
 -- Runs of an accepted entry point: how deep they are, what they pass, use and execute.
-use Rattle.std.proofs.Common.{◌≡◌, ◌∙◌, ◌⊎◌, inl, inr, ⊎_elim, ℕ, zero, suc, ℤ, ◌+◌, ◌-◌, ◌<◌, ◌≤◌, length, List, [], ◌∷◌, Option, Some, None, Contains, slice_get, get_or, refl, sym, ap, subst, arith}
+use Rattle.std.proofs.Common.{◌≡◌, ◌∙◌, ◌⊎◌, inl, inr, ⊎_elim, ℕ, zero, suc, ℤ, false, ◌+◌, ◌-◌, ◌<◌, ◌≤◌, length, List, [], ◌∷◌, Option, Some, None, Contains, slice_get, get_or, refl, sym, ap, subst, arith}
 use Rattle.std.specs.Prelude.{IsSomeAnd, option_to_list}
 use Rattle.std.specs.List.{AllByRecursion, range_with_len}
 use Rattle.std.proofs.lemmas.List.Elements.{Contains-append_left, Contains-append_right, Contains-append_cases, Contains-push}
@@ -7,6 +7,7 @@ use Rattle.std.proofs.lemmas.Option.{slice_get_within, slice_get_cases, slice_ge
 use Rattle.ir_flags.specs.Sets.{Has}
 use Rattle.ir_flags.specs.declared.settings.TheConstants.ValidationFlags.{STRICT_SCOPE}
 use Rattle.ir_flags.specs.declared.stages.ShaderStages.{ShaderStages}
+use Rattle.ir_flags.specs.declared.settings.Settings.{Settings}
 use Rattle.ir_blocks.specs.judged.Control.{ControlOK}
 use Rattle.ir_arena.specs.judged.Handles.{handles_between}
 use Rattle.ir_blocks.specs.judged.Places.{Place, Spot, nothing, statement, loop_condition, spot_at, OccursAt}
@@ -25,14 +26,13 @@ use Rattle.spec_handles.specs.Statements.{operation_result, statement_result, st
 use Rattle.spec_handles.specs.declared.target.Target.TheVariants as target
 use Rattle.spec_statements.specs.judged.BlockContext.{form_at}
 use Rattle.spec_statements.specs.judged.ExpressionStages.{all_stages, callee_stages, stages_of, IsRunBy}
-use Rattle.spec_statements.specs.judged.Functions.{Reading, FunctionSettings, FunctionOK, BodyOK, AllowsStage, block_context}
+use Rattle.spec_statements.specs.judged.Functions.{Reading, FunctionOK, BodyOK, AllowsStage, block_context}
 use Rattle.spec_statements.proofs.ScopeLaws.{none_held}
 use Rattle.spec_statements.specs.judged.Scope.{Introduces, ScopeOK}
 use Rattle.spec_statements.specs.judged.Tables.{introduced, introduced_at}
 use Rattle.spec_statements.specs.judged.Stages.{statement_stages}
-use Rattle.spec_statements.specs.judged.ModuleFunctions.{reading_over, settings_with}
+use Rattle.spec_statements.specs.judged.ModuleFunctions.{reading_over}
 use Rattle.spec_interface.specs.judged.Contexts.{stage_set}
-use Rattle.spec_interface.specs.judged.Modules.{entry_settings}
 use Rattle.spec_runs.specs.judged.Events.{Event, entered, executed, introduced_expression, named, sampled, used, passed, returned, fell_off, escaped}
 use Rattle.spec_runs.specs.judged.Good.{ArgumentsOK, ValueOK, DepthOK, TypesOK, UsesOK, LiveOK, SurelyLiveOK, StagesOK, NoEscape}
 use Rattle.spec_runs.specs.found.Invariants.{IsInvariant}
@@ -130,8 +130,8 @@ pub record Fits (strictly : Type 0) (m : PlainModule) (subgroups : ShaderStages)
   pub executes : (p : Place) (s : PlainStatement) → OccursAt f.body p s → Has (statement_stages subgroups stages s).0 stage
   pub introduces : (p : Place) (e : ℕ) → Introduces f.body p e → IsSomeAnd (slice_get f.expressions e) (λ x. Has (stages_of stages x).0 stage)
 
-module _ (s : FunctionSettings) (m : PlainModule) (f : PlainFunction) (forms : List Form) (many : length forms ≡ length f.expressions)
-    (typed : (e : ℕ) (t : Form) → slice_get forms e ≡ Some t → HasType m f e t) (body : BodyOK s (block_context s m f forms)) (handles : HandlesInRange m f) (arity : AritiesMatch m f) where
+module _ (s : Settings) (m : PlainModule) (f : PlainFunction) (forms : List Form) (many : length forms ≡ length f.expressions)
+    (typed : (e : ℕ) (t : Form) → slice_get forms e ≡ Some t → HasType m f e t) {held : Option ℕ} (body : BodyOK s held (block_context s m f forms)) (handles : HandlesInRange m f) (arity : AritiesMatch m f) where
   has_form : (e : ℕ) → e < length f.expressions → HasType m f e (form_at (block_context s m f forms) e)
   has_form e lt =
       let inside : e < length forms = subst (λ n. e < n) (sym many) lt in
@@ -181,7 +181,7 @@ module _ (s : FunctionSettings) (m : PlainModule) (f : PlainFunction) (forms : L
 
 -- ---- the module
 
-module _ (s : FunctionSettings) (m : PlainModule) (number : ℕ) (a : IsAcceptedEntry s m number) where
+module _ (s : Settings) (m : PlainModule) (number : ℕ) (a : IsAcceptedEntry s m number) where
   abbrev pub stages : List ShaderStages
   stages = a.entry.stages
 
@@ -195,8 +195,8 @@ module _ (s : FunctionSettings) (m : PlainModule) (number : ℕ) (a : IsAccepted
   function_fits index f at allows =
       let here = a.functions index (slice_get_within m.functions index f at) in
       let same : here.function ≡ f = some_is (sym here.at ∙ at) in
-      let ok : FunctionOK _ (settings_with s here.held) m f = subst (λ g. FunctionOK (reading_of g) (settings_with s here.held) m g) same (here.ok stages) in
-      fits_in (settings_with s here.held) m f ok.forms ok.typed.many ok.typed.each (ok.body a.blocks) (a.handles.functions index f at) ok.arity s.subgroup_stages stages stage index
+      let ok : FunctionOK _ s false here.held m f = subst (λ g. FunctionOK (reading_of g) s false here.held m g) same (here.ok stages) in
+      fits_in s m f ok.forms ok.typed.many ok.typed.each (ok.body a.blocks) (a.handles.functions index f at) ok.arity s.subgroup_stages stages stage index
       (λ p function arguments result stands. a.handles.back (a_function index) (a_function function) (function_on_callee at (statement_calls stands refl)))
       (allows.statements a.blocks) (allows.expressions a.expressions)
     where
@@ -207,7 +207,7 @@ module _ (s : FunctionSettings) (m : PlainModule) (number : ℕ) (a : IsAccepted
   entry_fits =
       let e = a.entry.entry in
       let ok = a.entry.ok.function in
-      fits_in (entry_settings s a.entry.held) m e.function ok.forms ok.typed.many ok.typed.each (ok.body a.blocks) (a.handles.entries number e a.entry.at) ok.arity s.subgroup_stages stages stage (length m.functions)
+      fits_in s m e.function ok.forms ok.typed.many ok.typed.each (ok.body a.blocks) (a.handles.entries number e a.entry.at) ok.arity s.subgroup_stages stages stage (length m.functions)
       (λ p function arguments result stands. a.handles.entries number e a.entry.at (done p) (item (target.Function function)) (statement_calls stands refl))
       (a.entry.ok.runs.statements a.blocks) (a.entry.ok.runs.expressions a.expressions)
 

@@ -2,6 +2,7 @@
 use Rattle.std.proofs.Common.{◌≡◌, ◌∙◌, ℕ, zero, suc, ℤ, ◌+◌, ◌<◌, length, List, [], ◌∷◌, ◌++◌, inl, map, Option, Some, None, slice_get, option_map, refl, sym, ap, subst, arith}
 use Rattle.std.specs.List.{AllByRecursion}
 use Rattle.std.proofs.lemmas.Option.{slice_get-map}
+use Rattle.ir_flags.specs.declared.settings.Settings.{Settings}
 use Rattle.spec_analysis.specs.declared.sampling.GlobalOrArgument.{GlobalOrArgument}
 use Rattle.spec_analysis.specs.declared.sampling.GlobalOrArgument.TheVariants.{Global, Argument}
 use Rattle.ir_blocks.specs.judged.Places.{Place, here, later, inside, condition, OccursAt}
@@ -17,7 +18,6 @@ use Rattle.spec_analysis.specs.judged.Effects.{Effect, takes, samples as samplin
 use Rattle.spec_analysis.specs.judged.Operands.{expression_operands, statement_operands}
 use Rattle.spec_handles.specs.Conditions.{HandlesInRange}
 use Rattle.spec_handles.specs.References.{computed as computed_site, expression_names}
-use Rattle.spec_statements.specs.judged.Functions.{FunctionSettings}
 use Rattle.spec_runs.specs.judged.Events.{Event, entered, executed, introduced_expression, named, sampled, used, passed, returned, fell_off, escaped}
 use Rattle.spec_runs.specs.judged.Good.{NamedOK, SampledOK}
 use Rattle.spec_runs.specs.found.Invariants.{IsInvariant}
@@ -119,7 +119,7 @@ callee_chain m f frame c p function arguments result callee stands found =
 
 -- ---- runs
 
-module _ (s : FunctionSettings) (m : PlainModule) (number : ℕ) (a : IsAcceptedEntry s m number) where
+module _ (s : Settings) (m : PlainModule) (number : ℕ) (a : IsAcceptedEntry s m number) where
   abbrev f : PlainFunction
   f = a.entry.entry.function
 

@@ -3,10 +3,10 @@ use Rattle.std.proofs.Common.{◌≡◌, ◌∙◌, ◌⊎◌, inl, inr, ℕ, ze
 use Rattle.std.specs.List.{AllZip}
 use Rattle.std.specs.Prelude.{slice_index_or}
 use Rattle.std.proofs.lemmas.Option.{slice_get_within}
-use Rattle.ir_flags.specs.Settings.{PlainSettings}
+use Rattle.ir_flags.specs.declared.settings.Settings.{Settings}
 use Rattle.ir_items.specs.judged.Plain.{PlainEntry, PlainModule}
 use Rattle.ir_items.specs.judged.Returned.{IsReturnedFunction, IsReturnedEntry, IsReturned}
-use Rattle.judgement.specs.judged.Steps.{IsPrepared, IsFinding, function_settings, module_settings}
+use Rattle.judgement.specs.judged.Steps.{IsPrepared, IsFinding}
 use Rattle.judgement.specs.declared.finding.Finding.TheVariants.{Accepted}
 use Rattle.spec_analysis.specs.judged.Summaries.{no_use}
 use Rattle.spec_buffers.proofs.Buffers.{buffers_are_sound}
@@ -79,41 +79,39 @@ module _ (m : PlainModule) (number : ℕ) (e : PlainEntry) (lines : List ℕ) (r
 
 -- ---- accepted entry points and modules
 
-pub accepted_entry : (s : PlainSettings) (m : PlainModule) (strict : Bool) → IsFinding s m (Accepted strict) → AreChecked s → (number : ℕ) (e : PlainEntry) → slice_get m.entries number ≡ Some e → IsAcceptedEntry (function_settings s) m number
+pub accepted_entry : (s : Settings) (m : PlainModule) (strict : Bool) → IsFinding s m (Accepted strict) → AreChecked s → (number : ℕ) (e : PlainEntry) → slice_get m.entries number ≡ Some e → IsAcceptedEntry s m number
 accepted_entry s m strict found checked number e at =
     record { handles = found.0.handles; functions = found.2; entry = found.3 number (slice_get_within m.entries number e at); blocks = checked.blocks; expressions = checked.expressions }
 
-entry_is_sound : (returns : Bool) (s : PlainSettings) (d m : PlainModule) (strict : Bool) → IsPrepared returns d m → IsFinding s m (Accepted strict) → AreChecked s → (report : List ℕ) → IsReport m report → (number : ℕ) (e : PlainEntry) → slice_get m.entries number ≡ Some e → EntryIsSound returns s m report number e
+entry_is_sound : (returns : Bool) (s : Settings) (d m : PlainModule) (strict : Bool) → IsPrepared returns d m → IsFinding s m (Accepted strict) → AreChecked s → (report : List ℕ) → IsReport m report → (number : ℕ) (e : PlainEntry) → slice_get m.entries number ≡ Some e → EntryIsSound returns s m report number e
 entry_is_sound returns s d m strict prepared found checked report is number e at =
-    let f = function_settings s in
-    let a : IsAcceptedEntry f m number = accepted_entry s m strict found checked number e at in
+    let a : IsAcceptedEntry s m number = accepted_entry s m strict found checked number e at in
     let same : a.entry.entry ≡ e = some_is (sym a.entry.at ∙ at) in
     subst (EntryIsSound returns s m report number) same
     (let own = a.entry.entry in
     let t = entries_are_reported m report is number own a.entry.at in
     record {
-      depth = runs_nest f m number a checked_operands;
-      types = runs_pass_types f m number a checked_operands;
-      live = runs_use_live f m number a;
-      all_live = λ asked. (strict_runs_use_live f m number a asked.1).0;
-      surely_live = λ asked. (strict_runs_use_live f m number a asked.1).1;
+      depth = runs_nest s m number a checked_operands;
+      types = runs_pass_types s m number a checked_operands;
+      live = runs_use_live s m number a;
+      all_live = λ asked. (strict_runs_use_live s m number a asked.1).0;
+      surely_live = λ asked. (strict_runs_use_live s m number a asked.1).1;
       told = t;
-      named = λ answers n. all_weaken _ _ (each_named m number own t.lines t.are) _ (runs_name_reached f m number a checked_operands answers n);
-      sampled = λ answers n. all_weaken _ _ (each_sampled m number own t.lines t.are) _ (runs_sample_pairs f m number a checked_operands answers n);
-      stage = record { functions = a.entry.stages; are = a.entry.run; every = runs_keep_stage f m number a checked_operands };
-      falls = λ put_in. runs_fall_by_breaks f m number a (prepared_have returns d m prepared put_in) checked_operands;
-      contained = runs_never_escape f m number a checked_operands;
+      named = λ answers n. all_weaken _ _ (each_named m number own t.lines t.are) _ (runs_name_reached s m number a checked_operands answers n);
+      sampled = λ answers n. all_weaken _ _ (each_sampled m number own t.lines t.are) _ (runs_sample_pairs s m number a checked_operands answers n);
+      stage = record { functions = a.entry.stages; are = a.entry.run; every = runs_keep_stage s m number a checked_operands };
+      falls = λ put_in. runs_fall_by_breaks s m number a (prepared_have returns d m prepared put_in) checked_operands;
+      contained = runs_never_escape s m number a checked_operands;
     })
 
 pub accepted_is_sound : AcceptedIsSound
 accepted_is_sound returns s d m strict prepared found checked report is = record {
-  buffers = λ number v at buffer. record { told = buffers_are_reported m report is number v at buffer; leaves = (buffers_are_sound (module_settings s) m checked.layouts found.0 found.1 number v at buffer).leaves };
+  buffers = λ number v at buffer. record { told = buffers_are_reported m report is number v at buffer; leaves = (buffers_are_sound s false m checked.layouts found.0 found.1 number v at buffer).leaves };
   entries = λ number e at. entry_is_sound returns s d m strict prepared found checked report is number e at;
 }
 
 pub functions_bound_depth : FunctionsBoundDepth
 functions_bound_depth m s strict found checked number e at =
-    let f = function_settings s in
-    let a : IsAcceptedEntry f m number = accepted_entry s m strict found checked number e at in
+    let a : IsAcceptedEntry s m number = accepted_entry s m strict found checked number e at in
     let same : a.entry.entry ≡ e = some_is (sym a.entry.at ∙ at) in
-    subst (λ x. OnEveryRun m x (DepthOK (length m.functions))) same (runs_nest f m number a checked_operands)
+    subst (λ x. OnEveryRun m x (DepthOK (length m.functions))) same (runs_nest s m number a checked_operands)

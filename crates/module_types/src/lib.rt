@@ -17,4 +17,4 @@ pub use module_type_infos::{
     TypeInfo, VaryingError, WidthError,
 };
 pub use storage::{Broken, storage_of_array, storage_of_struct};
-pub use validate::{InvalidType, TypeSettings, validate_type, validate_types};
+pub use validate::{InvalidType, validate_type, validate_types};

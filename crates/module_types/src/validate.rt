@@ -57,7 +57,8 @@ pub fn validate_type(
 
 // What is reported of the type after those of which it is reported already.
 fn validate_next(
-    settings: TypeSettings,
+    capabilities: Capabilities,
+    overrides_resolved: bool,
     types: &UniqueArena<IrType, key::IrType>,
     layouter: &Layouter,
     infos: &[TypeInfo],
@@ -67,14 +68,14 @@ fn validate_next(
     requires held { AreLayouts (types_view types.now) layouter.now }
     requires all { length layouter.now ≡ length types.now }
     requires within { ty < length types.now }
-    requires accepted { AreAcceptedBelow settings.capabilities settings.overrides_resolved (types_view types.now) infos.now ty }
+    requires accepted { AreAcceptedBelow capabilities overrides_resolved (types_view types.now) infos.now ty }
     ensures { MatchResult result
-        (IsAccepted settings.capabilities settings.overrides_resolved (types_view types.now) ty)
-        (IsNextRefused settings.capabilities settings.overrides_resolved (types_view types.now) ty) }
+        (IsAccepted capabilities overrides_resolved (types_view types.now) ty)
+        (IsNextRefused capabilities overrides_resolved (types_view types.now) ty) }
 {
     let context = TypeContext {
-        capabilities: settings.capabilities,
-        overrides_resolved: settings.overrides_resolved,
+        capabilities,
+        overrides_resolved,
         types,
         layouter,
         infos,
@@ -85,36 +86,30 @@ fn validate_next(
     }
 }
 
-/// By what types are judged.
-#[derive(Clone, Copy)]
-pub struct TypeSettings {
-    /// What shaders may use beyond the common part.
-    pub capabilities: Capabilities,
-    /// Whether each override has its value, so that no size depends on one.
-    pub overrides_resolved: bool,
-}
-
-/// What is reported of each type of a module. Each is visited once, with its members.
+/// What is reported of each type of a module, where shaders may use this, and each override has its value or not. Each is
+/// visited once, with its members.
 ///
 /// # Errors
 ///
 /// The first type that is refused, with a fault of its own and no span; or out of memory.
 pub fn validate_types(
     alloc: Global,
-    settings: TypeSettings,
+    capabilities: Capabilities,
+    overrides_resolved: bool,
     types: &UniqueArena<IrType, key::IrType>,
     layouter: &Layouter,
 ) -> Result<Vec<TypeInfo>, Refusal<InvalidType>>
     requires back { TypesGoBack (types_view types.now) }
     requires held { AreLayouts (types_view types.now) layouter.now }
     requires all { length layouter.now ≡ length types.now }
-    ensures accepted { IfOk result (λ infos. AreAccepted settings.capabilities settings.overrides_resolved (types_view types.now) infos.items) }
-    ensures refused { IfErr result (IsRefusal settings.capabilities settings.overrides_resolved (types_view types.now)) }
+    ensures accepted { IfOk result (λ infos. AreAccepted capabilities overrides_resolved (types_view types.now) infos.items) }
+    ensures refused { IfErr result (IsRefusal capabilities overrides_resolved (types_view types.now)) }
 {
     let mut infos = Vec::with_capacity(alloc, types.len())?;
     for place in 0..types.len() {
         let next = validate_next(
-            settings,
+            capabilities,
+            overrides_resolved,
             types,
             layouter,
             infos.as_slice(),

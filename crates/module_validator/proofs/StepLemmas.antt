@@ -1,11 +1,11 @@
 -- What the answers of the parts of a check say of its steps.
-use Rattle.std.proofs.Common.{◌≡◌, ◌<◌, ℕ, zero, suc, List, [], ◌∷◌, Option, Some, None, length, slice_get, refl, arith}
+use Rattle.std.proofs.Common.{◌≡◌, ◌<◌, ℕ, Bool, zero, suc, List, [], ◌∷◌, Option, Some, None, length, slice_get, refl, arith}
+use Rattle.ir_flags.specs.declared.settings.Settings.{Settings}
 use Rattle.ir_items.specs.judged.Plain.{PlainModule}
 use Rattle.module_types.specs.Validated.{AreAccepted, IsFirstRefused as IsTypeRefused}
 use Rattle.module_types.specs.declared.validate.InvalidType.{InvalidType}
 use Rattle.spec_expressions.specs.judged.Context.{outside}
 use Rattle.judgement.specs.judged.ModuleSteps.{layout, type, typing, StepPasses, FailsFirst}
-use Rattle.judgement.specs.declared.settings.ModuleSettings.{ModuleSettings}
 use Rattle.typing_layout.specs.judged.Layout.{LayoutOK}
 use Rattle.typing_layout.specs.judged.Tree.{Tree}
 use Rattle.typing_layout.specs.judged.View.{type_tree}
@@ -39,15 +39,15 @@ within (y ∷ ys) (suc k) x e = let less = within ys k x e in omega (arith, less
 laid_at : (m : PlainModule) (layouts : List TypeLayout) (index : ℕ) → AreLayouts m.types layouts → index < length layouts → LayoutOK (type_tree m.types index)
 laid_at m layouts index held lt = let here = there layouts index lt in (held.each index here.0 here.1).ok
 
-pub laid : (s : ModuleSettings) (m : PlainModule) (layouts : List TypeLayout) → AreLayouts m.types layouts → length layouts ≡ length m.types → StepPasses s m layout
-laid s m layouts held all = record { each = λ index lt. laid_at m layouts index held (omega (arith, lt, all)) }
+pub laid : (s : Settings) (resolved : Bool) (m : PlainModule) (layouts : List TypeLayout) → AreLayouts m.types layouts → length layouts ≡ length m.types → StepPasses s resolved m layout
+laid s resolved m layouts held all = record { each = λ index lt. laid_at m layouts index held (omega (arith, lt, all)) }
 
 unlaid : (t : Tree) (inner : LayoutErrorInner) → IsFaultOf t inner → LayoutOK t → ⊥
 unlaid t NonPowerOfTwoWidth fault ok = fault ok.width
 unlaid t TooLarge fault ok = let most = ok.in_range in absurd (omega (arith, fault, most))
 
-pub not_laid : (s : ModuleSettings) (m : PlainModule) (layouts : List TypeLayout) (e : LayoutError) → AreLayouts m.types layouts → IsRefused m.types layouts e → FailsFirst s m layout e.ty
-not_laid s m layouts e held refused = record {
+pub not_laid : (s : Settings) (resolved : Bool) (m : PlainModule) (layouts : List TypeLayout) (e : LayoutError) → AreLayouts m.types layouts → IsRefused m.types layouts e → FailsFirst s resolved m layout e.ty
+not_laid s resolved m layouts e held refused = record {
   within = refused.within;
   before = λ other lt. let next = refused.next in laid_at m layouts other held (omega (arith, lt, next));
   fails = λ ok. unlaid (type_tree m.types e.ty) e.inner refused.fault ok;
@@ -55,13 +55,13 @@ not_laid s m layouts e held refused = record {
 
 -- ---- types
 
-pub told : (s : ModuleSettings) (m : PlainModule) (infos : List TypeInfo) → AreAccepted s.capabilities s.overrides_resolved m.types infos → StepPasses s m type
-told s m infos accepted = record {
+pub told : (s : Settings) (resolved : Bool) (m : PlainModule) (infos : List TypeInfo) → AreAccepted s.capabilities resolved m.types infos → StepPasses s resolved m type
+told s resolved m infos accepted = record {
   each = λ index lt. let many = accepted.many in let here = there infos index (omega (arith, lt, many)) in (accepted.each index here.0 here.1).ok;
 }
 
-pub not_told : (s : ModuleSettings) (m : PlainModule) (e : InvalidType) → IsTypeRefused s.capabilities s.overrides_resolved m.types e → FailsFirst s m type e.ty
-not_told s m e refused = record {
+pub not_told : (s : Settings) (resolved : Bool) (m : PlainModule) (e : InvalidType) → IsTypeRefused s.capabilities resolved m.types e → FailsFirst s resolved m type e.ty
+not_told s resolved m e refused = record {
   within = refused.within;
   before = refused.before;
   fails = refused.fault.not;
@@ -69,8 +69,8 @@ not_told s m e refused = record {
 
 -- ---- the types of global expressions
 
-pub typed : (s : ModuleSettings) (m : PlainModule) (types : List TypeResolution) → AreTypes (outside m) m.global_expressions types → StepPasses s m typing
-typed s m types are = record {
+pub typed : (s : Settings) (resolved : Bool) (m : PlainModule) (types : List TypeResolution) → AreTypes (outside m) m.global_expressions types → StepPasses s resolved m typing
+typed s resolved m types are = record {
   each = λ index lt. let len = are.len in let here = there types index (omega (arith, lt, len)) in (form_given m.types here.0, are.each index here.0 here.1);
 }
 
@@ -82,8 +82,8 @@ faulty_has_none : (m : PlainModule) (place : ℕ) (f : Option TypingFault) → R
 faulty_has_none m place (Some f) tells t typed = tells.none t typed
 faulty_has_none m place None tells t typed = absurd tells
 
-pub not_typed : (s : ModuleSettings) (m : PlainModule) (place : ℕ) (error : ResolveError) → IsUntypedFirst (outside m) m.global_expressions place error → FailsFirst s m typing place
-not_typed s m place error untyped = record {
+pub not_typed : (s : Settings) (resolved : Bool) (m : PlainModule) (place : ℕ) (error : ResolveError) → IsUntypedFirst (outside m) m.global_expressions place error → FailsFirst s resolved m typing place
+not_typed s resolved m place error untyped = record {
   within = faulty_within m place (fault_of error) untyped.tells;
   before = untyped.before;
   fails = λ ok. faulty_has_none m place (fault_of error) untyped.tells ok.0 ok.1;

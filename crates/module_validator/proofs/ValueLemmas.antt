@@ -6,6 +6,7 @@ use Rattle.module_constants.specs.Overrides.{IsOverrideFault}
 use Rattle.ir_flags.specs.Sets.{Has}
 use Rattle.ir_flags.specs.declared.settings.TheConstants.ValidationFlags.{CONSTANTS}
 use Rattle.ir_flags.specs.declared.settings.Capabilities.{Capabilities}
+use Rattle.ir_flags.specs.declared.settings.Settings.{Settings}
 use Rattle.ir_items.specs.judged.Plain.{PlainModule}
 use Rattle.module_constants.specs.Firsts.{AreAccepted, IsFirstRefused}
 use Rattle.module_constants.specs.Known.{AreTyped, IsKnown, module_in}
@@ -25,39 +26,38 @@ use Rattle.spec_expressions.specs.judged.Overrides.{OverrideOK}
 use Rattle.spec_expressions.specs.judged.Context.{outside}
 use Rattle.spec_handles.specs.InOrder.{HandlesOK}
 use Rattle.judgement.specs.judged.ModuleSteps.{expression, constant, override, item_count, StepPasses, IsReached, FailsFirst}
-use Rattle.judgement.specs.declared.settings.ModuleSettings.{ModuleSettings}
 use Rattle.spec_expressions.specs.judged.Typing.{HasGlobalType}
 use Rattle.typing_expressions.specs.Types.{AreTypes}
 use Rattle.typing_forms.specs.declared.resolution.TypeResolution.{TypeResolution}
 use Rattle.typing_layout.specs.judged.Constness.{AreKinds}
 use Rattle.typing_errors.specs.Answers.{form_given}
 
-pub expressions_pass : (s : ModuleSettings) (m : PlainModule) → AreAccepted (GlobalExpressionOK s.capabilities s.overrides_resolved m) (item_count m expression) → StepPasses s m expression
-expressions_pass s m all = record { each = λ index lt has. all.each index lt }
+pub expressions_pass : (s : Settings) (resolved : Bool) (m : PlainModule) → AreAccepted (GlobalExpressionOK s.capabilities resolved m) (item_count m expression) → StepPasses s resolved m expression
+expressions_pass s resolved m all = record { each = λ index lt has. all.each index lt }
 
-pub constants_pass : (s : ModuleSettings) (m : PlainModule) → AreAccepted (ConstantOK m) (item_count m constant) → StepPasses s m constant
-constants_pass s m all = record { each = λ index lt has. all.each index lt }
+pub constants_pass : (s : Settings) (resolved : Bool) (m : PlainModule) → AreAccepted (ConstantOK m) (item_count m constant) → StepPasses s resolved m constant
+constants_pass s resolved m all = record { each = λ index lt has. all.each index lt }
 
-pub overrides_pass : (s : ModuleSettings) (m : PlainModule) → AreAccepted (OverrideOK s.overrides_resolved m) (item_count m override) → StepPasses s m override
-overrides_pass s m all = record { each = λ index lt has. all.each index lt }
+pub overrides_pass : (s : Settings) (resolved : Bool) (m : PlainModule) → AreAccepted (OverrideOK resolved m) (item_count m override) → StepPasses s resolved m override
+overrides_pass s resolved m all = record { each = λ index lt has. all.each index lt }
 
-pub expression_fails : (s : ModuleSettings) (m : PlainModule) (Fault : ℕ → Type 0) (index : ℕ) → Has s.flags.0 CONSTANTS.0 → IsFirstRefused (GlobalExpressionOK s.capabilities s.overrides_resolved m) Fault (item_count m expression) index
-    → FailsFirst s m expression index
-expression_fails s m Fault index asked first = record {
+pub expression_fails : (s : Settings) (resolved : Bool) (m : PlainModule) (Fault : ℕ → Type 0) (index : ℕ) → Has s.flags.0 CONSTANTS.0 → IsFirstRefused (GlobalExpressionOK s.capabilities resolved m) Fault (item_count m expression) index
+    → FailsFirst s resolved m expression index
+expression_fails s resolved m Fault index asked first = record {
   within = first.within;
   before = λ other lt has. first.before other lt;
   fails = λ ok. first.not (ok asked);
 }
 
-pub constant_fails : (s : ModuleSettings) (m : PlainModule) (Fault : ℕ → Type 0) (index : ℕ) → Has s.flags.0 CONSTANTS.0 → IsFirstRefused (ConstantOK m) Fault (item_count m constant) index → FailsFirst s m constant index
-constant_fails s m Fault index asked first = record {
+pub constant_fails : (s : Settings) (resolved : Bool) (m : PlainModule) (Fault : ℕ → Type 0) (index : ℕ) → Has s.flags.0 CONSTANTS.0 → IsFirstRefused (ConstantOK m) Fault (item_count m constant) index → FailsFirst s resolved m constant index
+constant_fails s resolved m Fault index asked first = record {
   within = first.within;
   before = λ other lt has. first.before other lt;
   fails = λ ok. first.not (ok asked);
 }
 
-pub override_fails : (s : ModuleSettings) (m : PlainModule) (Fault : ℕ → Type 0) (index : ℕ) → Has s.flags.0 CONSTANTS.0 → IsFirstRefused (OverrideOK s.overrides_resolved m) Fault (item_count m override) index → FailsFirst s m override index
-override_fails s m Fault index asked first = record {
+pub override_fails : (s : Settings) (resolved : Bool) (m : PlainModule) (Fault : ℕ → Type 0) (index : ℕ) → Has s.flags.0 CONSTANTS.0 → IsFirstRefused (OverrideOK resolved m) Fault (item_count m override) index → FailsFirst s resolved m override index
+override_fails s resolved m Fault index asked first = record {
   within = first.within;
   before = λ other lt has. first.before other lt;
   fails = λ ok. first.not (ok asked);
@@ -65,14 +65,14 @@ override_fails s m Fault index asked first = record {
 
 -- ---- where the settings are those of what is required
 
-pub expressions_accepted : (s : ModuleSettings) (c : GlobalContext) (m : PlainModule) → AreSettingsOf s c → AreAccepted (GlobalExpressionOK c.capabilities c.overrides_resolved m) (length m.global_expressions) → StepPasses s m expression
-expressions_accepted s c m same all =
-    expressions_pass s m
-    (subst (λ (r : Bool). AreAccepted (GlobalExpressionOK s.capabilities r m) (length m.global_expressions)) same.resolved
+pub expressions_accepted : (s : Settings) (resolved : Bool) (c : GlobalContext) (m : PlainModule) → AreSettingsOf s resolved c → AreAccepted (GlobalExpressionOK c.capabilities c.overrides_resolved m) (length m.global_expressions) → StepPasses s resolved m expression
+expressions_accepted s resolved c m same all =
+    expressions_pass s resolved m
+    (subst (λ (r : Bool). AreAccepted (GlobalExpressionOK s.capabilities r m) (length m.global_expressions)) same.overrides
     (subst (λ (p : Capabilities). AreAccepted (GlobalExpressionOK p c.overrides_resolved m) (length m.global_expressions)) same.capabilities all))
 
-pub overrides_accepted : (s : ModuleSettings) (c : GlobalContext) (m : PlainModule) → AreSettingsOf s c → AreAccepted (OverrideOK c.overrides_resolved m) (length m.overrides) → StepPasses s m override
-overrides_accepted s c m same all = overrides_pass s m (subst (λ (r : Bool). AreAccepted (OverrideOK r m) (length m.overrides)) same.resolved all)
+pub overrides_accepted : (s : Settings) (resolved : Bool) (c : GlobalContext) (m : PlainModule) → AreSettingsOf s resolved c → AreAccepted (OverrideOK c.overrides_resolved m) (length m.overrides) → StepPasses s resolved m override
+overrides_accepted s resolved c m same all = overrides_pass s resolved m (subst (λ (r : Bool). AreAccepted (OverrideOK r m) (length m.overrides)) same.overrides all)
 
 abbrev ExpressionFirst : Capabilities → Bool → PlainModule → InvalidGlobalExpression → Type 0
 ExpressionFirst capabilities resolved m e =
@@ -81,24 +81,24 @@ ExpressionFirst capabilities resolved m e =
 abbrev OverrideFirst : Bool → PlainModule → InvalidOverride → Type 0
 OverrideFirst resolved m e = IsFirstRefused (OverrideOK resolved m) (λ handle. IsOverrideFault resolved m handle e.error) (length m.overrides) e.id
 
-pub expression_refused : (s : ModuleSettings) (c : GlobalContext) (m : PlainModule) (e : InvalidGlobalExpression) → AreSettingsOf s c → IsReached s m expression → Has s.flags.0 CONSTANTS.0
+pub expression_refused : (s : Settings) (resolved : Bool) (c : GlobalContext) (m : PlainModule) (e : InvalidGlobalExpression) → AreSettingsOf s resolved c → IsReached s resolved m expression → Has s.flags.0 CONSTANTS.0
     → IsFirstRefused (GlobalExpressionOK c.capabilities c.overrides_resolved m) (λ handle. IsConstExpressionFault c.capabilities c.overrides_resolved m handle e.error) (length m.global_expressions) e.expression
-    → IsModuleFault s m (error.ConstExpression e)
-expression_refused s c m e same reached asked first =
-    let own : ExpressionFirst s.capabilities s.overrides_resolved m e =
-    subst (λ (r : Bool). ExpressionFirst s.capabilities r m e) same.resolved (subst (λ (p : Capabilities). ExpressionFirst p c.overrides_resolved m e) same.capabilities first)
+    → IsModuleFault s resolved m (error.ConstExpression e)
+expression_refused s resolved c m e same reached asked first =
+    let own : ExpressionFirst s.capabilities resolved m e =
+    subst (λ (r : Bool). ExpressionFirst s.capabilities r m e) same.overrides (subst (λ (p : Capabilities). ExpressionFirst p c.overrides_resolved m e) same.capabilities first)
     in
-    by_expression s m e reached (expression_fails s m (λ handle. IsConstExpressionFault s.capabilities s.overrides_resolved m handle e.error) e.expression asked own) own.fault
+    by_expression s resolved m e reached (expression_fails s resolved m (λ handle. IsConstExpressionFault s.capabilities resolved m handle e.error) e.expression asked own) own.fault
 
-pub constant_refused : (s : ModuleSettings) (m : PlainModule) (e : InvalidConstant) → IsReached s m constant → Has s.flags.0 CONSTANTS.0
-    → IsFirstRefused (ConstantOK m) (λ handle. IsConstantFault m handle e.error) (length m.constants) e.constant → IsModuleFault s m (error.Constant e)
-constant_refused s m e reached asked first = by_constant s m e reached (constant_fails s m (λ handle. IsConstantFault m handle e.error) e.constant asked first) first.fault
+pub constant_refused : (s : Settings) (resolved : Bool) (m : PlainModule) (e : InvalidConstant) → IsReached s resolved m constant → Has s.flags.0 CONSTANTS.0
+    → IsFirstRefused (ConstantOK m) (λ handle. IsConstantFault m handle e.error) (length m.constants) e.constant → IsModuleFault s resolved m (error.Constant e)
+constant_refused s resolved m e reached asked first = by_constant s resolved m e reached (constant_fails s resolved m (λ handle. IsConstantFault m handle e.error) e.constant asked first) first.fault
 
-pub override_refused : (s : ModuleSettings) (c : GlobalContext) (m : PlainModule) (e : InvalidOverride) → AreSettingsOf s c → IsReached s m override → Has s.flags.0 CONSTANTS.0
-    → IsFirstRefused (OverrideOK c.overrides_resolved m) (λ handle. IsOverrideFault c.overrides_resolved m handle e.error) (length m.overrides) e.id → IsModuleFault s m (error.Override e)
-override_refused s c m e same reached asked first =
-    let own : OverrideFirst s.overrides_resolved m e = subst (λ (r : Bool). OverrideFirst r m e) same.resolved first in
-    by_override s m e reached (override_fails s m (λ handle. IsOverrideFault s.overrides_resolved m handle e.error) e.id asked own) own.fault
+pub override_refused : (s : Settings) (resolved : Bool) (c : GlobalContext) (m : PlainModule) (e : InvalidOverride) → AreSettingsOf s resolved c → IsReached s resolved m override → Has s.flags.0 CONSTANTS.0
+    → IsFirstRefused (OverrideOK c.overrides_resolved m) (λ handle. IsOverrideFault c.overrides_resolved m handle e.error) (length m.overrides) e.id → IsModuleFault s resolved m (error.Override e)
+override_refused s resolved c m e same reached asked first =
+    let own : OverrideFirst resolved m e = subst (λ (r : Bool). OverrideFirst r m e) same.overrides first in
+    by_override s resolved m e reached (override_fails s resolved m (λ handle. IsOverrideFault resolved m handle e.error) e.id asked own) own.fault
 
 -- ---- what is known where values are judged
 

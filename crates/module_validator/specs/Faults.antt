@@ -1,5 +1,6 @@
 -- Why a module is refused.
-use Rattle.std.specs.Prelude.{◌≡◌, ◌⊎◌, ℕ, []}
+use Rattle.std.specs.Prelude.{◌≡◌, ◌⊎◌, ℕ, Bool, []}
+use Rattle.ir_flags.specs.declared.settings.Settings.{Settings}
 use Rattle.module_constants.specs.Constants.{IsConstantFault}
 use Rattle.module_constants.specs.Expressions.{IsUntyped, IsConstExpressionFault}
 use Rattle.module_constants.specs.Overrides.{IsOverrideFault}
@@ -17,32 +18,31 @@ use Rattle.module_validator.specs.declared.error.ModuleError.TheVariants as erro
 use Rattle.spec_handles.specs.InOrder.{HandlesOK}
 use Rattle.judgement.specs.judged.ModuleSteps as step
 use Rattle.judgement.specs.judged.ModuleSteps.{IsFirstFailing}
-use Rattle.judgement.specs.declared.settings.ModuleSettings.{ModuleSettings}
 use Rattle.typing_layout.specs.judged.View.{type_tree}
 use Rattle.typing_expressions.specs.declared.refusal.TypingRefusal.{TypingRefusal}
 use Rattle.typing_expressions.specs.declared.refusal.TypingRefusal.TheVariants as typing
 use Rattle.typing_layout.specs.found.Held.{IsFaultOf}
 
 -- a global expression has no type, or all have and it may not stand
-abbrev pub IsExpressionRefused : ModuleSettings → PlainModule → (handle : ℕ) → ConstExpressionError → Type 0
-IsExpressionRefused s m handle e =
-    (IsFirstFailing s m step.typing handle × IsUntyped m handle e)
-    ⊎ (IsFirstFailing s m step.expression handle × IsConstExpressionFault s.capabilities s.overrides_resolved m handle e)
+abbrev pub IsExpressionRefused : Settings → (resolved : Bool) → PlainModule → (handle : ℕ) → ConstExpressionError → Type 0
+IsExpressionRefused s resolved m handle e =
+    (IsFirstFailing s resolved m step.typing handle × IsUntyped m handle e)
+    ⊎ (IsFirstFailing s resolved m step.expression handle × IsConstExpressionFault s.capabilities resolved m handle e)
 
 -- Each error stands where its step is the first that fails, at the first item that fails it, which has the fault that the
 -- error tells.
-abbrev pub IsModuleFault : ModuleSettings → PlainModule → ModuleError → Type 0
-IsModuleFault s m (error.InvalidHandle e) = IsHandleError m e × ¬ HandlesOK m
-IsModuleFault s m (error.Layouter e) = IsFirstFailing s m step.layout e.ty × IsFaultOf (type_tree m.types e.ty) e.inner
-IsModuleFault s m (error.Type e) = IsFirstFailing s m step.type e.ty × IsRefusedFor s.capabilities s.overrides_resolved m.types e.ty e.error
-IsModuleFault s m (error.ConstExpression e) = IsExpressionRefused s m e.expression e.error
-IsModuleFault s m (error.Constant e) = IsFirstFailing s m step.constant e.constant × IsConstantFault m e.constant e.error
-IsModuleFault s m (error.Override e) = IsFirstFailing s m step.override e.id × IsOverrideFault s.overrides_resolved m e.id e.error
+abbrev pub IsModuleFault : Settings → (resolved : Bool) → PlainModule → ModuleError → Type 0
+IsModuleFault s resolved m (error.InvalidHandle e) = IsHandleError m e × ¬ HandlesOK m
+IsModuleFault s resolved m (error.Layouter e) = IsFirstFailing s resolved m step.layout e.ty × IsFaultOf (type_tree m.types e.ty) e.inner
+IsModuleFault s resolved m (error.Type e) = IsFirstFailing s resolved m step.type e.ty × IsRefusedFor s.capabilities resolved m.types e.ty e.error
+IsModuleFault s resolved m (error.ConstExpression e) = IsExpressionRefused s resolved m e.expression e.error
+IsModuleFault s resolved m (error.Constant e) = IsFirstFailing s resolved m step.constant e.constant × IsConstantFault m e.constant e.error
+IsModuleFault s resolved m (error.Override e) = IsFirstFailing s resolved m step.override e.id × IsOverrideFault resolved m e.id e.error
 
 -- a module is refused for a fault, with no span, or memory ran out
-abbrev pub IsRefusal : ModuleSettings → PlainModule → Refusal ModuleError → Type 0
-IsRefusal s m (refusal.Memory e) = Unit {0}
-IsRefusal s m (refusal.Fault f) = IsModuleFault s m (error_of f) × (spans_of f ≡ [])
+abbrev pub IsRefusal : Settings → (resolved : Bool) → PlainModule → Refusal ModuleError → Type 0
+IsRefusal s resolved m (refusal.Memory e) = Unit {0}
+IsRefusal s resolved m (refusal.Fault f) = IsModuleFault s resolved m (error_of f) × (spans_of f ≡ [])
 
 -- what the typing refuses, as the error of the global expression
 abbrev pub IsReportedAs : TypingRefusal → InvalidGlobalExpression → Type 0

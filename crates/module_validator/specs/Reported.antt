@@ -1,27 +1,18 @@
 -- What is reported of a module that is accepted.
 use Rattle.std.specs.Prelude.{◌≡◌, [], Bool, length}
+use Rattle.ir_flags.specs.declared.settings.Settings.{Settings}
 use Rattle.ir_items.specs.judged.Plain.{PlainModule}
 use Rattle.typing_infos.specs.declared.info.ModuleInfo.{ModuleInfo}
 use Rattle.module_types.specs.Validated.{AreAccepted}
-use Rattle.module_validator.specs.declared.validator.ModuleValidator.{ModuleValidator}
 use Rattle.spec_expressions.specs.judged.Context.{outside}
-use Rattle.judgement.specs.declared.settings.ModuleSettings.{ModuleSettings}
 use Rattle.typing_expressions.specs.Types.{AreTypes}
 use Rattle.typing_layout.specs.found.Held.{AreLayouts}
 
 -- The flags and the layout of each type, and the type of each global expression; nothing yet of functions and entry points.
-pub record IsInfoOf (s : ModuleSettings) (m : PlainModule) (info : ModuleInfo) : Type 0 where
-  pub types : AreAccepted s.capabilities s.overrides_resolved m.types info.types.items
+pub record IsInfoOf (s : Settings) (resolved : Bool) (m : PlainModule) (info : ModuleInfo) : Type 0 where
+  pub types : AreAccepted s.capabilities resolved m.types info.types.items
   pub layouts : AreLayouts m.types info.layouter
   pub laid : length info.layouter ≡ length m.types
   pub expressions : AreTypes (outside m) m.global_expressions info.const_expression_types.items
   pub functions : info.functions.items ≡ []
   pub entry_points : info.entry_points.items ≡ []
-
--- by what a validator judges
-abbrev pub settings_of : ModuleValidator → (resolved : Bool) → ModuleSettings
-settings_of v resolved = record {
-  flags = v.flags;
-  capabilities = v.capabilities;
-  overrides_resolved = resolved;
-}

@@ -13,10 +13,9 @@ ghost use Rattle.typing_expressions.specs.Types.{AreTypes};
 use ir_arena::handle::Handle;
 use ir_faults::refusal::Refusal;
 use ir_faults::with_span::WithSpan;
-use ir_flags::ValidationFlags;
+use ir_flags::{Settings, ValidationFlags};
 use ir_items::Module;
 use ir_types::key;
-use judgement::ModuleSettings;
 use module_constants::{GlobalContext, forms_given};
 use module_globals::{GlobalVariableError, validate_global_var};
 use module_type_infos::TypeInfo;
@@ -67,13 +66,14 @@ fn check_all(
 /// The first variable that is refused, with a fault of its own and no span; or out of memory.
 pub fn validate_globals(
     alloc: Global,
-    settings: ModuleSettings,
+    settings: Settings,
+    overrides_resolved: bool,
     module: &Module,
     infos: &[TypeInfo],
     resolutions: &[TypeResolution],
 ) -> Result<(), Refusal<InvalidGlobalVariable>>
     requires handles { HandlesOK (module_view «module».now) }
-    requires told { AreAccepted settings.capabilities settings.overrides_resolved (module_view «module».now).types infos.now }
+    requires told { AreAccepted settings.capabilities overrides_resolved (module_view «module».now).types infos.now }
     requires typed { AreTypes (outside (module_view «module».now)) (module_view «module».now).global_expressions resolutions.now }
     ensures accepted { OnOk result (GlobalsOK settings.flags settings.capabilities (module_view «module».now)) }
     ensures refused { IfErr result (IsRefusal settings.flags settings.capabilities (module_view «module».now)) }
@@ -82,7 +82,7 @@ pub fn validate_globals(
     let forms = forms_given(alloc, &module.types, resolutions)?;
     let context = GlobalContext {
         capabilities: settings.capabilities,
-        overrides_resolved: settings.overrides_resolved,
+        overrides_resolved,
         module,
         kinds: &kinds,
         forms: &forms,

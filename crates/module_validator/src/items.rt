@@ -46,11 +46,11 @@ impl ModuleValidator {
         requires laid { handle < length context.now.layouter.now }
         requires within { handle < length context.now.types.now }
         ensures { MatchResult result
-            (IsAccepted self.now.capabilities context.now.overrides_resolved (types_in context.now) handle)
-            (IsRefusedFor self.now.capabilities context.now.overrides_resolved (types_in context.now) handle) }
+            (IsAccepted self.now.settings.capabilities context.now.overrides_resolved (types_in context.now) handle)
+            (IsRefusedFor self.now.settings.capabilities context.now.overrides_resolved (types_in context.now) handle) }
     {
         let own = TypeContext {
-            capabilities: self.capabilities,
+            capabilities: self.settings.capabilities,
             overrides_resolved: context.overrides_resolved,
             types: context.types,
             layouter: context.layouter,
@@ -76,11 +76,11 @@ impl ModuleValidator {
         requires known { IsKnownOfValues context.now }
         requires within { handle < length context.now.«module».now.global_expressions }
         ensures { MatchResult result
-            (λ _. GlobalExpressionOK self.now.capabilities context.now.overrides_resolved (module_in context.now) handle)
-            (IsExpressionRefused self.now.capabilities context.now.overrides_resolved (module_in context.now) handle) }
+            (λ _. GlobalExpressionOK self.now.settings.capabilities context.now.overrides_resolved (module_in context.now) handle)
+            (IsExpressionRefused self.now.settings.capabilities context.now.overrides_resolved (module_in context.now) handle) }
     {
         let own = GlobalContext {
-            capabilities: self.capabilities,
+            capabilities: self.settings.capabilities,
             overrides_resolved: context.overrides_resolved,
             module: context.module,
             kinds: context.kinds,
@@ -107,11 +107,11 @@ impl ModuleValidator {
         requires known { IsKnownOfExpressions context.now }
         requires within { handle < length context.now.expressions.now }
         ensures { MatchResult result
-            (λ stages. ExpressionOK (scene_by self.now.capabilities context.now) handle × IsRunBy context.now.callees.now (scene_by self.now.capabilities context.now).expressions handle stages)
-            (IsExpressionFault (scene_by self.now.capabilities context.now) handle) }
+            (λ stages. ExpressionOK (scene_by self.now.settings.capabilities context.now) handle × IsRunBy context.now.callees.now (scene_by self.now.settings.capabilities context.now).expressions handle stages)
+            (IsExpressionFault (scene_by self.now.settings.capabilities context.now) handle) }
     {
         let own = CheckContext {
-            capabilities: self.capabilities,
+            capabilities: self.settings.capabilities,
             types: context.types,
             infos: context.infos,
             expressions: context.expressions,

@@ -12,12 +12,12 @@ ghost use Rattle.typing_layout.specs.found.Held.{AreLayouts};
 use crate::error::ModuleError;
 use ir_faults::refusal::Refusal;
 use ir_faults::with_span::WithSpan;
+use ir_flags::Settings;
 use ir_items::Module;
-use judgement::ModuleSettings;
 use module_constants::InvalidGlobalExpression;
 use module_handles::validate_module_handles;
 use module_type_infos::TypeInfo;
-use module_types::{TypeSettings, validate_types};
+use module_types::validate_types;
 use std::alloc::{AllocError, Global};
 use typing_errors::ConstExpressionError;
 use typing_expressions::{TypingRefusal, const_expression_types};
@@ -27,12 +27,13 @@ use typing_layout::Layouter;
 /// The refusal of a module for a fault.
 pub(crate) fn refused(
     alloc: Global,
-    settings: ModuleSettings,
+    settings: Settings,
+    overrides_resolved: bool,
     module: &Module,
     error: ModuleError,
 ) -> Refusal<ModuleError>
-    requires { IsModuleFault settings (module_view «module».now) error }
-    ensures { IsRefusal settings (module_view «module».now) result }
+    requires { IsModuleFault settings overrides_resolved (module_view «module».now) error }
+    ensures { IsRefusal settings overrides_resolved (module_view «module».now) result }
 {
     Refusal::Fault(WithSpan::new(alloc, error))
 }
@@ -40,31 +41,39 @@ pub(crate) fn refused(
 /// Requires that the handles of a module are in order.
 pub fn check_handles(
     alloc: Global,
-    settings: ModuleSettings,
+    settings: Settings,
+    overrides_resolved: bool,
     module: &Module,
 ) -> Result<(), Refusal<ModuleError>>
-    ensures reached { IfOk result (λ _. IsReached settings (module_view «module».now) layout) }
-    ensures refused { IfErr result (IsRefusal settings (module_view «module».now)) }
+    ensures reached { IfOk result (λ _. IsReached settings overrides_resolved (module_view «module».now) layout) }
+    ensures refused { IfErr result (IsRefusal settings overrides_resolved (module_view «module».now)) }
 {
     match validate_module_handles(module) {
         Ok(()) => Ok(()),
-        Err(error) => Err(refused(alloc, settings, module, ModuleError::InvalidHandle(error))),
+        Err(error) => Err(refused(
+            alloc,
+            settings,
+            overrides_resolved,
+            module,
+            ModuleError::InvalidHandle(error),
+        )),
     }
 }
 
 /// Lays out the types of a module.
 pub fn lay_out(
     alloc: Global,
-    settings: ModuleSettings,
+    settings: Settings,
+    overrides_resolved: bool,
     module: &Module,
     layouter: &mut Layouter,
 ) -> Result<(), Refusal<ModuleError>>
-    requires reached { IsReached settings (module_view «module».now) layout }
+    requires reached { IsReached settings overrides_resolved (module_view «module».now) layout }
     requires empty { layouter.old ≡ [] }
     ensures held { AreLayouts (module_view «module».now).types layouter.new }
     ensures all { OnOk result (length layouter.new ≡ length (module_view «module».now).types) }
-    ensures reached { OnOk result (IsReached settings (module_view «module».now) type) }
-    ensures refused { IfErr result (IsRefusal settings (module_view «module».now)) }
+    ensures reached { OnOk result (IsReached settings overrides_resolved (module_view «module».now) type) }
+    ensures refused { IfErr result (IsRefusal settings overrides_resolved (module_view «module».now)) }
 {
     match layouter.update(&module.types) {
         Ok(()) => Ok(()),
@@ -72,6 +81,7 @@ pub fn lay_out(
         Err(Refusal::Fault(fault)) => Err(refused(
             alloc,
             settings,
+            overrides_resolved,
             module,
             ModuleError::Layouter(fault.into_inner()),
         )),
@@ -81,27 +91,31 @@ pub fn lay_out(
 /// What is reported of the types of a module.
 pub fn type_infos(
     alloc: Global,
-    settings: ModuleSettings,
+    settings: Settings,
+    overrides_resolved: bool,
     module: &Module,
     layouter: &Layouter,
 ) -> Result<Vec<TypeInfo>, Refusal<ModuleError>>
-    requires reached { IsReached settings (module_view «module».now) type }
+    requires reached { IsReached settings overrides_resolved (module_view «module».now) type }
     requires held { AreLayouts (module_view «module».now).types layouter.now }
     requires all { length layouter.now ≡ length (module_view «module».now).types }
-    ensures accepted { IfOk result (λ infos. AreAccepted settings.capabilities settings.overrides_resolved (module_view «module».now).types infos.items) }
-    ensures reached { OnOk result (IsReached settings (module_view «module».now) typing) }
-    ensures refused { IfErr result (IsRefusal settings (module_view «module».now)) }
+    ensures accepted { IfOk result (λ infos. AreAccepted settings.capabilities overrides_resolved (module_view «module».now).types infos.items) }
+    ensures reached { OnOk result (IsReached settings overrides_resolved (module_view «module».now) typing) }
+    ensures refused { IfErr result (IsRefusal settings overrides_resolved (module_view «module».now)) }
 {
-    let by = TypeSettings {
-        capabilities: settings.capabilities,
-        overrides_resolved: settings.overrides_resolved,
-    };
-    match validate_types(alloc, by, &module.types, layouter) {
+    match validate_types(
+        alloc,
+        settings.capabilities,
+        overrides_resolved,
+        &module.types,
+        layouter,
+    ) {
         Ok(infos) => Ok(infos),
         Err(Refusal::Memory(error)) => Err(Refusal::Memory(error)),
         Err(Refusal::Fault(fault)) => Err(refused(
             alloc,
             settings,
+            overrides_resolved,
             module,
             ModuleError::Type(fault.into_inner()),
         )),
@@ -125,16 +139,23 @@ fn as_error(refusal: TypingRefusal) -> Result<InvalidGlobalExpression, AllocErro
 // The refusal of a module of which a global expression has no type.
 fn untyped(
     alloc: Global,
-    settings: ModuleSettings,
+    settings: Settings,
+    overrides_resolved: bool,
     module: &Module,
     refusal: TypingRefusal,
 ) -> Refusal<ModuleError>
-    requires reached { IsReached settings (module_view «module».now) typing }
+    requires reached { IsReached settings overrides_resolved (module_view «module».now) typing }
     requires first { IsFirstUntyped (outside (module_view «module».now)) (module_view «module».now).global_expressions refusal }
-    ensures { IsRefusal settings (module_view «module».now) result }
+    ensures { IsRefusal settings overrides_resolved (module_view «module».now) result }
 {
     match as_error(refusal) {
-        Ok(error) => refused(alloc, settings, module, ModuleError::ConstExpression(error)),
+        Ok(error) => refused(
+            alloc,
+            settings,
+            overrides_resolved,
+            module,
+            ModuleError::ConstExpression(error),
+        ),
         Err(error) => Refusal::Memory(error),
     }
 }
@@ -142,16 +163,17 @@ fn untyped(
 /// The types of the global expressions of a module.
 pub fn expression_types(
     alloc: Global,
-    settings: ModuleSettings,
+    settings: Settings,
+    overrides_resolved: bool,
     module: &Module,
 ) -> Result<Vec<TypeResolution>, Refusal<ModuleError>>
-    requires reached { IsReached settings (module_view «module».now) typing }
+    requires reached { IsReached settings overrides_resolved (module_view «module».now) typing }
     ensures typed { IfOk result (λ types. AreTypes (outside (module_view «module».now)) (module_view «module».now).global_expressions types.items) }
-    ensures reached { OnOk result (IsReached settings (module_view «module».now) expression) }
-    ensures refused { IfErr result (IsRefusal settings (module_view «module».now)) }
+    ensures reached { OnOk result (IsReached settings overrides_resolved (module_view «module».now) expression) }
+    ensures refused { IfErr result (IsRefusal settings overrides_resolved (module_view «module».now)) }
 {
     match const_expression_types(alloc, module) {
         Ok(types) => Ok(types),
-        Err(refusal) => Err(untyped(alloc, settings, module, refusal)),
+        Err(refusal) => Err(untyped(alloc, settings, overrides_resolved, module, refusal)),
     }
 }

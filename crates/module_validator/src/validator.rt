@@ -3,7 +3,7 @@
 ghost use Rattle.std.specs.Prelude.{◌≡◌, [], MatchResult, IfOk, IfErr, OnOk, false, true};
 ghost use Rattle.ir_items.specs.found.View.{module_view};
 ghost use Rattle.module_validator.specs.Faults.{IsRefusal};
-ghost use Rattle.module_validator.specs.Reported.{IsInfoOf, settings_of};
+ghost use Rattle.module_validator.specs.Reported.{IsInfoOf};
 ghost use Rattle.typing_layout.specs.judged.Widths.{ScalarOK};
 ghost use Rattle.spec_expressions.specs.judged.ConstantLiterals.{LiteralOK};
 ghost use Rattle.judgement.specs.judged.ModuleSteps.{ModuleOK};
@@ -12,10 +12,9 @@ ghost use Rattle.module_type_checks.specs.Widths.{IsLiteralFault};
 
 use crate::{ModuleError, check_handles, check_values, expression_types, lay_out, type_infos};
 use ir_faults::refusal::Refusal;
-use ir_flags::{Capabilities, ValidationFlags};
+use ir_flags::Settings;
 use ir_items::Module;
 use ir_kinds::{Literal, Scalar};
-use judgement::ModuleSettings;
 use module_types::{LiteralError, WidthError, check_width, validate_literal};
 use std::alloc::Global;
 use std::mem;
@@ -27,21 +26,18 @@ use typing_layout::Layouter;
 #[derive(Drop)]
 pub struct ModuleValidator {
     alloc: Global,
-    flags: ValidationFlags,
-    pub(crate) capabilities: Capabilities,
+    pub(crate) settings: Settings,
     layouter: Layouter,
 }
 
 impl ModuleValidator {
-    /// A validator that makes these checks, of shaders that may use this. It takes no memory.
-    pub fn new(alloc: Global, flags: ValidationFlags, capabilities: Capabilities) -> Self
-        ensures flags { result.flags ≡ flags }
-        ensures capabilities { result.capabilities ≡ capabilities }
+    /// A validator with these settings. It takes no memory.
+    pub fn new(alloc: Global, settings: Settings) -> Self
+        ensures { result.settings ≡ settings }
     {
         ModuleValidator {
             alloc,
-            flags,
-            capabilities,
+            settings,
             layouter: Layouter::new(alloc),
         }
     }
@@ -49,8 +45,7 @@ impl ModuleValidator {
     /// Forgets the module that was judged last. Each judgement begins with it.
     pub fn reset(&mut self)
         ensures forgotten { self.new.layouter ≡ [] }
-        ensures flags { self.new.flags ≡ self.old.flags }
-        ensures capabilities { self.new.capabilities ≡ self.old.capabilities }
+        ensures settings { self.new.settings ≡ self.old.settings }
     {
         self.layouter.clear();
     }
@@ -61,24 +56,25 @@ impl ModuleValidator {
         module: &Module,
         overrides_resolved: bool,
     ) -> Result<ModuleInfo, Refusal<ModuleError>>
-        ensures accepted { OnOk result (ModuleOK (settings_of self.old overrides_resolved) (module_view «module».now)) }
-        ensures told { IfOk result (IsInfoOf (settings_of self.old overrides_resolved) (module_view «module».now)) }
-        ensures refused { IfErr result (IsRefusal (settings_of self.old overrides_resolved) (module_view «module».now)) }
-        ensures flags { self.new.flags ≡ self.old.flags }
-        ensures capabilities { self.new.capabilities ≡ self.old.capabilities }
+        ensures accepted { OnOk result (ModuleOK self.old.settings overrides_resolved (module_view «module».now)) }
+        ensures told { IfOk result (IsInfoOf self.old.settings overrides_resolved (module_view «module».now)) }
+        ensures refused { IfErr result (IsRefusal self.old.settings overrides_resolved (module_view «module».now)) }
+        ensures settings { self.new.settings ≡ self.old.settings }
     {
         self.reset();
         let alloc = self.alloc;
-        let settings = ModuleSettings {
-            flags: self.flags,
-            capabilities: self.capabilities,
+        let settings = self.settings;
+        check_handles(alloc, settings, overrides_resolved, module)?;
+        lay_out(
+            alloc,
+            settings,
             overrides_resolved,
-        };
-        check_handles(alloc, settings, module)?;
-        lay_out(alloc, settings, module, &mut self.layouter)?;
-        let infos = type_infos(alloc, settings, module, &self.layouter)?;
-        let types = expression_types(alloc, settings, module)?;
-        check_values(alloc, settings, module, &infos, &types)?;
+            module,
+            &mut self.layouter,
+        )?;
+        let infos = type_infos(alloc, settings, overrides_resolved, module, &self.layouter)?;
+        let types = expression_types(alloc, settings, overrides_resolved, module)?;
+        check_values(alloc, settings, overrides_resolved, module, &infos, &types)?;
         let layouter = mem::replace(&mut self.layouter, Layouter::new(alloc));
         Ok(ModuleInfo::of_parts(alloc, infos, layouter, types))
     }
@@ -94,11 +90,10 @@ impl ModuleValidator {
     /// constant or an override that is. Of the last three nothing is required without [`ValidationFlags::CONSTANTS`]. Or out of
     /// memory.
     pub fn validate(&mut self, module: &Module) -> Result<ModuleInfo, Refusal<ModuleError>>
-        ensures accepted { OnOk result (ModuleOK (settings_of self.old false) (module_view «module».now)) }
-        ensures told { IfOk result (IsInfoOf (settings_of self.old false) (module_view «module».now)) }
-        ensures refused { IfErr result (IsRefusal (settings_of self.old false) (module_view «module».now)) }
-        ensures flags { self.new.flags ≡ self.old.flags }
-        ensures capabilities { self.new.capabilities ≡ self.old.capabilities }
+        ensures accepted { OnOk result (ModuleOK self.old.settings false (module_view «module».now)) }
+        ensures told { IfOk result (IsInfoOf self.old.settings false (module_view «module».now)) }
+        ensures refused { IfErr result (IsRefusal self.old.settings false (module_view «module».now)) }
+        ensures settings { self.new.settings ≡ self.old.settings }
     {
         self.judge(module, false)
     }
@@ -113,11 +108,10 @@ impl ModuleValidator {
         &mut self,
         module: &Module,
     ) -> Result<ModuleInfo, Refusal<ModuleError>>
-        ensures accepted { OnOk result (ModuleOK (settings_of self.old true) (module_view «module».now)) }
-        ensures told { IfOk result (IsInfoOf (settings_of self.old true) (module_view «module».now)) }
-        ensures refused { IfErr result (IsRefusal (settings_of self.old true) (module_view «module».now)) }
-        ensures flags { self.new.flags ≡ self.old.flags }
-        ensures capabilities { self.new.capabilities ≡ self.old.capabilities }
+        ensures accepted { OnOk result (ModuleOK self.old.settings true (module_view «module».now)) }
+        ensures told { IfOk result (IsInfoOf self.old.settings true (module_view «module».now)) }
+        ensures refused { IfErr result (IsRefusal self.old.settings true (module_view «module».now)) }
+        ensures settings { self.new.settings ≡ self.old.settings }
     {
         self.judge(module, true)
     }
@@ -128,9 +122,9 @@ impl ModuleValidator {
     ///
     /// There is no such width, a capability is missing, or the kind is abstract: each only where it occurs.
     pub fn check_width(&self, scalar: Scalar) -> Result<(), WidthError>
-        ensures { MatchResult result (λ _. ScalarOK self.now.capabilities scalar) (IsWidthFault self.now.capabilities scalar) }
+        ensures { MatchResult result (λ _. ScalarOK self.now.settings.capabilities scalar) (IsWidthFault self.now.settings.capabilities scalar) }
     {
-        check_width(self.capabilities, scalar)
+        check_width(self.settings.capabilities, scalar)
     }
 
     /// Whether a literal may be used.
@@ -139,8 +133,8 @@ impl ModuleValidator {
     ///
     /// Its scalar may not be used.
     pub fn validate_literal(&self, literal: Literal) -> Result<(), LiteralError>
-        ensures { MatchResult result (λ _. LiteralOK self.now.capabilities literal) (IsLiteralFault self.now.capabilities literal) }
+        ensures { MatchResult result (λ _. LiteralOK self.now.settings.capabilities literal) (IsLiteralFault self.now.settings.capabilities literal) }
     {
-        validate_literal(self.capabilities, literal)
+        validate_literal(self.settings.capabilities, literal)
     }
 }

@@ -17,9 +17,8 @@ use crate::listed_overrides::validate_overrides;
 use crate::steps::refused;
 use bitflags::Flags;
 use ir_faults::refusal::Refusal;
-use ir_flags::ValidationFlags;
+use ir_flags::{Settings, ValidationFlags};
 use ir_items::Module;
-use judgement::ModuleSettings;
 use module_constants::{
     GlobalContext, forms_given, validate_const_expressions, validate_constants,
 };
@@ -38,21 +37,23 @@ fn requires_values(flags: ValidationFlags) -> bool
 // Requires that the module may have its global expressions.
 fn check_expressions(
     alloc: Global,
-    settings: ModuleSettings,
+    settings: Settings,
+    overrides_resolved: bool,
     context: &GlobalContext<'_>,
 ) -> Result<(), Refusal<ModuleError>>
-    requires same { AreSettingsOf settings context.now }
+    requires same { AreSettingsOf settings overrides_resolved context.now }
     requires asked { Has settings.flags.0 CONSTANTS.0 }
-    requires reached { IsReached settings (module_in context.now) expression }
+    requires reached { IsReached settings overrides_resolved (module_in context.now) expression }
     requires known { IsKnown context.now }
-    ensures reached { OnOk result (IsReached settings (module_in context.now) constant) }
-    ensures refused { IfErr result (IsRefusal settings (module_in context.now)) }
+    ensures reached { OnOk result (IsReached settings overrides_resolved (module_in context.now) constant) }
+    ensures refused { IfErr result (IsRefusal settings overrides_resolved (module_in context.now)) }
 {
     match validate_const_expressions(context) {
         Ok(()) => Ok(()),
         Err(error) => Err(refused(
             alloc,
             settings,
+            overrides_resolved,
             context.module,
             ModuleError::ConstExpression(error),
         )),
@@ -62,21 +63,23 @@ fn check_expressions(
 // Requires that the module may have its constants.
 fn check_constants(
     alloc: Global,
-    settings: ModuleSettings,
+    settings: Settings,
+    overrides_resolved: bool,
     context: &GlobalContext<'_>,
 ) -> Result<(), Refusal<ModuleError>>
-    requires same { AreSettingsOf settings context.now }
+    requires same { AreSettingsOf settings overrides_resolved context.now }
     requires asked { Has settings.flags.0 CONSTANTS.0 }
-    requires reached { IsReached settings (module_in context.now) constant }
+    requires reached { IsReached settings overrides_resolved (module_in context.now) constant }
     requires known { IsKnown context.now }
-    ensures reached { OnOk result (IsReached settings (module_in context.now) override) }
-    ensures refused { IfErr result (IsRefusal settings (module_in context.now)) }
+    ensures reached { OnOk result (IsReached settings overrides_resolved (module_in context.now) override) }
+    ensures refused { IfErr result (IsRefusal settings overrides_resolved (module_in context.now)) }
 {
     match validate_constants(context) {
         Ok(()) => Ok(()),
         Err(error) => Err(refused(
             alloc,
             settings,
+            overrides_resolved,
             context.module,
             ModuleError::Constant(error),
         )),
@@ -86,15 +89,16 @@ fn check_constants(
 // Requires that the module may have its overrides.
 fn check_overrides(
     alloc: Global,
-    settings: ModuleSettings,
+    settings: Settings,
+    overrides_resolved: bool,
     context: &GlobalContext<'_>,
 ) -> Result<(), Refusal<ModuleError>>
-    requires same { AreSettingsOf settings context.now }
+    requires same { AreSettingsOf settings overrides_resolved context.now }
     requires asked { Has settings.flags.0 CONSTANTS.0 }
-    requires reached { IsReached settings (module_in context.now) override }
+    requires reached { IsReached settings overrides_resolved (module_in context.now) override }
     requires known { IsKnown context.now }
-    ensures accepted { OnOk result (ModuleOK settings (module_in context.now)) }
-    ensures refused { IfErr result (IsRefusal settings (module_in context.now)) }
+    ensures accepted { OnOk result (ModuleOK settings overrides_resolved (module_in context.now)) }
+    ensures refused { IfErr result (IsRefusal settings overrides_resolved (module_in context.now)) }
 {
     match validate_overrides(alloc, context) {
         Ok(()) => Ok(()),
@@ -102,6 +106,7 @@ fn check_overrides(
         Err(Refusal::Fault(fault)) => Err(refused(
             alloc,
             settings,
+            overrides_resolved,
             context.module,
             ModuleError::Override(fault.into_inner()),
         )),
@@ -111,34 +116,36 @@ fn check_overrides(
 // Checks the values of a module, where that is wanted.
 fn check_each(
     alloc: Global,
-    settings: ModuleSettings,
+    settings: Settings,
+    overrides_resolved: bool,
     context: &GlobalContext<'_>,
 ) -> Result<(), Refusal<ModuleError>>
-    requires same { AreSettingsOf settings context.now }
+    requires same { AreSettingsOf settings overrides_resolved context.now }
     requires asked { Has settings.flags.0 CONSTANTS.0 }
-    requires reached { IsReached settings (module_in context.now) expression }
+    requires reached { IsReached settings overrides_resolved (module_in context.now) expression }
     requires known { IsKnown context.now }
-    ensures accepted { OnOk result (ModuleOK settings (module_in context.now)) }
-    ensures refused { IfErr result (IsRefusal settings (module_in context.now)) }
+    ensures accepted { OnOk result (ModuleOK settings overrides_resolved (module_in context.now)) }
+    ensures refused { IfErr result (IsRefusal settings overrides_resolved (module_in context.now)) }
 {
-    check_expressions(alloc, settings, context)?;
-    check_constants(alloc, settings, context)?;
-    check_overrides(alloc, settings, context)
+    check_expressions(alloc, settings, overrides_resolved, context)?;
+    check_constants(alloc, settings, overrides_resolved, context)?;
+    check_overrides(alloc, settings, overrides_resolved, context)
 }
 
 /// Checks the values of a module, where that is wanted.
 pub fn check_values(
     alloc: Global,
-    settings: ModuleSettings,
+    settings: Settings,
+    overrides_resolved: bool,
     module: &Module,
     infos: &[TypeInfo],
     resolutions: &[TypeResolution],
 ) -> Result<(), Refusal<ModuleError>>
-    requires reached { IsReached settings (module_view «module».now) expression }
-    requires told { AreAccepted settings.capabilities settings.overrides_resolved (module_view «module».now).types infos.now }
+    requires reached { IsReached settings overrides_resolved (module_view «module».now) expression }
+    requires told { AreAccepted settings.capabilities overrides_resolved (module_view «module».now).types infos.now }
     requires typed { AreTypes (outside (module_view «module».now)) (module_view «module».now).global_expressions resolutions.now }
-    ensures accepted { OnOk result (ModuleOK settings (module_view «module».now)) }
-    ensures refused { IfErr result (IsRefusal settings (module_view «module».now)) }
+    ensures accepted { OnOk result (ModuleOK settings overrides_resolved (module_view «module».now)) }
+    ensures refused { IfErr result (IsRefusal settings overrides_resolved (module_view «module».now)) }
 {
     if !requires_values(settings.flags) {
         return Ok(());
@@ -147,11 +154,11 @@ pub fn check_values(
     let forms = forms_given(alloc, &module.types, resolutions)?;
     let context = GlobalContext {
         capabilities: settings.capabilities,
-        overrides_resolved: settings.overrides_resolved,
+        overrides_resolved,
         module,
         kinds: &kinds,
         forms: &forms,
         infos,
     };
-    check_each(alloc, settings, &context)
+    check_each(alloc, settings, overrides_resolved, &context)
 }

@@ -4,7 +4,7 @@ use Rattle.shader_check.proofs.EntryByChains.{accepted_at, entry_fault, noted_by
 use Rattle.shader_check.proofs.Staged.{are_stages}
 use Rattle.shader_check.specs.found.Judged.{AreJudged}
 use Rattle.shader_check.specs.found.JudgedEntries.{AreEntriesJudged, AreEntryNotes, IsEntryRefusal, Note}
-use Rattle.shader_check.specs.found.Validated.{AreEntriesKept, IsEntryFault, IsFaultAfter, IsKeptWith, IsRefusedWith, IsReportedBy, IsValidated, IsValidationFault, module_settings}
+use Rattle.shader_check.specs.found.Validated.{AreEntriesKept, IsEntryFault, IsFaultAfter, IsKeptWith, IsRefusedWith, IsReportedBy, IsValidated, IsValidationFault}
 use Rattle.check_errors.specs.declared.error.InvalidEntryPoint.{InvalidEntryPoint}
 use Rattle.check_errors.specs.declared.error.ValidationError.{ValidationError}
 use Rattle.check_errors.specs.declared.error.ValidationError.TheVariants as error
@@ -14,6 +14,7 @@ use Rattle.ir_faults.specs.declared.refusal.Refusal.TheVariants as refusal
 use Rattle.ir_flags.specs.declared.settings.Capabilities.{Capabilities}
 use Rattle.ir_flags.specs.declared.settings.ValidationFlags.{ValidationFlags}
 use Rattle.ir_flags.specs.declared.stages.ShaderStages.{ShaderStages}
+use Rattle.ir_flags.specs.declared.settings.Settings.{Settings}
 use Rattle.ir_items.specs.judged.Plain.{PlainModule}
 use Rattle.module_handles.proofs.Whole.{order_gives_conditions}
 use Rattle.typing_infos.specs.declared.info.ModuleInfo.{ModuleInfo}
@@ -22,10 +23,9 @@ use Rattle.module_validator.specs.Faults as items
 use Rattle.module_validator.specs.Faults.{IsModuleFault}
 use Rattle.module_validator.specs.Refusals as variables
 use Rattle.module_validator.specs.Refusals.{IsVariableFault}
-use Rattle.module_validator.specs.Reported.{IsInfoOf, settings_of}
+use Rattle.module_validator.specs.Reported.{IsInfoOf}
 use Rattle.module_validator.specs.declared.error.ModuleError.{ModuleError}
 use Rattle.module_validator.specs.declared.globals.InvalidGlobalVariable.{InvalidGlobalVariable}
-use Rattle.module_validator.specs.declared.validator.ModuleValidator.{ModuleValidator}
 use Rattle.function_real_lower.specs.Made.{IsMadeOf}
 use Rattle.function_real_lower.specs.Readings.{reading_of, faults_of}
 use Rattle.spec_analysis.specs.judged.Summaries.{Summary}
@@ -34,8 +34,6 @@ use Rattle.spec_expressions.specs.judged.Context.{outside}
 use Rattle.spec_interface.specs.judged.Globals.{GlobalsOK}
 use Rattle.spec_handles.specs.InOrder.{HandlesOK}
 use Rattle.judgement.specs.judged.ModuleSteps.{ModuleOK}
-use Rattle.judgement.specs.declared.settings.ModuleSettings.{ModuleSettings}
-use Rattle.spec_statements.specs.judged.Functions.{FunctionSettings}
 use Rattle.spec_statements.specs.judged.ModuleFunctions.{reading_over}
 use Rattle.typing_expressions.specs.Types.{AreTypes}
 use Rattle.typing_layout.specs.found.Held.{AreLayouts}
@@ -55,7 +53,7 @@ widened P Q widen (refusal.Fault f) h = (widen (error_of f) h.0, h.1)
 
 -- ---- functions and entry points
 
-module _ (s : FunctionSettings) (m : PlainModule) (handles : HandlesOK m) (summaries : List Summary) (stages : List ShaderStages) (held : Option ℕ) (judged : AreJudged reading_of s m (length m.functions) summaries stages held) where
+module _ (s : Settings) (m : PlainModule) (handles : HandlesOK m) (summaries : List Summary) (stages : List ShaderStages) (held : Option ℕ) (judged : AreJudged reading_of s m (length m.functions) summaries stages held) where
   pub run_so : AreStages s m stages
   run_so = are_stages s m stages (λ i f there. ((order_gives_conditions m handles).functions i f there).callees) judged.counted judged.stages
 
@@ -76,22 +74,22 @@ module _ (s : FunctionSettings) (m : PlainModule) (handles : HandlesOK m) (summa
 
 -- ---- all steps
 
-module _ (s : FunctionSettings) (resolved : Bool) (m : PlainModule) where
-  pub made_of : (info : ModuleInfo) → ModuleOK (module_settings s resolved) m → IsInfoOf (module_settings s resolved) m info → IsMadeOf m info
+module _ (s : Settings) (resolved : Bool) (m : PlainModule) where
+  pub made_of : (info : ModuleInfo) → ModuleOK s resolved m → IsInfoOf s resolved m info → IsMadeOf m info
   made_of info ok told = record {
     handles = ok.handles;
     told = record { told = record { each = λ handle i at. (told.types.each handle i at).info }; many = told.types.many };
     typed = told.expressions;
   }
 
-  module _ (ok : ModuleOK (module_settings s resolved) m) (globals : GlobalsOK s.flags s.capabilities m) where
+  module _ (ok : ModuleOK s resolved m) (globals : GlobalsOK s.flags s.capabilities m) where
     pub fault_after : (x : ValidationError) → IsFaultAfter s m x → IsValidationFault s resolved m x
     fault_after (error.Module e) h = absurd h
     fault_after (error.GlobalVariable e) h = absurd h
     fault_after (error.Function e) h = (ok, globals, h)
     fault_after (error.EntryPoint e) h = (ok, globals, h.0, h.1)
 
-    pub validated : (before info : ModuleInfo) → IsInfoOf (module_settings s resolved) m before → IsKeptWith s m before info → IsValidated s resolved m info
+    pub validated : (before info : ModuleInfo) → IsInfoOf s resolved m before → IsKeptWith s m before info → IsValidated s resolved m info
     validated before info told kept = record {
       ok = ok;
       globals = globals;
@@ -110,13 +108,9 @@ pub if_err_as : {A E : Type 0} (P Q : E → Type 0) → ((e : E) → P e → Q e
 if_err_as P Q widen (Ok a) h = tt
 if_err_as P Q widen (Err e) h = widen e h
 
-pub settings_are : (v : ModuleValidator) (flags : ValidationFlags) (capabilities : Capabilities) (resolved asked : Bool) → v.flags ≡ flags → v.capabilities ≡ capabilities → resolved ≡ asked
-    → settings_of v asked ≡ record { flags = flags; capabilities = capabilities; overrides_resolved = resolved }
-settings_are v flags capabilities resolved asked f c r = λ i. record { flags = f i; capabilities = c i; overrides_resolved = (sym r) i }
-
-pub items_refused : (s : ModuleSettings) (m : PlainModule) (r : Refusal ModuleError) → items.IsRefusal s m r → IsRefusedWith (IsModuleFault s m) r
-items_refused s m (refusal.Memory a) h = tt
-items_refused s m (refusal.Fault f) h = h
+pub items_refused : (s : Settings) (resolved : Bool) (m : PlainModule) (r : Refusal ModuleError) → items.IsRefusal s resolved m r → IsRefusedWith (IsModuleFault s resolved m) r
+items_refused s resolved m (refusal.Memory a) h = tt
+items_refused s resolved m (refusal.Fault f) h = h
 
 pub variables_refused : (flags : ValidationFlags) (capabilities : Capabilities) (m : PlainModule) (r : Refusal InvalidGlobalVariable) → variables.IsRefusal flags capabilities m r
     → IsRefusedWith (IsVariableFault flags capabilities m) r

@@ -1,5 +1,5 @@
 -- The functions of a module, one more of them judged.
-use Rattle.std.proofs.Common.{◌≡◌, ◌↔◌, ◌⊎◌, inl, inr, ℕ, zero, suc, ◌+◌, ◌<◌, List, [], ◌∷◌, ◌++◌, length, Option, Some, refl, sym, ap, subst, ◌∙◌, arith, slice_get}
+use Rattle.std.proofs.Common.{◌≡◌, ◌↔◌, ◌⊎◌, inl, inr, ℕ, false, zero, suc, ◌+◌, ◌<◌, List, [], ◌∷◌, ◌++◌, length, Option, Some, refl, sym, ap, subst, ◌∙◌, arith, slice_get}
 use Rattle.std.proofs.lemmas.Bool.{cases_eq}
 use Rattle.std.proofs.lemmas.Option.{slice_get_within}
 use Rattle.typing_errors.specs.declared.error.FunctionError.{FunctionError}
@@ -13,6 +13,7 @@ use Rattle.ir_faults.specs.declared.refusal.Refusal.{Refusal}
 use Rattle.ir_faults.specs.declared.refusal.Refusal.TheVariants as refusal
 use Rattle.ir_flags.specs.Sets.{Has}
 use Rattle.ir_flags.specs.declared.stages.ShaderStages.{ShaderStages}
+use Rattle.ir_flags.specs.declared.settings.Settings.{Settings}
 use Rattle.ir_items.specs.judged.Plain.{PlainFunction, PlainModule}
 use Rattle.module_handles.proofs.Whole.{order_gives_conditions}
 use Rattle.module_handles.specs.Conditions.{FunctionConditions}
@@ -21,10 +22,9 @@ use Rattle.spec_analysis.specs.judged.Summaries.{Summary, IsSummary, CalleesKnow
 use Rattle.spec_statements.specs.judged.ExpressionStages.{all_stages}
 use Rattle.spec_statements.proofs.CallLaws.{calls_precede}
 use Rattle.spec_statements.proofs.HeldLaws.{held_next}
-use Rattle.spec_statements.specs.judged.ModuleFunctions.{settings_with}
 use Rattle.spec_statements.specs.judged.EarlierPayloads.{IsPayloadBefore}
 use Rattle.spec_handles.specs.InOrder.{HandlesOK}
-use Rattle.spec_statements.specs.judged.Functions.{Reading, FunctionSettings, FunctionOK, AllowsStage}
+use Rattle.spec_statements.specs.judged.Functions.{Reading, FunctionOK, AllowsStage}
 use Rattle.spec_statements.specs.judged.Payloads.{IsPayloadAfter}
 
 -- ---- summaries
@@ -75,15 +75,15 @@ module _ (m : PlainModule) (handles : HandlesOK m) where
       let within : n < length m.functions = slice_get_within m.functions n f at in
       callees_known m f summaries known (λ callee arguments run. (let lt = below callee arguments run in omega (arith, lt, many))) (λ callee arguments run. (let lt = below callee arguments run in omega (arith, lt, within)))
 
-  module _ (reading : Question → Reading) (s : FunctionSettings) (n : ℕ) (summaries : List Summary) (stages : List ShaderStages) (held : Option ℕ) (judged : AreJudged reading s m n summaries stages held) (f : PlainFunction) (at : slice_get m.functions n ≡ Some f) where
+  module _ (reading : Question → Reading) (s : Settings) (n : ℕ) (summaries : List Summary) (stages : List ShaderStages) (held : Option ℕ) (judged : AreJudged reading s m n summaries stages held) (f : PlainFunction) (at : slice_get m.functions n ≡ Some f) where
     abbrev given_here : Preceding s.flags m n f
     given_here = record { summaries = summaries; known = known_at n f summaries at judged.many judged.known; stages = stages; held = held; before = judged.payloads }
 
-    pub accepted_here : FunctionOK (reading (question m f summaries stages)) (settings_with s held) m f → IsAcceptedAt reading s m n
+    pub accepted_here : FunctionOK (reading (question m f summaries stages)) s false held m f → IsAcceptedAt reading s m n
     accepted_here ok = record { function = f; at = at; given = given_here; ok = ok }
 
     abbrev Exact : ShaderStages → Type 0
-    Exact own = (stage : ℕ) → Has own.0 stage ↔ (Has all_stages.0 stage × AllowsStage (reading (question m f summaries stages)) (settings_with s held) stages f stage)
+    Exact own = (stage : ℕ) → Has own.0 stage ↔ (Has all_stages.0 stage × AllowsStage (reading (question m f summaries stages)) s stages f stage)
 
     noted_before : (own : ShaderStages) (i : ℕ) (x : ShaderStages) → slice_get stages i ≡ Some x → IsNotedAt reading s m (stages ++ own ∷ []) i x
     noted_before own i x there =
@@ -103,7 +103,7 @@ module _ (m : PlainModule) (handles : HandlesOK m) where
       | inr last ↦ subst (IsNotedAt reading s m (stages ++ own ∷ []) i) last.1 (noted_here own exact i (last.0 ∙ judged.counted))
     ]
 
-    pub judged_more : (t : Summary) (own : ShaderStages) (after : Option ℕ) → FunctionOK (reading (question m f summaries stages)) (settings_with s held) m f → (CalleesKnown m f summaries → IsSummary m f t) → Exact own
+    pub judged_more : (t : Summary) (own : ShaderStages) (after : Option ℕ) → FunctionOK (reading (question m f summaries stages)) s false held m f → (CalleesKnown m f summaries → IsSummary m f t) → Exact own
         → IsPayloadAfter s.flags m f held after → AreJudged reading s m (n + 1) (summaries ++ t ∷ []) (stages ++ own ∷ []) after
     judged_more t own after ok is exact h = record {
       accepted = λ i lt. elim (below_or_here i n lt) [
@@ -117,22 +117,22 @@ module _ (m : PlainModule) (handles : HandlesOK m) where
       payloads = subst (λ k. IsPayloadBefore s.flags m k after) (omega arith) (held_next s.flags m n f at held after judged.payloads (λ asked. (ok.body asked).payloads) h);
     }
 
-    pub refused_here : (faults : Question → Faults) (e : InvalidFunction) → e.function ≡ n → (FunctionOK (reading (question m f summaries stages)) (settings_with s held) m f → ⊥)
-        → IsFunctionFault (reading (question m f summaries stages)) (faults (question m f summaries stages)) (settings_with s held) m f e.error → IsFirstRefused reading faults s m e
+    pub refused_here : (faults : Question → Faults) (e : InvalidFunction) → e.function ≡ n → (FunctionOK (reading (question m f summaries stages)) s false held m f → ⊥)
+        → IsFunctionFault (reading (question m f summaries stages)) (faults (question m f summaries stages)) s false held m f e.error → IsFirstRefused reading faults s m e
     refused_here faults e same refused fault = record {
       before = λ i lt. judged.accepted i (omega (arith, lt, same));
       here = subst (λ k. IsRefusedAt reading faults s m k e.error) (sym same) (record { function = f; at = at; given = given_here; refused = refused; fault = fault });
     }
 
     pub reported_refusal : (faults : Question → Faults) (o : Refusal FunctionError) (r : Refusal InvalidFunction) → IsReportedAt n o r
-        → IsRefusedFor (λ _. FunctionOK (reading (question m f summaries stages)) (settings_with s held) m f → ⊥) o
-        → IsRefusedFor (IsFunctionFault (reading (question m f summaries stages)) (faults (question m f summaries stages)) (settings_with s held) m f) o
+        → IsRefusedFor (λ _. FunctionOK (reading (question m f summaries stages)) s false held m f → ⊥) o
+        → IsRefusedFor (IsFunctionFault (reading (question m f summaries stages)) (faults (question m f summaries stages)) s false held m f) o
         → IsRefusal reading faults s m r
     reported_refusal faults (refusal.Memory d) (refusal.Memory e) told refused fault = tt
     reported_refusal faults (refusal.Memory d) (refusal.Fault e) told refused fault = absurd told
     reported_refusal faults (refusal.Fault d) (refusal.Memory e) told refused fault = absurd told
     reported_refusal faults (refusal.Fault d) (refusal.Fault e) told refused fault = (
       refused_here faults (error_of e) told.0 refused
-          (subst (IsFunctionFault (reading (question m f summaries stages)) (faults (question m f summaries stages)) (settings_with s held) m f) (sym told.1) fault),
+          (subst (IsFunctionFault (reading (question m f summaries stages)) (faults (question m f summaries stages)) s false held m f) (sym told.1) fault),
       told.2,
     )

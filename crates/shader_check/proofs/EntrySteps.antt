@@ -17,6 +17,7 @@ use Rattle.ir_faults.specs.Faults.{error_of}
 use Rattle.ir_faults.specs.declared.refusal.Refusal.{Refusal}
 use Rattle.ir_faults.specs.declared.refusal.Refusal.TheVariants as refusal
 use Rattle.ir_flags.specs.declared.stages.ShaderStages.{ShaderStages}
+use Rattle.ir_flags.specs.declared.settings.Settings.{Settings}
 use Rattle.ir_items.specs.judged.Plain.{PlainEntry, PlainModule}
 use Rattle.ir_items.specs.declared.entries.MeshStageInfo.{MeshStageInfo}
 use Rattle.module_handles.proofs.Whole.{order_gives_conditions}
@@ -25,14 +26,14 @@ use Rattle.spec_analysis.proofs.SummaryLaws.{callees_known}
 use Rattle.spec_analysis.specs.judged.Chains.{HasUse}
 use Rattle.spec_analysis.specs.judged.Summaries.{Summary, AreSummaries, CalleesKnown, CallsBelow}
 use Rattle.spec_interface.specs.judged.EarlierPayloads.{IsPayloadBeforeEntry}
-use Rattle.spec_interface.specs.judged.Modules.{IsConflict, entry_settings}
+use Rattle.spec_interface.specs.judged.EntryNames.{IsConflict}
 use Rattle.spec_statements.proofs.CallLaws.{calls_precede}
 use Rattle.spec_handles.specs.InOrder.{HandlesOK}
 use Rattle.spec_handles.specs.Items.{entry_variables, mesh_variables}
 use Rattle.spec_handles.specs.Modules.{entry, entry_variable}
 use Rattle.spec_handles.specs.References.{item}
 use Rattle.spec_handles.specs.declared.target.Target.TheVariants.{GlobalVariable}
-use Rattle.spec_statements.specs.judged.Functions.{Reading, FunctionSettings}
+use Rattle.spec_statements.specs.judged.Functions.{Reading}
 
 -- ---- the variables that it names beside its function
 
@@ -76,12 +77,12 @@ module _ (m : PlainModule) (handles : HandlesOK m) (n : ℕ) (e : PlainEntry) (a
   pub output_there : IfSome e.mesh (λ (i : MeshStageInfo). i.output_variable < length m.globals)
   output_there = output_by e.mesh (λ i is. variable_there i.output_variable (in_output e.payload i e.mesh is))
 
-  module _ (reading : Question → Reading) (faults : Question → Faults) (s : FunctionSettings) (summaries : List Summary) (stages : List ShaderStages) (kept : List Summary) (notes : List Note) (held : Option ℕ)
+  module _ (reading : Question → Reading) (faults : Question → Faults) (s : Settings) (summaries : List Summary) (stages : List ShaderStages) (kept : List Summary) (notes : List Note) (held : Option ℕ)
       (judged : AreEntriesJudged reading s m summaries stages n kept notes held) where
     -- ---- accepted
 
     module _ (apart : ¬ IsConflict m n e) (t : Summary) (own : ShaderStages) (blending : Bool) (after : Option ℕ)
-        (v : IsEntryValidated (reading_at reading m summaries stages e) stages (entry_settings s held) m e t own blending after) where
+        (v : IsEntryValidated (reading_at reading m summaries stages e) stages s held m e t own blending after) where
       accepted_here : IsEntryAcceptedAt reading s m summaries stages n
       accepted_here = record { entry = e; at = at; held = held; before = judged.payloads; apart = apart; ok = v.ok }
 
@@ -129,7 +130,7 @@ module _ (m : PlainModule) (handles : HandlesOK m) (n : ℕ) (e : PlainEntry) (a
 
     -- ---- refused
 
-    refused_here : (x : InvalidEntryPoint) → x.index ≡ n → IsRefusedAs (reading_at reading m summaries stages e) (faults (question m e.function summaries stages)) stages (HasUse m e.function) (entry_settings s held) m e x.error
+    refused_here : (x : InvalidEntryPoint) → x.index ≡ n → IsRefusedAs (reading_at reading m summaries stages e) (faults (question m e.function summaries stages)) stages (HasUse m e.function) s held m e x.error
         → IsFirstEntryRefused reading faults s m summaries stages x
     refused_here x same refused = record {
       before = λ i lt. judged.accepted i (omega (arith, lt, same));
@@ -137,14 +138,14 @@ module _ (m : PlainModule) (handles : HandlesOK m) (n : ℕ) (e : PlainEntry) (a
     }
 
     pub reported_entry : (o : Refusal EntryPointError) (r : Refusal InvalidEntryPoint) → IsEntryReportedAt n o r
-        → IsRefusedFor (IsRefusedAs (reading_at reading m summaries stages e) (faults (question m e.function summaries stages)) stages (HasUse m e.function) (entry_settings s held) m e) o
+        → IsRefusedFor (IsRefusedAs (reading_at reading m summaries stages e) (faults (question m e.function summaries stages)) stages (HasUse m e.function) s held m e) o
         → IsEntryRefusal reading faults s m summaries stages r
     reported_entry (refusal.Memory d) (refusal.Memory x) told refused = tt
     reported_entry (refusal.Memory d) (refusal.Fault x) told refused = absurd told
     reported_entry (refusal.Fault d) (refusal.Memory x) told refused = absurd told
     reported_entry (refusal.Fault d) (refusal.Fault x) told refused = (
       refused_here (error_of x) told.0
-          (subst (IsRefusedAs (reading_at reading m summaries stages e) (faults (question m e.function summaries stages)) stages (HasUse m e.function) (entry_settings s held) m e) (sym told.1) refused),
+          (subst (IsRefusedAs (reading_at reading m summaries stages e) (faults (question m e.function summaries stages)) stages (HasUse m e.function) s held m e) (sym told.1) refused),
       told.2,
     )
 
@@ -162,7 +163,7 @@ module _ (m : PlainModule) (handles : HandlesOK m) (n : ℕ) (e : PlainEntry) (a
         )
 
 -- none is judged at first
-pub none_judged : (reading : Question → Reading) (s : FunctionSettings) (m : PlainModule) (summaries : List Summary) (stages : List ShaderStages) (held : Option ℕ) → IsPayloadBeforeEntry s.flags m 0 held
+pub none_judged : (reading : Question → Reading) (s : Settings) (m : PlainModule) (summaries : List Summary) (stages : List ShaderStages) (held : Option ℕ) → IsPayloadBeforeEntry s.flags m 0 held
     → AreEntriesJudged reading s m summaries stages 0 [] [] held
 none_judged reading s m summaries stages held before = record {
   accepted = λ i lt. absurd (omega (arith, lt));

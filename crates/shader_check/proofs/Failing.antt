@@ -1,6 +1,7 @@
 -- The first step that fails is one, and so is the item.
-use Rattle.std.proofs.Common.{◌≡◌, inl, inr, ℕ, ◌<◌, refl, ap, arith}
+use Rattle.std.proofs.Common.{◌≡◌, inl, inr, ℕ, Bool, ◌<◌, refl, ap, arith}
 use Rattle.std.proofs.lemmas.Bool.{cases_lt}
+use Rattle.ir_flags.specs.declared.settings.Settings.{Settings}
 use Rattle.ir_items.specs.judged.Plain.{PlainModule}
 use Rattle.spec_interface.specs.judged.Modules as entries
 use Rattle.spec_interface.specs.judged.Modules.{EntryAtOK, EntriesOK}
@@ -11,8 +12,6 @@ use Rattle.spec_interface.specs.judged.Globals.{GlobalOK, GlobalsOK}
 use Rattle.spec_handles.specs.InOrder.{HandlesOK}
 use Rattle.judgement.proofs.Failures.{one_failure, none_fails}
 use Rattle.judgement.specs.judged.ModuleSteps.{ModuleStep, IsFirstFailing, ModuleOK}
-use Rattle.judgement.specs.declared.settings.ModuleSettings.{ModuleSettings}
-use Rattle.spec_statements.specs.judged.Functions.{FunctionSettings}
 
 -- the first that is not such is one
 first_once : (OK : ℕ → Type 0) (i j : ℕ) → ((k : ℕ) → k < i → OK k) → ¬ OK i → ((k : ℕ) → k < j → OK k) → ¬ OK j → i ≡ j
@@ -33,12 +32,12 @@ pub data Family : Type 0 where
   at_functions : Family
   at_entries : Family
 
-module _ (k : ModuleSettings) (s : FunctionSettings) (m : PlainModule) where
+module _ (s : Settings) (resolved : Bool) (m : PlainModule) where
   abbrev pub IsFailing : Family → ℕ → Type 0
-  IsFailing (up_to_overrides step) i = IsFirstFailing k m step i
-  IsFailing at_variables i = ModuleOK k m × globals.IsFirstFailing s.flags s.capabilities m i
-  IsFailing at_functions i = ModuleOK k m × GlobalsOK s.flags s.capabilities m × functions.IsFirstFailing s m i
-  IsFailing at_entries i = ModuleOK k m × GlobalsOK s.flags s.capabilities m × FunctionsOK s m × entries.IsFirstFailing s m i
+  IsFailing (up_to_overrides step) i = IsFirstFailing s resolved m step i
+  IsFailing at_variables i = ModuleOK s resolved m × globals.IsFirstFailing s.flags s.capabilities m i
+  IsFailing at_functions i = ModuleOK s resolved m × GlobalsOK s.flags s.capabilities m × functions.IsFirstFailing s m i
+  IsFailing at_entries i = ModuleOK s resolved m × GlobalsOK s.flags s.capabilities m × FunctionsOK s m × entries.IsFirstFailing s m i
 
   pub in_order : (o : Family) (i : ℕ) → IsFailing o i → HandlesOK m
   in_order (up_to_overrides step) i x = x.reached.handles
@@ -57,8 +56,8 @@ module _ (k : ModuleSettings) (s : FunctionSettings) (m : PlainModule) where
   no_entry i all first = first.fails (all i first.within)
 
   -- where all steps accept, none fails
-  pub none_failing : (o : Family) (i : ℕ) → ModuleOK k m → GlobalsOK s.flags s.capabilities m → FunctionsOK s m → EntriesOK s m → IsFailing o i → ⊥
-  none_failing (up_to_overrides step) i items variables functions entries y = none_fails k m step i y items
+  pub none_failing : (o : Family) (i : ℕ) → ModuleOK s resolved m → GlobalsOK s.flags s.capabilities m → FunctionsOK s m → EntriesOK s m → IsFailing o i → ⊥
+  none_failing (up_to_overrides step) i items variables functions entries y = none_fails s resolved m step i y items
   none_failing at_variables i items variables functions entries y = no_variable i variables y.1
   none_failing at_functions i items variables functions entries y = no_function i functions y.2
   none_failing at_entries i items variables functions entries y = no_entry i entries y.3
@@ -74,20 +73,20 @@ module _ (k : ModuleSettings) (s : FunctionSettings) (m : PlainModule) where
 
   pub failing_once : (o p : Family) (i j : ℕ) → IsFailing o i → IsFailing p j → (o ≡ p) × (i ≡ j)
   failing_once (up_to_overrides step) (up_to_overrides other) i j x y =
-      let e = one_failure k m step other i j x y in
+      let e = one_failure s resolved m step other i j x y in
       (ap up_to_overrides e.0, e.1)
-  failing_once (up_to_overrides step) at_variables i j x y = absurd (none_fails k m step i x y.0)
-  failing_once (up_to_overrides step) at_functions i j x y = absurd (none_fails k m step i x y.0)
-  failing_once (up_to_overrides step) at_entries i j x y = absurd (none_fails k m step i x y.0)
-  failing_once at_variables (up_to_overrides other) i j x y = absurd (none_fails k m other j y x.0)
+  failing_once (up_to_overrides step) at_variables i j x y = absurd (none_fails s resolved m step i x y.0)
+  failing_once (up_to_overrides step) at_functions i j x y = absurd (none_fails s resolved m step i x y.0)
+  failing_once (up_to_overrides step) at_entries i j x y = absurd (none_fails s resolved m step i x y.0)
+  failing_once at_variables (up_to_overrides other) i j x y = absurd (none_fails s resolved m other j y x.0)
   failing_once at_variables at_variables i j x y = (refl, variable_once i j x.1 y.1)
   failing_once at_variables at_functions i j x y = absurd (no_variable i y.1 x.1)
   failing_once at_variables at_entries i j x y = absurd (no_variable i y.1 x.1)
-  failing_once at_functions (up_to_overrides other) i j x y = absurd (none_fails k m other j y x.0)
+  failing_once at_functions (up_to_overrides other) i j x y = absurd (none_fails s resolved m other j y x.0)
   failing_once at_functions at_variables i j x y = absurd (no_variable j x.1 y.1)
   failing_once at_functions at_functions i j x y = (refl, function_once i j x.2 y.2)
   failing_once at_functions at_entries i j x y = absurd (no_function i y.2 x.2)
-  failing_once at_entries (up_to_overrides other) i j x y = absurd (none_fails k m other j y x.0)
+  failing_once at_entries (up_to_overrides other) i j x y = absurd (none_fails s resolved m other j y x.0)
   failing_once at_entries at_variables i j x y = absurd (no_variable j x.1 y.1)
   failing_once at_entries at_functions i j x y = absurd (no_function j x.2 y.2)
   failing_once at_entries at_entries i j x y = (refl, entry_once i j x.3 y.3)

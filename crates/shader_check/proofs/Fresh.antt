@@ -1,5 +1,6 @@
 -- A module has one verdict by the same settings, at one step and one item.
 use Rattle.std.proofs.Common.{◌≡◌, inl, inr, ℕ, Bool, Option, Some, None, refl, sym, ap, ◌∙◌}
+use Rattle.ir_flags.specs.declared.settings.Settings.{Settings}
 use Rattle.typing_errors.specs.declared.const_expressions.ConstExpressionError.{ConstExpressionError}
 use Rattle.typing_errors.specs.declared.const_expressions.ConstExpressionError.TheVariants as constant
 use Rattle.ir_items.specs.judged.Plain.{PlainModule}
@@ -13,13 +14,12 @@ use Rattle.shader_check.proofs.Failing.{Family, up_to_overrides, at_variables, a
 use Rattle.shader_check.proofs.Once.{step_back}
 use Rattle.shader_check.specs.found.Examined.{refused_by}
 use Rattle.shader_check.specs.found.Fresh.{AreAlike, AnswersAreAlike}
-use Rattle.shader_check.specs.found.Validated.{IsValidated, IsValidationFault, module_settings}
+use Rattle.shader_check.specs.found.Validated.{IsValidated, IsValidationFault}
 use Rattle.check_errors.specs.declared.error.ValidationError.{ValidationError}
 use Rattle.check_errors.specs.declared.error.ValidationError.TheVariants as validation
 use Rattle.spec_handles.specs.InOrder.{HandlesOK}
 use Rattle.judgement.specs.judged.ModuleSteps as step
 use Rattle.judgement.specs.judged.ModuleSteps.{ModuleStep, IsFirstFailing}
-use Rattle.spec_statements.specs.judged.Functions.{FunctionSettings}
 
 -- the step and the item of a refusal; none of one for a handle
 pub record Spot : Type 0 where
@@ -74,15 +74,15 @@ found (validation.GlobalVariable e) = refl
 found (validation.Function e) = refl
 found (validation.EntryPoint e) = refl
 
-module _ (resolved : Bool) (s : FunctionSettings) (m : PlainModule) where
+module _ (resolved : Bool) (s : Settings) (m : PlainModule) where
   abbrev Fails : Family → ℕ → Type 0
-  Fails = IsFailing (module_settings s resolved) s m
+  Fails = IsFailing s resolved m
 
   abbrev FailsAt : Option Spot → Type 0
   FailsAt None = ¬ HandlesOK m
   FailsAt (Some p) = Fails p.family p.item
 
-  expression_fails : (h : ℕ) (e : ConstExpressionError) → IsExpressionRefused (module_settings s resolved) m h e → IsFirstFailing (module_settings s resolved) m (expression_step e) h
+  expression_fails : (h : ℕ) (e : ConstExpressionError) → IsExpressionRefused s resolved m h e → IsFirstFailing s resolved m (expression_step e) h
   expression_fails h constant.NonConstOrOverride (inl x) = absurd x.1
   expression_fails h constant.NonConstOrOverride (inr x) = x.0
   expression_fails h constant.NonFullyEvaluatedConst (inl x) = absurd x.1
@@ -96,7 +96,7 @@ module _ (resolved : Bool) (s : FunctionSettings) (m : PlainModule) where
   expression_fails h constant.Other (inl x) = absurd x.1
   expression_fails h constant.Other (inr x) = absurd x.1
 
-  early_fails : (e : ModuleError) → IsModuleFault (module_settings s resolved) m e → FailsAt (early_spot e)
+  early_fails : (e : ModuleError) → IsModuleFault s resolved m e → FailsAt (early_spot e)
   early_fails (error.InvalidHandle e) x = x.1
   early_fails (error.Layouter e) x = x.0
   early_fails (error.Type e) x = x.0
@@ -112,15 +112,15 @@ module _ (resolved : Bool) (s : FunctionSettings) (m : PlainModule) where
 
   spot_once : (o p : Option Spot) → FailsAt o → FailsAt p → finding_at o ≡ finding_at p
   spot_once None None x y = refl
-  spot_once None (Some p) x y = absurd (x (in_order (module_settings s resolved) s m p.family p.item y))
-  spot_once (Some o) None x y = absurd (y (in_order (module_settings s resolved) s m o.family o.item x))
+  spot_once None (Some p) x y = absurd (x (in_order s resolved m p.family p.item y))
+  spot_once (Some o) None x y = absurd (y (in_order s resolved m o.family o.item x))
   spot_once (Some o) (Some p) x y =
-      let e = failing_once (module_settings s resolved) s m o.family p.family o.item p.item x y in
+      let e = failing_once s resolved m o.family p.family o.item p.item x y in
       ap (λ f. Refused (step_back f) o.item) e.0 ∙ ap (Refused (step_back p.family)) e.1
 
   no_fault : (o : Option Spot) (info : ModuleInfo) → IsValidated s resolved m info → FailsAt o → ⊥
   no_fault None info ok x = x ok.ok.handles
-  no_fault (Some p) info ok x = none_failing (module_settings s resolved) s m p.family p.item ok.ok ok.globals ok.functions.accepted ok.entries.accepted x
+  no_fault (Some p) info ok x = none_failing s resolved m p.family p.item ok.ok ok.globals ok.functions.accepted ok.entries.accepted x
 
   are_alike : AreAlike resolved s m
   are_alike = record {

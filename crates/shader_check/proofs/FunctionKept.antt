@@ -9,12 +9,12 @@ use Rattle.check_errors.specs.declared.error.InvalidFunction.{InvalidFunction}
 use Rattle.ir_faults.specs.declared.refusal.Refusal.{Refusal}
 use Rattle.ir_faults.specs.declared.refusal.Refusal.TheVariants as refusal
 use Rattle.ir_flags.specs.declared.stages.ShaderStages.{ShaderStages}
+use Rattle.ir_flags.specs.declared.settings.Settings.{Settings}
 use Rattle.ir_items.specs.judged.Plain.{PlainModule}
 use Rattle.function_real_lower.specs.Readings.{reading_of, faults_of}
 use Rattle.spec_analysis.specs.judged.Summaries.{Summary}
-use Rattle.spec_statements.specs.judged.Functions.{FunctionSettings}
 
-module _ (s : FunctionSettings) (m : PlainModule) where
+module _ (s : Settings) (m : PlainModule) where
   pub kept : (summaries : List Summary) (stages : List ShaderStages) (held : Option ℕ) → AreJudged reading_of s m (length m.functions) summaries stages held → AreKept s m summaries
   kept summaries stages held j = record { accepted = λ i lt. accepted_at s m i (j.accepted i lt); many = j.many; known = j.known }
 

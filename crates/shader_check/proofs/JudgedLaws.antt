@@ -1,33 +1,47 @@
 -- What is found of a document is found of the bytes that spell it.
-use Rattle.std.proofs.Common.{◌≡◌, ℕ, List, [], Result, Ok, Err, IfOk, string_bytes, sym, subst}
+use Rattle.std.proofs.Common.{◌≡◌, ℕ, List, [], Result, Ok, Err, IfOk, false, string_bytes, sym, subst}
 use Rattle.std.specs.declared.alloc.AllocError.{AllocError}
 use Rattle.document_reader.specs.judged.Plain.{PlainDocument}
 use Rattle.document_reader.specs.judged.Form.{Reads}
+use Rattle.ir_faults.specs.declared.refusal.Refusal.{Refusal}
+use Rattle.ir_faults.specs.declared.refusal.Refusal.TheVariants as refusal
+use Rattle.ir_flags.specs.declared.settings.Settings.{Settings}
 use Rattle.ir_items.specs.judged.Plain.{PlainModule}
-use Rattle.judgement.specs.judged.Steps.{IsFinding, IsPrepared, function_settings}
+use Rattle.ir_items.specs.declared.module.Module.{Module}
+use Rattle.judgement.specs.judged.Steps.{IsFinding, IsPrepared}
 use Rattle.judgement.specs.declared.finding.Finding.{Finding}
 use Rattle.judgement.specs.declared.finding.Finding.TheVariants.{Accepted, RefusedDocument, RefusedHandles, Refused}
 use Rattle.module_validator.specs.declared.error.ModuleError.{ModuleError}
 use Rattle.module_validator.specs.declared.error.ModuleError.TheVariants as module_error
 use Rattle.check_errors.specs.declared.error.ValidationError.{ValidationError}
 use Rattle.check_errors.specs.declared.error.ValidationError.TheVariants as error
+use Rattle.check_errors.specs.Spans.{IsRefusedAt}
 use Rattle.shader_check.proofs.Kept.{reported}
 use Rattle.shader_check.proofs.ModuleLaws.{found_of}
-use Rattle.shader_check.specs.found.Examined.{finding_in, refused_early, refused_by, IsExamined, IsExaminedDocument, IsKeptIn, IsReportedIn}
+use Rattle.shader_check.specs.found.Examined.{finding_in, refused_early, refused_by, IsExamined, IsExaminedDocument, IsKeptIn, IsRefusedSo, IsReportedIn}
+use Rattle.shader_check.specs.found.Validated.{IsValidationFault}
 use Rattle.shader_check.specs.found.Judgements.{IsJudgementOf, IsJudgementOn}
 use Rattle.shader_check.specs.judged.Theorem.{Judged, JudgedDocument, IsReported, IsReportedOf}
 use Rattle.shader_check.specs.declared.examined.Examined.{Examined}
 use Rattle.shader_check.specs.declared.examined.Examined.TheVariants as examined
 use Rattle.shader_check.specs.declared.reported.Judgement.{Judgement}
 
-pub found_in : (d : PlainDocument) (m : PlainModule) (f : Finding) → IsPrepared d.settings.returns d.content m → IsFinding d.settings m f → JudgedDocument d f
+pub found_in : (d : PlainDocument) (m : PlainModule) (f : Finding) → IsPrepared d.returns d.content m → IsFinding d.settings m f → JudgedDocument d f
 found_in d m RefusedDocument p h = h
 found_in d m (Accepted strict) p h = record { judged = m; prepared = p; finding = h }
 found_in d m RefusedHandles p h = record { judged = m; prepared = p; finding = h }
 found_in d m (Refused step index) p h = record { judged = m; prepared = p; finding = h }
 
+-- what a validator with these settings refuses is found of the module
+pub examined_by : (s own : Settings) (m : PlainModule) (given : Module) (r : Refusal ValidationError) (t : Result Examined AllocError) → own ≡ s → IsRefusedAt (IsValidationFault own false m) given r → IfOk t (IsRefusedSo r) → IfOk t (IsExamined s m)
+examined_by s own m given r (Err a) same wrong told = tt
+examined_by s own m given (refusal.Memory e) (Ok x) same wrong told = absurd told
+examined_by s own m given (refusal.Fault f) (Ok (examined.Accepted strict info)) same wrong told = absurd told
+examined_by s own m given (refusal.Fault f) (Ok (examined.Refused e)) same wrong told =
+    subst (λ (z : Settings). IsValidationFault z false m e) same (subst (λ (x : ValidationError). IsValidationFault own false m x) (sym told) wrong.0)
+
 -- what is found of its module with the error is found of the document
-pub examined_if : (d : PlainDocument) (m : PlainModule) (r : Result Examined AllocError) → IsPrepared d.settings.returns d.content m → IfOk r (IsExamined d.settings m) → IfOk r (IsExaminedDocument d m)
+pub examined_if : (d : PlainDocument) (m : PlainModule) (r : Result Examined AllocError) → IsPrepared d.returns d.content m → IfOk r (IsExamined d.settings m) → IfOk r (IsExaminedDocument d m)
 examined_if d m (Ok x) p h = record { prepared = p; examined = h }
 examined_if d m (Err a) p h = tt
 
@@ -38,7 +52,7 @@ judged_document d m x h = found_in d m (finding_in x) h.prepared (found_of d.set
 -- ---- what is reported
 
 pub kept_in : (d : PlainDocument) (m : PlainModule) (x : Examined) → IsExaminedDocument d m x → IsKeptIn m x
-kept_in d m (examined.Accepted strict info) h = reported (function_settings d.settings) m info h.examined.0
+kept_in d m (examined.Accepted strict info) h = reported d.settings m info h.examined.0
 kept_in d m (examined.Refused e) h = tt
 
 early_reported : (d : PlainDocument) (m : PlainModule) (e : ModuleError) (behind : List ℕ) → IsReportedIn m (refused_early e) behind → IsReportedOf d (refused_early e) behind

@@ -2,6 +2,7 @@
 use Rattle.std.proofs.Common.{◌≡◌, ◌∙◌, ℕ, false, Some, option_map, slice_get, sym, ap}
 use Rattle.std.proofs.lemmas.List.{length-map}
 use Rattle.std.proofs.lemmas.Option.{slice_get-map}
+use Rattle.ir_flags.specs.declared.settings.Settings.{Settings}
 use Rattle.typing_infos.specs.Infos.{summary_of}
 use Rattle.typing_infos.specs.declared.function_info.FunctionInfo.{FunctionInfo}
 use Rattle.shader_check.specs.found.Validated.{IsValidated}
@@ -13,9 +14,8 @@ use Rattle.check_report.specs.Reported.{IsEntryInfo, IsReported}
 use Rattle.spec_handles.specs.Modules as part
 use Rattle.spec_handles.specs.References.{item}
 use Rattle.spec_handles.specs.declared.target.Target.TheVariants as target
-use Rattle.spec_statements.specs.judged.Functions.{FunctionSettings}
 
-module _ (s : FunctionSettings) (m : PlainModule) (info : ModuleInfo) (h : IsValidated s false m info) where
+module _ (s : Settings) (m : PlainModule) (info : ModuleInfo) (h : IsValidated s false m info) where
   entry_info : (number : ℕ) (e : PlainEntry) (i : FunctionInfo) → slice_get m.entries number ≡ Some e → slice_get info.entry_points.items number ≡ Some i → IsEntryInfo m e i
   entry_info number e i at there =
       let is = h.entries.known number e (summary_of i) at (slice_get-map summary_of info.entry_points.items number ∙ ap (option_map summary_of) there) in

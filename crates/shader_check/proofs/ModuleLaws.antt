@@ -1,10 +1,10 @@
 -- What a module is refused for is what the judgement finds of it.
 use Rattle.std.proofs.Common.{inl, inr, ℕ, false}
+use Rattle.ir_flags.specs.declared.settings.Settings.{Settings}
 use Rattle.typing_errors.specs.declared.const_expressions.ConstExpressionError.{ConstExpressionError}
 use Rattle.typing_errors.specs.declared.const_expressions.ConstExpressionError.TheVariants as constant
-use Rattle.ir_flags.specs.Settings.{PlainSettings}
 use Rattle.ir_items.specs.judged.Plain.{PlainModule}
-use Rattle.judgement.specs.judged.Steps.{module_settings, function_settings, IsFinding}
+use Rattle.judgement.specs.judged.Steps.{IsFinding}
 use Rattle.judgement.specs.declared.finding.Finding.TheVariants.{Refused}
 use Rattle.module_validator.specs.Faults.{IsExpressionRefused, IsModuleFault}
 use Rattle.module_validator.specs.declared.error.ModuleError.{ModuleError}
@@ -16,7 +16,7 @@ use Rattle.shader_check.specs.found.Examined.{step_of, refused_early, refused_by
 use Rattle.shader_check.specs.declared.examined.Examined.{Examined}
 use Rattle.shader_check.specs.declared.examined.Examined.TheVariants as examined
 
-expression_is : (s : PlainSettings) (m : PlainModule) (h : ℕ) (e : ConstExpressionError) → IsExpressionRefused (module_settings s) m h e → IsFinding s m (Refused (step_of e) h)
+expression_is : (s : Settings) (m : PlainModule) (h : ℕ) (e : ConstExpressionError) → IsExpressionRefused s false m h e → IsFinding s m (Refused (step_of e) h)
 expression_is s m h constant.NonConstOrOverride (inl x) = absurd x.1
 expression_is s m h constant.NonConstOrOverride (inr x) = x.0
 expression_is s m h constant.NonFullyEvaluatedConst (inl x) = absurd x.1
@@ -30,7 +30,7 @@ expression_is s m h (constant.Typing e) (inr x) = absurd x.1
 expression_is s m h constant.Other (inl x) = absurd x.1
 expression_is s m h constant.Other (inr x) = absurd x.1
 
-pub found_is : (s : PlainSettings) (m : PlainModule) (e : ModuleError) → IsModuleFault (module_settings s) m e → IsFinding s m (refused_early e)
+pub found_is : (s : Settings) (m : PlainModule) (e : ModuleError) → IsModuleFault s false m e → IsFinding s m (refused_early e)
 found_is s m (error.InvalidHandle e) x = x.1
 found_is s m (error.Layouter e) x = x.0
 found_is s m (error.Type e) x = x.0
@@ -38,13 +38,13 @@ found_is s m (error.ConstExpression e) x = expression_is s m e.expression e.erro
 found_is s m (error.Constant e) x = x.0
 found_is s m (error.Override e) x = x.0
 
-refused_is : (s : PlainSettings) (m : PlainModule) (e : ValidationError) → IsValidationFault (function_settings s) false m e → IsFinding s m (refused_by e)
+refused_is : (s : Settings) (m : PlainModule) (e : ValidationError) → IsValidationFault s false m e → IsFinding s m (refused_by e)
 refused_is s m (validation.Module e) x = found_is s m e x
 refused_is s m (validation.GlobalVariable e) x = (x.0, x.1.first)
 refused_is s m (validation.Function e) x = (x.0, x.1, x.2.first)
 refused_is s m (validation.EntryPoint e) x = (x.0, x.1, x.2, x.3.first)
 
 -- what is found of a module with its error is found without it
-pub found_of : (s : PlainSettings) (m : PlainModule) (x : Examined) → IsExamined s m x → IsFinding s m (finding_in x)
+pub found_of : (s : Settings) (m : PlainModule) (x : Examined) → IsExamined s m x → IsFinding s m (finding_in x)
 found_of s m (examined.Accepted strict info) h = (h.0.ok, h.0.globals, h.0.functions.accepted, h.0.entries.accepted, h.1)
 found_of s m (examined.Refused e) h = refused_is s m e h

@@ -1,11 +1,11 @@
 -- The names of the first so many entry points, with one more.
 use Rattle.std.proofs.Common.{◌≡◌, ◌⊎◌, ◌↔◌, inl, inr, ℕ, ◌+◌, List, Some, sym, ap, subst, ◌∙◌, arith, slice_get}
-use Rattle.function_validator.specs.Names.{AreNamesBelow, IsNamedBelow, IsSeen}
-use Rattle.function_validator.specs.declared.names.SeenNames.{SeenNames}
+use Rattle.function_validator.specs.EntryNames.{AreNamesBelow, IsNamedBelow, IsSeen}
+use Rattle.function_validator.specs.declared.entry_names.SeenNames.{SeenNames}
 use Rattle.shader_check.proofs.Chained.{below_or_here, some_is}
 use Rattle.ir_items.specs.judged.Plain.{PlainEntry, PlainModule}
 use Rattle.ir_kinds.specs.declared.stages.ShaderStage.{ShaderStage}
-use Rattle.spec_interface.specs.judged.Modules.{IsConflict}
+use Rattle.spec_interface.specs.judged.EntryNames.{IsConflict}
 
 module _ (m : PlainModule) (n : ℕ) (old : SeenNames) (below : AreNamesBelow m n old) (e : PlainEntry) (at : slice_get m.entries n ≡ Some e) where
   same_entry : (f : PlainEntry) → slice_get m.entries n ≡ Some f → e ≡ f

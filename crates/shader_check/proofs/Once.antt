@@ -1,11 +1,11 @@
 -- One text is expected for some bytes.
 use Rattle.std.proofs.Common.{◌≡◌, ◌↔◌, IsTrue, ℕ, Bool, true, false, List, ◌++◌, refl, sym, ap, subst, ◌∙◌}
-use Rattle.ir_flags.specs.Settings.{PlainSettings}
+use Rattle.ir_flags.specs.declared.settings.Settings.{Settings}
 use Rattle.ir_items.specs.judged.Plain.{PlainModule}
 use Rattle.ir_items.proofs.Returned.{one_returned}
 use Rattle.document_reader.specs.judged.Plain.{PlainDocument}
 use Rattle.document_reader.proofs.Seam.{one_document_lem}
-use Rattle.judgement.specs.judged.Steps.{IsFinding, IsPrepared, IsScopeStrict, module_settings, function_settings}
+use Rattle.judgement.specs.judged.Steps.{IsFinding, IsPrepared, IsScopeStrict}
 use Rattle.judgement.specs.judged.Text.{text_of}
 use Rattle.judgement.specs.declared.finding.Step.{Step}
 use Rattle.judgement.specs.declared.finding.Step.TheVariants.{Layout, «Type», Typing, Expression, Constant, Override, Global, Function, Entry}
@@ -60,9 +60,9 @@ back Global = refl
 back Function = refl
 back Entry = refl
 
-module _ (s : PlainSettings) (m : PlainModule) where
+module _ (s : Settings) (m : PlainModule) where
   abbrev Fails : Family → ℕ → Type 0
-  Fails = IsFailing (module_settings s) (function_settings s) m
+  Fails = IsFailing s false m
 
   as_failing : (t : Step) (i : ℕ) → IsFinding s m (Refused t i) → Fails (step_in t) i
   as_failing Layout i x = x
@@ -76,14 +76,14 @@ module _ (s : PlainSettings) (m : PlainModule) where
   as_failing Entry i x = x
 
   handles_in_order : (o : Family) (i : ℕ) → Fails o i → HandlesOK m
-  handles_in_order o i x = in_order (module_settings s) (function_settings s) m o i x
+  handles_in_order o i x = in_order s false m o i x
 
   not_accepted : (o : Family) (i : ℕ) (strict : Bool) → IsFinding s m (Accepted strict) → Fails o i → ⊥
-  not_accepted o i strict x y = none_failing (module_settings s) (function_settings s) m o i x.0 x.1 x.2 x.3 y
+  not_accepted o i strict x y = none_failing s false m o i x.0 x.1 x.2 x.3 y
 
   refused_once : (t u : Step) (i j : ℕ) → IsFinding s m (Refused t i) → IsFinding s m (Refused u j) → Refused t i ≡ Refused u j
   refused_once t u i j x y =
-      let e = failing_once (module_settings s) (function_settings s) m (step_in t) (step_in u) i j (as_failing t i x) (as_failing u j y) in
+      let e = failing_once s false m (step_in t) (step_in u) i j (as_failing t i x) (as_failing u j y) in
       let same = sym (back t) ∙ (ap step_back e.0 ∙ back u) in
       ap (λ v. Refused v i) same ∙ ap (Refused u) e.1
 
@@ -107,7 +107,7 @@ prepared_once false m n k x y = x ∙ sym y
 
 found_once : (d : PlainDocument) (f g : Finding) → FindsIn d f → FindsIn d g → f ≡ g
 found_once d f g x y =
-    let same = prepared_once d.settings.returns d.content x.judged y.judged x.prepared y.prepared in
+    let same = prepared_once d.returns d.content x.judged y.judged x.prepared y.prepared in
     finding_once d.settings x.judged f g x.finding (subst (λ m. IsFinding d.settings m g) (sym same) y.finding)
 
 finds_once : (bytes : List ℕ) (f g : Finding) → Finds bytes f → Finds bytes g → f ≡ g
@@ -137,7 +137,7 @@ judged_once bytes (Refused s i) (Refused t j) x y = finds_once bytes (Refused s 
 
 report_once : (d : PlainDocument) (a b : List ℕ) → IsReportOn d a → IsReportOn d b → a ≡ b
 report_once d a b x y =
-    let same = prepared_once d.settings.returns d.content x.judged y.judged x.prepared y.prepared in
+    let same = prepared_once d.returns d.content x.judged y.judged x.prepared y.prepared in
     one_report x.judged a b x.is (subst (λ m. IsReport m b) (sym same) y.is)
 
 told_once : (bytes : List ℕ) (f : Finding) (a b : List ℕ) → IsReported bytes f a → IsReported bytes f b → a ≡ b

@@ -26,7 +26,7 @@ module _ (bytes text : List ℕ) (expected : IsExpected bytes text) where
       let d = finds.document in
       let m = finds.found.judged in
       let on : IsReportOn d behind = subst (λ x. IsReportOn x behind) (one_document_lem bytes told.document d told.reads finds.reads) told.reports in
-      let reports : IsReport m behind = subst (λ x. IsReport x behind) (prepared_once d.settings.returns d.content on.judged m on.prepared finds.found.prepared) on.is in
+      let reports : IsReport m behind = subst (λ x. IsReport x behind) (prepared_once d.returns d.content on.judged m on.prepared finds.found.prepared) on.is in
       record {
         document = d;
         reads = finds.reads;
@@ -37,7 +37,7 @@ module _ (bytes text : List ℕ) (expected : IsExpected bytes text) where
         report = behind;
         reports = reports;
         text_is = is;
-        sound = λ checked. accepted_is_sound d.settings.returns d.settings d.content m strict finds.found.prepared finds.found.finding checked behind reports;
+        sound = λ checked. accepted_is_sound d.returns d.settings d.content m strict finds.found.prepared finds.found.finding checked behind reports;
         local = λ number e at. reports_are_local m behind reports number e at;
         without_results = λ none returns. returns_dont_show_lem bytes text expected d finds.reads none returns;
       }

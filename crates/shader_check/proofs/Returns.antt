@@ -14,7 +14,7 @@ use Rattle.judgement_returns.specs.found.Laws.{AreJudgedAlike}
 use Rattle.judgement_returns.proofs.Finding.{returns_dont_matter}
 use Rattle.shader_check.specs.judged.Theorem.{FindsIn, Finds, JudgedDocument, Judged, IsReportOn, IsReportedOf, IsReported, with_returns, ReturnsDontShow}
 
--- there is a module that is judged, whatever the settings say of returns
+-- there is a module that is judged, whether returns are put in first or not
 some_prepared : (returns : Bool) (m : PlainModule) → (n : PlainModule) × IsPrepared returns m n
 some_prepared true m = (returned_module m, returned_by_bodies m)
 some_prepared false m = (m, refl)
@@ -27,11 +27,11 @@ module _ (d : PlainDocument) (none : HasNoResult d.content) (returns : Bool) whe
   unfolding other
   other_prepared = (some_prepared returns d.content).1
 
-  alike : (m : PlainModule) → IsPrepared d.settings.returns d.content m → AreJudgedAlike m other
-  alike m prepared = returns_dont_matter d.content m other d.settings.returns returns none prepared other_prepared
+  alike : (m : PlainModule) → IsPrepared d.returns d.content m → AreJudgedAlike m other
+  alike m prepared = returns_dont_matter d.content m other d.returns returns none prepared other_prepared
 
   found_too : (f : Finding) → FindsIn d f → FindsIn (with_returns d returns) f
-  found_too f h = record { judged = other; prepared = other_prepared; finding = ((alike h.judged h.prepared).finding d.settings returns f).0 h.finding }
+  found_too f h = record { judged = other; prepared = other_prepared; finding = ((alike h.judged h.prepared).finding d.settings f).0 h.finding }
 
   report_too : (text : List ℕ) → IsReportOn d text → IsReportOn (with_returns d returns) text
   report_too text h = record { judged = other; prepared = other_prepared; is = ((alike h.judged h.prepared).report text).0 h.is }

@@ -3,9 +3,9 @@ use Rattle.std.proofs.Common.{◌↔◌, ◌⊎◌, IsTrue, nat_eq, inl, inr, �
 use Rattle.std.specs.Int.RustNames.{bit_and}
 use Rattle.std.proofs.lemmas.Bool.{eqb-true, eq-eqb}
 use Rattle.ir_flags.specs.Sets.{Has}
-use Rattle.ir_flags.specs.Settings.{PlainSettings}
 use Rattle.ir_flags.specs.declared.settings.ValidationFlags.{ValidationFlags}
 use Rattle.ir_flags.specs.declared.settings.TheConstants.ValidationFlags.{BLOCKS, STRICT_SCOPE}
+use Rattle.ir_flags.specs.declared.settings.Settings.{Settings}
 use Rattle.ir_items.specs.judged.Plain.{PlainModule}
 use Rattle.ir_items.specs.judged.Returned.{returned_module}
 use Rattle.ir_items.proofs.Returned.{returned_by_bodies}
@@ -16,7 +16,7 @@ use Rattle.document_reader.proofs.Candidates.{IsCandidate, candidate}
 use Rattle.spec_handles.specs.InOrder.{HandlesOK}
 use Rattle.judgement.proofs.Reached.{reach_first, reach, all_passed}
 use Rattle.judgement.specs.judged.ModuleSteps.{ModuleStep, layout, type, typing, expression, constant, override, item_count, StepOK, StepPasses, IsReached, IsFirstFailing, ModuleOK}
-use Rattle.judgement.specs.judged.Steps.{IsFinding, IsPrepared, IsScopeStrict, module_settings, function_settings}
+use Rattle.judgement.specs.judged.Steps.{IsFinding, IsPrepared, IsScopeStrict}
 use Rattle.judgement.specs.judged.Text.{text_of}
 use Rattle.judgement.specs.declared.finding.Step.TheVariants.{Layout, «Type», Typing, Expression, Constant, Override, Global, Function, Entry}
 use Rattle.judgement.specs.declared.finding.Finding.{Finding}
@@ -47,56 +47,56 @@ strict_told flags =
     let strict = has_told flags.0 STRICT_SCOPE.0 in
     both_told blocks.0 strict.0 (Has flags.0 BLOCKS.0) (Has flags.0 STRICT_SCOPE.0) blocks.1 strict.1
 
-abbrev SomeFinding : PlainSettings → PlainModule → Type 0
+abbrev SomeFinding : Settings → PlainModule → Type 0
 SomeFinding s m = (f : Finding) × IsFinding s m f
 
-module _ (s : PlainSettings) (m : PlainModule) where
-  accepted_told : ModuleOK (module_settings s) m → GlobalsOK s.flags s.capabilities m → FunctionsOK (function_settings s) m → EntriesOK (function_settings s) m → SomeFinding s m
+module _ (s : Settings) (m : PlainModule) where
+  accepted_told : ModuleOK s false m → GlobalsOK s.flags s.capabilities m → FunctionsOK s m → EntriesOK s m → SomeFinding s m
   accepted_told ok variables functions all = let strict = strict_told s.flags in (Accepted strict.0, (ok, variables, functions, all, strict.1))
 
-  entries_told : ModuleOK (module_settings s) m → GlobalsOK s.flags s.capabilities m → FunctionsOK (function_settings s) m → Sought (EntryAtOK (function_settings s) m) (length m.entries) → SomeFinding s m
+  entries_told : ModuleOK s false m → GlobalsOK s.flags s.capabilities m → FunctionsOK s m → Sought (EntryAtOK s m) (length m.entries) → SomeFinding s m
   entries_told ok variables functions (inl all) = accepted_told ok variables functions all
   entries_told ok variables functions (inr found) =
       let f = found.1 in
       (Refused Entry found.0, (ok, variables, functions, record { within = f.within; before = f.before; fails = f.fails }))
 
-  functions_reported : ModuleOK (module_settings s) m → GlobalsOK s.flags s.capabilities m → Sought (FunctionAtOK (function_settings s) m) (length m.functions) → Holds (SomeFinding s m)
+  functions_reported : ModuleOK s false m → GlobalsOK s.flags s.capabilities m → Sought (FunctionAtOK s m) (length m.functions) → Holds (SomeFinding s m)
   functions_reported ok variables (inl all) =
-      then (all_or_first (EntryAtOK (function_settings s) m) (length m.entries)) (λ o. surely (entries_told ok variables all o))
+      then (all_or_first (EntryAtOK s m) (length m.entries)) (λ o. surely (entries_told ok variables all o))
   functions_reported ok variables (inr found) =
       let f = found.1 in
       surely (Refused Function found.0, (ok, variables, record { within = f.within; before = f.before; fails = f.fails }))
 
-  by_functions : ModuleOK (module_settings s) m → GlobalsOK s.flags s.capabilities m → Holds (SomeFinding s m)
+  by_functions : ModuleOK s false m → GlobalsOK s.flags s.capabilities m → Holds (SomeFinding s m)
   by_functions ok variables =
-      then (all_or_first (FunctionAtOK (function_settings s) m) (length m.functions)) (λ o. functions_reported ok variables o)
+      then (all_or_first (FunctionAtOK s m) (length m.functions)) (λ o. functions_reported ok variables o)
 
-  variables_reported : ModuleOK (module_settings s) m → Sought (GlobalOK s.flags s.capabilities m) (length m.globals) → Holds (SomeFinding s m)
+  variables_reported : ModuleOK s false m → Sought (GlobalOK s.flags s.capabilities m) (length m.globals) → Holds (SomeFinding s m)
   variables_reported ok (inl all) = by_functions ok all
   variables_reported ok (inr found) =
       let f = found.1 in
       surely (Refused Global found.0, (ok, record { within = f.within; before = f.before; fails = f.fails }))
 
-  by_variables : ModuleOK (module_settings s) m → Holds (SomeFinding s m)
+  by_variables : ModuleOK s false m → Holds (SomeFinding s m)
   by_variables ok = then (all_or_first (GlobalOK s.flags s.capabilities m) (length m.globals)) (λ o. variables_reported ok o)
 
   -- each item passes the step, or one is the first that fails it
   abbrev Outcome : ModuleStep → Type 0
-  Outcome k = StepPasses (module_settings s) m k ⊎ ((i : ℕ) × IsFirstFailing (module_settings s) m k i)
+  Outcome k = StepPasses s false m k ⊎ ((i : ℕ) × IsFirstFailing s false m k i)
 
-  told : (k : ModuleStep) → IsReached (module_settings s) m k → Sought (StepOK (module_settings s) m k) (item_count m k) → Outcome k
+  told : (k : ModuleStep) → IsReached s false m k → Sought (StepOK s false m k) (item_count m k) → Outcome k
   told k reached (inl all) = inl (record { each = all })
   told k reached (inr found) =
       let f = found.1 in
       inr (found.0, record { reached = reached; item = record { within = f.within; before = f.before; fails = f.fails } })
 
-  asked : (k : ModuleStep) → IsReached (module_settings s) m k → Holds (Outcome k)
+  asked : (k : ModuleStep) → IsReached s false m k → Holds (Outcome k)
   asked k reached =
-      then (all_or_first (StepOK (module_settings s) m k) (item_count m k)) (λ o. surely (told k reached o))
+      then (all_or_first (StepOK s false m k) (item_count m k)) (λ o. surely (told k reached o))
 
   -- the step fails, so this is found; or what follows finds something
-  step_by_step : (k : ModuleStep) → IsReached (module_settings s) m k → ((i : ℕ) → IsFirstFailing (module_settings s) m k i → SomeFinding s m)
-      → (StepPasses (module_settings s) m k → Holds (SomeFinding s m)) → Holds (SomeFinding s m)
+  step_by_step : (k : ModuleStep) → IsReached s false m k → ((i : ℕ) → IsFirstFailing s false m k i → SomeFinding s m)
+      → (StepPasses s false m k → Holds (SomeFinding s m)) → Holds (SomeFinding s m)
   step_by_step k reached refused passed =
       then (asked k reached) (λ o.
       elim o [
@@ -104,30 +104,30 @@ module _ (s : PlainSettings) (m : PlainModule) where
         | inr found ↦ surely (refused found.0 found.1)
       ])
 
-  on_overrides : IsReached (module_settings s) m override → Holds (SomeFinding s m)
+  on_overrides : IsReached s false m override → Holds (SomeFinding s m)
   on_overrides reached =
-      step_by_step override reached (λ i f. (Refused Override i, f)) (λ passes. by_variables (all_passed (module_settings s) m reached passes))
+      step_by_step override reached (λ i f. (Refused Override i, f)) (λ passes. by_variables (all_passed s false m reached passes))
 
-  on_constants : IsReached (module_settings s) m constant → Holds (SomeFinding s m)
+  on_constants : IsReached s false m constant → Holds (SomeFinding s m)
   on_constants reached =
-      step_by_step constant reached (λ i f. (Refused Constant i, f)) (λ passes. on_overrides (reach (module_settings s) m constant override refl reached passes))
+      step_by_step constant reached (λ i f. (Refused Constant i, f)) (λ passes. on_overrides (reach s false m constant override refl reached passes))
 
-  on_expressions : IsReached (module_settings s) m expression → Holds (SomeFinding s m)
+  on_expressions : IsReached s false m expression → Holds (SomeFinding s m)
   on_expressions reached =
-      step_by_step expression reached (λ i f. (Refused Expression i, f)) (λ passes. on_constants (reach (module_settings s) m expression constant refl reached passes))
+      step_by_step expression reached (λ i f. (Refused Expression i, f)) (λ passes. on_constants (reach s false m expression constant refl reached passes))
 
-  on_typing : IsReached (module_settings s) m typing → Holds (SomeFinding s m)
+  on_typing : IsReached s false m typing → Holds (SomeFinding s m)
   on_typing reached =
-      step_by_step typing reached (λ i f. (Refused Typing i, f)) (λ passes. on_expressions (reach (module_settings s) m typing expression refl reached passes))
+      step_by_step typing reached (λ i f. (Refused Typing i, f)) (λ passes. on_expressions (reach s false m typing expression refl reached passes))
 
-  on_types : IsReached (module_settings s) m type → Holds (SomeFinding s m)
+  on_types : IsReached s false m type → Holds (SomeFinding s m)
   on_types reached =
-      step_by_step type reached (λ i f. (Refused «Type» i, f)) (λ passes. on_typing (reach (module_settings s) m type typing refl reached passes))
+      step_by_step type reached (λ i f. (Refused «Type» i, f)) (λ passes. on_typing (reach s false m type typing refl reached passes))
 
   on_layouts : HandlesOK m → Holds (SomeFinding s m)
   on_layouts ok =
-      let reached = reach_first (module_settings s) m ok in
-      step_by_step layout reached (λ i f. (Refused Layout i, f)) (λ passes. on_types (reach (module_settings s) m layout type refl reached passes))
+      let reached = reach_first s false m ok in
+      step_by_step layout reached (λ i f. (Refused Layout i, f)) (λ passes. on_types (reach s false m layout type refl reached passes))
 
   some_finding : Holds (SomeFinding s m)
   some_finding =
@@ -152,7 +152,7 @@ spell_none bytes none = (RefusedDocument, none)
 
 by_document : (bytes : List ℕ) (d : PlainDocument) → Reads bytes d → Holds (SomeJudged bytes)
 by_document bytes d r =
-    let prepared = some_prepared d.settings.returns d.content in
+    let prepared = some_prepared d.returns d.content in
     then (some_finding d.settings prepared.0) (λ found. surely (found.0, judged bytes d found.0 r (found_in d prepared.0 found.0 prepared.1 found.1)))
 
 -- where there is one document that they may spell

@@ -1,5 +1,5 @@
 -- What is noted of functions that were judged one after the other is which stages may run them, each with its callees.
-use Rattle.std.proofs.Common.{◌≡◌, ◌↔◌, ℕ, ◌<◌, List, length, Option, Some, refl, sym, ap, subst, ◌∙◌, slice_get, unwrap_or}
+use Rattle.std.proofs.Common.{◌≡◌, ◌↔◌, ℕ, ◌<◌, List, length, Some, refl, sym, ap, subst, ◌∙◌, slice_get, unwrap_or}
 use Rattle.function_interface.specs.Question.{question}
 use Rattle.shader_check.proofs.Chained.{some_is}
 use Rattle.shader_check.specs.found.Judged.{IsNotedAt, AreNoted}
@@ -10,15 +10,16 @@ use Rattle.ir_types.specs.declared.expressions.Expression.{Expression}
 use Rattle.ir_types.specs.declared.expressions.Expression.TheVariants as x
 use Rattle.ir_flags.specs.Sets.{Has}
 use Rattle.ir_flags.specs.declared.stages.ShaderStages.{ShaderStages}
+use Rattle.ir_flags.specs.declared.settings.Settings.{Settings}
 use Rattle.ir_items.specs.judged.Plain.{PlainFunction, PlainModule}
 use Rattle.function_real_lower.specs.Readings.{reading_of}
 use Rattle.spec_analysis.specs.judged.Summaries.{Summary}
 use Rattle.spec_interface.specs.judged.Modules.{AreStages}
-use Rattle.spec_statements.specs.judged.ModuleFunctions.{reading_over, settings_with}
+use Rattle.spec_statements.specs.judged.ModuleFunctions.{reading_over}
 use Rattle.spec_handles.specs.Conditions.{CalleesPrecede}
 use Rattle.spec_handles.specs.References.{computed, done, expression_names, statement_calls}
 use Rattle.spec_statements.specs.judged.ExpressionStages.{all_stages, callee_stages, stages_in, stages_of}
-use Rattle.spec_statements.specs.judged.Functions.{FunctionSettings, AllowsStage}
+use Rattle.spec_statements.specs.judged.Functions.{AllowsStage}
 use Rattle.spec_statements.specs.judged.Stages.{statement_stages}
 
 -- the two lists have the same stages of the functions that a function names
@@ -50,30 +51,30 @@ module _ (index : ℕ) (f : PlainFunction) (given noted : List ShaderStages) (pr
   expression_same e (compose type components) at = refl
   expression_same e (plain v) at = plain_same e v at
 
-  module _ (s : FunctionSettings) (m : PlainModule) (summaries : List Summary) (held : Option ℕ) (stage : ℕ) where
-    pub allows_with : AllowsStage (reading_of (question m f summaries given)) (settings_with s held) given f stage → AllowsStage (reading_over noted m f) s noted f stage
+  module _ (s : Settings) (m : PlainModule) (summaries : List Summary) (stage : ℕ) where
+    pub allows_with : AllowsStage (reading_of (question m f summaries given)) s given f stage → AllowsStage (reading_over noted m f) s noted f stage
     allows_with a = record {
       statements = λ asked p u stands. subst (λ (z : ShaderStages). Has z.0 stage) (statement_same s.subgroup_stages p u stands) (a.statements asked p u stands);
       expressions = λ asked e z lt run.
           a.expressions asked e z lt (record { expression = run.expression; at = run.at; run_by = run.run_by ∙ sym (expression_same e run.expression run.at) });
     }
 
-    pub allows_by : AllowsStage (reading_over noted m f) s noted f stage → AllowsStage (reading_of (question m f summaries given)) (settings_with s held) given f stage
+    pub allows_by : AllowsStage (reading_over noted m f) s noted f stage → AllowsStage (reading_of (question m f summaries given)) s given f stage
     allows_by a = record {
       statements = λ asked p u stands. subst (λ (z : ShaderStages). Has z.0 stage) (sym (statement_same s.subgroup_stages p u stands)) (a.statements asked p u stands);
       expressions = λ asked e z lt run.
           a.expressions asked e z lt (record { expression = run.expression; at = run.at; run_by = run.run_by ∙ expression_same e run.expression run.at });
     }
 
-module _ (s : FunctionSettings) (m : PlainModule) (noted : List ShaderStages) (precede : (i : ℕ) (f : PlainFunction) → slice_get m.functions i ≡ Some f → CalleesPrecede i f) where
+module _ (s : Settings) (m : PlainModule) (noted : List ShaderStages) (precede : (i : ℕ) (f : PlainFunction) → slice_get m.functions i ≡ Some f → CalleesPrecede i f) where
   noted_at : (index : ℕ) (f : PlainFunction) (own : ShaderStages) → slice_get m.functions index ≡ Some f → IsNotedAt reading_of s m noted index own
       → (stage : ℕ) → Has own.0 stage ↔ (Has all_stages.0 stage × AllowsStage (reading_over noted m f) s noted f stage)
   noted_at index f own at n stage =
       let same : n.function ≡ f = some_is (sym n.at ∙ at) in
       let go = precede index n.function n.at in
       subst (λ g. Has own.0 stage ↔ (Has all_stages.0 stage × AllowsStage (reading_over noted m g) s noted g stage)) same (
-        λ h. (let r = (n.exact stage).0 h in (r.0, allows_with index n.function n.given.stages noted go n.same s m n.given.summaries n.given.held stage r.1)),
-        λ r. (n.exact stage).1 (r.0, allows_by index n.function n.given.stages noted go n.same s m n.given.summaries n.given.held stage r.1),
+        λ h. (let r = (n.exact stage).0 h in (r.0, allows_with index n.function n.given.stages noted go n.same s m n.given.summaries stage r.1)),
+        λ r. (n.exact stage).1 (r.0, allows_by index n.function n.given.stages noted go n.same s m n.given.summaries stage r.1),
       )
 
   pub are_stages : length noted ≡ length m.functions → AreNoted reading_of s m noted → AreStages s m noted

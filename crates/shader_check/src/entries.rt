@@ -2,14 +2,13 @@
 
 ghost use Rattle.std.specs.Prelude.{◌≡◌, ◌<◌, ◌+◌, ◌++◌, ◌∷◌, [], MatchResult, OnOk, Some, length, map, slice_get};
 ghost use Rattle.function_entries.specs.Interfaces.{AreInterfacesKnown};
-ghost use Rattle.function_validator.specs.Names.{AreNamesBelow};
+ghost use Rattle.function_validator.specs.EntryNames.{AreNamesBelow};
 ghost use Rattle.shader_check.specs.found.JudgedEntries.{AreEntriesJudged, IsConflictReported, IsEntryRefusal, IsEntryReportedAt, note_of};
-ghost use Rattle.shader_check.specs.found.Settings.{settings_in};
 ghost use Rattle.ir_items.specs.judged.Plain.{PlainEntry};
 ghost use Rattle.ir_items.specs.found.View.{module_view};
 ghost use Rattle.spec_analysis.specs.judged.Summaries.{AreSummaries};
 ghost use Rattle.spec_interface.specs.judged.EarlierPayloads.{IsPayloadBeforeEntry};
-ghost use Rattle.spec_interface.specs.judged.Modules.{IsConflict};
+ghost use Rattle.spec_interface.specs.judged.EntryNames.{IsConflict};
 ghost use Rattle.spec_handles.specs.InOrder.{HandlesOK};
 ghost use Rattle.function_statement_checks.specs.Descriptors.{AreDescriptors};
 
@@ -19,7 +18,7 @@ use check_errors::InvalidEntryPoint;
 use function_entries::KnownInterfaces;
 use function_entry_checks::EntryPointError;
 use function_interface::Lower;
-use function_validator::{FunctionSettings, SeenNames, Validated, validate_entry_point_with};
+use function_validator::{SeenNames, Validated, validate_entry_point_with};
 use ir_arena::handle::Handle;
 use ir_faults::refusal::Refusal;
 use ir_faults::with_span::WithSpan;
@@ -92,29 +91,22 @@ fn judge_next<L: Lower>(
     requires many { length callees.now ≡ length (module_view «module».now).functions }
     requires known { AreSummaries (module_view «module».now) (map (L.summary validator.now.lower) callees.now) }
     requires apart { (e : PlainEntry) → slice_get (module_view «module».now).entries index ≡ Some e → ¬ IsConflict (module_view «module».now) index e }
-    requires interfaces { AreInterfacesKnown validator.now.flags validator.now.capabilities (module_view «module».now).types known.old }
-    requires before { AreEntriesJudged (L.reading validator.now.lower) (settings_in validator.now) (module_view «module».now) (map (L.summary validator.now.lower) callees.now) (map (L.noted validator.now.lower) callees.now) index (map (L.summary validator.now.lower) kept.now) (map (note_of (L.noted validator.now.lower) (L.blending validator.now.lower)) kept.now) held }
-    ensures interfaces { OnOk result (AreInterfacesKnown validator.now.flags validator.now.capabilities (module_view «module».now).types known.new) }
+    requires interfaces { AreInterfacesKnown validator.now.settings.flags validator.now.settings.capabilities (module_view «module».now).types known.old }
+    requires before { AreEntriesJudged (L.reading validator.now.lower) validator.now.settings (module_view «module».now) (map (L.summary validator.now.lower) callees.now) (map (L.noted validator.now.lower) callees.now) index (map (L.summary validator.now.lower) kept.now) (map (note_of (L.noted validator.now.lower) (L.blending validator.now.lower)) kept.now) held }
+    ensures interfaces { OnOk result (AreInterfacesKnown validator.now.settings.flags validator.now.settings.capabilities (module_view «module».now).types known.new) }
     ensures judged { let summaries = map (L.summary validator.now.lower) callees.now in
         let stages = map (L.noted validator.now.lower) callees.now in
         let note = note_of (L.noted validator.now.lower) (L.blending validator.now.lower) in
         MatchResult result
-        (λ v. AreEntriesJudged (L.reading validator.now.lower) (settings_in validator.now) (module_view «module».now) summaries stages (index + 1) (map (L.summary validator.now.lower) kept.now ++ L.summary validator.now.lower v.info ∷ []) (map note kept.now ++ note v.info ∷ []) v.held)
-        (IsEntryRefusal (L.reading validator.now.lower) (L.faults validator.now.lower) (settings_in validator.now) (module_view «module».now) summaries stages) }
+        (λ v. AreEntriesJudged (L.reading validator.now.lower) validator.now.settings (module_view «module».now) summaries stages (index + 1) (map (L.summary validator.now.lower) kept.now ++ L.summary validator.now.lower v.info ∷ []) (map note kept.now ++ note v.info ∷ []) v.held)
+        (IsEntryRefusal (L.reading validator.now.lower) (L.faults validator.now.lower) validator.now.settings (module_view «module».now) summaries stages) }
 {
-    let settings = FunctionSettings {
-        flags: validator.flags,
-        capabilities: validator.capabilities,
-        operations: validator.operations,
-        subgroup_stages: validator.stages,
-        entry: true,
-        held,
-    };
     let alloc = validator.alloc;
     match validate_entry_point_with(
         &validator.lower,
         alloc,
-        &settings,
+        validator.settings,
+        held,
         module,
         &module.entry_points[index],
         callees,
@@ -140,12 +132,12 @@ pub(crate) fn judge_entries<L: Lower>(
     requires marked { AreDescriptors (module_view «module».now).types (module_view «module».now).special.ray_desc descriptors.now }
     requires many { length callees.now ≡ length (module_view «module».now).functions }
     requires known { AreSummaries (module_view «module».now) (map (L.summary validator.now.lower) callees.now) }
-    requires before { IsPayloadBeforeEntry validator.now.flags (module_view «module».now) 0 held }
+    requires before { IsPayloadBeforeEntry validator.now.settings.flags (module_view «module».now) 0 held }
     ensures { let summaries = map (L.summary validator.now.lower) callees.now in
         let stages = map (L.noted validator.now.lower) callees.now in
         MatchResult result
-        (λ j. AreEntriesJudged (L.reading validator.now.lower) (settings_in validator.now) (module_view «module».now) summaries stages (length (module_view «module».now).entries) (map (L.summary validator.now.lower) j.infos.items) (map (note_of (L.noted validator.now.lower) (L.blending validator.now.lower)) j.infos.items) j.held)
-        (IsEntryRefusal (L.reading validator.now.lower) (L.faults validator.now.lower) (settings_in validator.now) (module_view «module».now) summaries stages) }
+        (λ j. AreEntriesJudged (L.reading validator.now.lower) validator.now.settings (module_view «module».now) summaries stages (length (module_view «module».now).entries) (map (L.summary validator.now.lower) j.infos.items) (map (note_of (L.noted validator.now.lower) (L.blending validator.now.lower)) j.infos.items) j.held)
+        (IsEntryRefusal (L.reading validator.now.lower) (L.faults validator.now.lower) validator.now.settings (module_view «module».now) summaries stages) }
 {
     let alloc = validator.alloc;
     let count = module.entry_points.len();

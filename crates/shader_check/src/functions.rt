@@ -2,7 +2,6 @@
 
 ghost use Rattle.std.specs.Prelude.{◌≡◌, ◌<◌, ◌+◌, ◌++◌, ◌∷◌, [], MatchResult, length, map};
 ghost use Rattle.shader_check.specs.found.Judged.{AreJudged, IsReportedAt, IsRefusal};
-ghost use Rattle.shader_check.specs.found.Settings.{settings_in};
 ghost use Rattle.ir_items.specs.found.View.{module_view};
 ghost use Rattle.spec_handles.specs.InOrder.{HandlesOK};
 ghost use Rattle.function_statement_checks.specs.Descriptors.{AreDescriptors};
@@ -10,7 +9,7 @@ ghost use Rattle.function_statement_checks.specs.Descriptors.{AreDescriptors};
 use crate::validator::Validator;
 use check_errors::InvalidFunction;
 use function_interface::Lower;
-use function_validator::{FunctionSettings, Validated, validate_function_with};
+use function_validator::{Validated, validate_function_with};
 use ir_arena::handle::Handle;
 use ir_faults::refusal::Refusal;
 use ir_faults::with_span::WithSpan;
@@ -59,26 +58,20 @@ fn judge_next<L: Lower>(
     requires handles { HandlesOK (module_view «module».now) }
     requires within { handle < length (module_view «module».now).functions }
     requires marked { AreDescriptors (module_view «module».now).types (module_view «module».now).special.ray_desc descriptors.now }
-    requires before { AreJudged (L.reading validator.now.lower) (settings_in validator.now) (module_view «module».now) handle (map (L.summary validator.now.lower) infos.now) (map (L.noted validator.now.lower) infos.now) held }
-    ensures { let s = settings_in validator.now in
+    requires before { AreJudged (L.reading validator.now.lower) validator.now.settings (module_view «module».now) handle (map (L.summary validator.now.lower) infos.now) (map (L.noted validator.now.lower) infos.now) held }
+    ensures { let s = validator.now.settings in
         MatchResult result
         (λ v. AreJudged (L.reading validator.now.lower) s (module_view «module».now) (handle + 1) (map (L.summary validator.now.lower) infos.now ++ L.summary validator.now.lower v.info ∷ [])
         (map (L.noted validator.now.lower) infos.now ++ L.noted validator.now.lower v.info ∷ []) v.held)
         (IsRefusal (L.reading validator.now.lower) (L.faults validator.now.lower) s (module_view «module».now)) }
 {
-    let settings = FunctionSettings {
-        flags: validator.flags,
-        capabilities: validator.capabilities,
-        operations: validator.operations,
-        subgroup_stages: validator.stages,
-        entry: false,
-        held,
-    };
     let alloc = validator.alloc;
     match validate_function_with(
         &validator.lower,
         alloc,
-        &settings,
+        validator.settings,
+        false,
+        held,
         module,
         &module.functions[handle],
         infos,
@@ -99,7 +92,7 @@ pub(crate) fn judge_all<L: Lower>(
     requires made { L.is_for validator.now.lower (module_view «module».now) }
     requires handles { HandlesOK (module_view «module».now) }
     requires marked { AreDescriptors (module_view «module».now).types (module_view «module».now).special.ray_desc descriptors.now }
-    ensures { let s = settings_in validator.now in
+    ensures { let s = validator.now.settings in
         MatchResult result
         (λ j. AreJudged (L.reading validator.now.lower) s (module_view «module».now) (length (module_view «module».now).functions) (map (L.summary validator.now.lower) j.infos.items) (map (L.noted validator.now.lower) j.infos.items) j.held)
         (IsRefusal (L.reading validator.now.lower) (L.faults validator.now.lower) s (module_view «module».now)) }

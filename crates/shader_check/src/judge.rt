@@ -2,36 +2,37 @@
 ghost use Rattle.std.specs.Prelude.{◌≡◌, ◌↔◌, [], IfOk, IsTrue, OnErr, OnOk, string_bytes};
 ghost use Rattle.ir_items.specs.found.Copies.{spanned_module};
 ghost use Rattle.ir_items.specs.found.View.{module_view};
-ghost use Rattle.document_reader.specs.found.View.{document_view, settings_view as document_settings};
-ghost use Rattle.shader_check.specs.found.Settings.{settings_in};
-ghost use Rattle.judgement.specs.judged.Steps.{IsPrepared, IsScopeStrict, function_settings};
+ghost use Rattle.document_reader.specs.found.View.{document_view};
+ghost use Rattle.judgement.specs.judged.Steps.{IsPrepared, IsScopeStrict};
 ghost use Rattle.judgement.specs.declared.finding.Finding.TheVariants.{RefusedDocument};
-ghost use Rattle.shader_check.specs.found.Examined.{finding_in, IsExamined, IsExaminedDocument, IsKeptIn, IsLeft, IsReportedIn};
+ghost use Rattle.shader_check.specs.found.Examined.{finding_in, IsExamined, IsExaminedDocument, IsKeptIn, IsLeft, IsRefusedSo, IsReportedIn};
 ghost use Rattle.shader_check.specs.found.Judgements.{IsJudgementOf, IsJudgementOn};
 
 use crate::examined::Examined;
 use crate::reported::Judgement;
 use crate::validator::Validator;
 use bitflags::Flags;
+use check_errors::ValidationError;
 use check_report::report;
-use document_reader::{Document, DocumentError, Settings, take_document};
+use document_reader::{Document, DocumentError, take_document};
 use function_real_lower::RealLower;
 use ir_faults::refusal::Refusal;
-use ir_flags::ValidationFlags;
+use ir_flags::{Settings, ValidationFlags};
 use ir_items::Module;
 use judgement::Finding;
 use std::alloc::{AllocError, Global};
 use typing_infos::ModuleInfo;
 
-// What judges modules by the settings of a document.
-fn validator_for(alloc: Global, settings: &Settings) -> Validator<RealLower>
-    ensures { settings_in result ≡ function_settings (document_settings settings.now) }
+// What judges modules by these settings.
+fn validator_for(alloc: Global, settings: Settings) -> Validator<RealLower>
+    ensures { result.settings ≡ settings }
 {
-    let lower = RealLower::new(ModuleInfo::new(alloc));
-    let mut validator = Validator::new(alloc, lower, settings.flags, settings.capabilities);
-    validator.subgroup_stages(settings.subgroup_stages);
-    validator.subgroup_operations(settings.subgroup_operations);
-    validator
+    Validator {
+        alloc,
+        lower: RealLower::new(ModuleInfo::new(alloc)),
+        settings,
+        held: None,
+    }
 }
 
 // Whether scope is checked strictly.
@@ -41,13 +42,23 @@ fn is_strict(flags: ValidationFlags) -> bool
     flags.contains(ValidationFlags::BLOCKS) && flags.contains(ValidationFlags::STRICT_SCOPE)
 }
 
+// What is found of a module that is refused so.
+fn examined_as(refusal: Refusal<ValidationError>) -> Result<Examined, AllocError>
+    ensures { IfOk result (IsRefusedSo refusal) }
+{
+    match refusal {
+        Refusal::Memory(error) => Err(error),
+        Refusal::Fault(fault) => Ok(Examined::Refused(fault.into_inner())),
+    }
+}
+
 // What is found of a module.
 fn examine_module(
     alloc: Global,
-    settings: &Settings,
+    settings: Settings,
     module: &Module,
 ) -> Result<Examined, AllocError>
-    ensures { IfOk result (IsExamined (document_settings settings.now) (module_view «module».now)) }
+    ensures { IfOk result (IsExamined settings (module_view «module».now)) }
 {
     let mut validator = validator_for(alloc, settings);
     match validator.validate(module) {
@@ -55,8 +66,7 @@ fn examine_module(
             strict: is_strict(settings.flags),
             info,
         }),
-        Err(Refusal::Memory(error)) => Err(error),
-        Err(Refusal::Fault(fault)) => Ok(Examined::Refused(fault.into_inner())),
+        Err(refusal) => examined_as(refusal),
     }
 }
 
@@ -73,15 +83,15 @@ fn prepare(alloc: Global, returns: bool, module: &mut Module) -> Result<(), Allo
 }
 
 /// What is found of the document, with the error where its module is refused: each error only where what it tells is wrong.
-/// Returns are put into its module where its settings require them, and the module is left so. The error is out of memory, and
+/// Returns are put into its module where it requires them, and the module is left so. The error is out of memory, and
 /// leaves the module so, or as it was.
 pub fn examine_document(alloc: Global, document: &mut Document) -> Result<Examined, AllocError>
-    ensures left { IsLeft document.old.settings.returns document.old.«module» document.new.«module» }
-    ensures settings { document.new.settings ≡ document.old.settings }
+    ensures left { IsLeft document.old.returns document.old.«module» document.new.«module» }
+    ensures settings { document.new ≡ record document.old { «module» = document.new.«module» } }
     ensures examined { IfOk result (IsExaminedDocument (document_view document.old) (module_view document.new.«module»)) }
 {
-    prepare(alloc, document.settings.returns, &mut document.module)?;
-    examine_module(alloc, &document.settings, &document.module)
+    prepare(alloc, document.returns, &mut document.module)?;
+    examine_module(alloc, document.settings, &document.module)
 }
 
 // The report on a module that is accepted, and nothing on another.
@@ -95,11 +105,11 @@ fn report_on(alloc: Global, module: &Module, examined: &Examined) -> Result<Stri
     }
 }
 
-/// What is found of the document, and the report on it. Returns are put into its module where its settings require them, and the
+/// What is found of the document, and the report on it. Returns are put into its module where it requires them, and the
 /// module is left so. The error is out of memory, and leaves the module so, or as it was.
 pub fn judge_document(alloc: Global, document: &mut Document) -> Result<Judgement, AllocError>
-    ensures left { IsLeft document.old.settings.returns document.old.«module» document.new.«module» }
-    ensures settings { document.new.settings ≡ document.old.settings }
+    ensures left { IsLeft document.old.returns document.old.«module» document.new.«module» }
+    ensures settings { document.new ≡ record document.old { «module» = document.new.«module» } }
     ensures judged { IfOk result (IsJudgementOf (document_view document.old)) }
 {
     let examined = examine_document(alloc, document)?;

@@ -21,7 +21,7 @@ pub fn some_text()
 {}
 
 /// The text that is expected for bytes which spell a document without results is the text on that document, whether
-/// its settings require missing returns or not.
+/// it requires missing returns or not.
 pub fn returns_dont_show()
     ensures { ReturnsDontShow }
 {}

@@ -1,6 +1,6 @@
 //! A validator of functions, over any layer beneath them.
 
-ghost use Rattle.std.specs.Prelude.{◌≡◌, ◌<◌, ◌↔◌, ℕ, IfErr, IfOk, IfSome, MatchResult, None, OnErr, OnOk, length, map, true};
+ghost use Rattle.std.specs.Prelude.{◌≡◌, ◌<◌, ◌↔◌, ℕ, IfErr, IfOk, IfSome, MatchResult, None, OnErr, OnOk, length, map};
 ghost use Rattle.function_entry_checks.specs.Faults.{IsRefusedFor as IsRefusalFor};
 ghost use Rattle.function_validator.specs.EntryFaults.{IsRefusedAs};
 ghost use Rattle.function_validator.specs.Globals.{IsRefusedFor as IsVariableRefused, IsVariableOf};
@@ -9,7 +9,7 @@ ghost use Rattle.function_validator.specs.Faults.{IsFunctionFault};
 ghost use Rattle.function_interface.specs.Analysis.{IsRefusedFor};
 ghost use Rattle.function_interface.specs.Question.{question};
 ghost use Rattle.shader_check.specs.found.Judged.{AreJudged, IsRefusal};
-ghost use Rattle.shader_check.specs.found.Settings.{settings_at, settings_in, KeepsSettings};
+ghost use Rattle.shader_check.specs.found.Settings.{KeepsSettings};
 ghost use Rattle.module_globals.specs.Faults.{IsWrongBy};
 ghost use Rattle.ir_flags.specs.Sets.{Has};
 ghost use Rattle.ir_items.specs.found.GlobalView.{global_view};
@@ -31,12 +31,10 @@ use check_errors::InvalidFunction;
 use function_entry_checks::EntryPointError;
 use function_interface::Lower;
 use function_statement_checks::descriptors_of;
-use function_validator::{
-    FunctionSettings, validate_entry_point, validate_function, validate_global_var,
-};
+use function_validator::{validate_entry_point, validate_function, validate_global_var};
 use ir_arena::handle::Handle;
 use ir_faults::refusal::Refusal;
-use ir_flags::{Capabilities, ShaderStages, SubgroupOperationSet, ValidationFlags};
+use ir_flags::{Capabilities, Settings, ShaderStages, SubgroupOperationSet, ValidationFlags};
 use ir_items::{EntryPoint, Function, GlobalVariable, Module};
 use ir_types::key;
 use module_globals::GlobalVariableError;
@@ -50,14 +48,8 @@ pub struct Validator<L> {
     pub(crate) alloc: Global,
     /// The layer beneath.
     pub lower: L,
-    /// The checks that are made.
-    pub flags: ValidationFlags,
-    /// What shaders may use beyond the common part.
-    pub capabilities: Capabilities,
-    /// The stages that have operations of subgroups.
-    pub stages: ShaderStages,
-    /// The operations of subgroups that may be used.
-    pub operations: SubgroupOperationSet,
+    /// By what it judges.
+    pub settings: Settings,
     /// The type of the payloads of the functions so far, if one has any.
     pub held: Option<Handle<key::IrType>>,
 }
@@ -68,36 +60,35 @@ impl<L: Lower> Validator<L> {
         ensures { result ≡ record {
           alloc = alloc;
           lower = lower;
-          flags = flags;
-          capabilities = capabilities;
-          stages = record { 0 = 0 };
-          operations = record { 0 = 0 };
+          settings = record { flags = flags; capabilities = capabilities; subgroup_stages = record { 0 = 0 }; subgroup_operations = record { 0 = 0 } };
           held = None;
         } }
     {
         Validator {
             alloc,
             lower,
-            flags,
-            capabilities,
-            stages: ShaderStages(0),
-            operations: SubgroupOperationSet(0),
+            settings: Settings {
+                flags,
+                capabilities,
+                subgroup_stages: ShaderStages(0),
+                subgroup_operations: SubgroupOperationSet(0),
+            },
             held: None,
         }
     }
 
     /// Says which stages have operations of subgroups.
     pub fn subgroup_stages(&mut self, stages: ShaderStages)
-        ensures { self.new ≡ record self.old { stages = stages } }
+        ensures { self.new ≡ record self.old { settings = record self.old.settings { subgroup_stages = stages } } }
     {
-        self.stages = stages;
+        self.settings.subgroup_stages = stages;
     }
 
     /// Says which operations of subgroups may be used.
     pub fn subgroup_operations(&mut self, operations: SubgroupOperationSet)
-        ensures { self.new ≡ record self.old { operations = operations } }
+        ensures { self.new ≡ record self.old { settings = record self.old.settings { subgroup_operations = operations } } }
     {
-        self.operations = operations;
+        self.settings.subgroup_operations = operations;
     }
 
     /// Forgets the payloads of the functions that were judged.
@@ -129,29 +120,30 @@ impl<L: Lower> Validator<L> {
         requires precede { OperandsPrecede (function_view fun.now).expressions }
         requires parents { ParentsPrecede (module_view «module».now).filters }
         ensures accepted { let q = question (module_view «module».now) (function_view fun.now) (map (L.summary self.old.lower) mod_info.now) (map (L.noted self.old.lower) mod_info.now) in
-            OnOk result (FunctionOK (L.reading self.old.lower q) (settings_at self.old entry_point) q.m q.f) }
+            OnOk result (FunctionOK (L.reading self.old.lower q) self.old.settings entry_point self.old.held q.m q.f) }
         ensures refused { let q = question (module_view «module».now) (function_view fun.now) (map (L.summary self.old.lower) mod_info.now) (map (L.noted self.old.lower) mod_info.now) in
-            IfErr result (IsRefusedFor (λ _. FunctionOK (L.reading self.old.lower q) (settings_at self.old entry_point) q.m q.f → ⊥)) }
+            IfErr result (IsRefusedFor (λ _. FunctionOK (L.reading self.old.lower q) self.old.settings entry_point self.old.held q.m q.f → ⊥)) }
         ensures fault { let q = question (module_view «module».now) (function_view fun.now) (map (L.summary self.old.lower) mod_info.now) (map (L.noted self.old.lower) mod_info.now) in
-            IfErr result (IsRefusedFor (IsFunctionFault (L.reading self.old.lower q) (L.faults self.old.lower q) (settings_at self.old entry_point) q.m q.f)) }
+            IfErr result (IsRefusedFor (IsFunctionFault (L.reading self.old.lower q) (L.faults self.old.lower q) self.old.settings entry_point self.old.held q.m q.f)) }
         ensures noted { let q = question (module_view «module».now) (function_view fun.now) (map (L.summary self.old.lower) mod_info.now) (map (L.noted self.old.lower) mod_info.now) in
-            IfOk result (λ info. (stage : ℕ) → Has (L.noted self.old.lower info).0 stage ↔ (Has all_stages.0 stage × AllowsStage (L.reading self.old.lower q) (settings_at self.old entry_point) q.stages q.f stage)) }
+            IfOk result (λ info. (stage : ℕ) → Has (L.noted self.old.lower info).0 stage ↔ (Has all_stages.0 stage × AllowsStage (L.reading self.old.lower q) self.old.settings q.stages q.f stage)) }
         ensures joined { IfOk result (λ info. IsJoined (length (module_view «module».now).globals) (function_view fun.now) (map (L.summary self.old.lower) mod_info.now) (L.summary self.old.lower info)) }
         ensures chains { CalleesKnown (module_view «module».now) (function_view fun.now) (map (L.summary self.old.lower) mod_info.now)
             → IfOk result (λ info. IsSummary (module_view «module».now) (function_view fun.now) (L.summary self.old.lower info)) }
-        ensures held { OnOk result (IsPayloadAfter self.old.flags (module_view «module».now) (function_view fun.now) self.old.held self.new.held) }
+        ensures held { OnOk result (IsPayloadAfter self.old.settings.flags (module_view «module».now) (function_view fun.now) self.old.held self.new.held) }
         ensures unchanged { OnErr result (self.new ≡ self.old) }
         ensures settings { KeepsSettings self.old self.new }
     {
-        let settings = FunctionSettings {
-            flags: self.flags,
-            capabilities: self.capabilities,
-            operations: self.operations,
-            subgroup_stages: self.stages,
-            entry: entry_point,
-            held: self.held,
-        };
-        match validate_function(&self.lower, self.alloc, &settings, module, fun, mod_info) {
+        match validate_function(
+            &self.lower,
+            self.alloc,
+            self.settings,
+            entry_point,
+            self.held,
+            module,
+            fun,
+            mod_info,
+        ) {
             Ok(validated) => {
                 self.held = validated.held;
                 Ok(validated.info)
@@ -186,22 +178,21 @@ impl<L: Lower> Validator<L> {
         ensures judged { let m = module_view «module».now in
             let e = entry_view ep.now in
             let q = question m e.function (map (L.summary self.old.lower) mod_info.now) (map (L.noted self.old.lower) mod_info.now) in
-            let s = settings_at self.old true in
             MatchResult result
-            (λ info. IsEntryValidated (L.reading self.old.lower q) q.stages s m e (L.summary self.old.lower info) (L.noted self.old.lower info) (L.blending self.old.lower info) self.new.held)
-            (IsRefusalFor (IsRefusedAs (L.reading self.old.lower q) (L.faults self.old.lower q) q.stages (HasUse m e.function) s m e)) }
+            (λ info. IsEntryValidated (L.reading self.old.lower q) q.stages self.old.settings self.old.held m e (L.summary self.old.lower info) (L.noted self.old.lower info) (L.blending self.old.lower info) self.new.held)
+            (IsRefusalFor (IsRefusedAs (L.reading self.old.lower q) (L.faults self.old.lower q) q.stages (HasUse m e.function) self.old.settings self.old.held m e)) }
         ensures unchanged { OnErr result (self.new ≡ self.old) }
         ensures settings { KeepsSettings self.old self.new }
     {
-        let settings = FunctionSettings {
-            flags: self.flags,
-            capabilities: self.capabilities,
-            operations: self.operations,
-            subgroup_stages: self.stages,
-            entry: true,
-            held: self.held,
-        };
-        match validate_entry_point(&self.lower, self.alloc, &settings, module, ep, mod_info) {
+        match validate_entry_point(
+            &self.lower,
+            self.alloc,
+            self.settings,
+            self.held,
+            module,
+            ep,
+            mod_info,
+        ) {
             Ok(kept) => {
                 self.held = kept.held;
                 Ok(kept.info)
@@ -232,14 +223,14 @@ impl<L: Lower> Validator<L> {
         ensures { let m = module_view «module».now in
             let v = global_view var.now in
             MatchResult result
-            (λ _. VariableBy (L.has_global_form self.now.lower m) self.now.flags self.now.capabilities m v)
-            (IsVariableRefused (IsWrongBy (L.has_global_form self.now.lower m) self.now.flags self.now.capabilities m v)) }
+            (λ _. VariableBy (L.has_global_form self.now.lower m) self.now.settings.flags self.now.settings.capabilities m v)
+            (IsVariableRefused (IsWrongBy (L.has_global_form self.now.lower m) self.now.settings.flags self.now.settings.capabilities m v)) }
     {
         validate_global_var(
             &self.lower,
             self.alloc,
-            self.flags,
-            self.capabilities,
+            self.settings.flags,
+            self.settings.capabilities,
             module,
             var,
         )
@@ -261,7 +252,7 @@ impl<L: Lower> Validator<L> {
     ) -> Result<Vec<L::Info>, Refusal<InvalidFunction>>
         requires made { L.is_for self.old.lower (module_view «module».now) }
         requires handles { HandlesOK (module_view «module».now) }
-        ensures judged { let s = settings_in self.old in
+        ensures judged { let s = self.old.settings in
             MatchResult result
             (λ infos. AreJudged (L.reading self.old.lower) s (module_view «module».now) (length (module_view «module».now).functions) (map (L.summary self.old.lower) infos.items) (map (L.noted self.old.lower) infos.items) self.new.held)
             (IsRefusal (L.reading self.old.lower) (L.faults self.old.lower) s (module_view «module».now)) }

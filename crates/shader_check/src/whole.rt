@@ -1,9 +1,8 @@
 //! A whole module.
 
 ghost use Rattle.std.specs.Prelude.{◌≡◌, IfErr, IfOk, MatchResult, None, OnOk, false, true};
-ghost use Rattle.shader_check.specs.found.Settings.{settings_in};
 ghost use Rattle.check_errors.specs.Spans.{IsRefusedAt};
-ghost use Rattle.shader_check.specs.found.Validated.{IsFaultAfter, IsKeptWith, IsRefusedWith, IsReportedBy, IsValidated, IsValidationFault, module_settings};
+ghost use Rattle.shader_check.specs.found.Validated.{IsFaultAfter, IsKeptWith, IsRefusedWith, IsReportedBy, IsValidated, IsValidationFault};
 ghost use Rattle.check_errors.specs.declared.error.ValidationError.TheVariants as error;
 ghost use Rattle.ir_items.specs.found.View.{module_view};
 ghost use Rattle.module_types.specs.Validated.{AreAccepted};
@@ -28,7 +27,6 @@ use function_statement_checks::descriptors_of;
 use ir_faults::refusal::Refusal;
 use ir_faults::with_span::WithSpan;
 use ir_items::Module;
-use judgement::ModuleSettings;
 use module_validator::{InvalidGlobalVariable, ModuleError, ModuleValidator, validate_globals};
 use std::alloc::{AllocError, Global};
 use typing_infos::ModuleInfo;
@@ -94,11 +92,11 @@ fn judge_items(
     module: &Module,
     resolved: bool,
 ) -> Result<ModuleInfo, Refusal<ModuleError>>
-    ensures accepted { OnOk result (ModuleOK (module_settings (settings_in validator.now) resolved) (module_view «module».now)) }
-    ensures told { IfOk result (IsInfoOf (module_settings (settings_in validator.now) resolved) (module_view «module».now)) }
-    ensures refused { IfErr result (IsRefusedWith (IsModuleFault (module_settings (settings_in validator.now) resolved) (module_view «module».now))) }
+    ensures accepted { OnOk result (ModuleOK validator.now.settings resolved (module_view «module».now)) }
+    ensures told { IfOk result (IsInfoOf validator.now.settings resolved (module_view «module».now)) }
+    ensures refused { IfErr result (IsRefusedWith (IsModuleFault validator.now.settings resolved (module_view «module».now))) }
 {
-    let mut items = ModuleValidator::new(validator.alloc, validator.flags, validator.capabilities);
+    let mut items = ModuleValidator::new(validator.alloc, validator.settings);
     if resolved {
         items.validate_resolved_overrides(module)
     } else {
@@ -114,19 +112,15 @@ fn judge_variables(
     info: &ModuleInfo,
 ) -> Result<(), Refusal<InvalidGlobalVariable>>
     requires handles { HandlesOK (module_view «module».now) }
-    requires told { AreAccepted validator.now.capabilities resolved (module_view «module».now).types info.now.types.items }
+    requires told { AreAccepted validator.now.settings.capabilities resolved (module_view «module».now).types info.now.types.items }
     requires typed { AreTypes (outside (module_view «module».now)) (module_view «module».now).global_expressions info.now.const_expression_types.items }
-    ensures accepted { OnOk result (GlobalsOK validator.now.flags validator.now.capabilities (module_view «module».now)) }
-    ensures refused { IfErr result (IsRefusedWith (IsVariableFault validator.now.flags validator.now.capabilities (module_view «module».now))) }
+    ensures accepted { OnOk result (GlobalsOK validator.now.settings.flags validator.now.settings.capabilities (module_view «module».now)) }
+    ensures refused { IfErr result (IsRefusedWith (IsVariableFault validator.now.settings.flags validator.now.settings.capabilities (module_view «module».now))) }
 {
-    let settings = ModuleSettings {
-        flags: validator.flags,
-        capabilities: validator.capabilities,
-        overrides_resolved: resolved,
-    };
     validate_globals(
         validator.alloc,
-        settings,
+        validator.settings,
+        resolved,
         module,
         info.types(),
         info.const_expression_types(),
@@ -141,20 +135,17 @@ fn over(
     module: &Module,
 ) -> Result<Validator<RealLower>, AllocError>
     requires { ParentsPrecede (module_view «module».now).filters }
-    ensures settings { IfOk result (λ own. settings_in own ≡ settings_in validator.now) }
+    ensures settings { IfOk result (λ own. own.settings ≡ validator.now.settings) }
     ensures info { IfOk result (λ own. own.lower.info ≡ info) }
     ensures severities { IfOk result (λ own. AreKnown (module_view «module».now) own.lower.severities) }
 {
     let lower = RealLower::with_severities(validator.alloc, info, module)?;
-    let mut own = Validator::new(
-        validator.alloc,
+    Ok(Validator {
+        alloc: validator.alloc,
         lower,
-        validator.flags,
-        validator.capabilities,
-    );
-    own.subgroup_stages(validator.stages);
-    own.subgroup_operations(validator.operations);
-    Ok(own)
+        settings: validator.settings,
+        held: None,
+    })
 }
 
 // The steps of functions and of entry points, over what is kept of their module.
@@ -165,8 +156,8 @@ fn judge_after(
     requires made { IsMadeOf (module_view «module».now) own.lower.info }
     requires known { AreKnown (module_view «module».now) own.lower.severities }
     ensures { MatchResult result
-        (IsKeptWith (settings_in own) (module_view «module».now) own.lower.info)
-        (IsRefusedWith (IsFaultAfter (settings_in own) (module_view «module».now))) }
+        (IsKeptWith own.settings (module_view «module».now) own.lower.info)
+        (IsRefusedWith (IsFaultAfter own.settings (module_view «module».now))) }
 {
     let alloc = own.alloc;
     let declared = module.special_types.ray_desc;
@@ -195,8 +186,8 @@ fn judge(
     resolved: bool,
 ) -> Result<ModuleInfo, Refusal<ValidationError>>
     ensures { MatchResult result
-        (IsValidated (settings_in validator.now) resolved (module_view «module».now))
-        (IsRefusedWith (IsValidationFault (settings_in validator.now) resolved (module_view «module».now))) }
+        (IsValidated validator.now.settings resolved (module_view «module».now))
+        (IsRefusedWith (IsValidationFault validator.now.settings resolved (module_view «module».now))) }
 {
     let alloc = validator.alloc;
     let info = match judge_items(validator, module, resolved) {
@@ -233,8 +224,8 @@ impl Validator<RealLower> {
     /// at fault first, and then the function, or the item that is refused. [`Refusal::Memory`] where memory ran out.
     pub fn validate(&mut self, module: &Module) -> Result<ModuleInfo, Refusal<ValidationError>>
         ensures judged { MatchResult result
-            (IsValidated (settings_in self.old) false (module_view «module».now))
-            (IsRefusedAt (IsValidationFault (settings_in self.old) false (module_view «module».now)) «module».now) }
+            (IsValidated self.old.settings false (module_view «module».now))
+            (IsRefusedAt (IsValidationFault self.old.settings false (module_view «module».now)) «module».now) }
         ensures forgotten { self.new ≡ record self.old { held = None } }
     {
         self.reset();
@@ -253,8 +244,8 @@ impl Validator<RealLower> {
         module: &Module,
     ) -> Result<ModuleInfo, Refusal<ValidationError>>
         ensures judged { MatchResult result
-            (IsValidated (settings_in self.old) true (module_view «module».now))
-            (IsRefusedAt (IsValidationFault (settings_in self.old) true (module_view «module».now)) «module».now) }
+            (IsValidated self.old.settings true (module_view «module».now))
+            (IsRefusedAt (IsValidationFault self.old.settings true (module_view «module».now)) «module».now) }
         ensures forgotten { self.new ≡ record self.old { held = None } }
     {
         self.reset();

@@ -6,6 +6,7 @@ use Rattle.ir_flags.specs.Sets.{Has}
 use Rattle.ir_flags.specs.declared.settings.Capabilities.{Capabilities}
 use Rattle.ir_flags.specs.declared.settings.TheConstants.ValidationFlags.{STRUCT_LAYOUTS}
 use Rattle.ir_flags.specs.declared.settings.ValidationFlags.{ValidationFlags}
+use Rattle.ir_flags.specs.declared.settings.Settings.{Settings}
 use Rattle.ir_items.specs.judged.GlobalPlain.{PlainGlobal}
 use Rattle.ir_items.specs.judged.Plain.{PlainModule}
 use Rattle.ir_kinds.specs.declared.spaces.AddressSpace.{AddressSpace}
@@ -24,7 +25,6 @@ use Rattle.spec_handles.specs.Modules.{variable, variable_type}
 use Rattle.spec_handles.specs.References.{item}
 use Rattle.spec_handles.specs.declared.target.Target.TheVariants as target
 use Rattle.judgement.specs.judged.ModuleSteps.{layout, type, ModuleOK}
-use Rattle.judgement.specs.declared.settings.ModuleSettings.{ModuleSettings}
 use Rattle.judgement.specs.judged.Lines.{is_buffer, buffer_line, buffer_of}
 use Rattle.typing_forms.specs.judged.Order.{named_types, TypesGoBack}
 use Rattle.typing_forms.specs.judged.Resolutions.{inner_at}
@@ -115,7 +115,7 @@ line_of types number v b is holds =
 pub types_are_sound : TypesAreSound
 types_are_sound t b = buffer_sound t b
 
-module _ (s : ModuleSettings) (m : PlainModule) (asked : Has s.flags.0 STRUCT_LAYOUTS.0) (ok : ModuleOK s m) (globals : GlobalsOK s.flags s.capabilities m) where
+module _ (s : Settings) (resolved : Bool) (m : PlainModule) (asked : Has s.flags.0 STRUCT_LAYOUTS.0) (ok : ModuleOK s resolved m) (globals : GlobalsOK s.flags s.capabilities m) where
   back : TypesGoBack m.types
   back = types_go_back m ok.handles
 
@@ -130,7 +130,7 @@ module _ (s : ModuleSettings) (m : PlainModule) (asked : Has s.flags.0 STRUCT_LA
   is_buffer_type : (number : ℕ) (v : PlainGlobal) → slice_get m.globals number ≡ Some v → IsTrue (is_buffer v.space) → Everywhere StrideOK (buffer_type m.types v) → IsBuffer (buffer_type m.types v)
   is_buffer_type number v at b strides = record {
     laid = everywhere_inside LayoutOK m.types back (λ handle lt. (ok.steps layout).each handle lt) (counted m.types v.ty) (within number v at);
-    shaped = everywhere_inside ShapesOK m.types back (λ handle lt. shape_counts s.capabilities s.overrides_resolved (type_tree m.types handle) ((ok.steps type).each handle lt).shape) (counted m.types v.ty) (within number v at);
+    shaped = everywhere_inside ShapesOK m.types back (λ handle lt. shape_counts s.capabilities resolved (type_tree m.types handle) ((ok.steps type).each handle lt).shape) (counted m.types v.ty) (within number v at);
     strides = strides;
     serves = serves s.flags v.space _ _ b asked (accepted number v at).lies;
   }
@@ -142,4 +142,4 @@ module _ (s : ModuleSettings) (m : PlainModule) (asked : Has s.flags.0 STRUCT_LA
   }
 
 pub buffers_are_sound : BuffersAreSound
-buffers_are_sound s m asked ok globals = sound_buffers s m asked ok globals
+buffers_are_sound s resolved m asked ok globals = sound_buffers s resolved m asked ok globals

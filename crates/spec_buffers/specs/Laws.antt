@@ -1,7 +1,8 @@
 -- What is known of the buffers of an accepted module.
-use Rattle.std.specs.Prelude.{◌≡◌, ℕ, List, IsTrue, Some, slice_get}
+use Rattle.std.specs.Prelude.{◌≡◌, ℕ, Bool, List, IsTrue, Some, slice_get}
 use Rattle.ir_flags.specs.Sets.{Has}
 use Rattle.ir_flags.specs.declared.settings.TheConstants.ValidationFlags.{STRUCT_LAYOUTS}
+use Rattle.ir_flags.specs.declared.settings.Settings.{Settings}
 use Rattle.ir_items.specs.judged.GlobalPlain.{PlainGlobal}
 use Rattle.ir_items.specs.judged.Plain.{PlainModule}
 use Rattle.ir_types.specs.judged.Plain.{PlainType}
@@ -9,7 +10,6 @@ use Rattle.spec_buffers.specs.Sound.{StrideOK, LeavesOK, IsBuffer}
 use Rattle.spec_interface.specs.judged.Globals.{GlobalsOK}
 use Rattle.spec_interface.specs.judged.Spaces.{counted}
 use Rattle.judgement.specs.judged.ModuleSteps.{ModuleOK}
-use Rattle.judgement.specs.declared.settings.ModuleSettings.{ModuleSettings}
 use Rattle.judgement.specs.judged.Lines.{is_buffer, buffer_line, buffer_of}
 use Rattle.typing_layout.specs.judged.Layout.{size, alignment}
 use Rattle.typing_layout.specs.judged.Parts.{Everywhere}
@@ -36,4 +36,4 @@ TypesAreSound = (t : Tree) → IsBuffer t → LeavesOK t
 
 -- where the layouts of buffers are judged, those of an accepted module are so
 abbrev pub BuffersAreSound : Type 0
-BuffersAreSound = (s : ModuleSettings) (m : PlainModule) → Has s.flags.0 STRUCT_LAYOUTS.0 → ModuleOK s m → GlobalsOK s.flags s.capabilities m → BuffersOK m
+BuffersAreSound = (s : Settings) (resolved : Bool) (m : PlainModule) → Has s.flags.0 STRUCT_LAYOUTS.0 → ModuleOK s resolved m → GlobalsOK s.flags s.capabilities m → BuffersOK m

@@ -10,13 +10,14 @@ use Rattle.ir_types.specs.declared.expressions.Expression.{Expression}
 use Rattle.ir_types.specs.declared.expressions.Expression.TheVariants as x
 use Rattle.ir_flags.specs.Sets.{Has}
 use Rattle.ir_flags.specs.declared.stages.ShaderStages.{ShaderStages}
+use Rattle.ir_flags.specs.declared.settings.Settings.{Settings}
 use Rattle.ir_items.specs.judged.Plain.{PlainFunction, PlainModule}
 use Rattle.spec_analysis.proofs.Members.{get-within}
 use Rattle.spec_interface.specs.judged.Modules.{AreStages}
 use Rattle.spec_handles.specs.Conditions.{CalleesPrecede}
 use Rattle.spec_handles.specs.References.{computed, done, expression_names, statement_calls}
 use Rattle.spec_statements.specs.judged.ExpressionStages.{all_stages, callee_stages, stages_in, stages_of}
-use Rattle.spec_statements.specs.judged.Functions.{FunctionSettings, AllowsStage}
+use Rattle.spec_statements.specs.judged.Functions.{AllowsStage}
 use Rattle.spec_statements.specs.judged.ModuleFunctions.{reading_over}
 use Rattle.spec_statements.specs.judged.Stages.{statement_stages}
 
@@ -55,7 +56,7 @@ module _ (index : ℕ) (f : PlainFunction) (a b : List ShaderStages) (precede : 
   expression_same e (compose type components) at = same all_stages
   expression_same e (plain v) at = plain_same e v at
 
-  pub allows_other : (s : FunctionSettings) (m : PlainModule) (stage : ℕ) → AllowsStage (reading_over a m f) s a f stage → AllowsStage (reading_over b m f) s b f stage
+  pub allows_other : (s : Settings) (m : PlainModule) (stage : ℕ) → AllowsStage (reading_over a m f) s a f stage → AllowsStage (reading_over b m f) s b f stage
   allows_other s m stage h = record {
     statements = λ asked p u stands. (statement_same s.subgroup_stages p u stands stage).0 (h.statements asked p u stands);
     expressions = λ asked e z lt run.
@@ -68,7 +69,7 @@ module _ (index : ℕ) (f : PlainFunction) (a b : List ShaderStages) (precede : 
 turned : (index : ℕ) (a b : List ShaderStages) → Agree index a b → Agree index b a
 turned index a b agree earlier lt stage = let h = agree earlier lt stage in (h.1, h.0)
 
-module _ (s : FunctionSettings) (m : PlainModule) (precede : (i : ℕ) (f : PlainFunction) → slice_get m.functions i ≡ Some f → CalleesPrecede i f) (a b : List ShaderStages) (as_ : AreStages s m a) (bs : AreStages s m b) where
+module _ (s : Settings) (m : PlainModule) (precede : (i : ℕ) (f : PlainFunction) → slice_get m.functions i ≡ Some f → CalleesPrecede i f) (a b : List ShaderStages) (as_ : AreStages s m a) (bs : AreStages s m b) where
   abbrev SameAt : ℕ → Type 0
   SameAt index = SameStages (callee_stages a index) (callee_stages b index)
 

@@ -7,6 +7,7 @@ pub mod Meshes
 pub mod Results
 pub mod Entries
 pub mod EarlierPayloads
+pub mod EntryNames
 pub mod Modules
 pub mod Handles
 pub mod Spaces

@@ -5,9 +5,9 @@ ghost use Rattle.spirv_reader.specs.Checks.{MakesSixChecks};
 use crate::body::Body;
 use crate::building::{BuiltConstants, BuiltTypes, BuiltVariables};
 use crate::entries::lower_entries;
-use document_reader::{Document, Settings};
+use document_reader::Document;
 use ir_arena::arena::Arena;
-use ir_flags::{ShaderStages, SubgroupOperationSet, ValidationFlags};
+use ir_flags::{Settings, ShaderStages, SubgroupOperationSet, ValidationFlags};
 use ir_items::{EntryPoint, Function, Module, SpecialTypes, key};
 use ir_sets::keyed::KeyedState;
 use spirv_bodies::{Special, Writing, lower_functions};
@@ -96,7 +96,6 @@ fn settings_of(demands: &Demands) -> Settings
         capabilities: demands.capabilities,
         subgroup_stages: ShaderStages(stages),
         subgroup_operations: demands.operations,
-        returns: true,
     }
 }
 
@@ -129,5 +128,9 @@ fn document_of(
         diagnostic_filters: Arena::new(alloc),
         diagnostic_filter_leaf: None,
     };
-    Document { settings, module }
+    Document {
+        settings,
+        returns: true,
+        module,
+    }
 }

@@ -143,9 +143,12 @@ pub fn judge_built(alloc: Global) -> Result<Option<&'static str>, AllocError> {
         capabilities: Capabilities(0),
         subgroup_stages: ShaderStages(0),
         subgroup_operations: SubgroupOperationSet(0),
-        returns: true,
     };
     let module = Module::new(alloc);
-    let mut document = Document { settings, module };
+    let mut document = Document {
+        settings,
+        returns: true,
+        module,
+    };
     freeing(build_and_judge(alloc, &mut document), document)
 }

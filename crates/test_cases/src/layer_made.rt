@@ -12,7 +12,7 @@ use ir_flags::Capabilities;
 use ir_items::Module;
 use ir_sets::unique_arena::UniqueArena;
 use ir_types::{IrType, key};
-use module_types::{TypeInfo, TypeSettings, validate_types};
+use module_types::{TypeInfo, validate_types};
 use std::alloc::{AllocError, Global};
 use typing_forms::types_go_back;
 use typing_layout::Layouter;
@@ -33,11 +33,7 @@ fn infos_of(
         Err(Refusal::Memory(error)) => return Err(error),
         Err(Refusal::Fault(_)) => return Ok(None),
     }
-    let settings = TypeSettings {
-        capabilities: Capabilities(0),
-        overrides_resolved: false,
-    };
-    match validate_types(alloc, settings, types, &layouter) {
+    match validate_types(alloc, Capabilities(0), false, types, &layouter) {
         Ok(infos) => Ok(Some(infos)),
         Err(Refusal::Memory(error)) => Err(error),
         Err(Refusal::Fault(_)) => Ok(None),

@@ -100,8 +100,7 @@ pub fn checks_told(
     document: &Document,
     overrides: Overrides,
 ) -> Result<String, AllocError> {
-    let settings = document.settings;
-    let mut validator = ModuleValidator::new(alloc, settings.flags, settings.capabilities);
+    let mut validator = ModuleValidator::new(alloc, document.settings);
     let judged = match overrides {
         Overrides::Open => validator.validate(&document.module),
         Overrides::Resolved => validator.validate_resolved_overrides(&document.module),

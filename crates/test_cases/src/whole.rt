@@ -53,7 +53,7 @@ fn found_told(alloc: Global, question: &str, found: &Examined) -> Result<String,
 }
 
 /// Whether a document is accepted, or why it is not: with what is wrong with a function in words where the question is
-/// `functions`, or else the verdict and the error by its name. Returns are put in where its settings require them.
+/// `functions`, or else the verdict and the error by its name. Returns are put in where it requires them.
 pub fn refusal_told(
     alloc: Global,
     question: &str,

@@ -9,7 +9,7 @@ use ir_flags::Capabilities;
 use ir_sets::unique_arena::UniqueArena;
 use ir_types::{IrType, key};
 use module_type_infos::{TypeError, TypeInfo};
-use module_types::{InvalidType, TypeSettings, validate_types};
+use module_types::{InvalidType, validate_types};
 use std::alloc::{AllocError, Global};
 use test_support::call::{completed, freeing, push};
 use typing_forms::types_go_back;
@@ -71,7 +71,7 @@ fn refused_reported(
 fn validated_told(
     alloc: Global,
     asked: Reported,
-    settings: TypeSettings,
+    capabilities: Capabilities,
     types: &UniqueArena<IrType, key::IrType>,
     layouter: &Layouter,
 ) -> Result<String, AllocError>
@@ -79,7 +79,7 @@ fn validated_told(
     requires held { AreLayouts (types_view types.now) layouter.now }
     requires all { length layouter.now ≡ length types.now }
 {
-    match validate_types(alloc, settings, types, layouter) {
+    match validate_types(alloc, capabilities, false, types, layouter) {
         Ok(infos) => freeing(accepted_told(alloc, asked, infos.as_slice()), infos),
         Err(Refusal::Memory(error)) => Err(error),
         Err(Refusal::Fault(fault)) => {
@@ -106,14 +106,10 @@ pub fn infos_told(
     if !types_go_back(types) {
         return String::from_str(alloc, "types do not go back");
     }
-    let settings = TypeSettings {
-        capabilities,
-        overrides_resolved: false,
-    };
     let mut layouter = Layouter::new(alloc);
     match layouter.update(types) {
         Ok(()) => freeing(
-            validated_told(alloc, asked, settings, types, &layouter),
+            validated_told(alloc, asked, capabilities, types, &layouter),
             layouter,
         ),
         Err(refusal) => {

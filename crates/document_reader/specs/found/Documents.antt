@@ -8,7 +8,7 @@ use Rattle.ir_flags.specs.declared.settings.ValidationFlags.{ValidationFlags}
 use Rattle.ir_flags.specs.declared.settings.Capabilities.{Capabilities}
 use Rattle.ir_flags.specs.declared.stages.ShaderStages.{ShaderStages}
 use Rattle.ir_flags.specs.declared.stages.SubgroupOperationSet.{SubgroupOperationSet}
-use Rattle.ir_flags.specs.Settings.{PlainSettings}
+use Rattle.ir_flags.specs.declared.settings.Settings.{Settings}
 use Rattle.ir_types.specs.judged.Plain.{PlainType}
 use Rattle.ir_types.specs.judged.ExpressionPlain.{PlainExpression}
 use Rattle.ir_items.specs.judged.GlobalPlain.{PlainConstant, PlainOverride, PlainGlobal, PlainNode, PlainSpecial}
@@ -81,17 +81,17 @@ Parts = Unit {0} × (ValidationFlags × (Capabilities × ((ShaderStages × Subgr
 abbrev pub the_parts : RowOf Parts
 the_parts = a_version ▹ the_flags ▹ the_capabilities ▹ the_subgroups ▹ a_bool ▹ a_list a_type ▹ the_lists
 
-abbrev pub settings_of : ValidationFlags → Capabilities → ShaderStages × SubgroupOperationSet → Bool → PlainSettings
-settings_of checks uses subgroups returns = record { flags = checks; capabilities = uses; stages = subgroups.0; operations = subgroups.1; returns = returns }
+abbrev pub settings_of : ValidationFlags → Capabilities → ShaderStages × SubgroupOperationSet → Settings
+settings_of checks uses subgroups = record { flags = checks; capabilities = uses; subgroup_stages = subgroups.0; subgroup_operations = subgroups.1 }
 
 abbrev pub made_of : ValidationFlags → Capabilities → ShaderStages × SubgroupOperationSet → Bool → PlainModule → PlainDocument
-made_of checks uses subgroups returns content = record { settings = settings_of checks uses subgroups returns; content = content }
+made_of checks uses subgroups returns content = record { settings = settings_of checks uses subgroups; returns = returns; content = content }
 
 abbrev pub document_made : Parts → PlainDocument
 document_made t = made_of t.1.0 t.1.1.0 t.1.1.1.0 t.1.1.1.1.0 (content_of t.1.1.1.1.1.0 t.1.1.1.1.1.1)
 
 abbrev pub parts_of : PlainDocument → Parts
-parts_of d = (tt, (d.settings.flags, (d.settings.capabilities, ((d.settings.stages, d.settings.operations), (d.settings.returns, (d.content.types, lists_of d.content))))))
+parts_of d = (tt, (d.settings.flags, (d.settings.capabilities, ((d.settings.subgroup_stages, d.settings.subgroup_operations), (d.returns, (d.content.types, lists_of d.content))))))
 
 -- the document that a value spells, but that its types may repeat
 abbrev pub a_document : FormOf PlainDocument

@@ -1,8 +1,8 @@
 -- How a document is written, and when bytes spell it.
 use Rattle.std.specs.Prelude.{◌≡◌, ℕ, ◌≤◌, List, length, Some, IsUtf8}
+use Rattle.ir_flags.specs.declared.settings.Settings.{Settings}
 use Rattle.serde_json.specs.Data.{Data, number, unsigned}
 use Rattle.serde_json.specs.Read.{read}
-use Rattle.ir_flags.specs.Settings.{PlainSettings}
 use Rattle.document_words.specs.Tables.{flags, capabilities, stages, operations}
 use Rattle.document_words.specs.Unions.{flag_union, capability_union, stage_union, operation_union}
 use Rattle.document_forms.specs.judged.Form.{ABool, ASet, AnArray, AList, Ends, ◌▸◌}
@@ -20,8 +20,8 @@ abbrev pub IsVersion : Data → Type 0
 IsVersion d = d ≡ number (unsigned 1)
 
 -- the stages and the subgroup operations that may stand there
-abbrev pub TheSubgroups : PlainSettings → Data → Type 0
-TheSubgroups s = AnArray (ASet stages (record { 0 = 0 }) stage_union s.stages ▸ ASet operations (record { 0 = 0 }) operation_union s.operations ▸ Ends)
+abbrev pub TheSubgroups : Settings → Data → Type 0
+TheSubgroups s = AnArray (ASet stages (record { 0 = 0 }) stage_union s.subgroup_stages ▸ ASet operations (record { 0 = 0 }) operation_union s.subgroup_operations ▸ Ends)
 
 -- version, flags, capabilities, subgroup sets, returns; types, special types, filters, constants, overrides, global
 -- expressions, globals, functions, entries
@@ -32,7 +32,7 @@ ADocument d =
     ASet flags (record { 0 = 0 }) flag_union d.settings.flags ▸
     ASet capabilities (record { 0 = 0 }) capability_union d.settings.capabilities ▸
     TheSubgroups d.settings ▸
-    ABool d.settings.returns ▸
+    ABool d.returns ▸
     AList AType d.content.types ▸
     ASpecial d.content.special ▸
     AllFilters (d.content.filters, d.content.leaf) ▸

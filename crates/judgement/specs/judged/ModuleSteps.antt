@@ -1,5 +1,5 @@
 -- The steps of the check of a module up to its overrides.
-use Rattle.std.specs.Prelude.{ℕ, ◌<◌, length}
+use Rattle.std.specs.Prelude.{ℕ, Bool, ◌<◌, length}
 use Rattle.ir_flags.specs.Sets.{Has}
 use Rattle.ir_flags.specs.declared.settings.TheConstants.ValidationFlags.{CONSTANTS}
 use Rattle.ir_items.specs.judged.Plain.{PlainModule}
@@ -9,7 +9,7 @@ use Rattle.spec_expressions.specs.judged.Overrides.{OverrideOK}
 use Rattle.spec_expressions.specs.judged.Typing.{HasGlobalType}
 use Rattle.typing_layout.specs.judged.Rules.{TypeOK}
 use Rattle.spec_handles.specs.InOrder.{HandlesOK}
-use Rattle.judgement.specs.declared.settings.ModuleSettings.{ModuleSettings}
+use Rattle.ir_flags.specs.declared.settings.Settings.{Settings}
 use Rattle.typing_layout.specs.judged.Layout.{LayoutOK}
 use Rattle.typing_layout.specs.judged.View.{type_tree}
 use Rattle.typing_forms.specs.declared.form.Form.{Form}
@@ -42,36 +42,36 @@ item_count m expression = length m.global_expressions
 item_count m constant = length m.constants
 item_count m override = length m.overrides
 
--- what is required of the item at an index
-abbrev pub StepOK : ModuleSettings → PlainModule → ModuleStep → (index : ℕ) → Type 0
-StepOK s m layout index = LayoutOK (type_tree m.types index)
-StepOK s m type index = TypeOK s.capabilities s.overrides_resolved m.types index
-StepOK s m typing index = (t : Form) × HasGlobalType m index t
-StepOK s m expression index = Has s.flags.0 CONSTANTS.0 → GlobalExpressionOK s.capabilities s.overrides_resolved m index
-StepOK s m constant index = Has s.flags.0 CONSTANTS.0 → ConstantOK m index
-StepOK s m override index = Has s.flags.0 CONSTANTS.0 → OverrideOK s.overrides_resolved m index
+-- what is required of the item at an index, where all overrides have their values or not
+abbrev pub StepOK : Settings → (resolved : Bool) → PlainModule → ModuleStep → (index : ℕ) → Type 0
+StepOK s resolved m layout index = LayoutOK (type_tree m.types index)
+StepOK s resolved m type index = TypeOK s.capabilities resolved m.types index
+StepOK s resolved m typing index = (t : Form) × HasGlobalType m index t
+StepOK s resolved m expression index = Has s.flags.0 CONSTANTS.0 → GlobalExpressionOK s.capabilities resolved m index
+StepOK s resolved m constant index = Has s.flags.0 CONSTANTS.0 → ConstantOK m index
+StepOK s resolved m override index = Has s.flags.0 CONSTANTS.0 → OverrideOK resolved m index
 
 -- each item passes
-pub record StepPasses (s : ModuleSettings) (m : PlainModule) (step : ModuleStep) : Type 0 where
-  pub each : (index : ℕ) → index < item_count m step → StepOK s m step index
+pub record StepPasses (s : Settings) (resolved : Bool) (m : PlainModule) (step : ModuleStep) : Type 0 where
+  pub each : (index : ℕ) → index < item_count m step → StepOK s resolved m step index
 
 -- The handles are in order, and each item passes each step.
-pub record ModuleOK (s : ModuleSettings) (m : PlainModule) : Type 0 where
+pub record ModuleOK (s : Settings) (resolved : Bool) (m : PlainModule) : Type 0 where
   pub handles : HandlesOK m
-  pub steps : (step : ModuleStep) → StepPasses s m step
+  pub steps : (step : ModuleStep) → StepPasses s resolved m step
 
 -- The handles are in order, and each item passes the steps before one.
-pub record IsReached (s : ModuleSettings) (m : PlainModule) (step : ModuleStep) : Type 0 where
+pub record IsReached (s : Settings) (resolved : Bool) (m : PlainModule) (step : ModuleStep) : Type 0 where
   pub handles : HandlesOK m
-  pub earlier : (other : ModuleStep) → rank other < rank step → StepPasses s m other
+  pub earlier : (other : ModuleStep) → rank other < rank step → StepPasses s resolved m other
 
 -- An item of a step does not pass it, and each before it does.
-pub record FailsFirst (s : ModuleSettings) (m : PlainModule) (step : ModuleStep) (index : ℕ) : Type 0 where
+pub record FailsFirst (s : Settings) (resolved : Bool) (m : PlainModule) (step : ModuleStep) (index : ℕ) : Type 0 where
   pub within : index < item_count m step
-  pub before : (other : ℕ) → other < index → StepOK s m step other
-  pub fails : ¬ StepOK s m step index
+  pub before : (other : ℕ) → other < index → StepOK s resolved m step other
+  pub fails : ¬ StepOK s resolved m step index
 
 -- The first step that not all items pass, and the first of them that doesn't.
-pub record IsFirstFailing (s : ModuleSettings) (m : PlainModule) (step : ModuleStep) (index : ℕ) : Type 0 where
-  pub reached : IsReached s m step
-  pub item : FailsFirst s m step index
+pub record IsFirstFailing (s : Settings) (resolved : Bool) (m : PlainModule) (step : ModuleStep) (index : ℕ) : Type 0 where
+  pub reached : IsReached s resolved m step
+  pub item : FailsFirst s resolved m step index

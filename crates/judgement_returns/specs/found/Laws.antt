@@ -1,6 +1,6 @@
 -- Where no function and no entry point has a result, it makes no difference whether missing returns are put in.
 use Rattle.std.specs.Prelude.{◌↔◌, ℕ, List, Bool}
-use Rattle.ir_flags.specs.Settings.{PlainSettings}
+use Rattle.ir_flags.specs.declared.settings.Settings.{Settings}
 use Rattle.ir_items.specs.judged.Plain.{PlainModule}
 use Rattle.ir_items.specs.judged.Returned.{IsReturned}
 use Rattle.judgement.specs.declared.finding.Finding.{Finding}
@@ -11,7 +11,7 @@ use Rattle.judgement_returns.specs.judged.Like.{HasNoResult}
 
 -- the finding is the same
 abbrev pub ReturnsKeepFinding : Type 0
-ReturnsKeepFinding = (d m : PlainModule) → HasNoResult d → IsReturned d m → (s : PlainSettings) (f : Finding) → IsFinding s d f ↔ IsFinding s m f
+ReturnsKeepFinding = (d m : PlainModule) → HasNoResult d → IsReturned d m → (s : Settings) (f : Finding) → IsFinding s d f ↔ IsFinding s m f
 
 -- the handles of the one are in order where those of the other are
 abbrev pub ReturnsKeepHandles : Type 0
@@ -21,11 +21,11 @@ ReturnsKeepHandles = (d m : PlainModule) → HasNoResult d → IsReturned d m �
 abbrev pub ReturnsKeepReport : Type 0
 ReturnsKeepReport = (d m : PlainModule) → HasNoResult d → IsReturned d m → (text : List ℕ) → IsReport d text ↔ IsReport m text
 
--- Two modules have the same finding and the same report, whether the settings require returns or not.
+-- Two modules have the same finding under all settings, and the same report.
 pub record AreJudgedAlike (p q : PlainModule) : Type 0 where
-  pub finding : (s : PlainSettings) (returns : Bool) (f : Finding) → IsFinding s p f ↔ IsFinding (record s { returns = returns }) q f
+  pub finding : (s : Settings) (f : Finding) → IsFinding s p f ↔ IsFinding s q f
   pub report : (text : List ℕ) → IsReport p text ↔ IsReport q text
 
--- Of a document without results the modules that are judged are judged alike, whether its settings require returns or not.
+-- Of a document without results the modules that are judged are judged alike, whether it requires returns or not.
 abbrev pub ReturnsDontMatter : Type 0
 ReturnsDontMatter = (d p q : PlainModule) (returns other : Bool) → HasNoResult d → IsPrepared returns d p → IsPrepared other d q → AreJudgedAlike p q

@@ -1,12 +1,12 @@
 -- What is promised of a module that is accepted, and of its report.
 use Rattle.std.specs.Prelude.{◌≡◌, ℕ, Bool, true, List, length, IsTrue, Some, slice_get}
 use Rattle.ir_flags.specs.Sets.{Has}
-use Rattle.ir_flags.specs.Settings.{PlainSettings}
 use Rattle.ir_flags.specs.declared.settings.TheConstants.ValidationFlags.{BLOCKS, EXPRESSIONS, STRUCT_LAYOUTS}
 use Rattle.ir_flags.specs.declared.stages.ShaderStages.{ShaderStages}
+use Rattle.ir_flags.specs.declared.settings.Settings.{Settings}
 use Rattle.ir_items.specs.judged.GlobalPlain.{PlainGlobal}
 use Rattle.ir_items.specs.judged.Plain.{PlainEntry, PlainModule}
-use Rattle.judgement.specs.judged.Steps.{IsPrepared, IsFinding, IsScopeStrict, function_settings}
+use Rattle.judgement.specs.judged.Steps.{IsPrepared, IsFinding, IsScopeStrict}
 use Rattle.judgement.specs.declared.finding.Finding.TheVariants.{Accepted}
 use Rattle.spec_buffers.specs.Laws.{buffer_type}
 use Rattle.spec_buffers.specs.Sound.{StrideOK, LeavesOK}
@@ -22,13 +22,13 @@ use Rattle.judgement_runs.specs.judged.Lines.{EntryIsReported, BufferIsReported,
 
 -- The stages that may run the functions of the module, each with its callees; and with these nothing is executed or introduced
 -- that the stage of the entry point may not run.
-pub record StageIsKept (s : PlainSettings) (m : PlainModule) (e : PlainEntry) : Type 0 where
+pub record StageIsKept (s : Settings) (m : PlainModule) (e : PlainEntry) : Type 0 where
   pub functions : List ShaderStages
-  pub are : AreStages (function_settings s) m functions
-  pub every : OnEveryRun m e (StagesOK s.stages functions (stage_set e.stage).0)
+  pub are : AreStages s m functions
+  pub every : OnEveryRun m e (StagesOK s.subgroup_stages functions (stage_set e.stage).0)
 
 -- What is promised of an entry point. Every run of it
-pub record EntryIsSound (returns : Bool) (s : PlainSettings) (m : PlainModule) (report : List ℕ) (number : ℕ) (e : PlainEntry) : Type 0 where
+pub record EntryIsSound (returns : Bool) (s : Settings) (m : PlainModule) (report : List ℕ) (number : ℕ) (e : PlainEntry) : Type 0 where
   -- nests calls no deeper than there are functions,
   pub depth : OnEveryRun m e (DepthOK (length m.functions))
   -- passes and returns only what is of the declared types,
@@ -57,12 +57,12 @@ pub record BufferIsSound (m : PlainModule) (report : List ℕ) (number : ℕ) (v
   pub leaves : Everywhere StrideOK (buffer_type m.types v) → LeavesOK (buffer_type m.types v)
 
 -- What is promised of a module: of each of its buffers, and of each of its entry points.
-pub record ModuleIsSound (returns : Bool) (s : PlainSettings) (m : PlainModule) (report : List ℕ) : Type 0 where
+pub record ModuleIsSound (returns : Bool) (s : Settings) (m : PlainModule) (report : List ℕ) : Type 0 where
   pub buffers : (number : ℕ) (v : PlainGlobal) → slice_get m.globals number ≡ Some v → IsTrue (is_buffer v.space) → BufferIsSound m report number v
   pub entries : (number : ℕ) (e : PlainEntry) → slice_get m.entries number ≡ Some e → EntryIsSound returns s m report number e
 
 -- The flags that the promises rest on: layouts, bodies and expressions are checked.
-pub record AreChecked (s : PlainSettings) : Type 0 where
+pub record AreChecked (s : Settings) : Type 0 where
   pub layouts : Has s.flags.0 STRUCT_LAYOUTS.0
   pub blocks : Has s.flags.0 BLOCKS.0
   pub expressions : Has s.flags.0 EXPRESSIONS.0
@@ -70,12 +70,12 @@ pub record AreChecked (s : PlainSettings) : Type 0 where
 -- A module that is judged, d with returns put in first where that is required, is sound where it is accepted under these flags.
 abbrev pub AcceptedIsSound : Type 0
 AcceptedIsSound =
-    (returns : Bool) (s : PlainSettings) (d m : PlainModule) (strict : Bool) → IsPrepared returns d m → IsFinding s m (Accepted strict) → AreChecked s
+    (returns : Bool) (s : Settings) (d m : PlainModule) (strict : Bool) → IsPrepared returns d m → IsFinding s m (Accepted strict) → AreChecked s
     → (report : List ℕ) → IsReport m report → ModuleIsSound returns s m report
 
 -- If the module is accepted under these flags, no run of an entry point of it nests calls deeper than this.
 abbrev pub BoundsDepth : PlainModule → (most : ℕ) → Type 0
-BoundsDepth m most = (s : PlainSettings) (strict : Bool) → IsFinding s m (Accepted strict) → AreChecked s → (number : ℕ) (e : PlainEntry) → slice_get m.entries number ≡ Some e → OnEveryRun m e (DepthOK most)
+BoundsDepth m most = (s : Settings) (strict : Bool) → IsFinding s m (Accepted strict) → AreChecked s → (number : ℕ) (e : PlainEntry) → slice_get m.entries number ≡ Some e → OnEveryRun m e (DepthOK most)
 
 -- the number of its functions is such a bound
 abbrev pub FunctionsBoundDepth : Type 0

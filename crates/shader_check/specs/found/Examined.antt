@@ -1,17 +1,20 @@
 -- What is found of a document, with the error where its module is refused.
 use Rattle.std.specs.Prelude.{◌≡◌, ◌↔◌, ◌⊎◌, ℕ, Bool, List, [], false, IsTrue}
+use Rattle.ir_flags.specs.declared.settings.Settings.{Settings}
 use Rattle.document_reader.specs.judged.Plain.{PlainDocument}
 use Rattle.typing_errors.specs.declared.const_expressions.ConstExpressionError.{ConstExpressionError}
 use Rattle.typing_errors.specs.declared.const_expressions.ConstExpressionError.TheVariants as constant
 use Rattle.shader_check.specs.found.Validated.{IsValidated, IsValidationFault}
 use Rattle.check_errors.specs.declared.error.ValidationError.{ValidationError}
 use Rattle.check_errors.specs.declared.error.ValidationError.TheVariants as error
-use Rattle.ir_flags.specs.Settings.{PlainSettings}
+use Rattle.ir_faults.specs.Faults.{error_of}
+use Rattle.ir_faults.specs.declared.refusal.Refusal.{Refusal}
+use Rattle.ir_faults.specs.declared.refusal.Refusal.TheVariants as refusal
 use Rattle.ir_items.specs.found.Copies.{spanned_module}
 use Rattle.ir_items.specs.judged.Plain.{PlainModule}
 use Rattle.ir_items.specs.found.View.{module_view}
 use Rattle.ir_items.specs.declared.module.Module.{Module}
-use Rattle.judgement.specs.judged.Steps.{IsPrepared, IsScopeStrict, function_settings}
+use Rattle.judgement.specs.judged.Steps.{IsPrepared, IsScopeStrict}
 use Rattle.judgement.specs.declared.finding.Finding.{Finding}
 use Rattle.judgement.specs.declared.finding.Finding.TheVariants.{Accepted, RefusedDocument, RefusedHandles, Refused}
 use Rattle.judgement.specs.declared.finding.Step.{Step}
@@ -53,14 +56,20 @@ abbrev pub finding_in : Examined → Finding
 finding_in (examined.Accepted strict info) = Accepted strict
 finding_in (examined.Refused e) = refused_by e
 
--- The module is accepted, and this is kept of it, where scope was checked strictly or was not; or this is wrong with it: what the error tells.
-abbrev pub IsExamined : PlainSettings → PlainModule → Examined → Type 0
-IsExamined s m (examined.Accepted strict info) = IsValidated (function_settings s) false m info × (IsTrue strict ↔ IsScopeStrict s.flags)
-IsExamined s m (examined.Refused e) = IsValidationFault (function_settings s) false m e
+-- the module is refused, for what a refusal says is wrong
+abbrev pub IsRefusedSo : Refusal ValidationError → Examined → Type 0
+IsRefusedSo (refusal.Memory e) x = ⊥
+IsRefusedSo (refusal.Fault f) (examined.Accepted strict info) = ⊥
+IsRefusedSo (refusal.Fault f) (examined.Refused e) = e ≡ error_of f
 
--- This is found of m, the document's module with returns put in where its settings require them.
+-- The module is accepted, and this is kept of it, where scope was checked strictly or was not; or this is wrong with it: what the error tells.
+abbrev pub IsExamined : Settings → PlainModule → Examined → Type 0
+IsExamined s m (examined.Accepted strict info) = IsValidated s false m info × (IsTrue strict ↔ IsScopeStrict s.flags)
+IsExamined s m (examined.Refused e) = IsValidationFault s false m e
+
+-- This is found of m, the document's module with returns put in where it requires them.
 pub record IsExaminedDocument (d : PlainDocument) (m : PlainModule) (x : Examined) : Type 0 where
-  pub prepared : IsPrepared d.settings.returns d.content m
+  pub prepared : IsPrepared d.returns d.content m
   pub examined : IsExamined d.settings m x
 
 -- What is left of a module m where memory runs out: m with its spans, or m with returns put in where that is required.

@@ -1,16 +1,16 @@
 -- What validators with the same settings answer of one module.
 use Rattle.std.specs.Prelude.{◌≡◌, Bool}
+use Rattle.ir_flags.specs.declared.settings.Settings.{Settings}
 use Rattle.ir_items.specs.judged.Plain.{PlainModule}
 use Rattle.typing_infos.specs.declared.info.ModuleInfo.{ModuleInfo}
 use Rattle.shader_check.specs.found.Examined.{refused_by}
 use Rattle.shader_check.specs.found.Validated.{IsValidated, IsValidationFault}
 use Rattle.check_errors.specs.declared.error.ValidationError.{ValidationError}
-use Rattle.spec_statements.specs.judged.Functions.{FunctionSettings}
 
 -- no module is accepted and refused, and all its faults are at one step and one item
-pub record AreAlike (resolved : Bool) (s : FunctionSettings) (m : PlainModule) : Type 0 where
+pub record AreAlike (resolved : Bool) (s : Settings) (m : PlainModule) : Type 0 where
   pub one_verdict : (info : ModuleInfo) (e : ValidationError) → IsValidated s resolved m info → IsValidationFault s resolved m e → ⊥
   pub one_item : (d e : ValidationError) → IsValidationFault s resolved m d → IsValidationFault s resolved m e → refused_by d ≡ refused_by e
 
 abbrev pub AnswersAreAlike : (resolved : Bool) → Type 0
-AnswersAreAlike resolved = (s : FunctionSettings) (m : PlainModule) → AreAlike resolved s m
+AnswersAreAlike resolved = (s : Settings) (m : PlainModule) → AreAlike resolved s m

@@ -1,5 +1,5 @@
 -- What is said of the functions of a module that are judged one after the other.
-use Rattle.std.specs.Prelude.{◌≡◌, ◌<◌, ◌↔◌, ℕ, [], List, length, Option, Some, slice_get}
+use Rattle.std.specs.Prelude.{◌≡◌, ◌<◌, ◌↔◌, ℕ, false, [], List, length, Option, Some, slice_get}
 use Rattle.typing_errors.specs.declared.error.FunctionError.{FunctionError}
 use Rattle.function_validator.specs.Faults.{IsFunctionFault}
 use Rattle.function_interface.specs.Analysis.{Faults}
@@ -11,12 +11,12 @@ use Rattle.ir_faults.specs.declared.refusal.Refusal.TheVariants as refusal
 use Rattle.ir_flags.specs.Sets.{Has}
 use Rattle.ir_flags.specs.declared.settings.ValidationFlags.{ValidationFlags}
 use Rattle.ir_flags.specs.declared.stages.ShaderStages.{ShaderStages}
+use Rattle.ir_flags.specs.declared.settings.Settings.{Settings}
 use Rattle.ir_items.specs.judged.Plain.{PlainFunction, PlainModule}
 use Rattle.spec_analysis.specs.judged.Summaries.{Summary, CalleesKnown, AreSummaries}
 use Rattle.spec_statements.specs.judged.ExpressionStages.{all_stages}
-use Rattle.spec_statements.specs.judged.ModuleFunctions.{settings_with}
 use Rattle.spec_statements.specs.judged.EarlierPayloads.{IsPayloadBefore}
-use Rattle.spec_statements.specs.judged.Functions.{Reading, FunctionSettings, FunctionOK, AllowsStage}
+use Rattle.spec_statements.specs.judged.Functions.{Reading, FunctionOK, AllowsStage}
 
 -- What is known where the function at an index is judged: what its callees have over their chains, the stages of the functions
 -- before it, and the type of the payloads before it.
@@ -28,38 +28,38 @@ pub record Preceding (flags : ValidationFlags) (m : PlainModule) (index : ℕ) (
   pub before : IsPayloadBefore flags m index held
 
 -- The function at an index meets the rules of functions, read with what is known there.
-pub record IsAcceptedAt (reading : Question → Reading) (s : FunctionSettings) (m : PlainModule) (index : ℕ) : Type 0 where
+pub record IsAcceptedAt (reading : Question → Reading) (s : Settings) (m : PlainModule) (index : ℕ) : Type 0 where
   pub function : PlainFunction
   pub at : slice_get m.functions index ≡ Some function
   pub given : Preceding s.flags m index function
-  pub ok : FunctionOK (reading (question m function given.summaries given.stages)) (settings_with s given.held) m function
+  pub ok : FunctionOK (reading (question m function given.summaries given.stages)) s false given.held m function
 
 -- It does not, and this is wrong with it.
-pub record IsRefusedAt (reading : Question → Reading) (faults : Question → Faults) (s : FunctionSettings) (m : PlainModule) (index : ℕ) (e : FunctionError) : Type 0 where
+pub record IsRefusedAt (reading : Question → Reading) (faults : Question → Faults) (s : Settings) (m : PlainModule) (index : ℕ) (e : FunctionError) : Type 0 where
   pub function : PlainFunction
   pub at : slice_get m.functions index ≡ Some function
   pub given : Preceding s.flags m index function
-  pub refused : FunctionOK (reading (question m function given.summaries given.stages)) (settings_with s given.held) m function → ⊥
-  pub fault : IsFunctionFault (reading (question m function given.summaries given.stages)) (faults (question m function given.summaries given.stages)) (settings_with s given.held) m function e
+  pub refused : FunctionOK (reading (question m function given.summaries given.stages)) s false given.held m function → ⊥
+  pub fault : IsFunctionFault (reading (question m function given.summaries given.stages)) (faults (question m function given.summaries given.stages)) s false given.held m function e
 
 -- These stages may run the function at an index, with what is known there; those of the functions before it are the first of
 -- a list.
-pub record IsNotedAt (reading : Question → Reading) (s : FunctionSettings) (m : PlainModule) (noted : List ShaderStages) (index : ℕ) (own : ShaderStages) : Type 0 where
+pub record IsNotedAt (reading : Question → Reading) (s : Settings) (m : PlainModule) (noted : List ShaderStages) (index : ℕ) (own : ShaderStages) : Type 0 where
   pub function : PlainFunction
   pub at : slice_get m.functions index ≡ Some function
   pub given : Preceding s.flags m index function
   pub many : length given.stages ≡ index
   pub same : (earlier : ℕ) → earlier < index → slice_get given.stages earlier ≡ slice_get noted earlier
   pub exact : (stage : ℕ) → Has own.0 stage
-      ↔ (Has all_stages.0 stage × AllowsStage (reading (question m function given.summaries given.stages)) (settings_with s given.held) given.stages function stage)
+      ↔ (Has all_stages.0 stage × AllowsStage (reading (question m function given.summaries given.stages)) s given.stages function stage)
 
 -- each of the list is noted so of the function at its place
-abbrev pub AreNoted : (Question → Reading) → FunctionSettings → PlainModule → List ShaderStages → Type 0
+abbrev pub AreNoted : (Question → Reading) → Settings → PlainModule → List ShaderStages → Type 0
 AreNoted reading s m noted = (index : ℕ) (own : ShaderStages) → slice_get noted index ≡ Some own → IsNotedAt reading s m noted index own
 
 -- The first so many functions are accepted; these summaries are theirs, these stages may run them, and this type of payloads is
 -- kept after them.
-pub record AreJudged (reading : Question → Reading) (s : FunctionSettings) (m : PlainModule) (count : ℕ) (summaries : List Summary) (noted : List ShaderStages) (held : Option ℕ) : Type 0 where
+pub record AreJudged (reading : Question → Reading) (s : Settings) (m : PlainModule) (count : ℕ) (summaries : List Summary) (noted : List ShaderStages) (held : Option ℕ) : Type 0 where
   pub accepted : (index : ℕ) → index < count → IsAcceptedAt reading s m index
   pub many : length summaries ≡ count
   pub stages : AreNoted reading s m noted
@@ -68,7 +68,7 @@ pub record AreJudged (reading : Question → Reading) (s : FunctionSettings) (m 
   pub payloads : IsPayloadBefore s.flags m count held
 
 -- The function is refused for this, and each before it is accepted.
-pub record IsFirstRefused (reading : Question → Reading) (faults : Question → Faults) (s : FunctionSettings) (m : PlainModule) (e : InvalidFunction) : Type 0 where
+pub record IsFirstRefused (reading : Question → Reading) (faults : Question → Faults) (s : Settings) (m : PlainModule) (e : InvalidFunction) : Type 0 where
   pub before : (index : ℕ) → index < e.function → IsAcceptedAt reading s m index
   pub here : IsRefusedAt reading faults s m e.function e.error
 
@@ -80,6 +80,6 @@ IsReportedAt handle (refusal.Fault f) (refusal.Memory d) = ⊥
 IsReportedAt handle (refusal.Fault f) (refusal.Fault g) = ((error_of g).function ≡ handle) × ((error_of g).error ≡ error_of f) × (spans_of g ≡ [])
 
 -- memory ran out, or the first function that is refused is reported
-abbrev pub IsRefusal : (Question → Reading) → (Question → Faults) → FunctionSettings → PlainModule → Refusal InvalidFunction → Type 0
+abbrev pub IsRefusal : (Question → Reading) → (Question → Faults) → Settings → PlainModule → Refusal InvalidFunction → Type 0
 IsRefusal reading faults s m (refusal.Memory e) = Unit {0}
 IsRefusal reading faults s m (refusal.Fault e) = IsFirstRefused reading faults s m (error_of e) × (spans_of e ≡ [])

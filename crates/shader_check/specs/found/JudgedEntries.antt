@@ -11,34 +11,35 @@ use Rattle.ir_faults.specs.Faults.{error_of, spans_of}
 use Rattle.ir_faults.specs.declared.refusal.Refusal.{Refusal}
 use Rattle.ir_faults.specs.declared.refusal.Refusal.TheVariants as refusal
 use Rattle.ir_flags.specs.declared.stages.ShaderStages.{ShaderStages}
+use Rattle.ir_flags.specs.declared.settings.Settings.{Settings}
 use Rattle.ir_items.specs.judged.Plain.{PlainEntry, PlainModule}
 use Rattle.spec_analysis.specs.judged.Chains.{HasUse}
 use Rattle.spec_analysis.specs.judged.Summaries.{Summary}
 use Rattle.spec_interface.specs.judged.Entries.{EntryOK}
 use Rattle.spec_interface.specs.judged.EarlierPayloads.{IsPayloadBeforeEntry}
-use Rattle.spec_interface.specs.judged.Modules.{IsConflict, entry_settings}
-use Rattle.spec_statements.specs.judged.Functions.{Reading, FunctionSettings}
+use Rattle.spec_interface.specs.judged.EntryNames.{IsConflict}
+use Rattle.spec_statements.specs.judged.Functions.{Reading}
 
 -- what is read of an entry point's function, where these are the summaries of the module's functions and these stages may run them
 abbrev pub reading_at : (Question → Reading) → PlainModule → List Summary → List ShaderStages → PlainEntry → Reading
 reading_at reading m summaries stages e = reading (question m e.function summaries stages)
 
 -- The entry point at an index meets the rules of entry points, read so, and none before it has its stage and its name.
-pub record IsEntryAcceptedAt (reading : Question → Reading) (s : FunctionSettings) (m : PlainModule) (summaries : List Summary) (stages : List ShaderStages) (index : ℕ) : Type 0 where
+pub record IsEntryAcceptedAt (reading : Question → Reading) (s : Settings) (m : PlainModule) (summaries : List Summary) (stages : List ShaderStages) (index : ℕ) : Type 0 where
   pub entry : PlainEntry
   pub at : slice_get m.entries index ≡ Some entry
   pub held : Option ℕ
   pub before : IsPayloadBeforeEntry s.flags m index held
   pub apart : ¬ IsConflict m index entry
-  pub ok : EntryOK (reading_at reading m summaries stages entry) stages (HasUse m entry.function) (entry_settings s held) m entry
+  pub ok : EntryOK (reading_at reading m summaries stages entry) stages (HasUse m entry.function) s held m entry
 
 -- An earlier one has its stage and its name, or it does not meet the rules: this is wrong with it.
-pub data IsWrong (reading : Question → Reading) (faults : Question → Faults) (s : FunctionSettings) (m : PlainModule) (summaries : List Summary) (stages : List ShaderStages) (index : ℕ) (e : PlainEntry) (held : Option ℕ) : EntryPointError → Type 0 where
+pub data IsWrong (reading : Question → Reading) (faults : Question → Faults) (s : Settings) (m : PlainModule) (summaries : List Summary) (stages : List ShaderStages) (index : ℕ) (e : PlainEntry) (held : Option ℕ) : EntryPointError → Type 0 where
   conflicting : IsConflict m index e → IsWrong reading faults s m summaries stages index e held Conflict
-  unaccepted : {x : EntryPointError} → IsRefusedAs (reading_at reading m summaries stages e) (faults (question m e.function summaries stages)) stages (HasUse m e.function) (entry_settings s held) m e x
+  unaccepted : {x : EntryPointError} → IsRefusedAs (reading_at reading m summaries stages e) (faults (question m e.function summaries stages)) stages (HasUse m e.function) s held m e x
       → IsWrong reading faults s m summaries stages index e held x
 
-pub record IsEntryRefusedAt (reading : Question → Reading) (faults : Question → Faults) (s : FunctionSettings) (m : PlainModule) (summaries : List Summary) (stages : List ShaderStages) (index : ℕ) (x : EntryPointError) : Type 0 where
+pub record IsEntryRefusedAt (reading : Question → Reading) (faults : Question → Faults) (s : Settings) (m : PlainModule) (summaries : List Summary) (stages : List ShaderStages) (index : ℕ) (x : EntryPointError) : Type 0 where
   pub entry : PlainEntry
   pub at : slice_get m.entries index ≡ Some entry
   pub held : Option ℕ
@@ -57,12 +58,12 @@ abbrev pub note_of : {Info : Type 0} → (Info → ShaderStages) → (Info → B
 note_of noted blending i = (noted i, blending i)
 
 -- this is noted of the functions of the first entry points
-abbrev pub AreEntryNotes : (PlainEntry → Reading) → FunctionSettings → PlainModule → List ShaderStages → List Note → Type 0
+abbrev pub AreEntryNotes : (PlainEntry → Reading) → Settings → PlainModule → List ShaderStages → List Note → Type 0
 AreEntryNotes reading s m stages notes = (index : ℕ) (e : PlainEntry) (n : Note) → slice_get m.entries index ≡ Some e → slice_get notes index ≡ Some n → IsEntryNoted (reading e) stages s m e n.0 n.1
 
 -- The first so many entry points are accepted; these summaries are theirs, this is noted of them, and this type of payloads is kept
 -- after them.
-pub record AreEntriesJudged (reading : Question → Reading) (s : FunctionSettings) (m : PlainModule) (summaries : List Summary) (stages : List ShaderStages) (count : ℕ) (kept : List Summary) (notes : List Note) (held : Option ℕ) : Type 0 where
+pub record AreEntriesJudged (reading : Question → Reading) (s : Settings) (m : PlainModule) (summaries : List Summary) (stages : List ShaderStages) (count : ℕ) (kept : List Summary) (notes : List Note) (held : Option ℕ) : Type 0 where
   pub accepted : (index : ℕ) → index < count → IsEntryAcceptedAt reading s m summaries stages index
   pub many : length kept ≡ count
   pub known : AreEntrySummaries m kept
@@ -71,7 +72,7 @@ pub record AreEntriesJudged (reading : Question → Reading) (s : FunctionSettin
   pub payloads : IsPayloadBeforeEntry s.flags m count held
 
 -- The entry point is refused for this, and each before it is accepted.
-pub record IsFirstEntryRefused (reading : Question → Reading) (faults : Question → Faults) (s : FunctionSettings) (m : PlainModule) (summaries : List Summary) (stages : List ShaderStages) (e : InvalidEntryPoint) : Type 0 where
+pub record IsFirstEntryRefused (reading : Question → Reading) (faults : Question → Faults) (s : Settings) (m : PlainModule) (summaries : List Summary) (stages : List ShaderStages) (e : InvalidEntryPoint) : Type 0 where
   pub before : (index : ℕ) → index < e.index → IsEntryAcceptedAt reading s m summaries stages index
   pub here : IsEntryRefusedAt reading faults s m summaries stages e.index e.error
 
@@ -88,6 +89,6 @@ IsConflictReported index conflict (refusal.Memory e) = Unit {0}
 IsConflictReported index conflict (refusal.Fault g) = conflict × ((error_of g).index ≡ index) × ((error_of g).error ≡ Conflict) × (spans_of g ≡ [])
 
 -- memory ran out, or the first entry point that is refused is reported
-abbrev pub IsEntryRefusal : (Question → Reading) → (Question → Faults) → FunctionSettings → PlainModule → List Summary → List ShaderStages → Refusal InvalidEntryPoint → Type 0
+abbrev pub IsEntryRefusal : (Question → Reading) → (Question → Faults) → Settings → PlainModule → List Summary → List ShaderStages → Refusal InvalidEntryPoint → Type 0
 IsEntryRefusal reading faults s m summaries stages (refusal.Memory e) = Unit {0}
 IsEntryRefusal reading faults s m summaries stages (refusal.Fault e) = IsFirstEntryRefused reading faults s m summaries stages (error_of e) × (spans_of e ≡ [])

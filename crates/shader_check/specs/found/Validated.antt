@@ -11,6 +11,7 @@ use Rattle.ir_faults.specs.Faults.{error_of, spans_of}
 use Rattle.ir_faults.specs.declared.refusal.Refusal.{Refusal}
 use Rattle.ir_faults.specs.declared.refusal.Refusal.TheVariants as refusal
 use Rattle.ir_flags.specs.declared.stages.ShaderStages.{ShaderStages}
+use Rattle.ir_flags.specs.declared.settings.Settings.{Settings}
 use Rattle.ir_items.specs.judged.Plain.{PlainModule}
 use Rattle.typing_infos.specs.declared.info.ModuleInfo.{ModuleInfo}
 use Rattle.module_types.specs.Validated.{AreAccepted}
@@ -24,17 +25,11 @@ use Rattle.spec_expressions.specs.judged.Context.{outside}
 use Rattle.spec_statements.specs.judged.ModuleFunctions.{reading_over, FunctionsOK}
 use Rattle.spec_interface.specs.judged.Globals.{GlobalsOK}
 use Rattle.judgement.specs.judged.ModuleSteps.{ModuleOK}
-use Rattle.judgement.specs.declared.settings.ModuleSettings.{ModuleSettings}
-use Rattle.spec_statements.specs.judged.Functions.{FunctionSettings}
 use Rattle.typing_expressions.specs.Types.{AreTypes}
 use Rattle.typing_layout.specs.found.Held.{AreLayouts}
 
--- by what the steps up to overrides are judged
-abbrev pub module_settings : FunctionSettings → (resolved : Bool) → ModuleSettings
-module_settings s resolved = record { flags = s.flags; capabilities = s.capabilities; overrides_resolved = resolved }
-
 -- All entry points are accepted, and these are their summaries.
-pub record AreEntriesKept (s : FunctionSettings) (m : PlainModule) (kept : List Summary) : Type 0 where
+pub record AreEntriesKept (s : Settings) (m : PlainModule) (kept : List Summary) : Type 0 where
   pub accepted : EntriesOK s m
   pub many : length kept ≡ length m.entries
   pub known : AreEntrySummaries m kept
@@ -45,14 +40,14 @@ stages_of i = i.available_stages
 
 -- What is noted of functions and of entry points: which stages may run each of them, with the functions that it calls, and whether
 -- an entry point answers two sources of a blend.
-pub record AreNoted (s : FunctionSettings) (m : PlainModule) (functions entries : List FunctionInfo) : Type 0 where
+pub record AreNoted (s : Settings) (m : PlainModule) (functions entries : List FunctionInfo) : Type 0 where
   pub run : AreStages s m (map stages_of functions)
   pub counted : length entries ≡ length m.entries
   pub entries_noted : AreEntryNotes (λ e. reading_over (map stages_of functions) m e.function) s m (map stages_of functions) (map (note_of stages_of (λ i. i.dual_source_blending)) entries)
 
 -- All steps accept the module, and this is kept of it.
-pub record IsValidated (s : FunctionSettings) (resolved : Bool) (m : PlainModule) (info : ModuleInfo) : Type 0 where
-  pub ok : ModuleOK (module_settings s resolved) m
+pub record IsValidated (s : Settings) (resolved : Bool) (m : PlainModule) (info : ModuleInfo) : Type 0 where
+  pub ok : ModuleOK s resolved m
   pub globals : GlobalsOK s.flags s.capabilities m
   pub functions : AreKept s m (map summary_of info.functions.items)
   pub entries : AreEntriesKept s m (map summary_of info.entry_points.items)
@@ -63,7 +58,7 @@ pub record IsValidated (s : FunctionSettings) (resolved : Bool) (m : PlainModule
   pub expressions : AreTypes (outside m) m.global_expressions info.const_expression_types.items
 
 -- It is the first entry point that is not accepted, and this is wrong with it.
-pub record IsEntryFault (s : FunctionSettings) (m : PlainModule) (e : InvalidEntryPoint) : Type 0 where
+pub record IsEntryFault (s : Settings) (m : PlainModule) (e : InvalidEntryPoint) : Type 0 where
   pub first : entries.IsFirstFailing s m e.index
   pub summaries : List Summary
   pub many : length summaries ≡ length m.functions
@@ -74,11 +69,11 @@ pub record IsEntryFault (s : FunctionSettings) (m : PlainModule) (e : InvalidEnt
 
 -- Each error stands where its step is the first that fails, at the first item that fails it, which has the fault that the
 -- error tells.
-abbrev pub IsValidationFault : FunctionSettings → (resolved : Bool) → PlainModule → ValidationError → Type 0
-IsValidationFault s resolved m (error.Module e) = IsModuleFault (module_settings s resolved) m e
-IsValidationFault s resolved m (error.GlobalVariable e) = ModuleOK (module_settings s resolved) m × IsVariableFault s.flags s.capabilities m e
-IsValidationFault s resolved m (error.Function e) = ModuleOK (module_settings s resolved) m × GlobalsOK s.flags s.capabilities m × IsFunctionFault s m e
-IsValidationFault s resolved m (error.EntryPoint e) = ModuleOK (module_settings s resolved) m × GlobalsOK s.flags s.capabilities m × FunctionsOK s m × IsEntryFault s m e
+abbrev pub IsValidationFault : Settings → (resolved : Bool) → PlainModule → ValidationError → Type 0
+IsValidationFault s resolved m (error.Module e) = IsModuleFault s resolved m e
+IsValidationFault s resolved m (error.GlobalVariable e) = ModuleOK s resolved m × IsVariableFault s.flags s.capabilities m e
+IsValidationFault s resolved m (error.Function e) = ModuleOK s resolved m × GlobalsOK s.flags s.capabilities m × IsFunctionFault s m e
+IsValidationFault s resolved m (error.EntryPoint e) = ModuleOK s resolved m × GlobalsOK s.flags s.capabilities m × FunctionsOK s m × IsEntryFault s m e
 
 -- memory ran out, or this is reported, with no span
 abbrev pub IsRefusedWith : {E : Type 0} → (E → Type 0) → Refusal E → Type 0
@@ -88,7 +83,7 @@ IsRefusedWith IsFault (refusal.Fault e) = IsFault (error_of e) × (spans_of e �
 -- ---- after the global variables
 
 -- The functions and the entry points are accepted; this is kept of them, and else what was kept before.
-pub record IsKeptWith (s : FunctionSettings) (m : PlainModule) (before info : ModuleInfo) : Type 0 where
+pub record IsKeptWith (s : Settings) (m : PlainModule) (before info : ModuleInfo) : Type 0 where
   pub functions : AreKept s m (map summary_of info.functions.items)
   pub entries : AreEntriesKept s m (map summary_of info.entry_points.items)
   pub noted : AreNoted s m info.functions.items info.entry_points.items
@@ -96,7 +91,7 @@ pub record IsKeptWith (s : FunctionSettings) (m : PlainModule) (before info : Mo
   pub layouts : info.layouter ≡ before.layouter
   pub expressions : info.const_expression_types ≡ before.const_expression_types
 
-abbrev pub IsFaultAfter : FunctionSettings → PlainModule → ValidationError → Type 0
+abbrev pub IsFaultAfter : Settings → PlainModule → ValidationError → Type 0
 IsFaultAfter s m (error.Module e) = ⊥
 IsFaultAfter s m (error.GlobalVariable e) = ⊥
 IsFaultAfter s m (error.Function e) = IsFunctionFault s m e

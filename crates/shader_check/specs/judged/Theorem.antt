@@ -28,10 +28,10 @@ use Rattle.shader_check.specs.declared.check.Fault.TheVariants.{Memory, Read, Wr
 
 -- ---- what is found
 
--- This is found of the document's module, with returns put in where its settings require them.
+-- This is found of the document's module, with returns put in where it requires them.
 pub record FindsIn (d : PlainDocument) (f : Finding) : Type 0 where
   pub judged : PlainModule
-  pub prepared : IsPrepared d.settings.returns d.content judged
+  pub prepared : IsPrepared d.returns d.content judged
   pub finding : IsFinding d.settings judged f
 
 -- The bytes spell a document of which this is found.
@@ -56,10 +56,10 @@ Judged bytes (finding.Refused step index) = Finds bytes (finding.Refused step in
 
 -- ---- what is reported
 
--- It is the report on the document's module, with returns put in where its settings require them.
+-- It is the report on the document's module, with returns put in where it requires them.
 pub record IsReportOn (d : PlainDocument) (report : List ℕ) : Type 0 where
   pub judged : PlainModule
-  pub prepared : IsPrepared d.settings.returns d.content judged
+  pub prepared : IsPrepared d.returns d.content judged
   pub is : IsReport judged report
 
 -- what is reported of a document after the line of what is found: nothing, but the report where it is accepted
@@ -100,9 +100,9 @@ SomeText = (bytes : List ℕ) → ¬ ((text : List ℕ) → ¬ IsExpected bytes 
 
 -- ---- with missing returns put in and without
 
--- the document, whose settings require missing returns to be put in or do not
+-- the document, where missing returns are to be put in or are not
 abbrev pub with_returns : PlainDocument → Bool → PlainDocument
-with_returns d returns = record d { settings = record d.settings { returns = returns } }
+with_returns d returns = record d { returns = returns }
 
 -- The text says what is found of the document, and where it is accepted goes on with the report on it.
 pub record IsTextOn (d : PlainDocument) (text : List ℕ) : Type 0 where
@@ -112,8 +112,8 @@ pub record IsTextOn (d : PlainDocument) (text : List ℕ) : Type 0 where
   pub told : IsReportedOf d finding behind
   pub text_is : text ≡ text_of finding ++ behind
 
--- Where the bytes spell a document in which no function and no entry point has a result, the text is that on the document whether its
--- settings require missing returns to be put in or not.
+-- Where the bytes spell a document in which no function and no entry point has a result, the text is that on the document whether
+-- missing returns are to be put in or not.
 abbrev pub IsTextWithoutResults : (bytes text : List ℕ) → Type 0
 IsTextWithoutResults bytes text = (d : PlainDocument) → Reads bytes d → HasNoResult d.content → (returns : Bool) → IsTextOn (with_returns d returns) text
 
@@ -128,9 +128,9 @@ pub record SoundText (bytes text : List ℕ) : Type 0 where
   -- The document,
   pub document : PlainDocument
   pub reads : Reads bytes document
-  -- whose module, with returns put in where its settings require them, is judged
+  -- whose module, with returns put in where it requires them, is judged
   pub judged : PlainModule
-  pub prepared : IsPrepared document.settings.returns document.content judged
+  pub prepared : IsPrepared document.returns document.content judged
   -- and accepted, its scope checked strictly or not.
   pub strict : Bool
   pub accepted : IsFinding document.settings judged (finding.Accepted strict)
@@ -140,7 +140,7 @@ pub record SoundText (bytes text : List ℕ) : Type 0 where
   pub text_is : text ≡ text_of (finding.Accepted strict) ++ report
   -- Where layouts, bodies and expressions are checked, what lies in each buffer is in order, and every run of each entry point is good,
   -- with what it names and samples reported by lines of this report.
-  pub sound : AreChecked document.settings → ModuleIsSound document.settings.returns document.settings judged report
+  pub sound : AreChecked document.settings → ModuleIsSound document.returns document.settings judged report
   -- The lines of an entry point are those in the report on every module that differs only in functions which it doesn't reach.
   pub local : (number : ℕ) (e : PlainEntry) → slice_get judged.entries number ≡ Some e → EntryIsLocal judged report number e
   -- Where no function and no entry point has a result, the text is the same whether missing returns are put in or not.

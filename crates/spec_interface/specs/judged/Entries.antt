@@ -1,8 +1,9 @@
 -- What is required of an entry point.
-use Rattle.std.specs.Prelude.{ℕ, List, IfSome}
+use Rattle.std.specs.Prelude.{ℕ, List, true, Option, IfSome}
 use Rattle.ir_flags.specs.declared.settings.Capabilities.{Capabilities}
 use Rattle.ir_flags.specs.declared.settings.ValidationFlags.{ValidationFlags}
 use Rattle.ir_flags.specs.declared.stages.ShaderStages.{ShaderStages}
+use Rattle.ir_flags.specs.declared.settings.Settings.{Settings}
 use Rattle.ir_items.specs.judged.Plain.{PlainEntry, PlainModule}
 use Rattle.spec_interface.specs.judged.Meshes.{MeshOK}
 use Rattle.spec_interface.specs.judged.Payloads.{PayloadOK}
@@ -10,7 +11,7 @@ use Rattle.spec_interface.specs.judged.Results.{AnswerOK}
 use Rattle.spec_interface.specs.judged.Stages.{StageOK}
 use Rattle.spec_interface.specs.judged.Uses.{EntryUses}
 use Rattle.spec_interface.specs.judged.Variables.{VariablesOK}
-use Rattle.spec_statements.specs.judged.Functions.{Reading, FunctionSettings, FunctionOK, AllowsStage}
+use Rattle.spec_statements.specs.judged.Functions.{Reading, FunctionOK, AllowsStage}
 use Rattle.spec_interface.specs.judged.Contexts.{stage_set}
 use Rattle.spec_interface.specs.judged.Varyings.{ArgumentsOK, ResultOK}
 
@@ -24,10 +25,10 @@ pub record ConnectionsOK (flags : ValidationFlags) (capabilities : Capabilities)
   pub mesh : IfSome e.mesh (MeshOK flags capabilities m e)
 
 -- The entry point meets the rules of its stage, its function those of functions, where a lower layer says this of it, these stages
--- may run its callees, and the function uses global variables in this way.
-pub record EntryOK (reading : Reading) (callees : List ShaderStages) (Uses : ℕ → ℕ → Type 0) (s : FunctionSettings) (m : PlainModule) (e : PlainEntry) : Type 0 where
+-- may run its callees, the function uses global variables in this way, and those before have this payload type.
+pub record EntryOK (reading : Reading) (callees : List ShaderStages) (Uses : ℕ → ℕ → Type 0) (s : Settings) (held : Option ℕ) (m : PlainModule) (e : PlainEntry) : Type 0 where
   pub stage : StageOK s.capabilities e
-  pub function : FunctionOK reading s m e.function
+  pub function : FunctionOK reading s true held m e.function
   pub payload : PayloadOK m e
   pub runs : AllowsStage reading s callees e.function (stage_set e.stage).0
   pub connections : ConnectionsOK s.flags s.capabilities m e (EntryUses e Uses)

@@ -1,43 +1,30 @@
 -- When the entry points of a module are accepted.
-use Rattle.std.specs.Prelude.{◌≡◌, ◌<◌, ◌↔◌, ℕ, List, true, Option, Some, length, slice_get}
+use Rattle.std.specs.Prelude.{◌≡◌, ◌<◌, ◌↔◌, ℕ, List, Option, Some, length, slice_get}
 use Rattle.ir_flags.specs.Sets.{Has}
 use Rattle.ir_flags.specs.declared.stages.ShaderStages.{ShaderStages}
+use Rattle.ir_flags.specs.declared.settings.Settings.{Settings}
 use Rattle.ir_items.specs.judged.Plain.{PlainEntry, PlainFunction, PlainModule}
 use Rattle.spec_analysis.specs.judged.Chains.{HasUse}
 use Rattle.spec_interface.specs.judged.Entries.{EntryOK}
 use Rattle.spec_interface.specs.judged.EarlierPayloads.{IsPayloadBeforeEntry}
+use Rattle.spec_interface.specs.judged.EntryNames.{IsConflict}
 use Rattle.spec_statements.specs.judged.ModuleFunctions.{reading_over}
 use Rattle.spec_statements.specs.judged.ExpressionStages.{all_stages}
-use Rattle.spec_statements.specs.judged.Functions.{FunctionSettings, AllowsStage}
-
--- ---- names
-
--- an earlier entry point of the same stage has the same name
-pub record IsConflict (m : PlainModule) (index : ℕ) (e : PlainEntry) : Type 0 where
-  pub earlier : ℕ
-  pub other : PlainEntry
-  pub before : earlier < index
-  pub at : slice_get m.entries earlier ≡ Some other
-  pub stage : other.stage ≡ e.stage
-  pub name : other.name ≡ e.name
+use Rattle.spec_statements.specs.judged.Functions.{AllowsStage}
 
 -- ---- stages
 
 -- these stages may run the functions of a module, each with its callees
-pub record AreStages (s : FunctionSettings) (m : PlainModule) (stages : List ShaderStages) : Type 0 where
+pub record AreStages (s : Settings) (m : PlainModule) (stages : List ShaderStages) : Type 0 where
   pub many : length stages ≡ length m.functions
   pub each : (index : ℕ) (f : PlainFunction) (own : ShaderStages) → slice_get m.functions index ≡ Some f → slice_get stages index ≡ Some own
       → (stage : ℕ) → Has own.0 stage ↔ (Has all_stages.0 stage × AllowsStage (reading_over stages m f) s stages f stage)
 
 -- ---- entry points
 
--- with what an entry point is judged after payloads of this type
-abbrev pub entry_settings : FunctionSettings → (held : Option ℕ) → FunctionSettings
-entry_settings s held = record s { entry = true; held = held }
-
 -- The entry point at an index of a module meets the rules of entry points, by all chains of calls, with what functions and earlier
 -- entry points leave to it; and none of those has its stage and its name.
-pub record EntryAtOK (s : FunctionSettings) (m : PlainModule) (index : ℕ) : Type 0 where
+pub record EntryAtOK (s : Settings) (m : PlainModule) (index : ℕ) : Type 0 where
   pub entry : PlainEntry
   pub at : slice_get m.entries index ≡ Some entry
   pub held : Option ℕ
@@ -45,14 +32,14 @@ pub record EntryAtOK (s : FunctionSettings) (m : PlainModule) (index : ℕ) : Ty
   pub stages : List ShaderStages
   pub run : AreStages s m stages
   pub apart : ¬ IsConflict m index entry
-  pub ok : EntryOK (reading_over stages m entry.function) stages (HasUse m entry.function) (entry_settings s held) m entry
+  pub ok : EntryOK (reading_over stages m entry.function) stages (HasUse m entry.function) s held m entry
 
 -- all entry points of a module do
-abbrev pub EntriesOK : FunctionSettings → PlainModule → Type 0
+abbrev pub EntriesOK : Settings → PlainModule → Type 0
 EntriesOK s m = (index : ℕ) → index < length m.entries → EntryAtOK s m index
 
 -- The entry point at an index is the first that does not.
-pub record IsFirstFailing (s : FunctionSettings) (m : PlainModule) (index : ℕ) : Type 0 where
+pub record IsFirstFailing (s : Settings) (m : PlainModule) (index : ℕ) : Type 0 where
   pub within : index < length m.entries
   pub before : (other : ℕ) → other < index → EntryAtOK s m other
   pub fails : ¬ EntryAtOK s m index

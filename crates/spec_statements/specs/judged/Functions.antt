@@ -8,7 +8,7 @@ use Rattle.ir_flags.specs.declared.settings.Capabilities.{Capabilities}
 use Rattle.ir_flags.specs.declared.settings.ValidationFlags.{ValidationFlags}
 use Rattle.ir_flags.specs.declared.settings.TheConstants.ValidationFlags.{EXPRESSIONS, BLOCKS, STRICT_SCOPE}
 use Rattle.ir_flags.specs.declared.stages.ShaderStages.{ShaderStages}
-use Rattle.ir_flags.specs.declared.stages.SubgroupOperationSet.{SubgroupOperationSet}
+use Rattle.ir_flags.specs.declared.settings.Settings.{Settings}
 use Rattle.ir_items.specs.judged.Plain.{PlainFunction, PlainModule}
 use Rattle.typing_forms.specs.declared.form.Form.{Form}
 use Rattle.spec_handles.specs.Conditions.{AritiesMatch}
@@ -30,49 +30,38 @@ pub record Reading : Type 1 where
   pub IsAccepted : Capabilities → (forms : List Form) → (expression : ℕ) → Type 0
   pub IsRunBy : (expression : ℕ) → ShaderStages → Type 0
 
--- With what functions are judged.
-pub record FunctionSettings : Type 0 where
-  pub flags : ValidationFlags
-  pub capabilities : Capabilities
-  pub operations : SubgroupOperationSet
-  -- the stages that have operations of subgroups
-  pub subgroup_stages : ShaderStages
-  -- the function is an entry point's
-  pub entry : Bool
-  -- the payload type of the functions and the entry points before
-  pub held : Option ℕ
-
 -- the forms are those of all expressions of the function
 pub record AreFormsBy (reading : Reading) (f : PlainFunction) (forms : List Form) : Type 0 where
   pub many : length forms ≡ length f.expressions
   pub each : (e : ℕ) (t : Form) → slice_get forms e ≡ Some t → reading.HasForm e t
 
-abbrev pub block_context : FunctionSettings → PlainModule → PlainFunction → List Form → BlockContext
-block_context s m f forms = record { capabilities = s.capabilities; operations = s.operations; m = m; f = f; forms = forms }
+abbrev pub block_context : Settings → PlainModule → PlainFunction → List Form → BlockContext
+block_context s m f forms = record { capabilities = s.capabilities; operations = s.subgroup_operations; m = m; f = f; forms = forms }
 
 -- What is required of a body: each statement meets its rule where it occurs, uses what is in scope, leaves its block as it may,
--- and answers and payloads are as they should be; and under STRICT_SCOPE its scope is strict.
-pub record BodyOK (s : FunctionSettings) (c : BlockContext) : Type 0 where
+-- and answers and payloads are as they should be, where the functions and entry points before have this payload type; and under
+-- STRICT_SCOPE its scope is strict.
+pub record BodyOK (s : Settings) (held : Option ℕ) (c : BlockContext) : Type 0 where
   pub statements : (p : Place) (u : PlainStatement) → OccursAt c.f.body p u → StatementOK c u
   pub scope : ScopeOK c.f
   pub control : ControlOK c.f.body
   pub answered : AnsweredOnce s.flags c.f
-  pub payloads : PayloadsOK c.m c.f s.held
+  pub payloads : PayloadsOK c.m c.f held
   pub strict : Has s.flags.0 STRICT_SCOPE.0 → StrictOK c.f
 
 -- The arity of calls, what the analysis requires, the variables, the arguments and the result are checked under every set of flags;
--- the rules of expressions under EXPRESSIONS and those of the body under BLOCKS.
-pub record FunctionOK (reading : Reading) (s : FunctionSettings) (m : PlainModule) (f : PlainFunction) : Type 0 where
+-- the rules of expressions under EXPRESSIONS and those of the body under BLOCKS. It is an entry point's or not.
+pub record FunctionOK (reading : Reading) (s : Settings) (entry : Bool) (held : Option ℕ) (m : PlainModule) (f : PlainFunction) : Type 0 where
   pub arity : AritiesMatch m f
   pub analysed : reading.IsAnalysed s.flags
   pub forms : List Form
   pub typed : AreFormsBy reading f forms
-  pub interface : InterfaceOK (block_context s m f forms) s.entry
+  pub interface : InterfaceOK (block_context s m f forms) entry
   pub expressions : Has s.flags.0 EXPRESSIONS.0 → (e : ℕ) → e < length f.expressions → reading.IsAccepted s.capabilities forms e
-  pub body : Has s.flags.0 BLOCKS.0 → BodyOK s (block_context s m f forms)
+  pub body : Has s.flags.0 BLOCKS.0 → BodyOK s held (block_context s m f forms)
 
 -- A stage may run a function of which the lower layer says so: it may run all statements, where these are checked, callees among
 -- them, and all expressions, where those are. It is a bit of `ShaderStages`.
-pub record AllowsStage (reading : Reading) (s : FunctionSettings) (callees : List ShaderStages) (f : PlainFunction) (stage : ℕ) : Type 0 where
+pub record AllowsStage (reading : Reading) (s : Settings) (callees : List ShaderStages) (f : PlainFunction) (stage : ℕ) : Type 0 where
   pub statements : Has s.flags.0 BLOCKS.0 → (p : Place) (u : PlainStatement) → OccursAt f.body p u → Has (statement_stages s.subgroup_stages callees u).0 stage
   pub expressions : Has s.flags.0 EXPRESSIONS.0 → (e : ℕ) (stages : ShaderStages) → e < length f.expressions → reading.IsRunBy e stages → Has stages.0 stage

@@ -1,6 +1,7 @@
 -- When the functions of a module are accepted.
-use Rattle.std.specs.Prelude.{◌≡◌, ◌<◌, ℕ, List, Option, Some, length, slice_get}
+use Rattle.std.specs.Prelude.{◌≡◌, ◌<◌, ℕ, List, false, Option, Some, length, slice_get}
 use Rattle.ir_flags.specs.declared.stages.ShaderStages.{ShaderStages}
+use Rattle.ir_flags.specs.declared.settings.Settings.{Settings}
 use Rattle.ir_items.specs.judged.Plain.{PlainFunction, PlainModule}
 use Rattle.spec_statements.specs.judged.Expressions.{ExpressionOK}
 use Rattle.spec_statements.specs.judged.Scene.{scene_of}
@@ -8,7 +9,7 @@ use Rattle.spec_statements.specs.judged.ExpressionStages.{IsRunBy}
 use Rattle.spec_expressions.specs.judged.Typing.{HasType}
 use Rattle.spec_statements.specs.judged.Analysis.{IsAnalysed}
 use Rattle.spec_statements.specs.judged.EarlierPayloads.{IsPayloadBefore}
-use Rattle.spec_statements.specs.judged.Functions.{Reading, FunctionSettings, FunctionOK}
+use Rattle.spec_statements.specs.judged.Functions.{Reading, FunctionOK}
 
 -- What is said of a function of a module: the types of its expressions by the rules of their kinds, the analysis by chains of
 -- calls, the checks of expressions, and which stages may run an expression where these may run the functions that it calls.
@@ -20,25 +21,21 @@ reading_over callees m f = record {
   IsRunBy = IsRunBy callees f.expressions;
 }
 
--- with what a function is judged after payloads of this type
-abbrev pub settings_with : FunctionSettings → (held : Option ℕ) → FunctionSettings
-settings_with s held = record s { held = held }
-
 -- The function at an index of a module meets the rules of functions, with what those before it leave to it, whichever stages may
 -- run its callees.
-pub record FunctionAtOK (s : FunctionSettings) (m : PlainModule) (index : ℕ) : Type 0 where
+pub record FunctionAtOK (s : Settings) (m : PlainModule) (index : ℕ) : Type 0 where
   pub function : PlainFunction
   pub at : slice_get m.functions index ≡ Some function
   pub held : Option ℕ
   pub before : IsPayloadBefore s.flags m index held
-  pub ok : (callees : List ShaderStages) → FunctionOK (reading_over callees m function) (settings_with s held) m function
+  pub ok : (callees : List ShaderStages) → FunctionOK (reading_over callees m function) s false held m function
 
 -- all functions of a module do
-abbrev pub FunctionsOK : FunctionSettings → PlainModule → Type 0
+abbrev pub FunctionsOK : Settings → PlainModule → Type 0
 FunctionsOK s m = (index : ℕ) → index < length m.functions → FunctionAtOK s m index
 
 -- The function at an index is the first that does not.
-pub record IsFirstFailing (s : FunctionSettings) (m : PlainModule) (index : ℕ) : Type 0 where
+pub record IsFirstFailing (s : Settings) (m : PlainModule) (index : ℕ) : Type 0 where
   pub within : index < length m.functions
   pub before : (other : ℕ) → other < index → FunctionAtOK s m other
   pub fails : ¬ FunctionAtOK s m index

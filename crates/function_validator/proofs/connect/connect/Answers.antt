@@ -8,7 +8,7 @@ use Rattle.function_validator.proofs.connect.connect.Goals as goal
 
 pub returns-in-Ok-clause-judged : goal.returns-in-Ok-clause-judged
 returns-in-Ok-clause-judged g c =
-    let s = c.args.settings.now in
+    let s = c.args.settings in
     let m = module_view c.args.«module».now in
     let e = entry_view c.args.entry.now in
     let before = g.L.Lower.summary c.args.lower.now c.args.info in
@@ -26,7 +26,7 @@ returns-in-Ok-clause-blended g c =
 
 pub returns-in-Err-clause-judged : goal.returns-in-Err-clause-judged
 returns-in-Err-clause-judged g c =
-    let s = c.args.settings.now in
+    let s = c.args.settings in
     let m = module_view c.args.«module».now in
     let e = entry_view c.args.entry.now in
     let before = g.L.Lower.summary c.args.lower.now c.args.info in

@@ -29,7 +29,7 @@ check_connections_with-requires-clause-many g c = ap length (c.deref.ensures.val
 
 pub returns-in-Ok-check_connections_with-clause-judged : goal.returns-in-Ok-check_connections_with-clause-judged
 returns-in-Ok-check_connections_with-clause-judged g c =
-    let s = c.args.settings.now in
+    let s = c.args.settings in
     let m = module_view c.args.«module».now in
     let e = entry_view c.args.entry.now in
     let same = c.deref.ensures.value ∙ c.in-Ok.ensures in
@@ -37,7 +37,7 @@ returns-in-Ok-check_connections_with-clause-judged g c =
 
 pub returns-clause-judged : goal.returns-clause-judged
 returns-clause-judged g c =
-    let s = c.args.settings.now in
+    let s = c.args.settings in
     let m = module_view c.args.«module».now in
     let e = entry_view c.args.entry.now in
     let Uses = HasUseBit (g.L.Lower.summary c.args.lower.now c.args.info.now).uses in

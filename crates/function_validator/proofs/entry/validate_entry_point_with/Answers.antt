@@ -1,19 +1,11 @@
-use Rattle.std.proofs.Common.{◌∙◌, ℕ, map, sym, subst, true≢false}
-use Rattle.std.specs.Prelude.{◌↔◌}
+use Rattle.std.proofs.Common.{◌∙◌, map, sym, subst, true≢false}
 use Rattle.function_validator.proofs.EntryWhole.{by_stage, by_function, by_payload, by_runs, by_connections, connected, entry_summary, noted_still, refused_as, runs}
 use Rattle.function_validator.specs.EntryFaults.{IsRefusedAs, IsUnconnected}
-use Rattle.function_validator.specs.Validated.{own_settings}
-use Rattle.function_validator.specs.Faults.{IsFunctionFault}
-use Rattle.function_interface.specs.Analysis.{IsRefusedFor as IsFunctionRefusedFor}
 use Rattle.function_interface.specs.Question.{question}
-use Rattle.ir_flags.specs.Sets.{Has}
 use Rattle.ir_items.specs.found.View.{entry_view, module_view}
 use Rattle.spec_analysis.specs.judged.Chains.{HasUse}
 use Rattle.spec_analysis.specs.judged.Summaries.{HasUseBit}
 use Rattle.spec_interface.specs.judged.Uses.{EntryUses}
-use Rattle.spec_statements.specs.judged.ExpressionStages.{all_stages}
-use Rattle.spec_statements.specs.judged.Functions.{AllowsStage, FunctionOK, FunctionSettings}
-use Rattle.spec_statements.specs.judged.Payloads.{IsPayloadAfter}
 use Rattle.function_validator.proofs.entry.validate_entry_point_with.Goals as goal
 
 pub returns-in-Err-clause-judged : goal.returns-in-Err-clause-judged
@@ -23,8 +15,9 @@ returns-in-Err-clause-judged g c =
     let e = entry_view c.args.entry.now in
     let stages = map (g.L.Lower.noted l) c.args.callees.now in
     let q = question m e.function (map (g.L.Lower.summary l) c.args.callees.now) stages in
-    let s = own_settings c.args.settings.now in
-    subst (IsRefusedAs (g.L.Lower.reading l q) (g.L.Lower.faults l q) stages (HasUse m e.function) s m e) (sym c.new.ensures.error) (by_stage (g.L.Lower.reading l q) (g.L.Lower.faults l q) stages s m e c.in-Err.error c.in-Err.ensures)
+    let s = c.args.settings in
+    let held = c.args.held in
+    subst (IsRefusedAs (g.L.Lower.reading l q) (g.L.Lower.faults l q) stages (HasUse m e.function) s held m e) (sym c.new.ensures.error) (by_stage (g.L.Lower.reading l q) (g.L.Lower.faults l q) stages s held m e c.in-Err.error c.in-Err.ensures)
 
 pub returns-in-Err-validate_function_with-clause-judged : goal.returns-in-Err-validate_function_with-clause-judged
 returns-in-Err-validate_function_with-clause-judged g c =
@@ -33,13 +26,13 @@ returns-in-Err-validate_function_with-clause-judged g c =
     let e = entry_view c.args.entry.now in
     let stages = map (g.L.Lower.noted l) c.args.callees.now in
     let q = question m e.function (map (g.L.Lower.summary l) c.args.callees.now) stages in
-    let s = own_settings c.args.settings.now in
+    let s = c.args.settings in
+    let held = c.args.held in
     let R = g.L.Lower.reading l q in
     let F = g.L.Lower.faults l q in
     let r = c.in-Err-validate_function_with.refusal in
-    by_function R F stages s m e r c.reported_of_function.result c.reported_of_function.ensures
-    (subst (λ (z : FunctionSettings). IsFunctionRefusedFor (λ y. FunctionOK R z m e.function → ⊥) r) c.own_settings-own.ensures c.in-Err-validate_function_with.ensures.refused)
-    (subst (λ (z : FunctionSettings). IsFunctionRefusedFor (IsFunctionFault R F z m e.function) r) c.own_settings-own.ensures c.in-Err-validate_function_with.ensures.fault)
+    by_function R F stages s held m e r c.reported_of_function.result c.reported_of_function.ensures
+    c.in-Err-validate_function_with.ensures.refused c.in-Err-validate_function_with.ensures.fault
 
 pub returns-in-Err-check_payload-clause-judged : goal.returns-in-Err-check_payload-clause-judged
 returns-in-Err-check_payload-clause-judged g c =
@@ -48,9 +41,10 @@ returns-in-Err-check_payload-clause-judged g c =
     let e = entry_view c.args.entry.now in
     let stages = map (g.L.Lower.noted l) c.args.callees.now in
     let q = question m e.function (map (g.L.Lower.summary l) c.args.callees.now) stages in
-    let s = own_settings c.args.settings.now in
-    subst (IsRefusedAs (g.L.Lower.reading l q) (g.L.Lower.faults l q) stages (HasUse m e.function) s m e) (sym c.new-in-Err-check_payload.ensures.error)
-    (by_payload (g.L.Lower.reading l q) (g.L.Lower.faults l q) stages s m e c.in-Err-check_payload.error c.in-Err-check_payload.ensures)
+    let s = c.args.settings in
+    let held = c.args.held in
+    subst (IsRefusedAs (g.L.Lower.reading l q) (g.L.Lower.faults l q) stages (HasUse m e.function) s held m e) (sym c.new-in-Err-check_payload.ensures.error)
+    (by_payload (g.L.Lower.reading l q) (g.L.Lower.faults l q) stages s held m e c.in-Err-check_payload.error c.in-Err-check_payload.ensures)
 
 pub returns-then-not-allows_stage-clause-judged : goal.returns-then-not-allows_stage-clause-judged
 returns-then-not-allows_stage-clause-judged g c =
@@ -59,12 +53,13 @@ returns-then-not-allows_stage-clause-judged g c =
     let e = entry_view c.args.entry.now in
     let stages = map (g.L.Lower.noted l) c.args.callees.now in
     let q = question m e.function (map (g.L.Lower.summary l) c.args.callees.now) stages in
-    let s = own_settings c.args.settings.now in
+    let s = c.args.settings in
+    let held = c.args.held in
     let R = g.L.Lower.reading l q in
     let v = c.in-Ok-validate_function_with.validated in
-    let exact = λ (stage : ℕ). subst (λ (z : FunctionSettings). Has (g.L.Lower.noted l v.info).0 stage ↔ (Has all_stages.0 stage × AllowsStage R z stages e.function stage)) c.own_settings-own.ensures (c.in-Ok-validate_function_with.ensures.stages stage) in
-    subst (IsRefusedAs R (g.L.Lower.faults l q) stages (HasUse m e.function) s m e) (sym c.new-then-not-allows_stage.ensures.error)
-    (by_runs R (g.L.Lower.faults l q) stages s m e (g.L.Lower.noted l v.info) exact (λ has. true≢false (sym (c.allows_stage.ensures.1 has) ∙ c.if-not-allows_stage.true)))
+    let exact = c.in-Ok-validate_function_with.ensures.stages in
+    subst (IsRefusedAs R (g.L.Lower.faults l q) stages (HasUse m e.function) s held m e) (sym c.new-then-not-allows_stage.ensures.error)
+    (by_runs R (g.L.Lower.faults l q) stages s held m e (g.L.Lower.noted l v.info) exact (λ has. true≢false (sym (c.allows_stage.ensures.1 has) ∙ c.if-not-allows_stage.true)))
 
 pub returns-in-Ok-connect-clause-judged : goal.returns-in-Ok-connect-clause-judged
 returns-in-Ok-connect-clause-judged g c =
@@ -73,26 +68,26 @@ returns-in-Ok-connect-clause-judged g c =
     let e = entry_view c.args.entry.now in
     let stages = map (g.L.Lower.noted l) c.args.callees.now in
     let q = question m e.function (map (g.L.Lower.summary l) c.args.callees.now) stages in
-    let s = own_settings c.args.settings.now in
+    let s = c.args.settings in
+    let held = c.args.held in
     let R = g.L.Lower.reading l q in
     let F = g.L.Lower.faults l q in
     let v = c.in-Ok-validate_function_with.validated in
-    let same = c.own_settings-own.ensures in
     let known = c.in-Ok-validate_function_with.ensures in
     let before = g.L.Lower.summary l v.info in
     let is = known.chains c.requires.known in
-    let exact = λ (stage : ℕ). subst (λ (z : FunctionSettings). Has (g.L.Lower.noted l v.info).0 stage ↔ (Has all_stages.0 stage × AllowsStage R z stages e.function stage)) same (known.stages stage) in
+    let exact = known.stages in
     record {
       ok = record {
         stage = c.in-Ok.ensures;
-        function = subst (λ (z : FunctionSettings). FunctionOK R z m e.function) same known.accepted;
+        function = known.accepted;
         payload = c.in-Ok-check_payload.ensures;
-        runs = runs R F stages s m e (g.L.Lower.noted l v.info) exact (c.allows_stage.ensures.0 c.if-not-allows_stage.false);
-        connections = connected R F stages s m e before is c.in-Ok-connect.ensures.judged.0;
+        runs = runs R F stages s held m e (g.L.Lower.noted l v.info) exact (c.allows_stage.ensures.0 c.if-not-allows_stage.false);
+        connections = connected R F stages s held m e before is c.in-Ok-connect.ensures.judged.0;
       };
       summary = entry_summary m e before (g.L.Lower.summary l c.in-Ok-connect.info) known.globals is c.in-Ok-connect.ensures.judged.1;
       noted = record { run = noted_still R stages s e (g.L.Lower.noted l v.info) (g.L.Lower.noted l c.in-Ok-connect.info) c.in-Ok-connect.ensures.stages exact; blended = c.in-Ok-connect.ensures.blended };
-      after = subst (λ (z : FunctionSettings). IsPayloadAfter z.flags m e.function z.held v.held) same known.held;
+      after = known.held;
     }
 
 pub returns-in-Err-connect-clause-judged : goal.returns-in-Err-connect-clause-judged
@@ -102,10 +97,11 @@ returns-in-Err-connect-clause-judged g c =
     let e = entry_view c.args.entry.now in
     let stages = map (g.L.Lower.noted l) c.args.callees.now in
     let q = question m e.function (map (g.L.Lower.summary l) c.args.callees.now) stages in
-    let s = own_settings c.args.settings.now in
+    let s = c.args.settings in
+    let held = c.args.held in
     let R = g.L.Lower.reading l q in
     let F = g.L.Lower.faults l q in
     let v = c.in-Ok-validate_function_with.validated in
     let before = g.L.Lower.summary l v.info in
-    refused_as (IsUnconnected s.flags s.capabilities m e (EntryUses e (HasUseBit before.uses))) (IsRefusedAs R F stages (HasUse m e.function) s m e)
-    (λ x u. by_connections R F stages s m e before (c.in-Ok-validate_function_with.ensures.chains c.requires.known) x u) c.in-Err-connect.refusal c.in-Err-connect.ensures.judged
+    refused_as (IsUnconnected s.flags s.capabilities m e (EntryUses e (HasUseBit before.uses))) (IsRefusedAs R F stages (HasUse m e.function) s held m e)
+    (λ x u. by_connections R F stages s held m e before (c.in-Ok-validate_function_with.ensures.chains c.requires.known) x u) c.in-Err-connect.refusal c.in-Err-connect.ensures.judged

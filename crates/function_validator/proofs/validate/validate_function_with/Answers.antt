@@ -6,7 +6,6 @@ use Rattle.function_validator.proofs.PartLaws.{before_function}
 use Rattle.function_validator.proofs.Refuted.{function_refuted}
 use Rattle.function_validator.proofs.Whole.{accepted, stages_noted, joined_noted}
 use Rattle.function_validator.specs.Faults.{IsFaultAfter, IsFunctionFault, behind}
-use Rattle.function_validator.specs.Settings.{settings_view}
 use Rattle.function_interface.specs.Question.{question}
 use Rattle.ir_items.specs.found.View.{function_view, module_view}
 use Rattle.spec_analysis.proofs.SummaryLaws.{summary_of_joined}
@@ -18,35 +17,41 @@ pub returns-in-Err-clause-refused : goal.returns-in-Err-clause-refused
 returns-in-Err-clause-refused g c =
     let m = module_view c.args.«module».now in
     let f = function_view c.args.function.now in
-    let s = settings_view c.args.settings.now in
+    let s = c.args.settings in
+    let entry = c.args.entry_point in
+    let before = c.args.held in
     let summaries = map (g.L.Lower.summary c.args.lower.now) c.args.callees.now in
     let stages = map (g.L.Lower.noted c.args.lower.now) c.args.callees.now in
     let q = question m f summaries stages in
     let reading = g.L.Lower.reading c.args.lower.now q in
     let faults = g.L.Lower.faults c.args.lower.now q in
-    refused_as (IsFunctionFault reading faults s m f) (λ e. FunctionOK reading s m f → ⊥)
-    (λ e w. function_refuted reading faults s m f e (g.met.L.Lower.one_form c.args.lower.now q) (g.met.L.Lower.fault_refutes c.args.lower.now q) (g.met.L.Lower.expression_refuted c.args.lower.now q) w)
-    c.in-Err.refusal (refused_as (IsFaultBefore faults s.flags m f) (IsFunctionFault reading faults s m f) (before_function reading faults s m f)
+    refused_as (IsFunctionFault reading faults s entry before m f) (λ e. FunctionOK reading s entry before m f → ⊥)
+    (λ e w. function_refuted reading faults s entry before m f e (g.met.L.Lower.one_form c.args.lower.now q) (g.met.L.Lower.fault_refutes c.args.lower.now q) (g.met.L.Lower.expression_refuted c.args.lower.now q) w)
+    c.in-Err.refusal (refused_as (IsFaultBefore faults s.flags m f) (IsFunctionFault reading faults s entry before m f) (before_function reading faults s entry before m f)
     c.in-Err.refusal c.in-Err.ensures.fault)
 
 pub returns-in-Err-clause-fault : goal.returns-in-Err-clause-fault
 returns-in-Err-clause-fault g c =
     let m = module_view c.args.«module».now in
     let f = function_view c.args.function.now in
-    let s = settings_view c.args.settings.now in
+    let s = c.args.settings in
+    let entry = c.args.entry_point in
+    let before = c.args.held in
     let summaries = map (g.L.Lower.summary c.args.lower.now) c.args.callees.now in
     let stages = map (g.L.Lower.noted c.args.lower.now) c.args.callees.now in
     let q = question m f summaries stages in
     let reading = g.L.Lower.reading c.args.lower.now q in
     let faults = g.L.Lower.faults c.args.lower.now q in
-    refused_as (IsFaultBefore faults s.flags m f) (IsFunctionFault reading faults s m f) (before_function reading faults s m f)
+    refused_as (IsFaultBefore faults s.flags m f) (IsFunctionFault reading faults s entry before m f) (before_function reading faults s entry before m f)
     c.in-Err.refusal c.in-Err.ensures.fault
 
 pub judge-requires-clause-many : goal.judge-requires-clause-many
 judge-requires-clause-many g c =
     let m = module_view c.args.«module».now in
     let f = function_view c.args.function.now in
-    let s = settings_view c.args.settings.now in
+    let s = c.args.settings in
+    let entry = c.args.entry_point in
+    let before = c.args.held in
     let summaries = map (g.L.Lower.summary c.args.lower.now) c.args.callees.now in
     let stages = map (g.L.Lower.noted c.args.lower.now) c.args.callees.now in
     let q = question m f summaries stages in
@@ -60,7 +65,9 @@ pub returns-in-Ok-judge-clause-accepted : goal.returns-in-Ok-judge-clause-accept
 returns-in-Ok-judge-clause-accepted g c =
     let m = module_view c.args.«module».now in
     let f = function_view c.args.function.now in
-    let s = settings_view c.args.settings.now in
+    let s = c.args.settings in
+    let entry = c.args.entry_point in
+    let before = c.args.held in
     let summaries = map (g.L.Lower.summary c.args.lower.now) c.args.callees.now in
     let stages = map (g.L.Lower.noted c.args.lower.now) c.args.callees.now in
     let q = question m f summaries stages in
@@ -68,13 +75,15 @@ returns-in-Ok-judge-clause-accepted g c =
     let faults = g.L.Lower.faults c.args.lower.now q in
     let kept = c.in-Ok.ensures.kept in
     let forms = map (form_given m.types) (g.L.Lower.types c.args.lower.now c.in-Ok.info) in
-    accepted reading s m f forms stages c.in-Ok-judge.met.stages c.in-Ok-judge.met.held c.in-Ok.ensures.arities kept.analysed kept.typed c.in-Ok-judge.ensures
+    accepted reading s entry before m f forms stages c.in-Ok-judge.met.stages c.in-Ok-judge.met.held c.in-Ok.ensures.arities kept.analysed kept.typed c.in-Ok-judge.ensures
 
 pub returns-in-Ok-judge-clause-stages : goal.returns-in-Ok-judge-clause-stages
 returns-in-Ok-judge-clause-stages g c =
     let m = module_view c.args.«module».now in
     let f = function_view c.args.function.now in
-    let s = settings_view c.args.settings.now in
+    let s = c.args.settings in
+    let entry = c.args.entry_point in
+    let before = c.args.held in
     let summaries = map (g.L.Lower.summary c.args.lower.now) c.args.callees.now in
     let stages = map (g.L.Lower.noted c.args.lower.now) c.args.callees.now in
     let q = question m f summaries stages in
@@ -82,14 +91,16 @@ returns-in-Ok-judge-clause-stages g c =
     let faults = g.L.Lower.faults c.args.lower.now q in
     let kept = c.in-Ok.ensures.kept in
     let forms = map (form_given m.types) (g.L.Lower.types c.args.lower.now c.in-Ok.info) in
-    stages_noted reading s (block_context s m f forms) stages c.in-Ok-judge.met.stages c.in-Ok-judge.met.held (g.L.Lower.noted c.args.lower.now c.in-Ok.info) (g.L.Lower.noted c.args.lower.now c.noted.result.info)
+    stages_noted reading s entry before (block_context s m f forms) stages c.in-Ok-judge.met.stages c.in-Ok-judge.met.held (g.L.Lower.noted c.args.lower.now c.in-Ok.info) (g.L.Lower.noted c.args.lower.now c.noted.result.info)
     kept.all_run c.noted.ensures.stages c.in-Ok-judge.ensures
 
 pub returns-in-Ok-judge-clause-joined : goal.returns-in-Ok-judge-clause-joined
 returns-in-Ok-judge-clause-joined g c =
     let m = module_view c.args.«module».now in
     let f = function_view c.args.function.now in
-    let s = settings_view c.args.settings.now in
+    let s = c.args.settings in
+    let entry = c.args.entry_point in
+    let before = c.args.held in
     let summaries = map (g.L.Lower.summary c.args.lower.now) c.args.callees.now in
     let stages = map (g.L.Lower.noted c.args.lower.now) c.args.callees.now in
     let q = question m f summaries stages in
@@ -104,7 +115,9 @@ pub returns-in-Ok-judge-clause-chains : goal.returns-in-Ok-judge-clause-chains
 returns-in-Ok-judge-clause-chains g c =
     let m = module_view c.args.«module».now in
     let f = function_view c.args.function.now in
-    let s = settings_view c.args.settings.now in
+    let s = c.args.settings in
+    let entry = c.args.entry_point in
+    let before = c.args.held in
     let summaries = map (g.L.Lower.summary c.args.lower.now) c.args.callees.now in
     let stages = map (g.L.Lower.noted c.args.lower.now) c.args.callees.now in
     let q = question m f summaries stages in
@@ -120,7 +133,9 @@ pub returns-in-Err-judge-clause-refused : goal.returns-in-Err-judge-clause-refus
 returns-in-Err-judge-clause-refused g c =
     let m = module_view c.args.«module».now in
     let f = function_view c.args.function.now in
-    let s = settings_view c.args.settings.now in
+    let s = c.args.settings in
+    let entry = c.args.entry_point in
+    let before = c.args.held in
     let summaries = map (g.L.Lower.summary c.args.lower.now) c.args.callees.now in
     let stages = map (g.L.Lower.noted c.args.lower.now) c.args.callees.now in
     let q = question m f summaries stages in
@@ -128,16 +143,18 @@ returns-in-Err-judge-clause-refused g c =
     let faults = g.L.Lower.faults c.args.lower.now q in
     let kept = c.in-Ok.ensures.kept in
     let forms = map (form_given m.types) (g.L.Lower.types c.args.lower.now c.in-Ok.info) in
-    refused_as (IsFunctionFault reading faults s m f) (λ e. FunctionOK reading s m f → ⊥)
-    (λ e w. function_refuted reading faults s m f e (g.met.L.Lower.one_form c.args.lower.now q) (g.met.L.Lower.fault_refutes c.args.lower.now q) (g.met.L.Lower.expression_refuted c.args.lower.now q) w)
-    c.in-Err-judge.refusal (refused_as (IsFaultAfter reading faults s (block_context s m f forms)) (IsFunctionFault reading faults s m f)
+    refused_as (IsFunctionFault reading faults s entry before m f) (λ e. FunctionOK reading s entry before m f → ⊥)
+    (λ e w. function_refuted reading faults s entry before m f e (g.met.L.Lower.one_form c.args.lower.now q) (g.met.L.Lower.fault_refutes c.args.lower.now q) (g.met.L.Lower.expression_refuted c.args.lower.now q) w)
+    c.in-Err-judge.refusal (refused_as (IsFaultAfter reading faults s entry before (block_context s m f forms)) (IsFunctionFault reading faults s entry before m f)
     (λ e w. behind c.in-Ok.ensures.arities kept.analysed forms kept.typed w) c.in-Err-judge.refusal c.in-Err-judge.ensures)
 
 pub returns-in-Err-judge-clause-fault : goal.returns-in-Err-judge-clause-fault
 returns-in-Err-judge-clause-fault g c =
     let m = module_view c.args.«module».now in
     let f = function_view c.args.function.now in
-    let s = settings_view c.args.settings.now in
+    let s = c.args.settings in
+    let entry = c.args.entry_point in
+    let before = c.args.held in
     let summaries = map (g.L.Lower.summary c.args.lower.now) c.args.callees.now in
     let stages = map (g.L.Lower.noted c.args.lower.now) c.args.callees.now in
     let q = question m f summaries stages in
@@ -145,7 +162,7 @@ returns-in-Err-judge-clause-fault g c =
     let faults = g.L.Lower.faults c.args.lower.now q in
     let kept = c.in-Ok.ensures.kept in
     let forms = map (form_given m.types) (g.L.Lower.types c.args.lower.now c.in-Ok.info) in
-    refused_as (IsFaultAfter reading faults s (block_context s m f forms)) (IsFunctionFault reading faults s m f)
+    refused_as (IsFaultAfter reading faults s entry before (block_context s m f forms)) (IsFunctionFault reading faults s entry before m f)
     (λ e w. behind c.in-Ok.ensures.arities kept.analysed forms kept.typed w) c.in-Err-judge.refusal c.in-Err-judge.ensures
 
 pub returns-in-Ok-judge-clause-globals : goal.returns-in-Ok-judge-clause-globals

@@ -4,4 +4,4 @@ use Rattle.module_types.specs.Validated.{AreAcceptedBelow}
 use Rattle.module_types.proofs.validate.validate_types.Given as goal
 
 abbrev pub invariant-loop-place : goal.invariant-loop-place
-invariant-loop-place l = AreAcceptedBelow l.settings.capabilities l.settings.overrides_resolved (types_view l.types) l.infos.items l.place
+invariant-loop-place l = AreAcceptedBelow l.capabilities l.overrides_resolved (types_view l.types) l.infos.items l.place

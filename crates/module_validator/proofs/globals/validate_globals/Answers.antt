@@ -11,4 +11,4 @@ from_arena-requires c = (order_gives_origins c.args.module.now c.requires.handle
 pub check_all-requires-clause-known : goal.check_all-requires-clause-known
 check_all-requires-clause-known c =
     let forms : c.deref.result.now ≡ map (form_given (module_view c.args.module.now).types) c.args.resolutions.now = search rules in
-    known_in _ c.args.settings.capabilities c.args.settings.overrides_resolved c.requires.handles c.in_ok-kinds.ensures c.args.resolutions.now c.requires.typed forms c.requires.told
+    known_in _ c.args.settings.capabilities c.args.overrides_resolved c.requires.handles c.in_ok-kinds.ensures c.args.resolutions.now c.requires.typed forms c.requires.told

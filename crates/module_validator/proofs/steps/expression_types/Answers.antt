@@ -14,4 +14,4 @@ const_expression_types-requires-clause-named c = (order_gives_expressions (modul
 
 pub returns-in-Ok-clause-reached : goal.returns-in-Ok-clause-reached
 returns-in-Ok-clause-reached c =
-    reach c.args.settings (module_view c.args.module.now) step.typing step.expression refl c.requires.reached (typed c.args.settings (module_view c.args.module.now) _ c.in-Ok.ensures.ok)
+    reach c.args.settings c.args.overrides_resolved (module_view c.args.module.now) step.typing step.expression refl c.requires.reached (typed c.args.settings c.args.overrides_resolved (module_view c.args.module.now) _ c.in-Ok.ensures.ok)

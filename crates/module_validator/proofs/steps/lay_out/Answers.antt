@@ -14,11 +14,11 @@ update-requires-clause-back c = (order_gives_conditions (module_view c.args.modu
 
 pub refused-requires : goal.refused-requires
 refused-requires c =
-    by_told c.args.settings (module_view c.args.module.now) _ c.in-Err-Fault.field-0 c.in-Err-Fault.fault c.into_inner.result (search rules) c.into_inner.ensures c.requires.reached c.in-Err-Fault.ensures.held
+    by_told c.args.settings c.args.overrides_resolved (module_view c.args.module.now) _ c.in-Err-Fault.field-0 c.in-Err-Fault.fault c.into_inner.result (search rules) c.into_inner.ensures c.requires.reached c.in-Err-Fault.ensures.held
     c.in-Err-Fault.ensures.refused
 
 pub returns-in-Ok-clause-reached : goal.returns-in-Ok-clause-reached
 returns-in-Ok-clause-reached c =
     let many = many_viewed type_view c.args.module.now.types in
-    reach c.args.settings (module_view c.args.module.now) step.layout step.type refl c.requires.reached
-    (laid c.args.settings (module_view c.args.module.now) _ c.in-Ok.ensures.held (omega (arith, c.in-Ok.ensures.all, many)))
+    reach c.args.settings c.args.overrides_resolved (module_view c.args.module.now) step.layout step.type refl c.requires.reached
+    (laid c.args.settings c.args.overrides_resolved (module_view c.args.module.now) _ c.in-Ok.ensures.held (omega (arith, c.in-Ok.ensures.all, many)))

@@ -11,4 +11,4 @@ validate_types-requires-clause-back c = (order_gives_conditions (module_view c.a
 
 pub returns-in-Ok-clause-reached : goal.returns-in-Ok-clause-reached
 returns-in-Ok-clause-reached c =
-    reach c.args.settings (module_view c.args.module.now) step.type step.typing refl c.requires.reached (told c.args.settings (module_view c.args.module.now) _ c.in-Ok.ensures.accepted)
+    reach c.args.settings c.args.overrides_resolved (module_view c.args.module.now) step.type step.typing refl c.requires.reached (told c.args.settings c.args.overrides_resolved (module_view c.args.module.now) _ c.in-Ok.ensures.accepted)

@@ -3,7 +3,6 @@ use Rattle.std.proofs.lemmas.List.{length-map}
 use Rattle.shader_check.proofs.EntrySteps.{entry_conditions, entry_known, judged_more, payload_there, output_there, reported_entry}
 use Rattle.shader_check.proofs.Placed.{item_there}
 use Rattle.shader_check.specs.found.JudgedEntries.{note_of}
-use Rattle.shader_check.specs.found.Settings.{settings_in}
 use Rattle.ir_items.specs.found.View.{entry_view, module_view}
 use Rattle.module_handles.proofs.Whole.{order_gives_conditions}
 use Rattle.shader_check.proofs.entries.judge_next.Goals as goal
@@ -44,7 +43,7 @@ returns-in-Ok-clause-judged g c =
     let m = c.args.«module».now in
     let summary = g.L.Lower.summary v.lower in
     let at = item_there entry_view m.entry_points.items c.args.index c.requires.within c.index.result.now c.index.ensures in
-    judged_more (module_view m) c.requires.handles c.args.index (entry_view c.index.result.now) at (g.L.Lower.reading v.lower) (g.L.Lower.faults v.lower) (settings_in v) (map summary c.args.callees.now)
+    judged_more (module_view m) c.requires.handles c.args.index (entry_view c.index.result.now) at (g.L.Lower.reading v.lower) (g.L.Lower.faults v.lower) v.settings (map summary c.args.callees.now)
     (map (g.L.Lower.noted v.lower) c.args.callees.now) (map summary c.args.kept.now) (map (note_of (g.L.Lower.noted v.lower) (g.L.Lower.blending v.lower)) c.args.kept.now) c.args.held c.requires.before (c.requires.apart (entry_view c.index.result.now) at) (summary c.in-Ok.validated.info)
     (g.L.Lower.noted v.lower c.in-Ok.validated.info) (g.L.Lower.blending v.lower c.in-Ok.validated.info) c.in-Ok.validated.held c.in-Ok.ensures.judged
 
@@ -54,5 +53,5 @@ returns-in-Err-clause-judged g c =
     let m = c.args.«module».now in
     let summary = g.L.Lower.summary v.lower in
     let at = item_there entry_view m.entry_points.items c.args.index c.requires.within c.index.result.now c.index.ensures in
-    reported_entry (module_view m) c.requires.handles c.args.index (entry_view c.index.result.now) at (g.L.Lower.reading v.lower) (g.L.Lower.faults v.lower) (settings_in v) (map summary c.args.callees.now)
+    reported_entry (module_view m) c.requires.handles c.args.index (entry_view c.index.result.now) at (g.L.Lower.reading v.lower) (g.L.Lower.faults v.lower) v.settings (map summary c.args.callees.now)
     (map (g.L.Lower.noted v.lower) c.args.callees.now) (map summary c.args.kept.now) (map (note_of (g.L.Lower.noted v.lower) (g.L.Lower.blending v.lower)) c.args.kept.now) c.args.held c.requires.before c.in-Err.refusal c.refusal_at.result c.refusal_at.ensures c.in-Err.ensures.judged

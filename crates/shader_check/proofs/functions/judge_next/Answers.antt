@@ -1,7 +1,6 @@
 use Rattle.std.proofs.Common.{map}
 use Rattle.shader_check.proofs.Chained.{conditions_at, judged_more, reported_refusal}
 use Rattle.shader_check.proofs.Placed.{view_there}
-use Rattle.shader_check.specs.found.Settings.{settings_in}
 use Rattle.ir_items.specs.found.View.{function_view, module_view}
 use Rattle.module_handles.proofs.Whole.{order_gives_conditions}
 use Rattle.shader_check.proofs.functions.judge_next.Goals as goal
@@ -23,7 +22,7 @@ pub returns-in-Ok : goal.returns-in-Ok
 returns-in-Ok g c =
     let v = c.args.validator.now in
     let m = c.args.«module».now in
-    let s = settings_in v in
+    let s = v.settings in
     let at = view_there m.functions c.args.handle c.index.result.now c.index.ensures function_view in
     judged_more (module_view m) c.requires.handles (g.L.Lower.reading v.lower) s c.args.handle (map (g.L.Lower.summary v.lower) c.args.infos.now) (map (g.L.Lower.noted v.lower) c.args.infos.now) c.args.held c.requires.before (function_view c.index.result.now) at
     (g.L.Lower.summary v.lower c.in-Ok.validated.info) (g.L.Lower.noted v.lower c.in-Ok.validated.info) c.in-Ok.validated.held c.in-Ok.ensures.accepted c.in-Ok.ensures.chains c.in-Ok.ensures.stages c.in-Ok.ensures.held
@@ -32,7 +31,7 @@ pub returns-in-Err : goal.returns-in-Err
 returns-in-Err g c =
     let v = c.args.validator.now in
     let m = c.args.«module».now in
-    let s = settings_in v in
+    let s = v.settings in
     let at = view_there m.functions c.args.handle c.index.result.now c.index.ensures function_view in
     reported_refusal (module_view m) c.requires.handles (g.L.Lower.reading v.lower) s c.args.handle (map (g.L.Lower.summary v.lower) c.args.infos.now) (map (g.L.Lower.noted v.lower) c.args.infos.now) c.args.held c.requires.before (function_view c.index.result.now) at
     (g.L.Lower.faults v.lower) c.in-Err.refusal c.refusal_at.result c.refusal_at.ensures c.in-Err.ensures.refused c.in-Err.ensures.fault

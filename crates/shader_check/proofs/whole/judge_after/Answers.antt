@@ -7,7 +7,6 @@ use Rattle.shader_check.proofs.EntryHeld.{held_behind_functions}
 use Rattle.shader_check.proofs.FunctionKept.{kept, refused_by}
 use Rattle.shader_check.specs.found.Chains.{AreKept, IsFunctionFault}
 use Rattle.shader_check.specs.found.JudgedEntries.{AreEntriesJudged, IsEntryRefusal, note_of}
-use Rattle.shader_check.specs.found.Settings.{settings_in}
 use Rattle.shader_check.specs.found.Validated.{AreEntriesKept, AreNoted, IsEntryFault, IsFaultAfter}
 use Rattle.check_errors.specs.declared.error.ValidationError.TheVariants as error
 use Rattle.ir_items.specs.found.View.{module_view}
@@ -35,17 +34,17 @@ pub judge_entries-requires-clause-known : goal.judge_entries-requires-clause-kno
 judge_entries-requires-clause-known c = subst (λ (xs : List FunctionInfo). AreSummaries (module_view c.args.«module».now) (map summary_of xs)) (sym c.deref.ensures.value) c.in-Ok-judge_all.ensures.known
 
 pub judge_entries-requires-clause-before : goal.judge_entries-requires-clause-before
-judge_entries-requires-clause-before c = held_behind_functions c.args.own.flags (module_view c.args.«module».now) c.in-Ok-judge_all.functions.held c.in-Ok-judge_all.ensures.payloads
+judge_entries-requires-clause-before c = held_behind_functions c.args.own.settings.flags (module_view c.args.«module».now) c.in-Ok-judge_all.functions.held c.in-Ok-judge_all.ensures.payloads
 
 pub returns-in-Err-judge_all : goal.returns-in-Err-judge_all
 returns-in-Err-judge_all c =
-    let s = settings_in c.args.own in
+    let s = c.args.own.settings in
     let m = module_view c.args.«module».now in
     reported_by error.Function (IsFunctionFault s m) (IsFaultAfter s m) (λ x h. h) c.in-Err-judge_all.refusal c.function_refusal.result c.function_refusal.ensures (refused_by s m c.in-Err-judge_all.refusal c.in-Err-judge_all.ensures)
 
 pub returns-in-Ok-judge_entries : goal.returns-in-Ok-judge_entries
 returns-in-Ok-judge_entries c =
-    let s = settings_in c.args.own in
+    let s = c.args.own.settings in
     let m = module_view c.args.«module».now in
     let stages = λ (i : FunctionInfo). i.available_stages in
     let note = note_of stages (λ (i : FunctionInfo). i.dual_source_blending) in
@@ -57,22 +56,22 @@ returns-in-Ok-judge_entries c =
     let given = c.into_info.ensures in
     let info = c.with_entry_points.result in
     record {
-      functions = subst (λ v. AreKept s m (map summary_of v.items)) (sym (with.functions ∙ own.functions)) (kept s m (map summary_of functions) (map stages functions) c.in-Ok-judge_all.functions.held c.in-Ok-judge_all.ensures);
-      entries = subst (λ v. AreEntriesKept s m (map summary_of v.items)) (sym with.entry_points)
+      functions = subst (λ v. AreKept s m (map summary_of v.items)) (sym (ap (λ (i : ModuleInfo). i.functions) with ∙ ap (λ (i : ModuleInfo). i.functions) own)) (kept s m (map summary_of functions) (map stages functions) c.in-Ok-judge_all.functions.held c.in-Ok-judge_all.ensures);
+      entries = subst (λ v. AreEntriesKept s m (map summary_of v.items)) (sym (ap (λ (i : ModuleInfo). i.entry_points) with))
           (entries_kept s m c.requires.made.handles (map summary_of functions) (map stages functions) c.in-Ok-judge_all.functions.held c.in-Ok-judge_all.ensures (map summary_of entries.infos.items) (map note entries.infos.items) entries.held judged);
-      noted = subst (λ v. AreNoted s m v.items info.entry_points.items) (sym (with.functions ∙ own.functions)) (subst (λ v. AreNoted s m functions v.items) (sym with.entry_points) (record {
+      noted = subst (λ v. AreNoted s m v.items info.entry_points.items) (sym (ap (λ (i : ModuleInfo). i.functions) with ∙ ap (λ (i : ModuleInfo). i.functions) own)) (subst (λ v. AreNoted s m functions v.items) (sym (ap (λ (i : ModuleInfo). i.entry_points) with)) (record {
         run = run_so s m c.requires.made.handles (map summary_of functions) (map stages functions) c.in-Ok-judge_all.functions.held c.in-Ok-judge_all.ensures;
         counted = sym (length-map entries.infos.items summary_of) ∙ judged.many;
         entries_noted = entries_noted s m c.requires.made.handles (map summary_of functions) (map stages functions) c.in-Ok-judge_all.functions.held c.in-Ok-judge_all.ensures (map summary_of entries.infos.items) (map note entries.infos.items) entries.held judged;
       }));
-      types = with.types ∙ (own.types ∙ ap (λ (i : ModuleInfo). i.types) given);
-      layouts = with.layouts ∙ (own.layouts ∙ ap (λ (i : ModuleInfo). i.layouter) given);
-      expressions = with.expressions ∙ (own.expressions ∙ ap (λ (i : ModuleInfo). i.const_expression_types) given);
+      types = ap (λ (i : ModuleInfo). i.types) with ∙ (ap (λ (i : ModuleInfo). i.types) own ∙ ap (λ (i : ModuleInfo). i.types) given);
+      layouts = ap (λ (i : ModuleInfo). i.layouter) with ∙ (ap (λ (i : ModuleInfo). i.layouter) own ∙ ap (λ (i : ModuleInfo). i.layouter) given);
+      expressions = ap (λ (i : ModuleInfo). i.const_expression_types) with ∙ (ap (λ (i : ModuleInfo). i.const_expression_types) own ∙ ap (λ (i : ModuleInfo). i.const_expression_types) given);
     }
 
 pub returns-in-Err-judge_entries : goal.returns-in-Err-judge_entries
 returns-in-Err-judge_entries c =
-    let s = settings_in c.args.own in
+    let s = c.args.own.settings in
     let m = module_view c.args.«module».now in
     let stages = λ (i : FunctionInfo). i.available_stages in
     let functions = c.in-Ok-judge_all.functions.infos.items in

@@ -9,4 +9,4 @@ pub returns-clause-refused : goal.returns-clause-refused
 returns-clause-refused c =
     let v = c.args.validator.now in
     let m = module_view c.args.«module».now in
-    if_err_as (variables.IsRefusal v.flags v.capabilities m) (IsRefusedWith (IsVariableFault v.flags v.capabilities m)) (variables_refused v.flags v.capabilities m) c.validate_globals.result c.validate_globals.ensures.refused
+    if_err_as (variables.IsRefusal v.settings.flags v.settings.capabilities m) (IsRefusedWith (IsVariableFault v.settings.flags v.settings.capabilities m)) (variables_refused v.settings.flags v.settings.capabilities m) c.validate_globals.result c.validate_globals.ensures.refused

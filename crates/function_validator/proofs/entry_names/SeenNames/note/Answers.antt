@@ -4,9 +4,9 @@ use Rattle.std.proofs.lemmas.Result.{on_ok_weaker}
 use Rattle.std.specs.BTreeSet.{contains_text}
 use Rattle.std.specs.Str.{bytes_eq}
 use Rattle.function_validator.proofs.NameLaws.{fresh_if, if_ok_as, seen_more}
-use Rattle.function_validator.specs.Names.{key_of}
+use Rattle.function_validator.specs.EntryNames.{key_of}
 use Rattle.ir_items.specs.found.View.{entry_view}
-use Rattle.function_validator.proofs.names.SeenNames.note.Goals as goal
+use Rattle.function_validator.proofs.entry_names.SeenNames.note.Goals as goal
 
 pub returns-clause-fresh : goal.returns-clause-fresh
 returns-clause-fresh c =

@@ -3,7 +3,7 @@
 ghost use Rattle.std.specs.Prelude.{◌≡◌, ◌⊎◌, ◌↔◌, ℕ, IfOk, IsTrue, List, OnErr, OnOk, if◌then◌else◌, not, string_bytes, true};
 ghost use Rattle.std.specs.BTreeSet.{contains_text};
 ghost use Rattle.std.specs.Str.{bytes_eq};
-ghost use Rattle.function_validator.specs.Names.{IsSeen, key_of, stage_letter};
+ghost use Rattle.function_validator.specs.EntryNames.{IsSeen, key_of, stage_letter};
 ghost use Rattle.ir_items.specs.found.View.{entry_view};
 ghost use Rattle.ir_kinds.specs.declared.stages.ShaderStage.{ShaderStage};
 

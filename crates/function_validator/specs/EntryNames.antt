@@ -1,7 +1,7 @@
 -- The names of entry points that were seen, each beside its stage.
 use Rattle.std.specs.Prelude.{◌≡◌, ◌++◌, ◌<◌, ℕ, IsTrue, List, Some, codes, slice_get}
 use Rattle.std.specs.BTreeSet.{contains_text}
-use Rattle.function_validator.specs.declared.names.SeenNames.{SeenNames}
+use Rattle.function_validator.specs.declared.entry_names.SeenNames.{SeenNames}
 use Rattle.ir_items.specs.judged.Plain.{PlainEntry, PlainModule}
 use Rattle.ir_kinds.specs.declared.stages.ShaderStage.{ShaderStage}
 use Rattle.ir_kinds.specs.declared.stages.ShaderStage.TheVariants.{Vertex, Fragment, Compute, Mesh, Task, RayGeneration, AnyHit, ClosestHit, Miss}
