@@ -1,54 +1,75 @@
 // What instructions do with the function that is built.
 
 use crate::lowering::Lowering;
-use crate::origin::Origin;
-use crate::writing::{Writing, keep_in, read_in, refuse_in, type_in};
+use crate::writing::{Writing, read_in, type_in};
 use ir_arena::span::Span;
 use ir_flags::{Capabilities, SubgroupOperationSet};
 use ir_items::{Block, Expression, LocalVariable, Statement};
 use ir_kinds::{BinaryOperator, Literal, PredeclaredType, Scalar, ScalarKind, VectorSize};
-use ir_types::TypeInner;
 use spirv_constants::Made;
-use spirv_declarations::Tables;
-use spirv_expressions::{Builder, ImageValue, Operation, Value, no_type, no_value};
+use spirv_expressions::{Builder, Emits, ImageValue, Value, keep, no_type, no_value, refuse};
 use spirv_operations::{FunctionBuilder, NO_IMAGE, Pointer, PointerStep, Slot, no_pointer};
-use spirv_types::{MatrixShape, MemberShape, Shape, Stored, TypeHandle, span_of};
-use spirv_words::{Feature, Malformed, SpirvError};
+use spirv_types::{
+    MatrixShape, MemberShape, Reading, Shape, Stored, TypeHandle, Types, packed_line, span_of,
+    stored_matrix, vector_type,
+};
+use spirv_words::{Feature, Instruction, Malformed, SpirvError};
 use std::alloc::Global;
 
 // How many steps a pointer may have from its variable (universal limit of the standard).
 const MAX_STEPS: usize = 255;
 
-impl<O: Origin, T: Tables, W: Writing> Builder for Lowering<O, T, W> {
-    fn alloc(&self) -> Global {
-        self.alloc
-    }
-
+impl<T: Types, W: Writing> Emits for Lowering<T, W> {
     fn fail(&mut self, error: SpirvError) {
         self.body.fail(error);
+    }
+
+    fn compute(&mut self, expression: Expression, span: Span) -> Value {
+        self.body.compute(expression, span)
+    }
+
+    fn place(&mut self, expression: Expression, span: Span) -> Value {
+        self.body.place(expression, span)
+    }
+}
+
+impl<T: Types, W: Writing> Builder for Lowering<T, W> {
+    fn alloc(&self) -> Global {
+        self.alloc
     }
 
     fn has_failed(&self) -> bool {
         self.body.failure().is_some()
     }
 
+    fn given(&self, operation: &Instruction, place: usize) -> Option<u32> {
+        self.reading.listing.operand(operation, place)
+    }
+
+    fn given_count(&self, operation: &Instruction) -> usize {
+        self.reading.listing.operands(operation).len()
+    }
+
     fn shape(&self, ty: u32) -> Shape {
-        self.tables.shape(ty)
+        self.declared.types.shape(ty)
     }
 
     fn part(&self, ty: u32, index: u32) -> Option<MemberShape> {
-        self.tables.part(ty, index)
+        self.declared.types.part(ty, index)
     }
 
     fn type_of(&self, id: u32) -> u32 {
-        match self.source.definition(id) {
+        match self.reading.listing.definition(id) {
             Some(made) => made.ty,
             None => 0,
         }
     }
 
-    fn built(&mut self, ty: u32, operation: &Operation) -> TypeHandle {
-        match (self.tables.handle(ty), self.tables.shape(ty)) {
+    fn built(&mut self, ty: u32, operation: &Instruction) -> TypeHandle {
+        match (
+            self.declared.types.handle(ty),
+            self.declared.types.shape(ty),
+        ) {
             (Some(handle), _) => handle,
             (None, Shape::Nothing) => {
                 self.body.fail(operation.malformed(Malformed::NoType));
@@ -62,36 +83,32 @@ impl<O: Origin, T: Tables, W: Writing> Builder for Lowering<O, T, W> {
     }
 
     fn vector(&mut self, size: Option<VectorSize>, scalar: Scalar) -> TypeHandle {
-        let inner = match size {
-            None => TypeInner::Scalar(scalar),
-            Some(size) => TypeInner::Vector { size, scalar },
-        };
-        let made = self.tables.insert(None, inner, Span::UNDEFINED);
+        let made = vector_type(&mut self.built, size, scalar);
         type_in(&mut self.body, made)
     }
 
     fn stored_matrix(&mut self, matrix: &MatrixShape, stored: Stored) -> TypeHandle {
-        let made = self.tables.stored_matrix(matrix, stored);
+        let made = stored_matrix(&mut self.built, matrix, stored);
         type_in(&mut self.body, made)
     }
 
     fn packed_line(&mut self, length: VectorSize, scalar: Scalar) -> TypeHandle {
-        let made = self.tables.packed_line(length, scalar);
+        let made = packed_line(&mut self.built, length, scalar);
         type_in(&mut self.body, made)
     }
 
     fn is_constant(&self, id: u32) -> bool {
-        match self.tables.known(id) {
+        match self.declared.constants.of(id) {
             Some(known) => matches!(known.made, Made::Constant(_)),
             None => false,
         }
     }
 
     fn constant(&self, id: u32) -> Option<i64> {
-        self.tables.known(id)?.value
+        self.declared.constants.of(id)?.value
     }
 
-    fn value(&mut self, id: u32, operation: &Operation) -> Value {
+    fn value(&mut self, id: u32, operation: &Instruction) -> Value {
         if self.has_failed() {
             return no_value();
         }
@@ -99,7 +116,7 @@ impl<O: Origin, T: Tables, W: Writing> Builder for Lowering<O, T, W> {
             return value;
         }
         if matches!(self.names.slot(id), Slot::Pair { .. }) {
-            return refuse_in(
+            return refuse(
                 &mut self.body,
                 operation.unsupported_by(Feature::PairAsValue),
             );
@@ -108,7 +125,7 @@ impl<O: Origin, T: Tables, W: Writing> Builder for Lowering<O, T, W> {
         self.way(place, operation)
     }
 
-    fn image(&mut self, id: u32, operation: &Operation) -> ImageValue {
+    fn image(&mut self, id: u32, operation: &Instruction) -> ImageValue {
         let place = self.pointer(id, operation);
         let image = self.pointer_at(place, operation).image;
         let value = self.way(place, operation);
@@ -123,18 +140,18 @@ impl<O: Origin, T: Tables, W: Writing> Builder for Lowering<O, T, W> {
         }
     }
 
-    fn sampler(&mut self, id: u32, operation: &Operation) -> Value {
+    fn sampler(&mut self, id: u32, operation: &Instruction) -> Value {
         match self.resolve(id, operation) {
             Slot::Pair { sampler, .. } => self.way(sampler, operation),
-            _ => refuse_in(&mut self.body, operation.unsupported_by(Feature::NoSampler)),
+            _ => refuse(&mut self.body, operation.unsupported_by(Feature::NoSampler)),
         }
     }
 
-    fn emit(&mut self, expression: Expression, operation: &Operation) -> Value {
-        self.body.emit(expression, span_of(&operation.instruction))
+    fn emit(&mut self, expression: Expression, operation: &Instruction) -> Value {
+        self.body.compute(expression, span_of(operation))
     }
 
-    fn literal(&mut self, literal: Literal, operation: &Operation) -> Value {
+    fn literal(&mut self, literal: Literal, operation: &Instruction) -> Value {
         self.always(Expression::Literal(literal), operation)
     }
 }
@@ -146,10 +163,15 @@ enum WholeIndex {
     Computed(Value),
 }
 
-impl<O: Origin, T: Tables, W: Writing> Lowering<O, T, W> {
+impl<T: Types, W: Writing> Lowering<T, W> {
     // The index into all resources of an array of arrays: the steps to the array at this place, each by how many resources it
     // counts, and the last one.
-    fn whole_index(&mut self, place: u32, last: PointerStep, operation: &Operation) -> WholeIndex {
+    fn whole_index(
+        &mut self,
+        place: u32,
+        last: PointerStep,
+        operation: &Instruction,
+    ) -> WholeIndex {
         let mut whole = self.counted(last, 1, operation);
         let mut at = place;
         for _ in 0..MAX_STEPS {
@@ -165,7 +187,7 @@ impl<O: Origin, T: Tables, W: Writing> Lowering<O, T, W> {
     }
 
     // An index that counts so many.
-    fn counted(&mut self, step: PointerStep, count: u32, operation: &Operation) -> WholeIndex {
+    fn counted(&mut self, step: PointerStep, count: u32, operation: &Instruction) -> WholeIndex {
         let id = match step {
             PointerStep::Root => return WholeIndex::Fixed(0),
             PointerStep::Index(index) => {
@@ -206,7 +228,7 @@ impl<O: Origin, T: Tables, W: Writing> Lowering<O, T, W> {
     }
 
     // The sum of two such indexes.
-    fn sum(&mut self, left: WholeIndex, right: WholeIndex, operation: &Operation) -> WholeIndex {
+    fn sum(&mut self, left: WholeIndex, right: WholeIndex, operation: &Instruction) -> WholeIndex {
         if let (WholeIndex::Fixed(left), WholeIndex::Fixed(right)) = (left, right) {
             return WholeIndex::Fixed(left.saturating_add(right));
         }
@@ -216,7 +238,7 @@ impl<O: Origin, T: Tables, W: Writing> Lowering<O, T, W> {
         WholeIndex::Computed(self.emit(Expression::Binary { op, left, right }, operation))
     }
 
-    fn index_value(&mut self, index: WholeIndex, operation: &Operation) -> Value {
+    fn index_value(&mut self, index: WholeIndex, operation: &Instruction) -> Value {
         match index {
             WholeIndex::Fixed(index) => self.literal(Literal::U32(index), operation),
             WholeIndex::Computed(value) => value,
@@ -224,18 +246,18 @@ impl<O: Origin, T: Tables, W: Writing> Lowering<O, T, W> {
     }
 }
 
-impl<O: Origin, T: Tables, W: Writing> FunctionBuilder for Lowering<O, T, W> {
+impl<T: Types, W: Writing> FunctionBuilder for Lowering<T, W> {
     fn name_of(&mut self, id: u32) -> Option<String> {
-        let name = self.source.name(self.alloc, id);
+        let name = self.reading.listing.name(self.alloc, id, None);
         read_in(&mut self.body, name)
     }
 
-    fn place_of(&self, function: u32) -> Option<u32> {
-        self.source.place_of(function)
+    fn reading(&self) -> &Reading {
+        &self.reading
     }
 
     fn is_known(&self, id: u32) -> bool {
-        self.tables.known(id).is_some()
+        self.declared.constants.of(id).is_some()
     }
 
     fn slot(&self, id: u32) -> Slot {
@@ -246,18 +268,18 @@ impl<O: Origin, T: Tables, W: Writing> FunctionBuilder for Lowering<O, T, W> {
         self.names.set(id, slot);
     }
 
-    fn resolve(&mut self, id: u32, operation: &Operation) -> Slot {
+    fn resolve(&mut self, id: u32, operation: &Instruction) -> Slot {
         match self.names.slot(id) {
             Slot::Nothing | Slot::Value { .. } => {}
             slot => return slot,
         }
-        let Some(variable) = self.tables.variable(id) else {
+        let Some(variable) = self.declared.variables.of(id) else {
             let error = self.missing(id, operation);
             self.body.fail(error);
             return Slot::Nothing;
         };
         let value = self.name(id, Expression::GlobalVariable(variable.handle), operation);
-        let is_rebuilt = self.tables.handle(variable.ty) != Some(variable.built);
+        let is_rebuilt = self.declared.types.handle(variable.ty) != Some(variable.built);
         let pointer = Pointer {
             base: None,
             step: PointerStep::Root,
@@ -286,7 +308,7 @@ impl<O: Origin, T: Tables, W: Writing> FunctionBuilder for Lowering<O, T, W> {
         Slot::Pair { image, sampler }
     }
 
-    fn pointer(&mut self, id: u32, operation: &Operation) -> u32 {
+    fn pointer(&mut self, id: u32, operation: &Instruction) -> u32 {
         match self.resolve(id, operation) {
             Slot::Pointer(place) => place,
             Slot::Pair { image, .. } => image,
@@ -297,7 +319,7 @@ impl<O: Origin, T: Tables, W: Writing> FunctionBuilder for Lowering<O, T, W> {
         }
     }
 
-    fn pointer_at(&mut self, place: u32, operation: &Operation) -> Pointer {
+    fn pointer_at(&mut self, place: u32, operation: &Instruction) -> Pointer {
         match self.names.pointer(place) {
             Some(pointer) => pointer,
             None => {
@@ -317,7 +339,7 @@ impl<O: Origin, T: Tables, W: Writing> FunctionBuilder for Lowering<O, T, W> {
         }
     }
 
-    fn way(&mut self, place: u32, operation: &Operation) -> Value {
+    fn way(&mut self, place: u32, operation: &Instruction) -> Value {
         let mut above = Vec::new(self.alloc);
         let mut at = place;
         let mut value = None;
@@ -327,17 +349,17 @@ impl<O: Origin, T: Tables, W: Writing> FunctionBuilder for Lowering<O, T, W> {
                 value = Some(pointer.value);
                 break;
             }
-            keep_in(&mut self.body, &mut above, at);
+            keep(&mut self.body, &mut above, at);
             match pointer.base {
                 Some(base) => at = base,
-                None => return refuse_in(
+                None => return refuse(
                     &mut self.body,
                     operation.unsupported_by(Feature::PointerOutOfScope),
                 ),
             }
         }
         let Some(mut value) = value else {
-            return refuse_in(
+            return refuse(
                 &mut self.body,
                 operation.unsupported_by(Feature::LongPointer),
             );
@@ -359,7 +381,7 @@ impl<O: Origin, T: Tables, W: Writing> FunctionBuilder for Lowering<O, T, W> {
         place: u32,
         base: Value,
         step: PointerStep,
-        operation: &Operation,
+        operation: &Instruction,
     ) -> Value {
         if self.pointer_at(place, operation).resources.is_none() {
             return self.step(base, step, operation);
@@ -373,7 +395,7 @@ impl<O: Origin, T: Tables, W: Writing> FunctionBuilder for Lowering<O, T, W> {
         }
     }
 
-    fn step(&mut self, base: Value, step: PointerStep, operation: &Operation) -> Value {
+    fn step(&mut self, base: Value, step: PointerStep, operation: &Instruction) -> Value {
         match step {
             PointerStep::Root => base,
             PointerStep::Index(index) => self.emit(
@@ -382,7 +404,7 @@ impl<O: Origin, T: Tables, W: Writing> FunctionBuilder for Lowering<O, T, W> {
             ),
             PointerStep::Dynamic(id) => match self.plain_value(id, operation) {
                 Some(index) => self.emit(Expression::Access { base, index }, operation),
-                None => refuse_in(&mut self.body, operation.malformed(Malformed::NoValue)),
+                None => refuse(&mut self.body, operation.malformed(Malformed::NoValue)),
             },
         }
     }
@@ -395,11 +417,11 @@ impl<O: Origin, T: Tables, W: Writing> FunctionBuilder for Lowering<O, T, W> {
         self.scope = scope;
     }
 
-    fn define(&mut self, operation: &Operation, value: Value) {
-        let id = operation.instruction.id;
-        let span = span_of(&operation.instruction);
-        let local = if self.source.is_kept(id) {
-            let ty = self.built(operation.instruction.ty, operation);
+    fn define(&mut self, operation: &Instruction, value: Value) {
+        let id = operation.id;
+        let span = span_of(operation);
+        let local = if self.reading.flow.kept.is_kept(id) {
+            let ty = self.built(operation.ty, operation);
             let pointer = self.local(None, ty, None, span);
             self.body
                 .statement(Statement::Store { pointer, value }, span);
@@ -415,8 +437,8 @@ impl<O: Origin, T: Tables, W: Writing> FunctionBuilder for Lowering<O, T, W> {
         self.names.set(id, slot);
     }
 
-    fn always(&mut self, expression: Expression, operation: &Operation) -> Value {
-        self.body.place(expression, span_of(&operation.instruction))
+    fn always(&mut self, expression: Expression, operation: &Instruction) -> Value {
+        self.body.place(expression, span_of(operation))
     }
 
     fn named_before(&self, id: u32) -> Option<Value> {
@@ -432,11 +454,13 @@ impl<O: Origin, T: Tables, W: Writing> FunctionBuilder for Lowering<O, T, W> {
     }
 
     fn require_operations(&mut self, operations: SubgroupOperationSet) {
-        self.tables.require(Capabilities::SUBGROUP, operations);
+        self.require(Capabilities::SUBGROUP);
+        let before = self.declared.demands.operations;
+        self.declared.demands.operations = SubgroupOperationSet(before.0 | operations.0);
     }
 
     fn require(&mut self, capability: Capabilities) {
-        self.tables.require(capability, SubgroupOperationSet(0));
+        self.declared.demands.ask(capability);
     }
 
     fn local(
@@ -449,16 +473,8 @@ impl<O: Origin, T: Tables, W: Writing> FunctionBuilder for Lowering<O, T, W> {
         self.body.local(LocalVariable { name, ty, init }, span)
     }
 
-    fn compute(&mut self, expression: Expression, span: Span) -> Value {
-        self.body.emit(expression, span)
-    }
-
-    fn place(&mut self, expression: Expression, span: Span) -> Value {
-        self.body.place(expression, span)
-    }
-
-    fn add(&mut self, statement: Statement, span: Span) {
-        self.body.statement(statement, span);
+    fn add(&mut self, statement: Statement, operation: &Instruction) {
+        self.body.statement(statement, span_of(operation));
     }
 
     fn open(&mut self) {

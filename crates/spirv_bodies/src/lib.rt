@@ -5,14 +5,11 @@
 mod building;
 mod functions;
 mod lowering;
-mod masks;
-mod origin;
 mod predeclared;
 mod subgroups;
 mod writing;
 
-pub use functions::lower_functions;
-pub use masks::Words;
+pub use functions::{Lowered, lower_functions};
 pub use spirv_operations::Special;
 pub use subgroups::Subgroups;
-pub use writing::{Writing, keep_in, read_in, refuse_in, type_in};
+pub use writing::{Writing, read_in, type_in};

@@ -1,25 +1,26 @@
 // A function that is being built out of its instructions.
 
-use crate::origin::Origin;
-use crate::writing::{Writing, keep_in, refuse_in};
+use crate::writing::Writing;
 use ir_items::Expression;
 use spirv_constants::{Known, Made, named};
-use spirv_declarations::Tables;
-use spirv_expressions::{Builder, Operation, Value};
+use spirv_declarations::Declared;
+use spirv_expressions::{Builder, Emits, Value, keep, refuse};
 use spirv_flow::is_chain;
 use spirv_operations::{Names, Slot};
-use spirv_types::span_of;
-use spirv_words::{Feature, Malformed, SpirvError, Unsupported};
+use spirv_types::{Reading, Types, span_of};
+use spirv_words::{Feature, Instruction, Malformed, SpirvError, Unsupported};
 use std::alloc::Global;
 
 /// What functions are built with, one after the other.
 #[derive(Drop)]
-pub struct Lowering<O: Origin, T: Tables, W: Writing> {
+pub struct Lowering<T: Types, W: Writing> {
     pub(crate) alloc: Global,
-    /// What functions are built out of.
-    pub source: O,
-    /// What it declares.
-    pub tables: T,
+    /// The module that is read.
+    pub reading: Reading,
+    /// What is known of what it declares.
+    pub declared: Declared,
+    /// Its types.
+    pub built: T,
     /// The function that is built.
     pub body: W,
     /// What its ids are, and its pointers.
@@ -39,21 +40,26 @@ fn parts_of(made: &Made) -> Option<(u32, u32)> {
 // How deep composites of specialization constants may nest.
 const MAX_DEPTH: u32 = 32;
 
-impl<O: Origin, T: Tables, W: Writing> Lowering<O, T, W> {
+impl<T: Types, W: Writing> Lowering<T, W> {
     /// Whether what is in a scope is so here.
     pub(crate) fn reaches(&self, scope: Option<u32>) -> bool {
         match scope {
             None => true,
-            Some(scope) => self.source.reaches(scope, self.scope),
+            Some(scope) => self.reading.flow.steps.scopes.reaches(scope, self.scope),
         }
     }
 
     /// The expression of a constant or a variable with this id, which is named once in a function.
-    pub(crate) fn name(&mut self, id: u32, expression: Expression, operation: &Operation) -> Value {
+    pub(crate) fn name(
+        &mut self,
+        id: u32,
+        expression: Expression,
+        operation: &Instruction,
+    ) -> Value {
         if let Some(value) = self.names.named(id) {
             return value;
         }
-        let value = self.body.place(expression, span_of(&operation.instruction));
+        let value = self.body.place(expression, span_of(operation));
         self.names.set_named(id, value);
         value
     }
@@ -63,12 +69,12 @@ impl<O: Origin, T: Tables, W: Writing> Lowering<O, T, W> {
         &mut self,
         id: u32,
         expression: Expression,
-        operation: &Operation,
+        operation: &Instruction,
     ) -> Value {
         if let Some(value) = self.names.sampler(id) {
             return value;
         }
-        let value = self.body.place(expression, span_of(&operation.instruction));
+        let value = self.body.place(expression, span_of(operation));
         self.names.set_sampler(id, value);
         value
     }
@@ -79,7 +85,7 @@ impl<O: Origin, T: Tables, W: Writing> Lowering<O, T, W> {
         &mut self,
         id: u32,
         known: Option<Known>,
-        operation: &Operation,
+        operation: &Instruction,
         depth: u32,
     ) -> Option<Value> {
         let known = known?;
@@ -97,11 +103,11 @@ impl<O: Origin, T: Tables, W: Writing> Lowering<O, T, W> {
         ty: u32,
         first: u32,
         count: u32,
-        operation: &Operation,
+        operation: &Instruction,
         depth: u32,
     ) -> Value {
         let Some(depth) = depth.checked_sub(1) else {
-            return refuse_in(
+            return refuse(
                 &mut self.body,
                 operation.unsupported_by(Feature::DeepComposite),
             );
@@ -111,10 +117,10 @@ impl<O: Origin, T: Tables, W: Writing> Lowering<O, T, W> {
             if self.has_failed() {
                 break;
             }
-            let part = self.tables.constant_part(first, place);
-            let known = self.tables.known_part(part);
+            let part = self.declared.constants.part(first, place);
+            let known = self.declared.constants.of_part(part);
             match self.constant_value(part, known, operation, depth) {
-                Some(value) => keep_in(&mut self.body, &mut components, value),
+                Some(value) => keep(&mut self.body, &mut components, value),
                 None => self.body.fail(operation.malformed(Malformed::NoConstant)),
             }
         }
@@ -123,14 +129,14 @@ impl<O: Origin, T: Tables, W: Writing> Lowering<O, T, W> {
     }
 
     /// The value of an id that is a constant or a value of the function, and no pointer.
-    pub fn plain_value(&mut self, id: u32, operation: &Operation) -> Option<Value> {
+    pub fn plain_value(&mut self, id: u32, operation: &Instruction) -> Option<Value> {
         let Slot::Value {
             value,
             scope,
             local,
         } = self.names.slot(id)
         else {
-            let known = self.tables.known(id);
+            let known = self.declared.constants.of(id);
             return self.constant_value(id, known, operation, MAX_DEPTH);
         };
         if self.reaches(scope) {
@@ -138,7 +144,7 @@ impl<O: Origin, T: Tables, W: Writing> Lowering<O, T, W> {
         }
         match local {
             Some(pointer) => Some(self.emit(Expression::Load { pointer }, operation)),
-            None => Some(refuse_in(
+            None => Some(refuse(
                 &mut self.body,
                 operation.unsupported_by(Feature::ValueOutOfScope),
             )),
@@ -146,13 +152,11 @@ impl<O: Origin, T: Tables, W: Writing> Lowering<O, T, W> {
     }
 
     /// What is wrong with an id that is no value and no pointer here.
-    pub(crate) fn missing(&self, id: u32, operation: &Operation) -> SpirvError {
-        match self.source.definition(id) {
+    pub(crate) fn missing(&self, id: u32, operation: &Instruction) -> SpirvError {
+        match self.reading.listing.definition(id) {
             None => operation.malformed(Malformed::Undefined),
             Some(made) if is_chain(made.opcode) => operation.malformed(Malformed::NoPointer),
-            Some(made) => operation
-                .instruction
-                .unsupported_as(Unsupported::ValueOf(made.opcode)),
+            Some(made) => operation.unsupported_as(Unsupported::ValueOf(made.opcode)),
         }
     }
 }

@@ -1,16 +1,16 @@
 // What entry points compute for functions: of the number of an invocation in its subgroup and of the subgroup's size, and of the
 // place of a fragment.
 
-use crate::masks::Words;
-use crate::writing::{Writing, keep_in, type_in};
+use crate::writing::{Writing, type_in};
 use ir_arena::span::Span;
-use ir_items::{Expression, FunctionArgument, Statement, TypeInner};
+use ir_items::{Expression, FunctionArgument, IrType, Statement, TypeInner};
 use ir_kinds::{
     BinaryOperator, Binding, BuiltIn, Scalar, ScalarKind, SwizzleComponent, VectorSize,
 };
-use spirv_declarations::{Interface, Variable};
-use spirv_expressions::Value;
+use spirv_declarations::Variable;
+use spirv_expressions::{Emits, Value, Words, keep};
 use spirv_tables::SubgroupMask;
+use spirv_types::Types;
 
 /// What is computed by an entry point.
 #[derive(Clone, Copy)]
@@ -55,9 +55,9 @@ fn is_bound(argument: &FunctionArgument, built_in: BuiltIn) -> bool {
 
 impl Subgroups {
     // The argument with a built-in, which is taken where none is.
-    fn argument<I: Interface, W: Writing>(
+    fn argument<T: Types, W: Writing>(
         &self,
-        declared: &mut I,
+        built: &mut T,
         body: &mut W,
         arguments: &mut Vec<FunctionArgument>,
         built_in: BuiltIn,
@@ -66,13 +66,14 @@ impl Subgroups {
             Some(place) => place,
             None => {
                 let place = u32::try_from(arguments.len()).unwrap_or(u32::MAX);
-                let made = declared.insert(inner_of(built_in), Span::UNDEFINED);
+                let inner = inner_of(built_in);
+                let made = built.insert(IrType { name: None, inner }, Span::UNDEFINED);
                 let argument = FunctionArgument {
                     name: None,
                     ty: type_in(body, made),
                     binding: Some(Binding::BuiltIn(built_in)),
                 };
-                keep_in(body, arguments, argument);
+                keep(body, arguments, argument);
                 place
             }
         };
@@ -86,23 +87,23 @@ impl Subgroups {
     }
 
     /// Stores a mask into its variable: the invocations below the end of it that are not below its beginning.
-    pub fn store_mask<I: Interface, W: Writing>(
+    pub fn store_mask<T: Types, W: Writing>(
         &self,
-        declared: &mut I,
+        built: &mut T,
         body: &mut W,
         arguments: &mut Vec<FunctionArgument>,
         variable: &Variable,
         mask: SubgroupMask,
     ) {
         let ty = variable.built;
-        let here = self.argument(declared, body, arguments, BuiltIn::SubgroupInvocationId);
+        let here = self.argument(built, body, arguments, BuiltIn::SubgroupInvocationId);
         let one = self.words.word(body, 1);
         let next = self.words.binary(body, BinaryOperator::Add, here, one);
         let end = match mask {
             SubgroupMask::Equal | SubgroupMask::LessEqual => next,
             SubgroupMask::Less => here,
             SubgroupMask::GreaterEqual | SubgroupMask::Greater => {
-                self.argument(declared, body, arguments, BuiltIn::SubgroupSize)
+                self.argument(built, body, arguments, BuiltIn::SubgroupSize)
             }
         };
         let lower = self.words.below(body, ty, end);
@@ -121,45 +122,45 @@ impl Subgroups {
     }
 
     /// Stores the number of the invocation and the subgroup's size into their variable.
-    pub fn store_numbers<I: Interface, W: Writing>(
+    pub fn store_numbers<T: Types, W: Writing>(
         &self,
-        declared: &mut I,
+        built: &mut T,
         body: &mut W,
         arguments: &mut Vec<FunctionArgument>,
         variable: &Variable,
     ) {
-        let here = self.argument(declared, body, arguments, BuiltIn::SubgroupInvocationId);
-        let size = self.argument(declared, body, arguments, BuiltIn::SubgroupSize);
+        let here = self.argument(built, body, arguments, BuiltIn::SubgroupInvocationId);
+        let size = self.argument(built, body, arguments, BuiltIn::SubgroupSize);
         let mut components = Vec::new(self.words.alloc);
-        keep_in(body, &mut components, here);
-        keep_in(body, &mut components, size);
+        keep(body, &mut components, here);
+        keep(body, &mut components, size);
         let ty = variable.built;
-        let value = body.emit(Expression::Compose { ty, components }, self.words.span);
+        let value = body.compute(Expression::Compose { ty, components }, self.words.span);
         self.store(body, variable, value);
     }
 
     /// Stores the place of the fragment into its variable.
-    pub fn store_place<I: Interface, W: Writing>(
+    pub fn store_place<T: Types, W: Writing>(
         &self,
-        declared: &mut I,
+        built: &mut T,
         body: &mut W,
         arguments: &mut Vec<FunctionArgument>,
         variable: &Variable,
     ) {
         let position = BuiltIn::Position { invariant: false };
-        let vector = self.argument(declared, body, arguments, position);
+        let vector = self.argument(built, body, arguments, position);
         let swizzle = Expression::Swizzle {
             size: VectorSize::Bi,
             vector,
             pattern: SwizzleComponent::XYZW,
         };
-        let expr = body.emit(swizzle, self.words.span);
+        let expr = body.compute(swizzle, self.words.span);
         let whole = Expression::As {
             expr,
             kind: ScalarKind::Uint,
             convert: Some(4),
         };
-        let value = body.emit(whole, self.words.span);
+        let value = body.compute(whole, self.words.span);
         self.store(body, variable, value);
     }
 }

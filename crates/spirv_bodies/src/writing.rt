@@ -1,25 +1,16 @@
 // What functions are written with.
 
 use ir_arena::span::Span;
-use ir_items::{Block, Expression, FunctionArgument, FunctionResult, LocalVariable, Statement};
-use spirv_expressions::{Value, no_type, no_value};
+use ir_items::{Block, FunctionArgument, FunctionResult, LocalVariable, Statement};
+use spirv_expressions::{Emits, Value, no_type};
 use spirv_types::TypeHandle;
 use spirv_words::SpirvError;
 use std::alloc::AllocError;
 
 /// What functions are written with, one after the other. What is wrong first is kept, and after that nothing is written.
-pub trait Writing: Drop {
-    /// This is wrong. It is kept where nothing was before.
-    fn fail(&mut self, error: SpirvError);
-
+pub trait Writing: Emits + Drop {
     /// What was wrong first.
     fn failure(&self) -> Option<SpirvError>;
-
-    /// An expression that is computed here.
-    fn emit(&mut self, expression: Expression, span: Span) -> Value;
-
-    /// An expression that is always there, or that a statement gives.
-    fn place(&mut self, expression: Expression, span: Span) -> Value;
 
     /// Emits what no statement emits yet.
     fn flush(&mut self);
@@ -46,19 +37,6 @@ pub trait Writing: Drop {
         body: Block,
         span: Span,
     );
-}
-
-/// One more in a list.
-pub fn keep_in<W: Writing, T: Drop>(body: &mut W, list: &mut Vec<T>, item: T) {
-    if list.push(item).is_err() {
-        body.fail(SpirvError::Memory);
-    }
-}
-
-/// A value that is not made, since this is wrong.
-pub fn refuse_in<W: Writing>(body: &mut W, error: SpirvError) -> Value {
-    body.fail(error);
-    no_value()
 }
 
 /// The type that was made, if it was.

@@ -4,6 +4,9 @@
 mod composites;
 mod constants;
 mod defaults;
+mod known;
+mod operations;
 mod spec_ops;
 
-pub use constants::{ConstantTable, Constants, ExpressionHandle, Known, Made, named};
+pub use constants::{ConstantTable, Constants};
+pub use known::{ExpressionHandle, Known, KnownConstants, Made, named};

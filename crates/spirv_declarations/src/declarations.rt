@@ -1,121 +1,144 @@
 // All declarations of a module, in order.
 
-use crate::variables::{VariableTable, Variables};
+use crate::variables::{KnownVariables, Variables};
 use ir_flags::Capabilities;
-use ir_kinds::{Scalar, VectorSize};
 use ir_types::ArraySize;
-use spirv_constants::{ConstantTable, Constants};
-use spirv_flow::{FRAGMENT_PLACE, SUBGROUP_NUMBERS, Uses, is_debug};
+use spirv_constants::{ConstantTable, Constants, KnownConstants};
+use spirv_flow::{FRAGMENT_PLACE, SUBGROUP_NUMBERS, is_debug};
 use spirv_numbers::ops;
-use spirv_tables::{Demands, Scan};
+use spirv_tables::Demands;
 use spirv_types::{Reading, TypeTable, Types};
-use spirv_words::{Instruction, Listing, SpirvError};
-use std::alloc::Global;
+use spirv_words::{Failure, Instruction, Listing, SpirvError};
 
-/// What a module declares, wherever it is built.
+/// What is known of what a module declares, wherever it is built.
 #[derive(Drop)]
-pub struct Declarations<T: Types, C: Constants, V: Variables> {
-    /// Its types.
-    pub types: TypeTable<T>,
-    /// Its constants.
-    pub constants: ConstantTable<C>,
-    /// Its global variables.
-    pub variables: VariableTable<V>,
+pub struct Declared {
+    /// What each id of a type is.
+    pub types: TypeTable,
+    /// What each id of a constant is.
+    pub constants: KnownConstants,
+    /// What each id of a global variable is.
+    pub variables: KnownVariables,
     /// What it requires of the validator.
     pub demands: Demands,
 }
 
-/// What a module declares, built in these.
+// Declarations on their way, with what they are built in.
+#[derive(Drop)]
+pub(crate) struct Declarations<T: Types, C: Constants, V: Variables> {
+    pub types: TypeTable,
+    pub built: T,
+    pub constants: ConstantTable<C>,
+    pub variables: KnownVariables,
+    pub built_variables: V,
+    pub demands: Demands,
+}
+
+/// What a module declares, and what its types, its constants and its global variables are built in.
 pub fn declare<T: Types, C: Constants, V: Variables>(
-    alloc: Global,
-    listing: &Listing,
-    uses: &Uses,
+    reading: &Reading,
     types: T,
     constants: C,
     variables: V,
-) -> Result<Declarations<T, C, V>, SpirvError> {
-    let bound = listing.bound();
-    let types = TypeTable::new(alloc, bound, types)?;
-    let constants = ConstantTable::new(alloc, bound, constants)?;
-    let variables = VariableTable::new(alloc, listing, variables)?;
-    let mut declared = Declarations {
+) -> Result<(Declared, T, C, V), SpirvError> {
+    let mut failed = Failure::NONE;
+    let (alloc, bound) = (reading.alloc, reading.listing.bound());
+    let mut all = Declarations {
+        types: TypeTable::new(alloc, bound, &mut failed),
+        built: types,
+        constants: ConstantTable::new(alloc, bound, constants, &mut failed),
+        variables: KnownVariables::new(alloc, &reading.listing, &mut failed),
+        built_variables: variables,
+        demands: Demands::NONE,
+    };
+    all.take_all(reading, &mut failed);
+    if let Some(error) = failed.first {
+        return Err(error);
+    }
+    let Declarations {
+        types,
+        built,
+        constants,
+        variables,
+        built_variables,
+        demands,
+    } = all;
+    let (constants, built_constants) = constants.finish();
+    let declared = Declared {
         types,
         constants,
         variables,
-        demands: Demands::NONE,
+        demands,
     };
-    declared.take_all(alloc, listing, uses)?;
-    Ok(declared)
+    Ok((declared, built, built_constants, built_variables))
 }
 
 impl<T: Types, C: Constants, V: Variables> Declarations<T, C, V> {
-    // All that the module declares.
-    fn take_all(
-        &mut self,
-        alloc: Global,
-        listing: &Listing,
-        uses: &Uses,
-    ) -> Result<(), SpirvError> {
-        let scan = Scan::of_module(alloc, listing)?;
-        let reading = Reading {
-            alloc,
-            listing,
-            scan: &scan,
-            uses,
-        };
-        self.take_each(&reading)
-    }
-
-    // The same in order: what its capabilities require, its declarations, and what its functions need besides.
-    fn take_each(&mut self, reading: &Reading) -> Result<(), SpirvError> {
-        let listing = reading.listing;
+    // What the capabilities of a module require, its declarations, and what its functions need besides, until something is wrong.
+    fn take_all(&mut self, reading: &Reading, failed: &mut Failure) {
+        let listing = &reading.listing;
         for place in &listing.parts.capabilities {
-            self.demands.declare(listing.need(&listing.at(*place), 0)?);
+            let number = failed.take(listing.need(&listing.at(*place), 0), 0);
+            self.demands.declare(number);
         }
         for place in &listing.parts.declarations {
-            self.take(reading, &listing.at(*place))?;
+            if failed.first.is_none() {
+                let taken = self.take(reading, &listing.at(*place));
+                failed.take(taken, ());
+            }
         }
-        if reading.uses.numbered {
+        let uses = &reading.flow.uses;
+        if uses.numbered {
             self.demands.ask(Capabilities::SUBGROUP);
-            self.add_hidden(SUBGROUP_NUMBERS)?;
+            self.add_hidden(SUBGROUP_NUMBERS, failed);
         }
-        if reading.uses.placed {
-            self.add_hidden(FRAGMENT_PLACE)?;
+        if uses.placed {
+            self.add_hidden(FRAGMENT_PLACE, failed);
         }
-        Ok(())
-    }
-
-    // A variable of two words that no id of the module is.
-    fn add_hidden(&mut self, id: u32) -> Result<(), SpirvError> {
-        let built = self.types.vector(Some(VectorSize::Bi), Scalar::U32)?;
-        self.variables.add_hidden(id, built)
     }
 
     // A type, a constant or a variable.
     fn take(&mut self, reading: &Reading, instruction: &Instruction) -> Result<(), SpirvError> {
         let Declarations {
             types,
+            built,
             constants,
-            variables,
             demands,
+            ..
         } = self;
         match instruction.opcode {
-            ops::VARIABLE => variables.declare(reading, types, constants, demands, instruction),
-            ops::TYPE_ARRAY => {
-                let size = constants.length(reading.listing.need(instruction, 1)?, instruction)?;
-                types.declare_array(reading, instruction, &size)
+            ops::VARIABLE => self.declare_variable(reading, instruction),
+            ops::TYPE_ARRAY | ops::TYPE_RUNTIME_ARRAY => {
+                match length_of(&constants.known, &reading.listing, instruction) {
+                    Ok(size) => types.declare_array(built, reading, instruction, &size),
+                    Err(error) => Err(error),
+                }
             }
-            ops::TYPE_RUNTIME_ARRAY => {
-                types.declare_array(reading, instruction, &ArraySize::Dynamic)
+            ops::TYPE_STRUCT => types.declare_struct(built, reading, instruction, demands),
+            ops::TYPE_VOID..=ops::TYPE_FUNCTION => {
+                types.declare(built, reading, instruction, demands)
             }
-            ops::TYPE_STRUCT => types.declare_struct(reading, instruction, demands),
-            ops::TYPE_VOID..=ops::TYPE_FUNCTION => types.declare(reading, instruction, demands),
             ops::SPEC_CONSTANT_OP => constants.declare_operation(reading, types, instruction),
             ops::UNDEF | ops::CONSTANT_TRUE..=ops::SPEC_CONSTANT_COMPOSITE => {
                 constants.declare(reading, types, instruction)
             }
-            ops::EXT_INST if is_debug(reading.listing, instruction) => Ok(()),
+            ops::EXT_INST if is_debug(&reading.listing, instruction) => Ok(()),
             _ => Err(instruction.unsupported()),
         }
+    }
+}
+
+// How many elements an array has.
+fn length_of(
+    constants: &KnownConstants,
+    listing: &Listing,
+    instruction: &Instruction,
+) -> Result<ArraySize, SpirvError> {
+    if instruction.opcode == ops::TYPE_RUNTIME_ARRAY {
+        return Ok(ArraySize::Dynamic);
+    }
+    match listing.need(instruction, 1) {
+        Ok(id) => constants.length(id, instruction),
+        Err(error) => Err(error),
     }
 }

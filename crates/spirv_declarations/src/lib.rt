@@ -5,13 +5,12 @@
 mod declarations;
 mod interface;
 mod modes;
-mod tables;
 mod upgrades;
 mod variables;
 mod varyings;
 
-pub use declarations::{Declarations, declare};
-pub use interface::{Interface, Located};
+pub use declarations::{Declared, declare};
+pub use interface::{Located, located_type, members_of};
 pub use modes::{Modes, decorated_size, modes_of, stage_of};
-pub use tables::Tables;
-pub use variables::{GlobalHandle, Variable, VariableTable, Variables, Varying, sampler_name};
+pub use variables::{GlobalHandle, KnownVariables, Variable, Variables, Varying, sampler_name};
+pub use varyings::scalar_kind;

@@ -1,11 +1,11 @@
 // How entry points are executed (sections 3.3 and 3.6).
 
-use crate::interface::Interface;
+use crate::declarations::Declared;
 use ir_flags::Capabilities;
 use ir_kinds::{EarlyDepthTest, ShaderStage};
 use spirv_numbers::{numbers, ops};
 use spirv_tables::Decorated;
-use spirv_words::{Feature, Instruction, Listing, SpirvError, Unsupported};
+use spirv_words::{Failure, Feature, Instruction, Listing, SpirvError, Unsupported};
 
 /// How an entry point is executed.
 #[derive(Clone, Copy)]
@@ -18,54 +18,47 @@ pub struct Modes {
 
 /// The stage of an entry point.
 pub fn stage_of(listing: &Listing, entry: &Instruction) -> Result<ShaderStage, SpirvError> {
-    let model = listing.need(entry, 0)?;
-    match model {
-        numbers::MODEL_VERTEX => Ok(ShaderStage::Vertex),
-        numbers::MODEL_FRAGMENT => Ok(ShaderStage::Fragment),
-        numbers::MODEL_GL_COMPUTE => Ok(ShaderStage::Compute),
-        _ => Err(entry.unsupported_as(Unsupported::Stage(model))),
-    }
-}
-
-// The value of a constant that a size is.
-fn size_of<I: Interface>(
-    declared: &I,
-    id: u32,
-    instruction: &Instruction,
-) -> Result<u32, SpirvError> {
-    let value = declared.constant(id).unwrap_or(-1);
-    match u32::try_from(value) {
-        Ok(value) => Ok(value),
-        Err(_) => Err(instruction.unsupported_by(Feature::WorkgroupSize)),
+    match listing.need(entry, 0) {
+        Ok(numbers::MODEL_VERTEX) => Ok(ShaderStage::Vertex),
+        Ok(numbers::MODEL_FRAGMENT) => Ok(ShaderStage::Fragment),
+        Ok(numbers::MODEL_GL_COMPUTE) => Ok(ShaderStage::Compute),
+        Ok(model) => Err(entry.unsupported_as(Unsupported::Stage(model))),
+        Err(error) => Err(error),
     }
 }
 
 // The size of workgroups that the operands from this place on say, each as a constant or as it is.
-fn read_size<I: Interface>(
+fn read_size(
     listing: &Listing,
-    declared: &I,
+    declared: &Declared,
     instruction: &Instruction,
     first: usize,
     by_constants: bool,
-) -> Result<[u32; 3], SpirvError> {
+    failed: &mut Failure,
+) -> [u32; 3] {
     let mut size = [0, 0, 0];
     let mut place = first;
     for word in &mut size {
-        let operand = listing.need(instruction, place)?;
-        *word = if by_constants {
-            size_of(declared, operand, instruction)?
-        } else {
-            operand
-        };
+        *word = failed.take(listing.need(instruction, place), 0);
+        if by_constants {
+            let value = declared.constants.value(*word).unwrap_or(-1);
+            *word = match u32::try_from(value) {
+                Ok(value) => value,
+                Err(_) => {
+                    failed.fail(instruction.unsupported_by(Feature::WorkgroupSize));
+                    0
+                }
+            };
+        }
         place = place.saturating_add(1);
     }
-    Ok(size)
+    size
 }
 
 /// The size of workgroups that a constant of the module says, if one is decorated so.
-pub fn decorated_size<I: Interface>(
+pub fn decorated_size(
     listing: &Listing,
-    declared: &I,
+    declared: &Declared,
 ) -> Result<Option<[u32; 3]>, SpirvError> {
     for place in &listing.parts.declarations {
         let instruction = listing.at(*place);
@@ -73,45 +66,40 @@ pub fn decorated_size<I: Interface>(
             instruction.opcode,
             ops::CONSTANT_COMPOSITE | ops::SPEC_CONSTANT_COMPOSITE
         );
-        if !is_composite {
-            continue;
-        }
-        let said = Decorated::of(listing, instruction.id, None).built_in;
-        if said == Some(numbers::BUILT_IN_WORKGROUP_SIZE) {
-            return match read_size(listing, declared, &instruction, 0, true) {
-                Ok(size) => Ok(Some(size)),
-                Err(error) => Err(error),
-            };
+        if is_composite {
+            let said = Decorated::of(listing, instruction.id, None).built_in;
+            if said == Some(numbers::BUILT_IN_WORKGROUP_SIZE) {
+                let mut failed = Failure::NONE;
+                let size = read_size(listing, declared, &instruction, 0, true, &mut failed);
+                return failed.answer(Some(size));
+            }
         }
     }
     Ok(None)
 }
 
 /// How the entry point with this function is executed.
-pub fn modes_of<I: Interface>(
+pub fn modes_of(
     listing: &Listing,
-    declared: &mut I,
+    declared: &mut Declared,
     function: u32,
 ) -> Result<Modes, SpirvError> {
+    let mut failed = Failure::NONE;
     let mut modes = Modes {
         early: None,
         size: [0, 0, 0],
     };
     for place in listing.modes(function) {
         let mode = listing.at(*place);
-        match listing.need(&mode, 1)? {
-            numbers::MODE_EARLY_FRAGMENT_TESTS => {
-                modes.early = Some(EarlyDepthTest::Force);
-                declared.require(Capabilities::EARLY_DEPTH_TEST);
-            }
-            numbers::MODE_LOCAL_SIZE => {
-                modes.size = read_size(listing, declared, &mode, 2, false)?;
-            }
-            numbers::MODE_LOCAL_SIZE_ID => {
-                modes.size = read_size(listing, declared, &mode, 2, true)?;
-            }
-            _ => {}
+        let number = failed.take(listing.need(&mode, 1), 0);
+        if number == numbers::MODE_EARLY_FRAGMENT_TESTS {
+            modes.early = Some(EarlyDepthTest::Force);
+            declared.demands.ask(Capabilities::EARLY_DEPTH_TEST);
+        }
+        if number == numbers::MODE_LOCAL_SIZE || number == numbers::MODE_LOCAL_SIZE_ID {
+            let by_constants = number == numbers::MODE_LOCAL_SIZE_ID;
+            modes.size = read_size(listing, declared, &mode, 2, by_constants, &mut failed);
         }
     }
-    Ok(modes)
+    failed.answer(modes)
 }

@@ -1,21 +1,23 @@
 // Global variables.
 
+use crate::declarations::Declarations;
 use crate::upgrades::upgraded;
+use crate::varyings::{initial, varying_of};
 use ir_arena::handle::Handle;
 use ir_arena::span::Span;
 use ir_flags::{Capabilities, MemoryDecorations, StorageAccess};
 use ir_items::GlobalVariable;
-use ir_kinds::{AddressSpace, Binding, ImageClass, ResourceBinding};
-use ir_types::{TypeInner, key};
-use spirv_constants::{ConstantTable, Constants};
+use ir_kinds::{AddressSpace, Binding, ResourceBinding, Scalar, VectorSize};
+use ir_types::{ArraySize, TypeInner, key};
+use spirv_constants::{Constants, ExpressionHandle};
 use spirv_flow::Use;
 use spirv_numbers::{numbers, ops};
 use spirv_tables::{Decorated, Demands};
 use spirv_types::{
     ImageShape, ImageUse, Reading, Resources, Shape, TypeHandle, TypeTable, Types, block_access,
-    image_class, space_of, span_of,
+    image_class, insert, space_of, span_of, vector_type,
 };
-use spirv_words::{Feature, Instruction, Listing, Malformed, SpirvError, number_at};
+use spirv_words::{Failure, Feature, Instruction, Listing, Malformed, SpirvError, number_at};
 use std::alloc::Global;
 use std::collections::BTreeMap;
 
@@ -60,13 +62,11 @@ pub trait Variables: Drop {
     fn add(&mut self, variable: GlobalVariable, span: Span) -> Result<GlobalHandle, SpirvError>;
 }
 
-/// The global variables of a module: those that are built, and what each id of one is.
+/// What each id of a global variable is.
 #[derive(Drop)]
-pub struct VariableTable<V: Variables> {
-    /// The variables that are built.
-    pub built: V,
-    /// The variables in order.
-    pub all: Vec<Variable>,
+pub struct KnownVariables {
+    // in order
+    all: Vec<Variable>,
     // for each id its place in that order and one, or 0
     places: Vec<u32>,
     // those that no id of the module is
@@ -75,73 +75,7 @@ pub struct VariableTable<V: Variables> {
     free: BTreeMap<u32, u32>,
 }
 
-// A variable that is being built.
-#[derive(Clone, Copy)]
-pub(crate) struct Draft<'a> {
-    pub instruction: &'a Instruction,
-    pub class: u32,
-    pub ty: u32,
-    pub shape: Shape,
-    pub said: Decorated,
-    pub used: Use,
-}
-
-impl Draft<'_> {
-    // The name of the variable.
-    pub(crate) fn name(&self, reading: &Reading) -> Result<Option<String>, SpirvError> {
-        reading
-            .listing
-            .name(reading.alloc, self.instruction.id, None)
-    }
-
-    fn resource(&self) -> Option<ResourceBinding> {
-        Some(ResourceBinding {
-            group: self.said.set?,
-            binding: self.said.binding?,
-        })
-    }
-}
-
-// The elements that a variable has that is an array; of arrays of resources all of them together.
-fn all_of<T: Types>(types: &TypeTable<T>, draft: &Draft) -> Option<Resources> {
-    match (types.resources(draft.ty), draft.shape) {
-        (Some(all), _) => Some(all),
-        (None, Shape::Array { element, size, .. }) => Some(Resources { element, size }),
-        (None, _) => None,
-    }
-}
-
-// The type of a resource, an array of those where the variable is one.
-fn resource_type<T: Types>(
-    types: &mut TypeTable<T>,
-    draft: &Draft,
-    base: TypeHandle,
-) -> Result<TypeHandle, SpirvError> {
-    match all_of(types, draft) {
-        Some(all) => {
-            let size = all.size;
-            let inner = TypeInner::BindingArray { base, size };
-            types.insert(None, inner, span_of(draft.instruction))
-        }
-        None => Ok(base),
-    }
-}
-
-impl<V: Variables> VariableTable<V> {
-    /// None, with the bindings that the variables of the module take, to be built there.
-    pub fn new(alloc: Global, listing: &Listing, built: V) -> Result<VariableTable<V>, SpirvError> {
-        let places = vec![in alloc; 0u32; listing.bound()]?;
-        let mut free = BTreeMap::new(alloc);
-        take_bindings(listing, &mut free)?;
-        Ok(VariableTable {
-            built,
-            all: Vec::new(alloc),
-            places,
-            hidden: Vec::new(alloc),
-            free,
-        })
-    }
-
+impl KnownVariables {
     /// The variable with this id.
     pub fn of(&self, id: u32) -> Option<Variable> {
         if let Some(place) = number_at(&self.places, id).checked_sub(1) {
@@ -155,400 +89,497 @@ impl<V: Variables> VariableTable<V> {
         None
     }
 
-    // The variable of a draft, as which this was built.
-    pub(crate) fn add(
-        &mut self,
-        draft: &Draft,
-        handle: GlobalHandle,
-        built: TypeHandle,
-        beside: (Option<GlobalHandle>, Option<ImageUse>),
-        varying: Option<Varying>,
-    ) -> Result<(), SpirvError> {
-        let (sampler, image) = beside;
-        self.all.push(Variable {
-            id: draft.instruction.id,
-            handle,
-            ty: draft.ty,
-            built,
-            class: draft.class,
-            sampler,
-            image,
-            varying,
-        })?;
-        let place = u32::try_from(self.all.len()).unwrap_or(u32::MAX);
-        if let Some(at) = self.places.get_mut(draft.instruction.id as usize) {
-            *at = place;
+    // None, with the bindings that the variables of a module take.
+    pub(crate) fn new(alloc: Global, listing: &Listing, failed: &mut Failure) -> KnownVariables {
+        let mut known = KnownVariables {
+            all: Vec::new(alloc),
+            places: failed.table(alloc, 0u32, listing.bound()),
+            hidden: Vec::new(alloc),
+            free: BTreeMap::new(alloc),
+        };
+        for place in &listing.parts.declarations {
+            let instruction = listing.at(*place);
+            if instruction.opcode == ops::VARIABLE {
+                let said = Decorated::of(listing, instruction.id, None);
+                if said.binding.is_some() {
+                    known.take_binding(said.set.unwrap_or(0), said.binding, failed);
+                }
+            }
         }
-        Ok(())
+        known
     }
 
-    // What entry points say to functions, as a variable of this type that no id of the module is.
-    pub(crate) fn add_hidden(&mut self, id: u32, built: TypeHandle) -> Result<(), SpirvError> {
-        let variable = GlobalVariable {
-            name: None,
-            space: AddressSpace::Private,
-            binding: None,
-            ty: built,
-            init: None,
-            memory_decorations: MemoryDecorations(0),
-        };
-        let handle = self.built.add(variable, Span::UNDEFINED)?;
-        self.hidden.push(Variable {
+    // The variable of a draft, as which this was built, with the sampler beside it.
+    fn add(
+        &mut self,
+        draft: &Draft,
+        built: &Built,
+        handle: GlobalHandle,
+        sampler: Option<GlobalHandle>,
+        failed: &mut Failure,
+    ) {
+        let id = draft.instruction.id;
+        let variable = Variable {
             id,
             handle,
+            ty: draft.ty,
+            built: built.ty,
+            class: draft.class,
+            sampler,
+            image: built.image,
+            varying: built.varying,
+        };
+        failed.push(&mut self.all, variable);
+        let place = u32::try_from(self.all.len()).unwrap_or(u32::MAX);
+        if let Some(at) = self.places.get_mut(id as usize) {
+            *at = place;
+        }
+    }
+
+    // A binding of a group is taken: this one, or the next that no variable takes.
+    fn take_binding(&mut self, group: u32, wanted: Option<u32>, failed: &mut Failure) -> u32 {
+        let free = self.free.get(&group).copied().unwrap_or(0);
+        let binding = wanted.unwrap_or(free);
+        let after = free.max(binding.saturating_add(1));
+        if self.free.insert(group, after).is_err() {
+            failed.fail(SpirvError::Memory);
+        }
+        binding
+    }
+
+    // The sampler beside an image, at a binding that is free.
+    fn sampler_beside(
+        &mut self,
+        reading: &Reading,
+        id: u32,
+        image: &Built,
+        ty: TypeHandle,
+        failed: &mut Failure,
+    ) -> GlobalVariable {
+        let group = match image.binding {
+            Some(resource) => resource.group,
+            None => 0,
+        };
+        let binding = self.take_binding(group, None, failed);
+        let name = sampler_name(reading.alloc, &reading.listing, id);
+        let name = failed.take(name, String::new(reading.alloc));
+        let mut sampler = Built::of(ty, AddressSpace::Handle);
+        sampler.binding = Some(ResourceBinding { group, binding });
+        sampler.global(Some(name), None)
+    }
+}
+
+// A variable that is being built.
+#[derive(Clone, Copy)]
+pub(crate) struct Draft {
+    pub instruction: Instruction,
+    pub class: u32,
+    pub ty: u32,
+    pub shape: Shape,
+    pub said: Decorated,
+    pub used: Use,
+}
+
+// As what it is built, but for its name and what it begins as.
+#[derive(Clone, Copy)]
+pub(crate) struct Built {
+    pub ty: TypeHandle,
+    pub space: AddressSpace,
+    pub decorations: MemoryDecorations,
+    pub binding: Option<ResourceBinding>,
+    // the image that it is, and the type of the sampler beside it
+    pub image: Option<ImageUse>,
+    pub sampler: Option<TypeHandle>,
+    pub varying: Option<Varying>,
+}
+
+impl Built {
+    // A variable of this type in this space.
+    pub(crate) fn of(ty: TypeHandle, space: AddressSpace) -> Built {
+        Built {
+            ty,
+            space,
+            decorations: MemoryDecorations(0),
+            binding: None,
+            image: None,
+            sampler: None,
+            varying: None,
+        }
+    }
+
+    // The variable that is built, with this name, which begins as this.
+    fn global(&self, name: Option<String>, init: Option<ExpressionHandle>) -> GlobalVariable {
+        GlobalVariable {
+            name,
+            space: self.space,
+            binding: self.binding,
+            ty: self.ty,
+            init,
+            memory_decorations: self.decorations,
+        }
+    }
+}
+
+impl Draft {
+    // What a variable is declared as.
+    fn of(
+        reading: &Reading,
+        types: &TypeTable,
+        instruction: &Instruction,
+        failed: &mut Failure,
+    ) -> Draft {
+        let class = failed.take(reading.listing.need(instruction, 0), 0);
+        let ty = match types.shape(instruction.ty) {
+            Shape::Pointer { to, .. } => to,
+            _ => {
+                failed.fail(instruction.malformed(Malformed::NoPointer));
+                0
+            }
+        };
+        Draft {
+            instruction: *instruction,
+            class,
+            ty,
+            shape: types.shape(ty),
+            said: Decorated::of(&reading.listing, instruction.id, None),
+            used: reading.flow.uses.of(instruction.id),
+        }
+    }
+
+    fn resource(&self) -> Option<ResourceBinding> {
+        Some(ResourceBinding {
+            group: self.said.set?,
+            binding: self.said.binding?,
+        })
+    }
+
+    // Its elements, where it is an array; of arrays of resources all of them together.
+    fn elements(&self, types: &TypeTable) -> Option<Resources> {
+        match (types.resources(self.ty), self.shape) {
+            (Some(all), _) => Some(all),
+            (None, Shape::Array { element, size, .. }) => Some(Resources { element, size }),
+            (None, _) => None,
+        }
+    }
+
+    // This image as it is used.
+    fn image_use(&self, shape: ImageShape) -> ImageUse {
+        let mut access = StorageAccess(0);
+        if shape.format.is_some() {
+            access = self.said.access();
+            if self.used.atomic {
+                access = StorageAccess(access.0 | StorageAccess::ATOMIC.0);
+            }
+        }
+        let class = image_class(&shape, self.used, access);
+        ImageUse { shape, class }
+    }
+}
+
+impl<T: Types, C: Constants, V: Variables> Declarations<T, C, V> {
+    // What entry points say to functions: a variable of two words that no id of the module is.
+    pub(crate) fn add_hidden(&mut self, id: u32, failed: &mut Failure) {
+        let words = vector_type(&mut self.built, Some(VectorSize::Bi), Scalar::U32);
+        let ty = failed.take(words, Handle::at(0));
+        let hidden = Built::of(ty, AddressSpace::Private).global(None, None);
+        let added = self.built_variables.add(hidden, Span::UNDEFINED);
+        let variable = Variable {
+            id,
+            handle: failed.take(added, Handle::at(0)),
             ty: 0,
-            built,
+            built: ty,
             class: numbers::CLASS_PRIVATE,
             sampler: None,
             image: None,
             varying: None,
-        })?;
-        Ok(())
+        };
+        failed.push(&mut self.variables.hidden, variable);
     }
 
-    // A variable that is built.
-    pub(crate) fn append(
-        &mut self,
-        draft: &Draft,
-        variable: GlobalVariable,
-    ) -> Result<GlobalHandle, SpirvError> {
-        self.built.add(variable, span_of(draft.instruction))
-    }
-
-    // The next binding of a group that no variable takes.
-    fn free_binding(&mut self, group: u32) -> Result<u32, SpirvError> {
-        let binding = self.free.get(&group).copied().unwrap_or(0);
-        take_binding(&mut self.free, group, binding)?;
-        Ok(binding)
-    }
-
-    /// A variable as it is declared.
-    pub fn declare<T: Types, C: Constants>(
+    // A variable as it is declared.
+    pub(crate) fn declare_variable(
         &mut self,
         reading: &Reading,
-        types: &mut TypeTable<T>,
-        constants: &mut ConstantTable<C>,
-        demands: &mut Demands,
         instruction: &Instruction,
     ) -> Result<(), SpirvError> {
-        let class = reading.listing.need(instruction, 0)?;
-        let Shape::Pointer { to, .. } = types.shape(instruction.ty) else {
-            return Err(instruction.malformed(Malformed::NoPointer));
-        };
-        let draft = Draft {
-            instruction,
-            class,
-            ty: to,
-            shape: types.shape(to),
-            said: Decorated::of(reading.listing, instruction.id, None),
-            used: reading.uses.of(instruction.id),
-        };
-        match class {
+        let mut failed = Failure::NONE;
+        let types = &self.types;
+        let built = &mut self.built;
+        let demands = &mut self.demands;
+        let draft = Draft::of(reading, types, instruction, &mut failed);
+        let variable = match draft.class {
             numbers::CLASS_UNIFORM_CONSTANT => {
-                self.declare_handle(reading, types, demands, &draft)
+                handle_of(types, built, demands, &draft, &mut failed)
             }
             numbers::CLASS_INPUT | numbers::CLASS_OUTPUT => {
-                self.declare_varying(reading, types, constants, demands, &draft)
+                varying_of(reading, types, built, demands, &draft, &mut failed)
             }
-            _ => self.declare_plain(reading, types, constants, demands, &draft),
-        }
+            _ => plain_of(reading, types, built, demands, &draft, &mut failed),
+        };
+        let init = initial(
+            reading,
+            types,
+            built,
+            &mut self.constants,
+            &draft,
+            &variable,
+            &mut failed,
+        );
+        self.add_variable(reading, &draft, &variable, init, &mut failed);
+        failed.answer(())
     }
 
-    // An image, a sampler, or both.
-    fn declare_handle<T: Types>(
+    // The variable of a draft, with the sampler beside it.
+    fn add_variable(
         &mut self,
         reading: &Reading,
-        types: &mut TypeTable<T>,
-        demands: &mut Demands,
         draft: &Draft,
-    ) -> Result<(), SpirvError> {
-        let resource = resource_of(types, draft)?;
-        let is_array = matches!(draft.shape, Shape::Array { .. });
-        ask_for_arrays(demands, resource.image.as_ref(), is_array);
-        let Some(image) = resource.image else {
-            let built = sampler_type(types, draft)?;
-            return self.add_handle(reading, types, draft, built, None, resource.combined);
-        };
-        let access = image_access(&image, draft);
-        let span = span_of(draft.instruction);
-        let base = types.image(&image, draft.used, access, span)?;
-        let built = resource_type(types, draft, base)?;
-        let used = ImageUse {
-            shape: image,
-            class: image_class(&image, draft.used, access),
-        };
-        self.add_handle(reading, types, draft, built, Some(used), resource.combined)
-    }
-
-    // The variables of an image, a sampler or both.
-    fn add_handle<T: Types>(
-        &mut self,
-        reading: &Reading,
-        types: &mut TypeTable<T>,
-        draft: &Draft,
-        built: TypeHandle,
-        image: Option<ImageUse>,
-        combined: bool,
-    ) -> Result<(), SpirvError> {
-        let name = draft.name(reading)?;
-        let binding = draft.resource();
-        let handle = self.append(draft, handle_variable(name, binding, built))?;
-        let sampler = if combined {
-            let ty = sampler_type(types, draft)?;
-            let group = match binding {
-                Some(resource) => resource.group,
-                None => 0,
-            };
-            let free = self.free_binding(group)?;
-            let name = sampler_name(reading.alloc, reading.listing, draft.instruction.id)?;
-            let resource = ResourceBinding {
-                group,
-                binding: free,
-            };
-            Some(self.append(draft, handle_variable(Some(name), Some(resource), ty))?)
-        } else {
-            None
-        };
-        self.add(draft, handle, built, (sampler, image), None)
-    }
-
-    // A buffer, immediate data, or a variable of an invocation or a workgroup.
-    fn declare_plain<T: Types, C: Constants>(
-        &mut self,
-        reading: &Reading,
-        types: &mut TypeTable<T>,
-        constants: &mut ConstantTable<C>,
-        demands: &mut Demands,
-        draft: &Draft,
-    ) -> Result<(), SpirvError> {
-        let Some(space) = space_of(reading, draft.class, draft.ty) else {
-            return Err(draft.instruction.unsupported());
-        };
-        let (space, decorations) = match space {
-            AddressSpace::Storage { .. } => storage(reading, types, demands, draft),
-            other => (other, MemoryDecorations(0)),
-        };
-        if space == AddressSpace::Immediate {
-            demands.ask(Capabilities::IMMEDIATES);
-        }
-        let built = plain_type(reading, types, demands, draft, space)?;
-        let init = match reading.listing.operand(draft.instruction, 1) {
-            Some(id) => Some(constants.expression(id, draft.instruction)?),
+        variable: &Built,
+        init: Option<ExpressionHandle>,
+        failed: &mut Failure,
+    ) {
+        let id = draft.instruction.id;
+        let span = span_of(&draft.instruction);
+        let name = failed.take(reading.listing.name(reading.alloc, id, None), None);
+        let added = self.built_variables.add(variable.global(name, init), span);
+        let handle = failed.take(added, Handle::at(0));
+        let sampler = match variable.sampler {
+            Some(ty) => {
+                let known = &mut self.variables;
+                let sampler = known.sampler_beside(reading, id, variable, ty, failed);
+                let added = self.built_variables.add(sampler, span);
+                Some(failed.take(added, Handle::at(0)))
+            }
             None => None,
         };
-        let is_bound = matches!(space, AddressSpace::Storage { .. } | AddressSpace::Uniform);
-        let variable = GlobalVariable {
-            name: draft.name(reading)?,
-            space,
-            binding: if is_bound { draft.resource() } else { None },
-            ty: built,
-            init,
-            memory_decorations: decorations,
-        };
-        let handle = self.append(draft, variable)?;
-        self.add(draft, handle, built, (None, None), None)
+        self.variables.add(draft, variable, handle, sampler, failed);
     }
 }
 
-// The type that is built for a variable, with atomics in it where it is changed so.
-fn plain_type<T: Types>(
-    reading: &Reading,
-    types: &mut TypeTable<T>,
+// An image, a sampler, or both.
+fn handle_of<T: Types>(
+    types: &TypeTable,
+    built: &mut T,
     demands: &mut Demands,
     draft: &Draft,
-    space: AddressSpace,
-) -> Result<TypeHandle, SpirvError> {
-    let whole = buffer_type(types, demands, draft, space)?;
-    match reading.uses.atomics.of(draft.instruction.id) {
+    failed: &mut Failure,
+) -> Built {
+    let resource = resource_of(types, demands, draft, failed);
+    let comparison = draft.used.compared && !draft.used.sampled;
+    let span = span_of(&draft.instruction);
+    let inner = match resource.image {
+        Some(ImageUse { shape, class }) => TypeInner::Image {
+            dim: shape.dim,
+            arrayed: shape.arrayed,
+            class,
+        },
+        None => TypeInner::Sampler { comparison },
+    };
+    let ty = resource_type(built, inner, resource.size, span, failed);
+    let mut variable = Built::of(ty, AddressSpace::Handle);
+    variable.binding = draft.resource();
+    variable.image = resource.image;
+    if resource.combined {
+        let sampler = TypeInner::Sampler { comparison };
+        variable.sampler = Some(resource_type(built, sampler, resource.size, span, failed));
+    }
+    variable
+}
+
+// The type of a resource, or of an array of so many.
+fn resource_type<T: Types>(
+    built: &mut T,
+    inner: TypeInner,
+    size: Option<ArraySize>,
+    span: Span,
+    failed: &mut Failure,
+) -> TypeHandle {
+    let base = insert(built, inner, span, failed);
+    match size {
+        Some(size) => insert(built, TypeInner::BindingArray { base, size }, span, failed),
+        None => base,
+    }
+}
+
+// A buffer, immediate data, or a variable of an invocation or a workgroup.
+fn plain_of<T: Types>(
+    reading: &Reading,
+    types: &TypeTable,
+    built: &mut T,
+    demands: &mut Demands,
+    draft: &Draft,
+    failed: &mut Failure,
+) -> Built {
+    let instruction = &draft.instruction;
+    let (mut variable, size) = memory_of(reading, types, demands, draft, failed);
+    if let Some(size) = size {
+        let base = variable.ty;
+        let inner = TypeInner::BindingArray { base, size };
+        variable.ty = insert(built, inner, span_of(instruction), failed);
+    }
+    let whole = variable.ty;
+    match reading.flow.uses.atomics.of(instruction.id) {
         // members of structs have other places than in the paths
         Some(_) if types.splits() => {
-            Err(draft.instruction.unsupported_by(Feature::AtomicOfNoNumber))
+            failed.fail(instruction.unsupported_by(Feature::AtomicOfNoNumber));
         }
-        Some(place) => upgraded(types, reading, draft.instruction, whole, place, MAX_STEPS),
-        None => Ok(whole),
+        Some(place) => {
+            let ty = upgraded(built, reading, instruction, whole, place, MAX_STEPS);
+            variable.ty = failed.take(ty, whole);
+        }
+        None => {}
     }
+    variable
+}
+
+// The same but for the parts of it that are atomic, and how many it is an array of where it is one of buffers: an array of
+// blocks is an array of bindings.
+fn memory_of(
+    reading: &Reading,
+    types: &TypeTable,
+    demands: &mut Demands,
+    draft: &Draft,
+    failed: &mut Failure,
+) -> (Built, Option<ArraySize>) {
+    let instruction = &draft.instruction;
+    let space = space_of(reading, draft.class, draft.ty);
+    if space.is_none() {
+        failed.fail(instruction.unsupported());
+    }
+    let whole = failed.take(types.need(draft.ty, instruction), Handle::at(0));
+    let mut variable = Built::of(whole, space.unwrap_or(AddressSpace::Private));
+    let (element, size) = match draft.elements(types) {
+        Some(all) => (all.element, Some(all.size)),
+        None => (draft.ty, None),
+    };
+    let capability = match variable.space {
+        AddressSpace::Storage { .. } => {
+            store(reading, types, demands, draft, element, &mut variable);
+            Capabilities::STORAGE_BUFFER_BINDING_ARRAY
+        }
+        AddressSpace::Uniform => Capabilities::BUFFER_BINDING_ARRAY,
+        AddressSpace::Immediate => {
+            demands.ask(Capabilities::IMMEDIATES);
+            return (variable, None);
+        }
+        _ => return (variable, None),
+    };
+    variable.binding = draft.resource();
+    if size.is_some() {
+        if !matches!(types.shape(element), Shape::Struct { .. }) {
+            failed.fail(instruction.unsupported_by(Feature::BufferArrays));
+        }
+        demands.ask(capability);
+        variable.ty = failed.take(types.need(element, instruction), whole);
+    }
+    (variable, size)
 }
 
 // What a variable is that is an image, a sampler or both, or an array of those.
 #[derive(Clone, Copy)]
 struct Resource {
-    image: Option<ImageShape>,
+    image: Option<ImageUse>,
     // whether it is an image with a sampler
     combined: bool,
+    // how many there are, of an array
+    size: Option<ArraySize>,
 }
 
 // What such a variable is.
-fn resource_of<T: Types>(types: &TypeTable<T>, draft: &Draft) -> Result<Resource, SpirvError> {
-    let leaf = match all_of(types, draft) {
-        Some(all) => types.shape(all.element),
-        None => draft.shape,
+fn resource_of(
+    types: &TypeTable,
+    demands: &mut Demands,
+    draft: &Draft,
+    failed: &mut Failure,
+) -> Resource {
+    let (leaf, size) = match draft.elements(types) {
+        Some(all) => (types.shape(all.element), Some(all.size)),
+        None => (draft.shape, None),
     };
-    let combined = matches!(leaf, Shape::SampledImage(_));
-    let image = match leaf {
-        Shape::Image(image) => Some(image),
-        Shape::SampledImage(id) => match types.shape(id) {
-            Shape::Image(image) => Some(image),
-            _ => None,
-        },
-        Shape::Sampler => None,
-        _ => return Err(draft.instruction.unsupported_by(Feature::LooseUniform)),
+    let (combined, shape) = match leaf {
+        Shape::SampledImage(id) => (true, types.shape(id)),
+        _ => (false, leaf),
     };
+    if !leaf.is_handle() {
+        failed.fail(draft.instruction.unsupported_by(Feature::LooseUniform));
+    }
     let alone = matches!(leaf, Shape::Image(_));
     if draft.used.compared && draft.used.sampled && !alone {
-        return Err(draft.instruction.unsupported_by(Feature::MixedComparison));
+        failed.fail(draft.instruction.unsupported_by(Feature::MixedComparison));
     }
-    Ok(Resource { image, combined })
+    let image = match shape {
+        Shape::Image(shape) => Some(draft.image_use(shape)),
+        _ => None,
+    };
+    if size.is_some() {
+        let is_stored = matches!(
+            shape,
+            Shape::Image(ImageShape {
+                format: Some(_),
+                ..
+            })
+        );
+        demands.ask(if is_stored {
+            Capabilities::STORAGE_TEXTURE_BINDING_ARRAY
+        } else {
+            Capabilities::TEXTURE_AND_SAMPLER_BINDING_ARRAY
+        });
+    }
+    Resource {
+        image,
+        combined,
+        size,
+    }
 }
 
 // How many steps a part of a variable may lie deep (universal limit of the standard).
 const MAX_STEPS: u32 = 255;
 
-// The bindings that variables are decorated with are taken.
-fn take_bindings(listing: &Listing, free: &mut BTreeMap<u32, u32>) -> Result<(), SpirvError> {
-    for place in &listing.parts.declarations {
-        let instruction = listing.at(*place);
-        if instruction.opcode == ops::VARIABLE {
-            let said = Decorated::of(listing, instruction.id, None);
-            if let Some(binding) = said.binding {
-                take_binding(free, said.set.unwrap_or(0), binding)?;
-            }
-        }
-    }
-    Ok(())
-}
-
-// A binding of a group is taken.
-fn take_binding(free: &mut BTreeMap<u32, u32>, group: u32, binding: u32) -> Result<(), SpirvError> {
-    let before = free.get(&group).copied().unwrap_or(0);
-    let _ = free.insert(group, before.max(binding.saturating_add(1)))?;
-    Ok(())
-}
-
-// A variable that is a resource itself.
-fn handle_variable(
-    name: Option<String>,
-    binding: Option<ResourceBinding>,
-    ty: TypeHandle,
-) -> GlobalVariable {
-    GlobalVariable {
-        name,
-        space: AddressSpace::Handle,
-        binding,
-        ty,
-        init: None,
-        memory_decorations: MemoryDecorations(0),
-    }
-}
-
 /// The name of the sampler beside an image.
 pub fn sampler_name(alloc: Global, listing: &Listing, id: u32) -> Result<String, SpirvError> {
-    let mut name = match listing.name(alloc, id, None)? {
-        Some(name) => name,
-        None => String::new(alloc),
+    let mut name = match listing.name(alloc, id, None) {
+        Ok(Some(name)) => name,
+        Ok(None) => String::new(alloc),
+        Err(error) => return Err(error),
     };
-    name.push_str("_sampler")?;
-    Ok(name)
-}
-
-// The type of a sampler that is used so.
-fn sampler_type<T: Types>(
-    types: &mut TypeTable<T>,
-    draft: &Draft,
-) -> Result<TypeHandle, SpirvError> {
-    let comparison = draft.used.compared && !draft.used.sampled;
-    let inner = TypeInner::Sampler { comparison };
-    let base = types.insert(None, inner, span_of(draft.instruction))?;
-    resource_type(types, draft, base)
-}
-
-// How an image for storage is accessed.
-fn image_access(image: &ImageShape, draft: &Draft) -> StorageAccess {
-    if image.format.is_none() {
-        return StorageAccess(0);
-    }
-    let atomic = if draft.used.atomic {
-        StorageAccess::ATOMIC.0
-    } else {
-        0
-    };
-    StorageAccess(draft.said.access().0 | atomic)
-}
-
-// The capability of arrays of images and samplers.
-fn ask_for_arrays(demands: &mut Demands, image: Option<&ImageShape>, is_array: bool) {
-    if is_array {
-        demands.ask(match image {
-            Some(image) if image.format.is_some() => Capabilities::STORAGE_TEXTURE_BINDING_ARRAY,
-            _ => Capabilities::TEXTURE_AND_SAMPLER_BINDING_ARRAY,
-        });
+    match name.push_str("_sampler") {
+        Ok(()) => Ok(name),
+        Err(_) => Err(SpirvError::Memory),
     }
 }
 
-// The space of a storage buffer with its accesses, and what is said of its memory.
-fn storage<T: Types>(
+// A storage buffer of this block, or of an array of those: its accesses, and what is said of its memory.
+fn store(
     reading: &Reading,
-    types: &TypeTable<T>,
+    types: &TypeTable,
     demands: &mut Demands,
     draft: &Draft,
-) -> (AddressSpace, MemoryDecorations) {
-    let block = match all_of(types, draft) {
-        Some(all) => all.element,
-        None => draft.ty,
-    };
+    block: u32,
+    variable: &mut Built,
+) {
     let count = match types.shape(block) {
         Shape::Struct { count, .. } => count,
         _ => 0,
     };
-    let of_block = block_access(reading, block, count);
-    let access = StorageAccess(of_block.0 & draft.said.access().0);
-    let mut all = Decorated::NOTHING;
-    all.coherent = count > 0;
-    all.volatile = count > 0;
+    let access = block_access(reading, block, count).0 & draft.said.access().0;
+    variable.space = AddressSpace::Storage {
+        access: StorageAccess(access),
+    };
+    let mut coherent = count > 0;
+    let mut volatile = count > 0;
     for place in 0..count {
-        let said = Decorated::of(reading.listing, block, Some(place));
-        all.coherent &= said.coherent;
-        all.volatile &= said.volatile;
+        let said = Decorated::of(&reading.listing, block, Some(place));
+        coherent &= said.coherent;
+        volatile &= said.volatile;
     }
     let mut decorations = 0;
-    if all.coherent || draft.said.coherent {
+    if coherent || draft.said.coherent {
         demands.ask(Capabilities::MEMORY_DECORATION_COHERENT);
         decorations |= MemoryDecorations::COHERENT.0;
     }
-    if all.volatile || draft.said.volatile {
+    if volatile || draft.said.volatile {
         demands.ask(Capabilities::MEMORY_DECORATION_VOLATILE);
         decorations |= MemoryDecorations::VOLATILE.0;
     }
-    (
-        AddressSpace::Storage { access },
-        MemoryDecorations(decorations),
-    )
-}
-
-// The type of a buffer: an array of blocks is an array of bindings.
-fn buffer_type<T: Types>(
-    types: &mut TypeTable<T>,
-    demands: &mut Demands,
-    draft: &Draft,
-    space: AddressSpace,
-) -> Result<TypeHandle, SpirvError> {
-    let built = types.need(draft.ty, draft.instruction)?;
-    let capability = match space {
-        AddressSpace::Storage { .. } => Capabilities::STORAGE_BUFFER_BINDING_ARRAY,
-        AddressSpace::Uniform => Capabilities::BUFFER_BINDING_ARRAY,
-        _ => return Ok(built),
-    };
-    let Some(all) = all_of(types, draft) else {
-        return Ok(built);
-    };
-    if !matches!(types.shape(all.element), Shape::Struct { .. }) {
-        return Err(draft.instruction.unsupported_by(Feature::BufferArrays));
-    }
-    demands.ask(capability);
-    let base = types.need(all.element, draft.instruction)?;
-    let size = all.size;
-    types.insert(
-        None,
-        TypeInner::BindingArray { base, size },
-        span_of(draft.instruction),
-    )
+    variable.decorations = MemoryDecorations(decorations);
 }

@@ -1,77 +1,56 @@
 // What goes between stages.
 
-use crate::variables::{Draft, VariableTable, Variables, Varying};
-use ir_flags::{Capabilities, MemoryDecorations};
-use ir_items::GlobalVariable;
+use crate::variables::{Built, Draft, Varying};
+use ir_arena::handle::Handle;
+use ir_arena::span::Span;
+use ir_flags::Capabilities;
 use ir_kinds::{AddressSpace, Binding, BuiltIn, Scalar, ScalarKind, VectorSize};
 use ir_types::{Expression, IrType, StructMember, TypeInner};
 use spirv_constants::{ConstantTable, Constants, ExpressionHandle};
 use spirv_numbers::{numbers, ops};
 use spirv_tables::{Decorated, Demands, is_unsigned, with_default};
-use spirv_types::{Reading, Shape, TypeHandle, TypeTable, Types, span_of};
-use spirv_words::{Feature, Malformed, SpirvError, Unsupported};
+use spirv_types::{Reading, Shape, TypeHandle, TypeTable, Types, insert, span_of};
+use spirv_words::{Failure, Feature, Malformed, SpirvError, Unsupported};
 
-impl<V: Variables> VariableTable<V> {
-    // An input or an output: a private variable, and what an entry point takes or gives it as.
-    pub(crate) fn declare_varying<T: Types, C: Constants>(
-        &mut self,
-        reading: &Reading,
-        types: &mut TypeTable<T>,
-        constants: &mut ConstantTable<C>,
-        demands: &mut Demands,
-        draft: &Draft,
-    ) -> Result<(), SpirvError> {
-        let (built, binding) = bound_type(reading, types, demands, draft)?;
-        let is_input = draft.class == numbers::CLASS_INPUT;
-        let init = if is_input {
-            None
-        } else {
-            Some(initial(reading, types, constants, draft, built, binding)?)
-        };
-        let taken = argument_type(types, demands, draft, built, binding)?;
-        let variable = GlobalVariable {
-            name: draft.name(reading)?,
-            space: AddressSpace::Private,
-            binding: None,
-            ty: built,
-            init,
-            memory_decorations: MemoryDecorations(0),
-        };
-        let handle = self.append(draft, variable)?;
-        let varying = Varying {
-            binding,
-            component: draft.said.component,
-            ty: if is_input { taken } else { built },
-        };
-        self.add(draft, handle, built, (None, None), Some(varying))
-    }
-}
-
-// The type that is built for an input or an output, and what binds it, if it is not a struct of bound members.
-fn bound_type<T: Types>(
+// An input or an output: a private variable, and what an entry point takes or gives it as.
+pub(crate) fn varying_of<T: Types>(
     reading: &Reading,
-    types: &mut TypeTable<T>,
+    types: &TypeTable,
+    built: &mut T,
     demands: &mut Demands,
     draft: &Draft,
-) -> Result<(TypeHandle, Option<Binding>), SpirvError> {
-    let instruction = draft.instruction;
-    let said = bound_as(demands, draft)?;
-    let plain = types.need(draft.ty, instruction)?;
-    if !matches!(draft.shape, Shape::Struct { .. }) {
-        return match said {
-            Some(_) => Ok((plain, said)),
-            None => Err(instruction.unsupported_by(Feature::UnboundVarying)),
-        };
+    failed: &mut Failure,
+) -> Built {
+    let said = bound_as(demands, draft, failed);
+    let plain = failed.take(types.need(draft.ty, &draft.instruction), Handle::at(0));
+    let is_input = draft.class == numbers::CLASS_INPUT;
+    let is_block = matches!(draft.shape, Shape::Struct { .. });
+    if !is_block && said.is_none() {
+        failed.fail(draft.instruction.unsupported_by(Feature::UnboundVarying));
     }
-    if said.is_some() || draft.class == numbers::CLASS_INPUT {
-        Ok((bound_struct(reading, types, demands, draft, plain)?, None))
+    let (ty, binding) = if !is_block {
+        (plain, said)
+    } else if is_input || said.is_some() {
+        let bound = bound_struct(reading, types, built, demands, draft, plain, failed);
+        (bound, None)
     } else {
-        Ok((plain, None))
-    }
+        (plain, None)
+    };
+    let taken = match argument_of(demands, draft, binding) {
+        Some(inner) => insert(built, inner, Span::UNDEFINED, failed),
+        None => ty,
+    };
+    let mut variable = Built::of(ty, AddressSpace::Private);
+    variable.varying = Some(Varying {
+        binding,
+        component: draft.said.component,
+        ty: if is_input { taken } else { ty },
+    });
+    variable
 }
 
-// Whether it is a mask of a subgroup's invocations as it is taken: four words.
-fn is_mask(draft: &Draft) -> bool {
+// What binds it. A mask of a subgroup's invocations, an input of four words, is computed of the number of this one.
+fn bound_as(demands: &mut Demands, draft: &Draft, failed: &mut Failure) -> Option<Binding> {
     let is_words = matches!(
         draft.shape,
         Shape::Vector {
@@ -83,187 +62,167 @@ fn is_mask(draft: &Draft) -> bool {
             ..
         }
     );
-    draft.class == numbers::CLASS_INPUT && is_words && draft.said.mask().is_some()
-}
-
-// What binds it. A mask of a subgroup's invocations is computed of the number of this one.
-fn bound_as(demands: &mut Demands, draft: &Draft) -> Result<Option<Binding>, SpirvError> {
-    if is_mask(draft) {
+    if draft.class == numbers::CLASS_INPUT && is_words && draft.said.mask().is_some() {
         demands.ask(Capabilities::SUBGROUP);
-        return Ok(Some(Binding::BuiltIn(BuiltIn::SubgroupInvocationId)));
+        return Some(Binding::BuiltIn(BuiltIn::SubgroupInvocationId));
     }
-    match draft.said.foreign_built_in() {
-        Some(number) => Err(
-            draft
-                .instruction
-                .unsupported_as(Unsupported::BuiltIn(number)),
-        ),
-        None => Ok(draft.said.bound(demands)),
+    if let Some(number) = draft.said.foreign_built_in() {
+        let what = Unsupported::BuiltIn(number);
+        failed.fail(draft.instruction.unsupported_as(what));
     }
+    draft.said.bound(demands)
 }
 
-// What an output begins as.
-fn initial<T: Types, C: Constants>(
-    reading: &Reading,
-    types: &TypeTable<T>,
-    constants: &mut ConstantTable<C>,
-    draft: &Draft,
-    built: TypeHandle,
-    binding: Option<Binding>,
-) -> Result<ExpressionHandle, SpirvError> {
-    let span = span_of(draft.instruction);
-    if let Some(id) = reading.listing.operand(draft.instruction, 1) {
-        return given(reading, types, constants, draft, built, id);
-    }
-    if binding.is_some() {
-        constants.default_value(reading.alloc, types, binding, built, span)
-    } else {
-        constants.default_struct(reading.alloc, types, built, span)
-    }
-}
-
-// The initializer that a variable is given; of a struct that was built anew put together again.
-fn given<T: Types, C: Constants>(
-    reading: &Reading,
-    types: &TypeTable<T>,
-    constants: &mut ConstantTable<C>,
-    draft: &Draft,
-    built: TypeHandle,
-    id: u32,
-) -> Result<ExpressionHandle, SpirvError> {
-    if types.handle(draft.ty) == Some(built) {
-        return constants.expression(id, draft.instruction);
-    }
-    let Some(constant) = reading.listing.definition(id) else {
-        return Err(draft.instruction.malformed(Malformed::NoConstant));
-    };
-    let span = span_of(draft.instruction);
-    match constant.opcode {
-        ops::CONSTANT_NULL => constants.add(Expression::ZeroValue(built), span),
-        ops::CONSTANT_COMPOSITE => {
-            let parts = reading.listing.operands(&constant);
-            let components = constants.expressions_of(reading.alloc, parts, draft.instruction)?;
-            let ty = built;
-            constants.add(Expression::Compose { ty, components }, span)
-        }
-        _ => Err(draft.instruction.unsupported_by(Feature::BlockInitializer)),
-    }
-}
-
-// The type that an input is taken as: a signed built-in without its sign.
-fn argument_type<T: Types>(
-    types: &mut TypeTable<T>,
+// What the type is made of that it is taken as, where that is another one: of a signed built-in without its sign, of a mask a
+// word.
+fn argument_of(
     demands: &mut Demands,
     draft: &Draft,
-    built: TypeHandle,
     binding: Option<Binding>,
-) -> Result<TypeHandle, SpirvError> {
+) -> Option<TypeInner> {
     let Some(Binding::BuiltIn(built_in)) = binding else {
-        return Ok(built);
+        return None;
     };
     if built_in == BuiltIn::SampleIndex {
         demands.ask(Capabilities::MULTISAMPLED_SHADING);
     }
-    if is_mask(draft) {
-        return types.vector(None, Scalar::U32);
+    let scalar = Scalar::U32;
+    if draft.said.mask().is_some() {
+        return Some(TypeInner::Scalar(scalar));
     }
-    match draft.shape.scalar() {
-        Some(scalar) if scalar.kind == ScalarKind::Sint && is_unsigned(built_in) => {
-            types.vector(draft.shape.size(), Scalar::U32)
-        }
-        _ => Ok(built),
+    match draft.shape.kind() {
+        Some(ScalarKind::Sint) if is_unsigned(built_in) => match draft.shape.size() {
+            Some(size) => Some(TypeInner::Vector { size, scalar }),
+            None => Some(TypeInner::Scalar(scalar)),
+        },
+        _ => None,
     }
 }
 
-// The kind of the scalars that a type is made of, where it is a number or a vector.
-pub(crate) fn scalar_kind<T: Types>(types: &TypeTable<T>, ty: TypeHandle) -> Option<ScalarKind> {
-    match types.types.inner(ty) {
+// What a variable begins as, if that is said, or it is an output.
+pub(crate) fn initial<T: Types, C: Constants>(
+    reading: &Reading,
+    types: &TypeTable,
+    built: &T,
+    constants: &mut ConstantTable<C>,
+    draft: &Draft,
+    variable: &Built,
+    failed: &mut Failure,
+) -> Option<ExpressionHandle> {
+    let span = span_of(&draft.instruction);
+    let said = reading.listing.operand(&draft.instruction, 1);
+    let init = match (draft.class, said, variable.varying) {
+        (numbers::CLASS_INPUT | numbers::CLASS_UNIFORM_CONSTANT, _, _) | (_, None, None) => {
+            return None;
+        }
+        (_, Some(id), Some(_)) if types.handle(draft.ty) != Some(variable.ty) => {
+            given(reading, constants, draft, variable.ty, id)
+        }
+        (_, Some(id), _) => constants.expression(id, &draft.instruction),
+        (_, None, Some(Varying { binding, .. })) => {
+            constants.default_value(reading.alloc, built, binding, variable.ty, span)
+        }
+    };
+    Some(failed.take(init, Handle::at(0)))
+}
+
+// The initializer of a struct that was built anew, put together again.
+fn given<C: Constants>(
+    reading: &Reading,
+    constants: &mut ConstantTable<C>,
+    draft: &Draft,
+    ty: TypeHandle,
+    id: u32,
+) -> Result<ExpressionHandle, SpirvError> {
+    let Some(constant) = reading.listing.definition(id) else {
+        return Err(draft.instruction.malformed(Malformed::NoConstant));
+    };
+    let init = match constant.opcode {
+        ops::CONSTANT_NULL => Expression::ZeroValue(ty),
+        ops::CONSTANT_COMPOSITE => {
+            let parts = reading.listing.operands(&constant);
+            match constants.expressions_of(reading.alloc, parts, &draft.instruction) {
+                Ok(components) => Expression::Compose { ty, components },
+                Err(error) => return Err(error),
+            }
+        }
+        _ => return Err(draft.instruction.unsupported_by(Feature::BlockInitializer)),
+    };
+    constants.add(init, span_of(&draft.instruction))
+}
+
+/// The kind of the scalars that a type is made of, where it is a number or a vector.
+pub fn scalar_kind(inner: Option<&TypeInner>) -> Option<ScalarKind> {
+    match inner {
         Some(TypeInner::Scalar(scalar) | TypeInner::Vector { scalar, .. }) => Some(scalar.kind),
         _ => None,
     }
 }
 
-// The struct of a block that goes between stages: locations are counted on from the block's.
+// The struct of a block that goes between stages.
 fn bound_struct<T: Types>(
     reading: &Reading,
-    types: &mut TypeTable<T>,
+    types: &TypeTable,
+    built: &mut T,
     demands: &mut Demands,
     draft: &Draft,
     plain: TypeHandle,
-) -> Result<TypeHandle, SpirvError> {
-    let bindings = member_bindings(reading, types, demands, draft, plain)?;
-    let Some(IrType { name, inner }) = types.types.copy(reading.alloc, plain)? else {
-        return Err(draft.instruction.malformed(Malformed::NoType));
+    failed: &mut Failure,
+) -> TypeHandle {
+    let what = match failed.take(built.copy(reading.alloc, plain), None) {
+        Some(IrType { name, inner }) => match inner {
+            TypeInner::Struct { members, span } => {
+                let mut members = members;
+                bind_members(reading, types, built, demands, draft, &mut members, failed);
+                let inner = TypeInner::Struct { members, span };
+                let made = built.insert(IrType { name, inner }, span_of(&draft.instruction));
+                return failed.take(made, plain);
+            }
+            _ => Malformed::WrongType,
+        },
+        None => Malformed::NoType,
     };
-    let TypeInner::Struct { members, span } = inner else {
-        return Err(draft.instruction.malformed(Malformed::WrongType));
-    };
-    let mut members = members;
-    bind_all(&mut members, &bindings);
-    let inner = TypeInner::Struct { members, span };
-    types.insert(name, inner, span_of(draft.instruction))
+    failed.fail(draft.instruction.malformed(what));
+    plain
 }
 
-// Gives each member its binding.
-fn bind_all(members: &mut [StructMember], bindings: &[Option<Binding>]) {
-    let mut place = 0usize;
-    for member in members {
-        member.binding = match bindings.get(place) {
-            Some(binding) => *binding,
-            None => None,
-        };
-        place = place.saturating_add(1);
-    }
-}
-
-// What binds each member of such a block.
-fn member_bindings<T: Types>(
+// Gives each member of such a block its binding: locations are counted on from the block's.
+fn bind_members<T: Types>(
     reading: &Reading,
-    types: &TypeTable<T>,
+    types: &TypeTable,
+    built: &T,
     demands: &mut Demands,
     draft: &Draft,
-    plain: TypeHandle,
-) -> Result<Vec<Option<Binding>>, SpirvError> {
-    let mut bindings = Vec::new(reading.alloc);
-    if let Some(TypeInner::Struct { members, .. }) = types.types.inner(plain) {
-        add_bindings(reading, types, demands, draft, members, &mut bindings)?;
-    }
-    Ok(bindings)
-}
-
-// Adds what binds each of these.
-fn add_bindings<T: Types>(
-    reading: &Reading,
-    types: &TypeTable<T>,
-    demands: &mut Demands,
-    draft: &Draft,
-    members: &[StructMember],
-    bindings: &mut Vec<Option<Binding>>,
-) -> Result<(), SpirvError> {
+    members: &mut [StructMember],
+    failed: &mut Failure,
+) {
+    let is_of_fragment = reading.scan.is_of_fragment(draft.instruction.id);
+    let by_default = draft.class == numbers::CLASS_INPUT && is_of_fragment;
     let mut location = draft.said.location;
     let mut place = 0u32;
     for member in members {
         let mut said = between(reading, draft, place);
-        if said.built_in.is_some() {
-            bindings.push(member.binding)?;
-        } else {
+        if said.built_in.is_none() {
             let Some(here) = said.location.or(location) else {
                 let feature = Feature::BlockWithoutLocations;
-                return Err(draft.instruction.unsupported_by(feature));
+                failed.fail(draft.instruction.unsupported_by(feature));
+                return;
             };
             said.location = Some(here);
-            let kind = scalar_kind(types, member.ty);
-            bindings.push(bound_member(reading, demands, draft, &said, kind))?;
+            let mut binding = said.bound(demands);
+            if by_default {
+                binding = with_default(binding, scalar_kind(built.inner(member.ty)));
+            }
+            member.binding = binding;
             location = Some(here.saturating_add(locations_of(types, draft.ty, place)));
         }
         place = place.saturating_add(1);
     }
-    Ok(())
 }
 
 // What is said of a member of such a block, or of the variable.
 fn between(reading: &Reading, draft: &Draft, place: u32) -> Decorated {
-    let mut said = Decorated::of(reading.listing, draft.ty, Some(place));
+    let mut said = Decorated::of(&reading.listing, draft.ty, Some(place));
     said.flat |= draft.said.flat;
     said.linear |= draft.said.linear;
     said.centroid |= draft.said.centroid;
@@ -271,26 +230,8 @@ fn between(reading: &Reading, draft: &Draft, place: u32) -> Decorated {
     said
 }
 
-// What binds a member of such a block.
-fn bound_member(
-    reading: &Reading,
-    demands: &mut Demands,
-    draft: &Draft,
-    said: &Decorated,
-    kind: Option<ScalarKind>,
-) -> Option<Binding> {
-    let by_default = draft.class == numbers::CLASS_INPUT
-        && reading.scan.is_of_fragment(draft.instruction.id);
-    let binding = said.bound(demands);
-    if by_default {
-        with_default(binding, kind)
-    } else {
-        binding
-    }
-}
-
 // How many locations a member takes.
-fn locations_of<T: Types>(types: &TypeTable<T>, block: u32, place: u32) -> u32 {
+fn locations_of(types: &TypeTable, block: u32, place: u32) -> u32 {
     let ty = match types.member(block, place) {
         Some(member) => member.ty,
         None => 0,

@@ -1,6 +1,7 @@
 // What expressions are made with.
 
 use ir_arena::handle::Handle;
+use ir_arena::span::Span;
 use ir_kinds::{BinaryOperator, ImageClass, Literal, Scalar, ScalarKind, VectorSize};
 use ir_types::{Expression, key};
 use spirv_types::{ImageShape, MatrixShape, MemberShape, Shape, Stored, TypeHandle};
@@ -21,17 +22,32 @@ pub struct ImageValue {
     pub class: ImageClass,
 }
 
-/// A function that is being built. What is wrong first is kept: after that nothing more is made, and what its calls answer
+/// What expressions are written into. What is wrong first is kept: after that nothing more is written, and what its calls answer
 /// is of no use.
-pub trait Builder {
-    /// The allocator.
-    fn alloc(&self) -> Global;
-
+pub trait Emits {
     /// This is wrong. It is kept where nothing was before.
     fn fail(&mut self, error: SpirvError);
 
+    /// An expression that is computed here.
+    fn compute(&mut self, expression: Expression, span: Span) -> Value;
+
+    /// An expression that is always there, or that a statement gives.
+    fn place(&mut self, expression: Expression, span: Span) -> Value;
+}
+
+/// A function that is being built.
+pub trait Builder: Emits {
+    /// The allocator.
+    fn alloc(&self) -> Global;
+
     /// Whether something was wrong.
     fn has_failed(&self) -> bool;
+
+    /// The operand of an instruction at this place, after its results, if there is one.
+    fn given(&self, operation: &Instruction, place: usize) -> Option<u32>;
+
+    /// How many operands it has.
+    fn given_count(&self, operation: &Instruction) -> usize;
 
     /// What a type is.
     fn shape(&self, ty: u32) -> Shape;
@@ -43,7 +59,7 @@ pub trait Builder {
     fn type_of(&self, id: u32) -> u32;
 
     /// The type that is built for one.
-    fn built(&mut self, ty: u32, operation: &Operation) -> TypeHandle;
+    fn built(&mut self, ty: u32, operation: &Instruction) -> TypeHandle;
 
     /// The type of a vector, of a scalar where there is no size.
     fn vector(&mut self, size: Option<VectorSize>, scalar: Scalar) -> TypeHandle;
@@ -61,45 +77,19 @@ pub trait Builder {
     fn constant(&self, id: u32) -> Option<i64>;
 
     /// The value of an id.
-    fn value(&mut self, id: u32, operation: &Operation) -> Value;
+    fn value(&mut self, id: u32, operation: &Instruction) -> Value;
 
     /// The image of an id.
-    fn image(&mut self, id: u32, operation: &Operation) -> ImageValue;
+    fn image(&mut self, id: u32, operation: &Instruction) -> ImageValue;
 
     /// The sampler of an id.
-    fn sampler(&mut self, id: u32, operation: &Operation) -> Value;
+    fn sampler(&mut self, id: u32, operation: &Instruction) -> Value;
 
     /// An expression that is computed here.
-    fn emit(&mut self, expression: Expression, operation: &Operation) -> Value;
+    fn emit(&mut self, expression: Expression, operation: &Instruction) -> Value;
 
     /// A literal.
-    fn literal(&mut self, literal: Literal, operation: &Operation) -> Value;
-}
-
-/// An instruction with its operands.
-#[derive(Clone, Copy)]
-pub struct Operation<'a> {
-    /// The instruction.
-    pub instruction: Instruction,
-    /// Its operands, after its results.
-    pub operands: &'a [u32],
-}
-
-impl Operation<'_> {
-    /// It is no SPIR-V.
-    pub fn malformed(&self, what: Malformed) -> SpirvError {
-        self.instruction.malformed(what)
-    }
-
-    /// It is not translated.
-    pub fn unsupported(&self) -> SpirvError {
-        self.instruction.unsupported()
-    }
-
-    /// This of it is not translated.
-    pub fn unsupported_by(&self, feature: Feature) -> SpirvError {
-        self.instruction.unsupported_by(feature)
-    }
+    fn literal(&mut self, literal: Literal, operation: &Instruction) -> Value;
 }
 
 /// An expression that is not made.
@@ -113,15 +103,15 @@ pub fn no_type() -> TypeHandle {
 }
 
 /// A value that is not made, since this is wrong.
-pub fn refuse<B: Builder>(builder: &mut B, error: SpirvError) -> Value {
+pub fn refuse<E: Emits>(builder: &mut E, error: SpirvError) -> Value {
     builder.fail(error);
     no_value()
 }
 
 /// The operand at this place; where it is missing, 0.
-pub fn need<B: Builder>(builder: &mut B, operation: &Operation, place: usize) -> u32 {
-    match operation.operands.get(place) {
-        Some(word) => *word,
+pub fn need<B: Builder>(builder: &mut B, operation: &Instruction, place: usize) -> u32 {
+    match builder.given(operation, place) {
+        Some(word) => word,
         None => {
             builder.fail(operation.malformed(Malformed::MissingOperand));
             0
@@ -130,26 +120,26 @@ pub fn need<B: Builder>(builder: &mut B, operation: &Operation, place: usize) ->
 }
 
 /// One more in a list.
-pub fn keep<B: Builder, T: Drop>(builder: &mut B, list: &mut Vec<T>, item: T) {
+pub fn keep<E: Emits, T: Drop>(builder: &mut E, list: &mut Vec<T>, item: T) {
     if list.push(item).is_err() {
         builder.fail(SpirvError::Memory);
     }
 }
 
 /// The value of the operand at this place.
-pub fn operand<B: Builder>(builder: &mut B, operation: &Operation, place: usize) -> Value {
+pub fn operand<B: Builder>(builder: &mut B, operation: &Instruction, place: usize) -> Value {
     let id = need(builder, operation, place);
     builder.value(id, operation)
 }
 
 /// What the type of the operand at this place is.
-pub fn operand_shape<B: Builder>(builder: &mut B, operation: &Operation, place: usize) -> Shape {
+pub fn operand_shape<B: Builder>(builder: &mut B, operation: &Instruction, place: usize) -> Shape {
     let id = need(builder, operation, place);
     builder.shape(builder.type_of(id))
 }
 
 /// The scalar of a type of numbers.
-pub fn scalar_of<B: Builder>(builder: &mut B, shape: &Shape, operation: &Operation) -> Scalar {
+pub fn scalar_of<B: Builder>(builder: &mut B, shape: &Shape, operation: &Instruction) -> Scalar {
     match shape.scalar() {
         Some(scalar) => scalar,
         None => {
@@ -160,13 +150,17 @@ pub fn scalar_of<B: Builder>(builder: &mut B, shape: &Shape, operation: &Operati
 }
 
 /// The scalar of the result.
-pub fn result_scalar<B: Builder>(builder: &mut B, operation: &Operation) -> Scalar {
-    let shape = builder.shape(operation.instruction.ty);
+pub fn result_scalar<B: Builder>(builder: &mut B, operation: &Instruction) -> Scalar {
+    let shape = builder.shape(operation.ty);
     scalar_of(builder, &shape, operation)
 }
 
 /// The scalar of the operand at this place.
-pub fn operand_scalar<B: Builder>(builder: &mut B, operation: &Operation, place: usize) -> Scalar {
+pub fn operand_scalar<B: Builder>(
+    builder: &mut B,
+    operation: &Instruction,
+    place: usize,
+) -> Scalar {
     let shape = operand_shape(builder, operation, place);
     scalar_of(builder, &shape, operation)
 }
@@ -174,7 +168,7 @@ pub fn operand_scalar<B: Builder>(builder: &mut B, operation: &Operation, place:
 /// A value that is put together of others as this type.
 pub fn compose<B: Builder>(
     builder: &mut B,
-    operation: &Operation,
+    operation: &Instruction,
     ty: TypeHandle,
     components: Vec<Value>,
 ) -> Value {
@@ -184,17 +178,30 @@ pub fn compose<B: Builder>(
 /// A value of the result's type that is put together of others.
 pub fn compose_result<B: Builder>(
     builder: &mut B,
-    operation: &Operation,
+    operation: &Instruction,
     components: Vec<Value>,
 ) -> Value {
-    let ty = builder.built(operation.instruction.ty, operation);
+    let ty = builder.built(operation.ty, operation);
     compose(builder, operation, ty, components)
+}
+
+/// A value of the result's type that is put together of two others.
+pub fn compose_pair<B: Builder>(
+    builder: &mut B,
+    operation: &Instruction,
+    first: Value,
+    second: Value,
+) -> Value {
+    let mut components = Vec::new(builder.alloc());
+    keep(builder, &mut components, first);
+    keep(builder, &mut components, second);
+    compose_result(builder, operation, components)
 }
 
 /// A vector of this size whose components are all one value; the value itself where there is no size.
 pub fn splat<B: Builder>(
     builder: &mut B,
-    operation: &Operation,
+    operation: &Instruction,
     size: Option<VectorSize>,
     value: Value,
 ) -> Value {
@@ -207,7 +214,7 @@ pub fn splat<B: Builder>(
 /// An operator of two values.
 pub fn binary<B: Builder>(
     builder: &mut B,
-    operation: &Operation,
+    operation: &Instruction,
     op: BinaryOperator,
     left: Value,
     right: Value,
@@ -218,7 +225,7 @@ pub fn binary<B: Builder>(
 /// One value where a condition holds, else another.
 pub fn select<B: Builder>(
     builder: &mut B,
-    operation: &Operation,
+    operation: &Instruction,
     condition: Value,
     accept: Value,
     reject: Value,
@@ -234,7 +241,7 @@ pub fn select<B: Builder>(
 /// A conversion of a value.
 pub fn convert<B: Builder>(
     builder: &mut B,
-    operation: &Operation,
+    operation: &Instruction,
     expr: Value,
     kind: ScalarKind,
     width: Option<u8>,
@@ -252,7 +259,7 @@ pub fn convert<B: Builder>(
 /// A value of this kind as one of another, bit for bit.
 pub fn as_kind<B: Builder>(
     builder: &mut B,
-    operation: &Operation,
+    operation: &Instruction,
     value: Value,
     from: ScalarKind,
     to: ScalarKind,
@@ -267,7 +274,7 @@ pub fn as_kind<B: Builder>(
 /// The operand at this place with this sign.
 pub fn signed<B: Builder>(
     builder: &mut B,
-    operation: &Operation,
+    operation: &Instruction,
     place: usize,
     kind: ScalarKind,
 ) -> Value {
@@ -279,7 +286,7 @@ pub fn signed<B: Builder>(
 /// A part of a value.
 pub fn part_of<B: Builder>(
     builder: &mut B,
-    operation: &Operation,
+    operation: &Instruction,
     base: Value,
     index: u32,
 ) -> Value {

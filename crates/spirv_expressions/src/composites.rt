@@ -1,8 +1,8 @@
 // Composites (section 3.52.12).
 
 use crate::builder::{
-    Builder, Operation, Value, binary, compose, compose_result, keep, need, operand,
-    operand_scalar, operand_shape, part_of, refuse, select,
+    Builder, Value, binary, compose, compose_result, keep, need, operand, operand_scalar,
+    operand_shape, part_of, refuse, select,
 };
 use ir_kinds::{
     BinaryOperator, Literal, MathFunction, Scalar, ScalarKind, SwizzleComponent, VectorSize,
@@ -10,23 +10,22 @@ use ir_kinds::{
 use ir_types::{ArraySize, Expression};
 use spirv_numbers::ops;
 use spirv_types::{MatrixShape, MemberShape, Shape, Stored, vector_size};
-use spirv_words::{Feature, Malformed};
+use spirv_words::{Feature, Instruction, Malformed};
 
 // How many parts a value may have that is put together anew.
 const MAX_PARTS: u32 = 1024;
 
 /// What an operation on composites is, if it is one.
-pub fn composite<B: Builder>(builder: &mut B, operation: &Operation) -> Option<Value> {
-    let value = match operation.instruction.opcode {
+pub fn composite<B: Builder>(builder: &mut B, operation: &Instruction) -> Option<Value> {
+    let value = match operation.opcode {
         ops::COMPOSITE_EXTRACT => extract(builder, operation),
         ops::COMPOSITE_CONSTRUCT => construct(builder, operation),
         ops::COMPOSITE_INSERT => insert(builder, operation),
         ops::COPY_LOGICAL => {
-            let value = operand(builder, operation, 0);
             let id = need(builder, operation, 0);
+            let value = builder.value(id, operation);
             let from = builder.type_of(id);
-            let to = operation.instruction.ty;
-            copy_logical(builder, operation, value, from, to, MAX_DEPTH)
+            copy_logical(builder, operation, value, from, operation.ty, MAX_DEPTH)
         }
         ops::VECTOR_SHUFFLE => shuffle(builder, operation),
         ops::VECTOR_EXTRACT_DYNAMIC => extract_dynamic(builder, operation),
@@ -42,7 +41,7 @@ const MAX_DEPTH: u32 = 16;
 // A value of one type as one of another that is made of the same, part by part.
 fn copy_logical<B: Builder>(
     builder: &mut B,
-    operation: &Operation,
+    operation: &Instruction,
     value: Value,
     from: u32,
     to: u32,
@@ -85,7 +84,7 @@ enum Form {
 // The member of a struct's value in this form.
 fn part_as<B: Builder>(
     builder: &mut B,
-    operation: &Operation,
+    operation: &Instruction,
     value: Value,
     part: &MemberShape,
     form: Form,
@@ -97,28 +96,23 @@ fn part_as<B: Builder>(
             Form::Plain => plain_matrix(builder, operation, value, &matrix, stored),
             Form::Stored => relaid_matrix(builder, operation, value, &matrix, stored),
         },
-        _ => refuse_stored(builder, operation, part),
+        // arrays of matrices that are stored otherwise than as the IR has them are not translated
+        _ => refuse(
+            builder,
+            stored.unsupported(operation, Feature::RowMajorStruct),
+        ),
     }
 }
 
-// Arrays of matrices that are stored otherwise than as the IR has them are not translated.
-fn refuse_stored<B: Builder>(builder: &mut B, operation: &Operation, part: &MemberShape) -> Value {
-    let instruction = &operation.instruction;
-    refuse(
-        builder,
-        part.stored
-            .unsupported(instruction, Feature::RowMajorStruct),
-    )
-}
-
 // A part of a value. A struct's value has its matrices as they are stored.
-fn extract<B: Builder>(builder: &mut B, operation: &Operation) -> Value {
+fn extract<B: Builder>(builder: &mut B, operation: &Instruction) -> Value {
     let id = need(builder, operation, 0);
     let mut value = builder.value(id, operation);
     let mut ty = builder.type_of(id);
     let mut stored = Stored::PLAIN;
-    for index in operation.operands.get(1..).unwrap_or(&[]) {
-        let Some(part) = builder.part(ty, *index) else {
+    for place in 1..builder.given_count(operation) {
+        let index = need(builder, operation, place);
+        let Some(part) = builder.part(ty, index) else {
             return refuse(builder, operation.malformed(Malformed::Index));
         };
         if part.split {
@@ -139,7 +133,7 @@ fn extract<B: Builder>(builder: &mut B, operation: &Operation) -> Value {
     } else {
         refuse(
             builder,
-            stored.unsupported(&operation.instruction, Feature::ExtractOfRowMajor),
+            stored.unsupported(operation, Feature::ExtractOfRowMajor),
         )
     }
 }
@@ -147,19 +141,16 @@ fn extract<B: Builder>(builder: &mut B, operation: &Operation) -> Value {
 // A matrix whose columns or rows are members of a struct's value.
 fn split_matrix<B: Builder>(
     builder: &mut B,
-    operation: &Operation,
+    operation: &Instruction,
     value: Value,
     part: &MemberShape,
 ) -> Value {
     let Some(matrix) = MatrixShape::of(&builder.shape(part.ty)) else {
-        return refuse_stored(builder, operation, part);
+        let error = part.stored.unsupported(operation, Feature::RowMajorStruct);
+        return refuse(builder, error);
     };
     let (lines, _) = matrix.lines(part.stored.row_major);
-    let mut components = Vec::new(builder.alloc());
-    for line in 0..u32::from(lines) {
-        let line = part_of(builder, operation, value, part.index.saturating_add(line));
-        keep(builder, &mut components, line);
-    }
+    let components = parts_from(builder, operation, value, part.index, u32::from(lines));
     let ty = builder.stored_matrix(&matrix, part.stored);
     let whole = compose(builder, operation, ty, components);
     plain_matrix(builder, operation, whole, &matrix, part.stored)
@@ -168,7 +159,7 @@ fn split_matrix<B: Builder>(
 /// A matrix that is stored so, as the IR has it.
 pub fn plain_matrix<B: Builder>(
     builder: &mut B,
-    operation: &Operation,
+    operation: &Instruction,
     value: Value,
     matrix: &MatrixShape,
     stored: Stored,
@@ -187,7 +178,7 @@ pub fn plain_matrix<B: Builder>(
 /// A matrix as it is stored so.
 pub fn relaid_matrix<B: Builder>(
     builder: &mut B,
-    operation: &Operation,
+    operation: &Instruction,
     value: Value,
     matrix: &MatrixShape,
     stored: Stored,
@@ -206,7 +197,7 @@ pub fn relaid_matrix<B: Builder>(
 // The columns of a matrix or its rows, put together as what it is stored as.
 fn repacked<B: Builder>(
     builder: &mut B,
-    operation: &Operation,
+    operation: &Instruction,
     value: Value,
     matrix: &MatrixShape,
     from: Stored,
@@ -231,48 +222,49 @@ fn repacked<B: Builder>(
 /// A vector that is stored as an array of scalars.
 pub fn plain_line<B: Builder>(
     builder: &mut B,
-    operation: &Operation,
+    operation: &Instruction,
     array: Value,
     length: VectorSize,
     scalar: Scalar,
 ) -> Value {
     let ty = builder.vector(Some(length), scalar);
-    let components = components_of(builder, operation, array, u32::from(length));
+    let components = parts_from(builder, operation, array, 0, u32::from(length));
     compose(builder, operation, ty, components)
 }
 
 /// A vector as the array of scalars that it is stored as.
 pub fn packed_line<B: Builder>(
     builder: &mut B,
-    operation: &Operation,
+    operation: &Instruction,
     vector: Value,
     length: VectorSize,
     scalar: Scalar,
 ) -> Value {
     let ty = builder.packed_line(length, scalar);
-    let components = components_of(builder, operation, vector, u32::from(length));
+    let components = parts_from(builder, operation, vector, 0, u32::from(length));
     compose(builder, operation, ty, components)
 }
 
-// The first parts of a value.
-fn components_of<B: Builder>(
+/// So many parts of a value in order, from this one on.
+pub fn parts_from<B: Builder>(
     builder: &mut B,
-    operation: &Operation,
+    operation: &Instruction,
     value: Value,
+    first: u32,
     count: u32,
 ) -> Vec<Value> {
-    let mut components = Vec::new(builder.alloc());
+    let mut parts = Vec::new(builder.alloc());
     for index in 0..count {
-        let part = part_of(builder, operation, value, index);
-        keep(builder, &mut components, part);
+        let part = part_of(builder, operation, value, first.saturating_add(index));
+        keep(builder, &mut parts, part);
     }
-    components
+    parts
 }
 
 // A matrix, transposed where it is stored row by row.
 fn transposed<B: Builder>(
     builder: &mut B,
-    operation: &Operation,
+    operation: &Instruction,
     value: Value,
     row_major: bool,
 ) -> Value {
@@ -284,13 +276,13 @@ fn transposed<B: Builder>(
 }
 
 // A value of all its parts; a vector may be given as smaller ones.
-fn construct<B: Builder>(builder: &mut B, operation: &Operation) -> Value {
-    let ty = operation.instruction.ty;
+fn construct<B: Builder>(builder: &mut B, operation: &Instruction) -> Value {
+    let ty = operation.ty;
     let is_struct = matches!(builder.shape(ty), Shape::Struct { .. });
     let mut components = Vec::new(builder.alloc());
     let mut place = 0u32;
-    for id in operation.operands {
-        let mut value = builder.value(*id, operation);
+    for at in 0..builder.given_count(operation) {
+        let mut value = operand(builder, operation, at);
         if let (true, Some(part)) = (is_struct, builder.part(ty, place)) {
             value = part_as(builder, operation, value, &part, Form::Stored);
         }
@@ -301,7 +293,7 @@ fn construct<B: Builder>(builder: &mut B, operation: &Operation) -> Value {
 }
 
 // Refuses structs whose matrices are stored otherwise than as the IR has them.
-fn refuse_relaid<B: Builder>(builder: &mut B, operation: &Operation, ty: u32) {
+fn refuse_relaid<B: Builder>(builder: &mut B, operation: &Instruction, ty: u32) {
     let Shape::Struct { count, .. } = builder.shape(ty) else {
         return;
     };
@@ -311,14 +303,14 @@ fn refuse_relaid<B: Builder>(builder: &mut B, operation: &Operation, ty: u32) {
             None => Stored::PLAIN,
         };
         if !stored.is_plain() {
-            builder.fail(stored.unsupported(&operation.instruction, Feature::RowMajorStruct));
+            builder.fail(stored.unsupported(operation, Feature::RowMajorStruct));
             return;
         }
     }
 }
 
 // How many parts a value of a type has; none where something was wrong.
-fn count_parts<B: Builder>(builder: &mut B, operation: &Operation, ty: u32) -> u32 {
+fn count_parts<B: Builder>(builder: &mut B, operation: &Instruction, ty: u32) -> u32 {
     let count = match builder.shape(ty) {
         Shape::Vector { size, .. } => u32::from(size),
         Shape::Matrix { columns, .. } => u32::from(columns),
@@ -347,25 +339,18 @@ struct Around {
 }
 
 // A value of which a part is another: from the outside in the values around the part, and then back.
-fn insert<B: Builder>(builder: &mut B, operation: &Operation) -> Value {
+fn insert<B: Builder>(builder: &mut B, operation: &Instruction) -> Value {
     let mut value = operand(builder, operation, 1);
-    let mut ty = operation.instruction.ty;
+    let mut ty = operation.ty;
     let mut around = Vec::new(builder.alloc());
-    for index in operation.operands.get(2..).unwrap_or(&[]) {
+    for place in 2..builder.given_count(operation) {
+        let index = need(builder, operation, place);
         refuse_relaid(builder, operation, ty);
-        keep(
-            builder,
-            &mut around,
-            Around {
-                value,
-                ty,
-                index: *index,
-            },
-        );
-        let Some(part) = builder.part(ty, *index) else {
+        keep(builder, &mut around, Around { value, ty, index });
+        let Some(part) = builder.part(ty, index) else {
             return refuse(builder, operation.malformed(Malformed::Index));
         };
-        value = part_of(builder, operation, value, *index);
+        value = part_of(builder, operation, value, index);
         ty = part.ty;
     }
     let mut whole = operand(builder, operation, 0);
@@ -378,7 +363,7 @@ fn insert<B: Builder>(builder: &mut B, operation: &Operation) -> Value {
 // The value with this part in place of its own.
 fn replace<B: Builder>(
     builder: &mut B,
-    operation: &Operation,
+    operation: &Instruction,
     around: &Around,
     part: Value,
 ) -> Value {
@@ -397,7 +382,7 @@ fn replace<B: Builder>(
 }
 
 // How many components the vector of this shape has.
-fn size_of<B: Builder>(builder: &mut B, operation: &Operation, shape: &Shape) -> u32 {
+fn size_of<B: Builder>(builder: &mut B, operation: &Instruction, shape: &Shape) -> u32 {
     match *shape {
         Shape::Vector { size, .. } => u32::from(size),
         _ => {
@@ -408,7 +393,7 @@ fn size_of<B: Builder>(builder: &mut B, operation: &Operation, shape: &Shape) ->
 }
 
 // Components of two vectors: a swizzle where all are of one, else put together.
-fn shuffle<B: Builder>(builder: &mut B, operation: &Operation) -> Value {
+fn shuffle<B: Builder>(builder: &mut B, operation: &Instruction) -> Value {
     let left = need(builder, operation, 0);
     let right = need(builder, operation, 1);
     let first = builder.shape(builder.type_of(left));
@@ -417,8 +402,9 @@ fn shuffle<B: Builder>(builder: &mut B, operation: &Operation) -> Value {
     let end = split.saturating_add(size_of(builder, operation, &second));
     let mut indexes = Vec::new(builder.alloc());
     let (mut low, mut high) = (true, true);
-    for word in operation.operands.get(2..).unwrap_or(&[]) {
-        let index = index_of(*word, split, left == right);
+    for place in 2..builder.given_count(operation) {
+        let word = need(builder, operation, place);
+        let index = index_of(word, split, left == right);
         if index >= end {
             return refuse(builder, operation.malformed(Malformed::Index));
         }
@@ -451,7 +437,7 @@ fn index_of(word: u32, split: u32, is_one: bool) -> u32 {
 // Components of one vector.
 fn swizzle<B: Builder>(
     builder: &mut B,
-    operation: &Operation,
+    operation: &Instruction,
     id: u32,
     size: VectorSize,
     indexes: &[u32],
@@ -479,7 +465,7 @@ fn letter(indexes: &[u32], offset: u32, place: usize) -> SwizzleComponent {
 }
 
 // Components of two vectors, put together.
-fn mix<B: Builder>(builder: &mut B, operation: &Operation, indexes: &[u32], split: u32) -> Value {
+fn mix<B: Builder>(builder: &mut B, operation: &Instruction, indexes: &[u32], split: u32) -> Value {
     let left = operand(builder, operation, 0);
     let right = operand(builder, operation, 1);
     let mut components = Vec::new(builder.alloc());
@@ -496,7 +482,7 @@ fn mix<B: Builder>(builder: &mut B, operation: &Operation, indexes: &[u32], spli
 // The index of a component as a literal of the type of an operand.
 fn index_literal<B: Builder>(
     builder: &mut B,
-    operation: &Operation,
+    operation: &Instruction,
     scalar: Scalar,
     index: u32,
 ) -> Value {
@@ -511,7 +497,7 @@ fn index_literal<B: Builder>(
 // Whether an index is this one.
 fn is_index<B: Builder>(
     builder: &mut B,
-    operation: &Operation,
+    operation: &Instruction,
     index: Value,
     scalar: Scalar,
     number: u32,
@@ -521,7 +507,7 @@ fn is_index<B: Builder>(
 }
 
 // A component at an index that is a value: chosen among all.
-fn extract_dynamic<B: Builder>(builder: &mut B, operation: &Operation) -> Value {
+fn extract_dynamic<B: Builder>(builder: &mut B, operation: &Instruction) -> Value {
     let shape = operand_shape(builder, operation, 0);
     let size = size_of(builder, operation, &shape);
     let scalar = operand_scalar(builder, operation, 1);
@@ -537,8 +523,8 @@ fn extract_dynamic<B: Builder>(builder: &mut B, operation: &Operation) -> Value 
 }
 
 // A vector of which a component at an index that is a value is another.
-fn insert_dynamic<B: Builder>(builder: &mut B, operation: &Operation) -> Value {
-    let shape = builder.shape(operation.instruction.ty);
+fn insert_dynamic<B: Builder>(builder: &mut B, operation: &Instruction) -> Value {
+    let shape = builder.shape(operation.ty);
     let size = size_of(builder, operation, &shape);
     let scalar = operand_scalar(builder, operation, 2);
     let vector = operand(builder, operation, 0);

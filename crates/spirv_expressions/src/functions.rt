@@ -1,11 +1,11 @@
 // The functions of the extended set GLSL.std.450.
 
 use crate::builder::{
-    Builder, Operation, Value, as_kind, convert, operand, operand_shape, refuse, result_scalar,
+    Builder, Value, as_kind, convert, operand, operand_shape, refuse, result_scalar,
 };
 use ir_kinds::{MathFunction, ScalarKind};
 use ir_types::Expression;
-use spirv_words::Unsupported;
+use spirv_words::{Instruction, Unsupported};
 
 // The functions by their numbers, with the sign that their arguments get.
 static FUNCTIONS: [(u32, MathFunction, Option<ScalarKind>); 69] = [
@@ -83,7 +83,7 @@ static FUNCTIONS: [(u32, MathFunction, Option<ScalarKind>); 69] = [
 /// A call of a math function.
 pub fn call<B: Builder>(
     builder: &mut B,
-    operation: &Operation,
+    operation: &Instruction,
     fun: MathFunction,
     arg: Value,
     rest: [Option<Value>; 3],
@@ -119,13 +119,13 @@ fn function(number: u32) -> Option<(MathFunction, Option<ScalarKind>)> {
 // The argument at this place after the first, if there is one.
 fn argument<B: Builder>(
     builder: &mut B,
-    operation: &Operation,
+    operation: &Instruction,
     place: usize,
     sign: Option<ScalarKind>,
 ) -> Option<Value> {
-    let id = operation.operands.get(place)?;
-    let value = builder.value(*id, operation);
-    let from = builder.shape(builder.type_of(*id)).scalar();
+    let id = builder.given(operation, place)?;
+    let value = builder.value(id, operation);
+    let from = builder.shape(builder.type_of(id)).scalar();
     match (sign, from) {
         (Some(kind), Some(scalar)) => {
             Some(as_kind(builder, operation, value, scalar.kind, kind))
@@ -137,13 +137,13 @@ fn argument<B: Builder>(
 // The exponent of `Ldexp`, which is signed and has 32 bits.
 fn exponent<B: Builder>(
     builder: &mut B,
-    operation: &Operation,
+    operation: &Instruction,
     value: Option<Value>,
 ) -> Option<Value> {
-    let (Some(id), Some(value)) = (operation.operands.get(3), value) else {
+    let (Some(id), Some(value)) = (builder.given(operation, 3), value) else {
         return value;
     };
-    match builder.shape(builder.type_of(*id)).scalar() {
+    match builder.shape(builder.type_of(id)).scalar() {
         Some(scalar) if scalar.kind != ScalarKind::Sint || scalar.width != 4 => {
             Some(convert(builder, operation, value, ScalarKind::Sint, Some(4)))
         }
@@ -159,10 +159,10 @@ fn are_integers(left: ScalarKind, right: ScalarKind) -> bool {
 }
 
 /// The call of the function with this number; the operands begin with the set and the number.
-pub fn math<B: Builder>(builder: &mut B, operation: &Operation, number: u32) -> Value {
+pub fn math<B: Builder>(builder: &mut B, operation: &Instruction, number: u32) -> Value {
     let Some((fun, sign)) = function(number) else {
         let what = Unsupported::MathFunction(number);
-        return refuse(builder, operation.instruction.unsupported_as(what));
+        return refuse(builder, operation.unsupported_as(what));
     };
     let arg = operand(builder, operation, 2);
     let given = match operand_shape(builder, operation, 2).kind() {

@@ -5,12 +5,14 @@ mod builder;
 mod composites;
 mod functions;
 mod operators;
+mod words;
 
 pub use builder::{
-    Builder, ImageValue, Operation, Value, as_kind, binary, component_count, compose,
+    Builder, Emits, ImageValue, Value, as_kind, binary, component_count, compose, compose_pair,
     compose_result, convert, keep, need, no_type, no_value, operand, operand_scalar, operand_shape,
     part_of, refuse, result_scalar, scalar_of, select, signed, splat,
 };
-pub use composites::{composite, packed_line, plain_line, plain_matrix, relaid_matrix};
+pub use composites::{composite, packed_line, parts_from, plain_line, plain_matrix, relaid_matrix};
 pub use functions::{call, math};
 pub use operators::{arithmetic, conversion, resized};
+pub use words::Words;

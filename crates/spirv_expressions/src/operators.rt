@@ -1,8 +1,8 @@
 // Arithmetic, bits, relations and logic (sections 3.52.13 to 3.52.16).
 
 use crate::builder::{
-    Builder, Operation, Value, as_kind, binary, compose_result, convert, keep, operand,
-    operand_scalar, operand_shape, refuse, result_scalar, select, signed, splat,
+    Builder, Value, as_kind, binary, compose_pair, convert, operand, operand_scalar, operand_shape,
+    refuse, result_scalar, select, signed, splat,
 };
 use crate::functions::call;
 use ir_kinds::{
@@ -13,6 +13,7 @@ use ir_types::Expression;
 use spirv_numbers::ops;
 use spirv_tables::operators::{COMPARISONS, INTEGER, PLAIN, SHIFTS, find_operator, find_signed};
 use spirv_types::Shape;
+use spirv_words::Instruction;
 
 static DERIVATIVES: [(u16, (DerivativeAxis, DerivativeControl)); 9] = [
     (ops::D_PDX, (DerivativeAxis::X, DerivativeControl::None)),
@@ -55,8 +56,8 @@ static RELATIONS: [(u16, RelationalFunction); 4] = [
 ];
 
 /// What an operation of numbers or truth values is, if it is one.
-pub fn arithmetic<B: Builder>(builder: &mut B, operation: &Operation) -> Option<Value> {
-    let opcode = operation.instruction.opcode;
+pub fn arithmetic<B: Builder>(builder: &mut B, operation: &Instruction) -> Option<Value> {
+    let opcode = operation.opcode;
     if let Some(op) = find_operator(&PLAIN, opcode) {
         return Some(plain(builder, operation, op));
     }
@@ -83,8 +84,8 @@ pub fn arithmetic<B: Builder>(builder: &mut B, operation: &Operation) -> Option<
 }
 
 // An operation that stands in no table.
-fn other<B: Builder>(builder: &mut B, operation: &Operation) -> Option<Value> {
-    let value = match operation.instruction.opcode {
+fn other<B: Builder>(builder: &mut B, operation: &Instruction) -> Option<Value> {
+    let value = match operation.opcode {
         ops::S_NEGATE | ops::F_NEGATE => negate(builder, operation),
         ops::LOGICAL_NOT => {
             let expr = operand(builder, operation, 0);
@@ -113,8 +114,8 @@ fn other<B: Builder>(builder: &mut B, operation: &Operation) -> Option<Value> {
 }
 
 // Operations of bits, and products with a function of their own.
-fn bits<B: Builder>(builder: &mut B, operation: &Operation) -> Option<Value> {
-    let value = match operation.instruction.opcode {
+fn bits<B: Builder>(builder: &mut B, operation: &Instruction) -> Option<Value> {
+    let value = match operation.opcode {
         ops::DOT => of_two(builder, operation, MathFunction::Dot),
         ops::OUTER_PRODUCT => of_two(builder, operation, MathFunction::Outer),
         ops::TRANSPOSE => of_one(builder, operation, MathFunction::Transpose),
@@ -137,23 +138,20 @@ fn bits<B: Builder>(builder: &mut B, operation: &Operation) -> Option<Value> {
     Some(value)
 }
 
-fn of_one<B: Builder>(builder: &mut B, operation: &Operation, fun: MathFunction) -> Value {
+fn of_one<B: Builder>(builder: &mut B, operation: &Instruction, fun: MathFunction) -> Value {
     let arg = operand(builder, operation, 0);
     call(builder, operation, fun, arg, [None, None, None])
 }
 
-fn of_two<B: Builder>(builder: &mut B, operation: &Operation, fun: MathFunction) -> Value {
+fn of_two<B: Builder>(builder: &mut B, operation: &Instruction, fun: MathFunction) -> Value {
     let arg = operand(builder, operation, 0);
     let second = operand(builder, operation, 1);
     call(builder, operation, fun, arg, [Some(second), None, None])
 }
 
 // An operator whose operands are taken as they are; logic of vectors is of their bits.
-fn plain<B: Builder>(builder: &mut B, operation: &Operation, op: BinaryOperator) -> Value {
-    let is_vector = matches!(
-        builder.shape(operation.instruction.ty),
-        Shape::Vector { .. }
-    );
+fn plain<B: Builder>(builder: &mut B, operation: &Instruction, op: BinaryOperator) -> Value {
+    let is_vector = matches!(builder.shape(operation.ty), Shape::Vector { .. });
     let op = match op {
         BinaryOperator::LogicalOr if is_vector => BinaryOperator::InclusiveOr,
         BinaryOperator::LogicalAnd if is_vector => BinaryOperator::And,
@@ -165,9 +163,9 @@ fn plain<B: Builder>(builder: &mut B, operation: &Operation, op: BinaryOperator)
 }
 
 // An operator whose operands get the sign of the result.
-fn integer<B: Builder>(builder: &mut B, operation: &Operation, op: BinaryOperator) -> Value {
+fn integer<B: Builder>(builder: &mut B, operation: &Instruction, op: BinaryOperator) -> Value {
     let kind = result_scalar(builder, operation).kind;
-    let unsigned = matches!(operation.instruction.opcode, ops::U_DIV | ops::U_MOD);
+    let unsigned = matches!(operation.opcode, ops::U_DIV | ops::U_MOD);
     if unsigned && kind != ScalarKind::Uint {
         return refuse(builder, operation.unsupported());
     }
@@ -179,7 +177,7 @@ fn integer<B: Builder>(builder: &mut B, operation: &Operation, op: BinaryOperato
 // A comparison whose operands get this sign, or that of the left one.
 fn comparison<B: Builder>(
     builder: &mut B,
-    operation: &Operation,
+    operation: &Instruction,
     op: BinaryOperator,
     sign: Option<ScalarKind>,
 ) -> Value {
@@ -195,7 +193,7 @@ fn comparison<B: Builder>(
 // A shift of a value with this sign, or that of the result, by an unsigned count.
 fn shift<B: Builder>(
     builder: &mut B,
-    operation: &Operation,
+    operation: &Instruction,
     op: BinaryOperator,
     sign: Option<ScalarKind>,
 ) -> Value {
@@ -211,7 +209,7 @@ fn shift<B: Builder>(
 }
 
 // The negative; of an unsigned value by way of the signed one.
-fn negate<B: Builder>(builder: &mut B, operation: &Operation) -> Value {
+fn negate<B: Builder>(builder: &mut B, operation: &Instruction) -> Value {
     let scalar = result_scalar(builder, operation);
     let kind = match scalar.kind {
         ScalarKind::Uint => ScalarKind::Sint,
@@ -224,7 +222,7 @@ fn negate<B: Builder>(builder: &mut B, operation: &Operation) -> Value {
 }
 
 // x - floor(x / y) * y
-fn float_modulo<B: Builder>(builder: &mut B, operation: &Operation) -> Value {
+fn float_modulo<B: Builder>(builder: &mut B, operation: &Instruction) -> Value {
     let x = operand(builder, operation, 0);
     let y = operand(builder, operation, 1);
     let quotient = binary(builder, operation, BinaryOperator::Divide, x, y);
@@ -235,7 +233,7 @@ fn float_modulo<B: Builder>(builder: &mut B, operation: &Operation) -> Value {
 }
 
 // The same of signed integers, whose quotient is rounded as a float.
-fn signed_modulo<B: Builder>(builder: &mut B, operation: &Operation) -> Value {
+fn signed_modulo<B: Builder>(builder: &mut B, operation: &Instruction) -> Value {
     let scalar = result_scalar(builder, operation);
     if scalar.kind != ScalarKind::Sint {
         return refuse(builder, operation.unsupported());
@@ -255,7 +253,7 @@ fn signed_modulo<B: Builder>(builder: &mut B, operation: &Operation) -> Value {
 }
 
 // A sum or a difference, and whether it went over, as a struct of both.
-fn with_carry<B: Builder>(builder: &mut B, operation: &Operation, op: BinaryOperator) -> Value {
+fn with_carry<B: Builder>(builder: &mut B, operation: &Instruction, op: BinaryOperator) -> Value {
     let x = operand(builder, operation, 0);
     let y = operand(builder, operation, 1);
     let size = operand_shape(builder, operation, 0).size();
@@ -268,14 +266,11 @@ fn with_carry<B: Builder>(builder: &mut B, operation: &Operation, op: BinaryOper
     let right = if op == BinaryOperator::Add { x } else { y };
     let condition = binary(builder, operation, BinaryOperator::Less, left, right);
     let carried = select(builder, operation, condition, accept, reject);
-    let mut components = Vec::new(builder.alloc());
-    keep(builder, &mut components, value);
-    keep(builder, &mut components, carried);
-    compose_result(builder, operation, components)
+    compose_pair(builder, operation, value, carried)
 }
 
 // A count or a reversal of bits, as the result's type.
-fn counted<B: Builder>(builder: &mut B, operation: &Operation, fun: MathFunction) -> Value {
+fn counted<B: Builder>(builder: &mut B, operation: &Instruction, fun: MathFunction) -> Value {
     let from = operand_scalar(builder, operation, 0);
     let to = result_scalar(builder, operation);
     let value = of_one(builder, operation, fun);
@@ -285,7 +280,7 @@ fn counted<B: Builder>(builder: &mut B, operation: &Operation, fun: MathFunction
 /// A value of a scalar as one of another.
 pub fn resized<B: Builder>(
     builder: &mut B,
-    operation: &Operation,
+    operation: &Instruction,
     value: Value,
     from: Scalar,
     to: Scalar,
@@ -298,7 +293,7 @@ pub fn resized<B: Builder>(
 }
 
 // Some bits of a value, with or without a sign.
-fn extract_bits<B: Builder>(builder: &mut B, operation: &Operation, kind: ScalarKind) -> Value {
+fn extract_bits<B: Builder>(builder: &mut B, operation: &Instruction, kind: ScalarKind) -> Value {
     let to = result_scalar(builder, operation);
     let base = signed(builder, operation, 0, kind);
     let offset = signed(builder, operation, 1, ScalarKind::Uint);
@@ -309,8 +304,8 @@ fn extract_bits<B: Builder>(builder: &mut B, operation: &Operation, kind: Scalar
 }
 
 /// What a conversion is, if it is one.
-pub fn conversion<B: Builder>(builder: &mut B, operation: &Operation) -> Option<Value> {
-    match operation.instruction.opcode {
+pub fn conversion<B: Builder>(builder: &mut B, operation: &Instruction) -> Option<Value> {
+    match operation.opcode {
         ops::CONVERT_F_TO_U
         | ops::CONVERT_F_TO_S
         | ops::CONVERT_S_TO_F

@@ -16,6 +16,15 @@ pub struct Part {
     pub ty: u32,
 }
 
+impl Part {
+    // No part.
+    pub(crate) const NONE: Part = Part {
+        from: 0,
+        member: None,
+        ty: 0,
+    };
+}
+
 /// The operand at this place; where it is missing, 0.
 pub(crate) fn need(
     listing: &Listing,
@@ -62,18 +71,18 @@ pub fn part_at(
     let Some(ty) = listing.definition(from) else {
         return Err(chain.malformed(Malformed::NoType));
     };
-    let member = match ty.opcode {
-        ops::TYPE_STRUCT => match constant_word(listing, index) {
-            Some(member) => Some(member),
-            None => return Err(chain.unsupported_by(Feature::DynamicMember)),
-        },
-        ops::TYPE_ARRAY | ops::TYPE_RUNTIME_ARRAY | ops::TYPE_VECTOR | ops::TYPE_MATRIX => None,
-        opcode => return Err(chain.unsupported_as(Unsupported::ChainInto(opcode))),
+    let (member, missing) = match (ty.opcode, constant_word(listing, index)) {
+        (ops::TYPE_STRUCT, Some(member)) => (Some(member), chain.malformed(Malformed::Member)),
+        (ops::TYPE_STRUCT, None) => return Err(chain.unsupported_by(Feature::DynamicMember)),
+        (ops::TYPE_ARRAY | ops::TYPE_RUNTIME_ARRAY | ops::TYPE_VECTOR | ops::TYPE_MATRIX, _) => (
+            None,
+            ty.malformed(Malformed::MissingOperand),
+        ),
+        (opcode, _) => return Err(chain.unsupported_as(Unsupported::ChainInto(opcode))),
     };
-    match (listing.operand(&ty, member.unwrap_or(0) as usize), member) {
-        (Some(ty), _) => Ok(Part { from, member, ty }),
-        (None, Some(_)) => Err(chain.malformed(Malformed::Member)),
-        (None, None) => Err(ty.malformed(Malformed::MissingOperand)),
+    match listing.operand(&ty, member.unwrap_or(0) as usize) {
+        Some(ty) => Ok(Part { from, member, ty }),
+        None => Err(missing),
     }
 }
 

@@ -3,20 +3,9 @@
 use crate::kept::Kept;
 use crate::order::Order;
 use crate::uses::Uses;
-use spirv_steps::{Blocks, FunctionBlocks, Steps, Walk};
+use spirv_steps::{Blocks, FunctionSteps, Steps, steps_of};
 use spirv_words::{Failure, Listing, SpirvError};
 use std::alloc::Global;
-
-/// The steps of one function.
-#[derive(Clone, Copy)]
-pub struct FunctionSteps {
-    /// The function by its number in the module.
-    pub function: u32,
-    /// Its first step.
-    pub first: u32,
-    /// The step after its last one.
-    pub end: u32,
-}
 
 /// What is known of a module's functions before they are translated.
 #[derive(Drop)]
@@ -41,7 +30,13 @@ pub fn flow_of(alloc: Global, listing: &Listing) -> Result<Flow, SpirvError> {
     let blocks = Blocks::of_module(alloc, listing, &mut failed);
     let order = Order::of_module(alloc, listing, &blocks, &mut failed);
     let uses = Uses::of_module(alloc, listing, &blocks, &order, &mut failed);
-    let (steps, functions) = walk_all(alloc, listing, &blocks, &order, &mut failed);
+    let (blocks, steps, functions) = steps_of(
+        alloc,
+        listing,
+        blocks,
+        &order.functions,
+        &mut failed,
+    );
     let kept = Kept::of_module(alloc, listing, &blocks, &steps.scopes, &mut failed);
     failed.answer(Flow {
         blocks,
@@ -51,34 +46,4 @@ pub fn flow_of(alloc: Global, listing: &Listing) -> Result<Flow, SpirvError> {
         functions,
         kept,
     })
-}
-
-// The steps of all functions.
-fn walk_all(
-    alloc: Global,
-    listing: &Listing,
-    blocks: &Blocks,
-    order: &Order,
-    failed: &mut Failure,
-) -> (Steps, Vec<FunctionSteps>) {
-    let mut functions = Vec::new(alloc);
-    let mut walk = Walk::new(alloc, listing, blocks);
-    for number in &order.functions {
-        if let Some(function) = blocks.functions.get(*number as usize) {
-            let steps = walk_one(&mut walk, *number, *function);
-            failed.push(&mut functions, steps);
-        }
-    }
-    (walk.finish(failed), functions)
-}
-
-// Walks one function.
-fn walk_one(walk: &mut Walk, number: u32, function: FunctionBlocks) -> FunctionSteps {
-    let first = walk.count();
-    walk.walk_function(function);
-    FunctionSteps {
-        function: number,
-        first,
-        end: walk.count(),
-    }
 }

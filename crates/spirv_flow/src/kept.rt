@@ -1,9 +1,9 @@
 // Which values are used where the scope of their block does not reach.
 
-use crate::chains::is_chain;
+use crate::chains::{is_chain, need};
 use spirv_numbers::ops;
 use spirv_steps::{Block, Blocks, Scopes};
-use spirv_words::{Failure, Feature, Groups, Instruction, Listing, Malformed, as_word, number_at};
+use spirv_words::{Failure, Feature, Groups, Instruction, Listing, as_word, number_at};
 use std::alloc::Global;
 
 // How many steps a pointer may have from its variable (universal limit of the standard).
@@ -18,12 +18,33 @@ pub struct Incoming {
     pub value: u32,
 }
 
+impl Incoming {
+    // No value.
+    const NONE: Incoming = Incoming { phi: 0, value: 0 };
+}
+
 // What is known of an id.
 #[derive(Clone, Copy)]
 struct Known {
     kept: bool,
-    // the block whose instructions define it and one, or 0
-    block: u32,
+    // the scope of the block whose instructions define it and one, or 0
+    scope: u32,
+}
+
+impl Known {
+    // No value that is kept.
+    const NOTHING: Known = Known {
+        kept: false,
+        scope: 0,
+    };
+
+    // Whether it is defined in a block whose scope does not reach this one.
+    fn is_out(&self, scopes: &Scopes, scope: u32) -> bool {
+        match self.scope.checked_sub(1) {
+            Some(defined) => !scopes.reaches(defined, scope),
+            None => false,
+        }
+    }
 }
 
 /// The values that are kept in locals.
@@ -45,7 +66,8 @@ impl Kept {
         scopes: &Scopes,
         failed: &mut Failure,
     ) -> Kept {
-        let known = define(alloc, listing, blocks, failed);
+        let mut known = failed.table(alloc, Known::NOTHING, listing.bound());
+        define(listing, blocks, scopes, &mut known);
         let mut incoming = Vec::new(alloc);
         let mut pairs = Vec::new(alloc);
         add_comings(listing, blocks, &mut incoming, &mut pairs, failed);
@@ -71,17 +93,12 @@ impl Kept {
         let mut number = 0u32;
         for block in &blocks.blocks {
             if let Some(scope) = scopes.of_block(number) {
-                let mut uses = Scope {
-                    known: &mut self.known,
-                    listing,
-                    scopes,
-                    scope,
-                };
-                uses.use_in_block(block, failed);
+                let known = &mut self.known;
+                use_in_block(known, listing, scopes, scope, block, failed);
                 for item in self.from.of(number as usize) {
-                    if let Some(incoming) = self.incoming.get(*item as usize) {
-                        uses.use_id(incoming.value, failed);
-                    }
+                    let incoming = self.incoming.get(*item as usize).copied();
+                    let value = incoming.unwrap_or(Incoming::NONE).value;
+                    use_id(known, listing, scopes, scope, value, failed);
                 }
             }
             number = number.saturating_add(1);
@@ -90,91 +107,78 @@ impl Kept {
 
     /// Whether a value is kept in a local.
     pub fn is_kept(&self, id: u32) -> bool {
-        match self.known.get(id as usize) {
-            Some(known) => known.kept,
-            None => false,
-        }
+        let known = self.known.get(id as usize).copied();
+        known.unwrap_or(Known::NOTHING).kept
     }
 
     /// What comes from a block into others, by its places in the list.
     pub fn from_block(&self, block: u32) -> &[u32] {
         self.from.of(block as usize)
     }
+
+    /// What goes from a block at this place among all that does.
+    pub fn incoming_at(&self, block: u32, place: usize) -> Option<Incoming> {
+        let item = self.from_block(block).get(place)?;
+        self.incoming.get(*item as usize).copied()
+    }
 }
 
-// What is used in a scope.
-#[derive(Drop)]
-struct Scope<'a> {
-    known: &'a mut [Known],
-    listing: &'a Listing,
-    scopes: &'a Scopes,
+// What the instructions of a block use, its end included.
+fn use_in_block(
+    known: &mut [Known],
+    listing: &Listing,
+    scopes: &Scopes,
     scope: u32,
+    block: &Block,
+    failed: &mut Failure,
+) {
+    for place in block.first..block.end.saturating_add(1) {
+        let instruction = listing.at(place);
+        if instruction.opcode != ops::PHI {
+            for id in listing.operands(&instruction) {
+                use_id(known, listing, scopes, scope, *id, failed);
+            }
+        }
+    }
 }
 
-impl Scope<'_> {
-    // Whether an id is defined in a block whose scope does not reach this one.
-    fn is_out(&self, id: u32) -> bool {
-        let block = match self.known.get(id as usize) {
-            Some(known) => known.block.checked_sub(1),
-            None => None,
-        };
-        match self.scopes.of_block(block.unwrap_or(u32::MAX)) {
-            Some(defined) => !self.scopes.reaches(defined, self.scope),
-            None => false,
-        }
+// An id is used: where the scope of its definition does not reach, it is kept, and a pointer is made there anew out of what
+// its steps name.
+fn use_id(
+    known: &mut [Known],
+    listing: &Listing,
+    scopes: &Scopes,
+    scope: u32,
+    id: u32,
+    failed: &mut Failure,
+) {
+    let used = known.get(id as usize).copied();
+    if !used.unwrap_or(Known::NOTHING).is_out(scopes, scope) {
+        return;
     }
-
-    // What the instructions of a block use, its end included.
-    fn use_in_block(&mut self, block: &Block, failed: &mut Failure) {
-        for place in block.first..block.end.saturating_add(1) {
-            let instruction = self.listing.at(place);
-            if instruction.opcode != ops::PHI {
-                for id in self.listing.operands(&instruction) {
-                    self.use_id(*id, failed);
-                }
+    let mut at = id;
+    for _ in 0..MAX_STEPS {
+        let made = listing.defined(at);
+        if is_chain(made.opcode) {
+            for index in listing.operands_from(&made, 1) {
+                keep(known, scopes, scope, *index);
             }
-        }
-    }
-
-    // An id is used: where the scope of its definition does not reach, it is kept, and a pointer is made there anew out of
-    // what its steps name.
-    fn use_id(&mut self, id: u32, failed: &mut Failure) {
-        if !self.is_out(id) {
-            return;
-        }
-        let mut at = id;
-        for _ in 0..MAX_STEPS {
-            let made = self.listing.defined(at);
-            if is_chain(made.opcode) {
-                for index in self.listing.operands_from(&made, 1) {
-                    self.keep(*index);
-                }
-            } else {
-                self.keep(at);
-                if made.opcode != ops::COPY_OBJECT && !gives_handle(self.listing, &made) {
-                    return;
-                }
-            }
-            let Some(base) = self.listing.operand(&made, 0) else {
-                failed.fail(made.malformed(Malformed::MissingOperand));
+        } else {
+            keep(known, scopes, scope, at);
+            if made.opcode != ops::COPY_OBJECT && !gives_handle(listing, &made) {
                 return;
-            };
-            at = base;
-        }
-        failed.fail(
-            self.listing
-                .defined(id)
-                .unsupported_by(Feature::LongPointer),
-        );
-    }
-
-    // Keeps what is used where the scope of its definition does not reach.
-    fn keep(&mut self, id: u32) {
-        if self.is_out(id) {
-            if let Some(known) = self.known.get_mut(id as usize) {
-                known.kept = true;
             }
         }
+        at = need(listing, &made, 0, failed);
+    }
+    let pointer = listing.defined(id);
+    failed.fail(pointer.unsupported_by(Feature::LongPointer));
+}
+
+// Keeps what is used where the scope of its definition does not reach.
+fn keep(known: &mut [Known], scopes: &Scopes, scope: u32, id: u32) {
+    if let Some(known) = known.get_mut(id as usize) {
+        known.kept |= known.is_out(scopes, scope);
     }
 }
 
@@ -188,23 +192,21 @@ fn gives_handle(listing: &Listing, made: &Instruction) -> bool {
     is_handle && matches!(made.opcode, ops::LOAD | ops::IMAGE)
 }
 
-// For each id the block that defines it; none is kept.
-fn define(alloc: Global, listing: &Listing, blocks: &Blocks, failed: &mut Failure) -> Vec<Known> {
-    let nothing = Known {
-        kept: false,
-        block: 0,
-    };
-    let mut known = failed.table(alloc, nothing, listing.bound());
+// Writes down for each id the scope of the block that defines it.
+fn define(listing: &Listing, blocks: &Blocks, scopes: &Scopes, known: &mut [Known]) {
     let mut number = 0u32;
     for block in &blocks.blocks {
+        let scope = match scopes.of_block(number) {
+            Some(scope) => scope.saturating_add(1),
+            None => 0,
+        };
         number = number.saturating_add(1);
         for place in block.first..block.end {
             if let Some(at) = known.get_mut(listing.at(place).id as usize) {
-                at.block = number;
+                at.scope = scope;
             }
         }
     }
-    known
 }
 
 // Adds what comes from the blocks of all functions into others, and the block from which each comes with its place among

@@ -10,11 +10,12 @@ mod paths;
 mod uses;
 
 pub use chains::{Part, constant_word, is_chain, is_debug, part_at, pointee};
-pub use flow::{Flow, FunctionSteps, flow_of};
+pub use flow::{Flow, flow_of};
 pub use kept::{Incoming, Kept};
 pub use order::Order;
 pub use paths::{PathPart, Paths};
 pub use spirv_steps::{
-    Block, Blocks, BreakIf, Case, CaseBody, Choice, FunctionBlocks, Scopes, Step, Steps,
+    Block, Blocks, BreakIf, Case, CaseBody, Choice, FunctionBlocks, FunctionSteps, Scopes, Step,
+    Steps,
 };
 pub use uses::{DIM_SUBPASS_DATA, FRAGMENT_PLACE, SUBGROUP_NUMBERS, Use, Uses, is_atomic};

@@ -1,8 +1,8 @@
 // Which parts of variables are changed atomically.
 
-use crate::chains::{is_chain, need, part_at, pointee};
+use crate::chains::{Part, is_chain, need, part_at, pointee};
 use spirv_numbers::ops;
-use spirv_words::{Failure, Feature, Instruction, Listing, as_word, number_at};
+use spirv_words::{Failure, Feature, Instruction, Listing, as_word, number_at, set_number};
 use std::alloc::Global;
 
 // How many steps an access chain may have from its variable (universal limit of the standard), and how many parts of one
@@ -19,6 +19,16 @@ pub struct PathPart {
     // the first of its parts, and the next part of what it is one of, each by place and one
     first: u32,
     next: u32,
+}
+
+impl PathPart {
+    // One without parts.
+    const NEW: PathPart = PathPart {
+        member: None,
+        is_atomic: false,
+        first: 0,
+        next: 0,
+    };
 }
 
 /// The parts of variables that are changed atomically, each variable with its id.
@@ -50,50 +60,22 @@ impl Paths {
 
     /// The part at this place.
     pub fn part(&self, place: u32) -> Option<PathPart> {
-        match self.parts.get(place as usize) {
-            Some(part) => Some(*part),
-            None => None,
-        }
+        self.parts.get(place as usize).copied()
     }
 
     /// The first part inside the one at this place.
     pub fn first(&self, place: u32) -> Option<u32> {
-        match self.part(place) {
-            Some(part) => part.first.checked_sub(1),
-            None => None,
-        }
+        self.at(place).first.checked_sub(1)
     }
 
     /// The part that is inside of the same as this one, after it.
     pub fn next(&self, place: u32) -> Option<u32> {
-        match self.part(place) {
-            Some(part) => part.next.checked_sub(1),
-            None => None,
-        }
+        self.at(place).next.checked_sub(1)
     }
 
-    // A new part.
-    fn make(&mut self, member: Option<u32>, next: u32, failed: &mut Failure) -> u32 {
-        let part = PathPart {
-            member,
-            is_atomic: false,
-            first: 0,
-            next,
-        };
-        failed.push(&mut self.parts, part);
-        as_word(self.parts.len()).saturating_sub(1)
-    }
-
-    // The place of a variable, which is made where it has none.
-    fn variable(&mut self, variable: u32, failed: &mut Failure) -> u32 {
-        if let Some(place) = self.of(variable) {
-            return place;
-        }
-        let place = self.make(None, 0, failed);
-        if let Some(at) = self.variables.get_mut(variable as usize) {
-            *at = place.saturating_add(1);
-        }
-        place
+    // The part at this place; one without parts where there is none.
+    fn at(&self, place: u32) -> PathPart {
+        self.part(place).unwrap_or(PathPart::NEW)
     }
 
     // The part inside another, which is made where there is none.
@@ -104,31 +86,30 @@ impl Paths {
         atomic: &Instruction,
         failed: &mut Failure,
     ) -> u32 {
-        let mut at = self.first(place);
+        let first = self.at(place).first;
+        let mut at = first;
         for _ in 0..MAX_STEPS {
-            let Some(found) = at else {
-                return self.add_inside(place, member, failed);
+            let Some(found) = at.checked_sub(1) else {
+                let made = PathPart {
+                    member,
+                    next: first,
+                    ..PathPart::NEW
+                };
+                failed.push(&mut self.parts, made);
+                let made = as_word(self.parts.len());
+                if let Some(part) = self.parts.get_mut(place as usize) {
+                    part.first = made;
+                }
+                return made.saturating_sub(1);
             };
-            match self.part(found) {
-                Some(part) if part.member == member => return found,
-                _ => at = self.next(found),
+            let part = self.at(found);
+            if part.member == member {
+                return found;
             }
+            at = part.next;
         }
         failed.fail(atomic.unsupported_by(Feature::AtomicParts));
         place
-    }
-
-    // A part more inside another.
-    fn add_inside(&mut self, place: u32, member: Option<u32>, failed: &mut Failure) -> u32 {
-        let next = match self.part(place) {
-            Some(part) => part.first,
-            None => 0,
-        };
-        let made = self.make(member, next, failed);
-        if let Some(part) = self.parts.get_mut(place as usize) {
-            part.first = made.saturating_add(1);
-        }
-        made
     }
 
     /// The part of a variable that a pointer leads to is changed atomically.
@@ -142,7 +123,13 @@ impl Paths {
     ) {
         let mut chains = Vec::new(*self.parts.allocator());
         add_chains(listing, pointer, atomic, &mut chains, failed);
-        let mut place = self.variable(variable, failed);
+        let mut place = as_word(self.parts.len());
+        if let Some(known) = self.of(variable) {
+            place = known;
+        } else {
+            failed.push(&mut self.parts, PathPart::NEW);
+            set_number(&mut self.variables, variable, place.saturating_add(1));
+        }
         for chain in chains.iter().rev() {
             place = self.follow(listing, chain, place, failed);
         }
@@ -166,16 +153,9 @@ impl Paths {
             return place;
         };
         for index in listing.operands_from(chain, 1) {
-            match part_at(listing, ty, *index, chain) {
-                Ok(part) => {
-                    place = self.inside(place, part.member, chain, failed);
-                    ty = part.ty;
-                }
-                Err(error) => {
-                    failed.fail(error);
-                    return place;
-                }
-            }
+            let part = failed.take(part_at(listing, ty, *index, chain), Part::NONE);
+            place = self.inside(place, part.member, chain, failed);
+            ty = part.ty;
         }
         place
     }

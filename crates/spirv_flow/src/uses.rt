@@ -1,10 +1,10 @@
 // What variables and arguments are used for.
 
-use crate::chains::{is_chain, need, part_at, pointee};
+use crate::chains::{Part, is_chain, need, part_at, pointee};
 use crate::order::Order;
 use crate::paths::Paths;
 use spirv_numbers::{numbers, ops};
-use spirv_steps::{Blocks, FunctionBlocks};
+use spirv_steps::Blocks;
 use spirv_words::{Failure, Feature, Instruction, Listing};
 use std::alloc::Global;
 
@@ -36,6 +36,25 @@ struct Known {
     used: Use,
     // of a parameter the variable or argument that every call passes for it; 0 for none, or where they differ `DIFFERENT`
     passed: u32,
+}
+
+impl Known {
+    // Nothing is known.
+    const NOTHING: Known = Known {
+        root: 0,
+        used: Use::NONE,
+        passed: 0,
+    };
+}
+
+// An argument of a call.
+#[derive(Clone, Copy)]
+struct Passed {
+    // the place of the call
+    call: u32,
+    argument: u32,
+    // the place of the parameter for which it is passed
+    parameter: u32,
 }
 
 /// What the variables and arguments of a module are used for.
@@ -131,19 +150,19 @@ fn reads_attachment(listing: &Listing, read: &Instruction) -> bool {
     ty.opcode == ops::TYPE_IMAGE && listing.operand(&ty, 1) == Some(DIM_SUBPASS_DATA)
 }
 
-// The arguments of a call; none where it is none.
-fn arguments_of<'a>(listing: &'a Listing, call: &Instruction) -> &'a [u32] {
-    if call.opcode == ops::FUNCTION_CALL {
-        listing.operands_from(call, 1)
+// The built-in that a decoration says of a member, if it says one.
+fn built_in(listing: &Listing, decoration: &Instruction) -> Option<u32> {
+    // a group's decorations speak of no member
+    let after = if decoration.opcode == ops::MEMBER_DECORATE {
+        2
     } else {
-        &[]
+        1
+    };
+    if listing.operand(decoration, after) == Some(numbers::DECORATION_BUILT_IN) {
+        listing.operand(decoration, after + 1)
+    } else {
+        None
     }
-}
-
-// The place of the function that is called, after which its parameters stand.
-fn parameters_of(listing: &Listing, call: &Instruction) -> u32 {
-    let callee = listing.operand(call, 0).unwrap_or(0);
-    listing.place_of(callee).unwrap_or(u32::MAX)
 }
 
 // Whether it is a parameter that takes an image without a sampler.
@@ -167,55 +186,59 @@ impl Uses {
         order: &Order,
         failed: &mut Failure,
     ) -> Uses {
-        let nothing = Known {
-            root: 0,
-            used: Use::NONE,
-            passed: 0,
-        };
         let mut uses = Uses {
-            known: failed.table(alloc, nothing, listing.bound()),
+            known: failed.table(alloc, Known::NOTHING, listing.bound()),
             touched: 0,
             atomics: Paths::new(alloc, listing.bound(), failed),
             numbered: false,
             placed: false,
         };
-        for number in &order.functions {
-            if let Some(function) = blocks.functions.get(*number as usize) {
-                for place in function.parts.start..function.parts.end {
-                    uses.take(listing, &listing.at(place), failed);
-                }
-            }
-        }
-        uses.pass_on(listing, blocks, order, failed);
+        let mut calls = Vec::new(alloc);
+        uses.take_all(listing, blocks, order, &mut calls, failed);
+        uses.pass_on(listing, &calls, failed);
+        drop(calls);
         uses
     }
 
-    // What is passed from function to function, callers first.
-    fn pass_on(&mut self, listing: &Listing, blocks: &Blocks, order: &Order, failed: &mut Failure) {
-        for number in order.functions.iter().rev() {
+    // What all instructions of functions do. Adds what their calls pass.
+    fn take_all(
+        &mut self,
+        listing: &Listing,
+        blocks: &Blocks,
+        order: &Order,
+        calls: &mut Vec<Passed>,
+        failed: &mut Failure,
+    ) {
+        for number in &order.functions {
             if let Some(function) = blocks.functions.get(*number as usize) {
-                self.pass_down(listing, function);
+                for place in function.parts.start..function.parts.end {
+                    self.take(listing, place, calls, failed);
+                }
             }
-        }
-        for function in &blocks.functions {
-            self.check_calls(listing, function, failed);
         }
     }
 
-    // An image that is sampled with a comparison somewhere is one of depths wherever it is passed to.
-    fn pass_down(&mut self, listing: &Listing, function: &FunctionBlocks) {
-        for place in function.parts.start..function.parts.end {
-            let call = listing.at(place);
-            let mut at = parameters_of(listing, &call);
-            for argument in arguments_of(listing, &call) {
-                at = at.saturating_add(1);
-                let parameter = listing.at(at);
-                if self.is_compared(*argument) && takes_image(listing, &parameter) {
-                    if let Some(known) = self.known.get_mut(parameter.id as usize) {
-                        known.used.compared = true;
-                    }
-                }
+    // What is passed from function to function, callers last: an image that is sampled with a comparison somewhere is one of
+    // depths wherever it is passed to, and no other may be passed there.
+    fn pass_on(&mut self, listing: &Listing, calls: &[Passed], failed: &mut Failure) {
+        for passed in calls.iter().rev() {
+            let parameter = listing.at(passed.parameter);
+            let compared = self.is_compared(passed.argument) && takes_image(listing, &parameter);
+            let more = Use {
+                compared,
+                ..Use::NONE
+            };
+            self.add(parameter.id, more);
+        }
+        let mut mixed = u32::MAX;
+        for passed in calls {
+            let parameter = listing.at(passed.parameter).id;
+            if self.of(parameter).compared && !self.is_compared(passed.argument) {
+                mixed = mixed.min(passed.call);
             }
+        }
+        if mixed != u32::MAX {
+            failed.fail(listing.at(mixed).unsupported_by(Feature::MixedComparison));
         }
     }
 
@@ -224,25 +247,11 @@ impl Uses {
         self.of(self.root(id)).compared
     }
 
-    // Refuses other images where one of depths is taken.
-    fn check_calls(&self, listing: &Listing, function: &FunctionBlocks, failed: &mut Failure) {
-        for place in function.parts.start..function.parts.end {
-            let call = listing.at(place);
-            let mut at = parameters_of(listing, &call);
-            for argument in arguments_of(listing, &call) {
-                at = at.saturating_add(1);
-                if self.of(listing.at(at).id).compared && !self.is_compared(*argument) {
-                    failed.fail(call.unsupported_by(Feature::MixedComparison));
-                }
-            }
-        }
-    }
-
     /// The variable or argument from which an id leads.
     pub fn root(&self, id: u32) -> u32 {
-        match self.known.get(id as usize) {
-            Some(known) if known.root != 0 => known.root,
-            _ => id,
+        match self.known(id).root {
+            0 => id,
+            root => root,
         }
     }
 
@@ -251,7 +260,7 @@ impl Uses {
         let mut at = parameter;
         for _ in 0..MAX_CALLS {
             match listing.defined(at).opcode {
-                ops::FUNCTION_PARAMETER => at = self.passed(at),
+                ops::FUNCTION_PARAMETER => at = self.known(at).passed,
                 ops::VARIABLE => return Some(at),
                 _ => return None,
             }
@@ -259,20 +268,15 @@ impl Uses {
         None
     }
 
-    // What every call passes for a parameter.
-    fn passed(&self, parameter: u32) -> u32 {
-        match self.known.get(parameter as usize) {
-            Some(known) => known.passed,
-            None => 0,
-        }
+    // What is known of an id.
+    fn known(&self, id: u32) -> Known {
+        let known = self.known.get(id as usize).copied();
+        known.unwrap_or(Known::NOTHING)
     }
 
     /// What a variable or an argument is used for.
     pub fn of(&self, id: u32) -> Use {
-        match self.known.get(id as usize) {
-            Some(known) => known.used,
-            None => Use::NONE,
-        }
+        self.known(id).used
     }
 
     /// Whether a member of a block with this built-in may be touched.
@@ -281,7 +285,14 @@ impl Uses {
     }
 
     // What one instruction does.
-    fn take(&mut self, listing: &Listing, instruction: &Instruction, failed: &mut Failure) {
+    fn take(
+        &mut self,
+        listing: &Listing,
+        place: u32,
+        calls: &mut Vec<Passed>,
+        failed: &mut Failure,
+    ) {
+        let instruction = &listing.at(place);
         let opcode = instruction.opcode;
         self.numbered |= is_numbered(listing, instruction);
         self.placed |= opcode == ops::IMAGE_READ && reads_attachment(listing, instruction);
@@ -296,7 +307,7 @@ impl Uses {
         } else if let Some(compared) = samples(opcode) {
             self.sample(listing, instruction, compared, failed);
         } else if opcode == ops::FUNCTION_CALL {
-            self.call(listing, instruction, failed);
+            self.call(listing, place, calls, failed);
         } else if is_atomic(opcode) {
             self.change(listing, instruction, failed);
         }
@@ -309,36 +320,14 @@ impl Uses {
             return;
         };
         for index in listing.operands_from(chain, 1) {
-            match part_at(listing, ty, *index, chain) {
-                Ok(part) => {
-                    self.touch_member(listing, part.from, part.member);
-                    ty = part.ty;
-                }
-                Err(error) => {
-                    failed.fail(error);
-                    return;
-                }
-            }
-        }
-    }
-
-    // What is said of a member of a block; nothing where it is none.
-    fn touch_member(&mut self, listing: &Listing, ty: u32, member: Option<u32>) {
-        if member.is_none() {
-            return;
-        }
-        for place in listing.decorations(ty, member) {
-            let decoration = listing.at(*place);
-            // a group's decorations speak of no member
-            let after = if decoration.opcode == ops::MEMBER_DECORATE {
-                2
-            } else {
-                1
-            };
-            if listing.operand(&decoration, after) == Some(numbers::DECORATION_BUILT_IN) {
-                match listing.operand(&decoration, after + 1) {
-                    Some(number) if number < 64 => self.touched |= 1u64 << number,
-                    _ => {}
+            let part = failed.take(part_at(listing, ty, *index, chain), Part::NONE);
+            ty = part.ty;
+            if part.member.is_some() {
+                for place in listing.decorations(part.from, part.member) {
+                    match built_in(listing, &listing.at(*place)) {
+                        Some(number) if number < 64 => self.touched |= 1u64 << number,
+                        _ => {}
+                    }
                 }
             }
         }
@@ -377,14 +366,25 @@ impl Uses {
     }
 
     // What the arguments of a call are used for in the callee, whose parameters stand after its `OpFunction`.
-    fn call(&mut self, listing: &Listing, call: &Instruction, failed: &mut Failure) {
-        let callee = need(listing, call, 0, failed);
-        let Some(mut place) = listing.place_of(callee) else {
-            return;
-        };
-        for argument in listing.operands_from(call, 1) {
-            place = place.saturating_add(1);
-            let parameter = listing.at(place);
+    fn call(
+        &mut self,
+        listing: &Listing,
+        place: u32,
+        calls: &mut Vec<Passed>,
+        failed: &mut Failure,
+    ) {
+        let call = listing.at(place);
+        let callee = need(listing, &call, 0, failed);
+        let mut at = listing.place_of(callee).unwrap_or(u32::MAX);
+        for argument in listing.operands_from(&call, 1) {
+            at = at.saturating_add(1);
+            let passed = Passed {
+                call: place,
+                argument: *argument,
+                parameter: at,
+            };
+            failed.push(calls, passed);
+            let parameter = listing.at(at);
             if parameter.opcode == ops::FUNCTION_PARAMETER {
                 if self.atomics.has(parameter.id) {
                     failed.fail(call.unsupported_by(Feature::AtomicArgument));
@@ -398,11 +398,8 @@ impl Uses {
     // A call passes this for a parameter.
     fn pass(&mut self, parameter: u32, argument: u32) {
         if let Some(known) = self.known.get_mut(parameter as usize) {
-            known.passed = if known.passed == 0 || known.passed == argument {
-                argument
-            } else {
-                DIFFERENT
-            };
+            let differs = known.passed != 0 && known.passed != argument;
+            known.passed = if differs { DIFFERENT } else { argument };
         }
     }
 

@@ -5,13 +5,13 @@ use ir_arena::span::Span;
 use ir_blocks::{Block, Statement, SwitchCase};
 use ir_kinds::{Literal, Scalar, SwitchValue, UnaryOperator};
 use ir_types::Expression;
-use spirv_expressions::{Operation, Value, keep, need, refuse};
-use spirv_flow::{BreakIf, Case, CaseBody, Choice, Flow, FunctionSteps, Step};
+use spirv_expressions::{Value, keep, need, refuse};
+use spirv_flow::{BreakIf, Case, CaseBody, Choice, FunctionSteps, Step};
 use spirv_images::selector_of;
 use spirv_numbers::ops;
-use spirv_operations::{FunctionBuilder, made_name, phi_local, statement};
+use spirv_operations::{FunctionBuilder, made_name, phi_local};
 use spirv_types::span_of;
-use spirv_words::{Feature, Instruction, Listing, Malformed, SpirvError};
+use spirv_words::{Feature, Instruction, Malformed, SpirvError};
 use std::alloc::Global;
 use std::collections::BTreeMap;
 
@@ -56,7 +56,6 @@ struct Assembly {
 /// The body of a function; of no use where something was wrong.
 pub fn assemble<L: FunctionBuilder>(
     alloc: Global,
-    source: Source,
     lowering: &mut L,
     steps: &FunctionSteps,
 ) -> Block {
@@ -74,48 +73,30 @@ pub fn assemble<L: FunctionBuilder>(
         if at >= steps.end || lowering.has_failed() {
             break;
         }
-        at = assembly.take(source, lowering, at);
+        at = assembly.take(lowering, at);
     }
     lowering.close()
 }
 
-/// What functions are made of.
-#[derive(Clone, Copy)]
-pub struct Source<'a> {
-    /// The module.
-    pub listing: &'a Listing,
-    /// What its functions do, in order.
-    pub flow: &'a Flow,
+// The end of a block.
+fn end_of<L: FunctionBuilder>(lowering: &L, block: u32) -> Instruction {
+    let reading = lowering.reading();
+    match reading.flow.blocks.get(block) {
+        Some(block) => reading.listing.at(block.end),
+        None => Instruction::NONE,
+    }
 }
 
-impl<'a> Source<'a> {
-    /// An instruction with its operands.
-    pub fn operation(&self, instruction: Instruction) -> Operation<'a> {
-        Operation {
-            instruction,
-            operands: self.listing.operands(&instruction),
-        }
-    }
-
-    // The end of a block.
-    fn end_of(&self, block: u32) -> Instruction {
-        match self.flow.blocks.get(block) {
-            Some(block) => self.listing.at(block.end),
-            None => Instruction::NONE,
-        }
-    }
-
-    // The case at this place.
-    fn case<L: FunctionBuilder>(&self, lowering: &mut L, place: u32) -> Case {
-        match self.flow.steps.cases.get(place as usize) {
-            Some(case) => *case,
-            None => {
-                lowering.fail(unbalanced());
-                Case {
-                    choice: Choice::Default,
-                    body: CaseBody::Empty,
-                    falls_through: false,
-                }
+// The case at this place.
+fn case_at<L: FunctionBuilder>(lowering: &mut L, place: u32) -> Case {
+    match lowering.reading().flow.steps.cases.get(place as usize) {
+        Some(case) => *case,
+        None => {
+            lowering.fail(unbalanced());
+            Case {
+                choice: Choice::Default,
+                body: CaseBody::Empty,
+                falls_through: false,
             }
         }
     }
@@ -123,15 +104,22 @@ impl<'a> Source<'a> {
 
 impl Assembly {
     // Takes a step. Answers the next one.
-    fn take<L: FunctionBuilder>(&mut self, source: Source, lowering: &mut L, at: u32) -> u32 {
+    fn take<L: FunctionBuilder>(&mut self, lowering: &mut L, at: u32) -> u32 {
         let next = at.saturating_add(1);
-        let Some(step) = source.flow.steps.steps.get(at as usize).copied() else {
+        let Some(step) = lowering
+            .reading()
+            .flow
+            .steps
+            .steps
+            .get(at as usize)
+            .copied()
+        else {
             return next;
         };
         match step {
-            Step::Block(block) => self.value = lower_block(source, lowering, block),
+            Step::Block(block) => self.value = lower_block(lowering, block),
             Step::If(block) => {
-                let condition = self.need(source, lowering, block);
+                let condition = self.need(lowering, block);
                 self.begin(lowering, Frame::If(condition));
             }
             Step::Else | Step::Continuing => {
@@ -141,24 +129,24 @@ impl Assembly {
             }
             Step::EndIf => self.end_if(lowering),
             Step::Loop => self.begin(lowering, Frame::Loop),
-            Step::EndLoop(condition) => self.end_loop(source, lowering, condition),
+            Step::EndLoop(condition) => self.end_loop(lowering, condition),
             Step::Switch {
                 block,
                 first,
                 count,
                 after,
             } => {
-                self.begin_switch(source, lowering, block, first, count, after);
-                return self.next_case(source, lowering, next);
+                self.begin_switch(lowering, block, first, count, after);
+                return self.next_case(lowering, next);
             }
-            Step::EndCase => return self.end_case(source, lowering, next),
+            Step::EndCase => return self.end_case(lowering, next),
             Step::SetFlag(token) => self.set_flag(lowering, token, true),
             Step::ClearFlag(token) => self.set_flag(lowering, token, false),
             Step::BreakIfFlag(token) => self.break_if_flag(lowering, token),
             Step::Break => push(lowering, Statement::Break),
             Step::Continue => push(lowering, Statement::Continue),
             Step::Kill => push(lowering, Statement::Kill),
-            Step::Return(block) => self.end_function(source, lowering, block),
+            Step::Return(block) => self.end_function(lowering, block),
         }
         next
     }
@@ -188,14 +176,14 @@ impl Assembly {
     fn set_flag<L: FunctionBuilder>(&mut self, lowering: &mut L, token: u32, set: bool) {
         let pointer = self.flag(lowering, token);
         let literal = Expression::Literal(Literal::Bool(set));
-        let value = lowering.place(literal, Span::UNDEFINED);
+        let value = lowering.always(literal, &Instruction::NONE);
         push(lowering, Statement::Store { pointer, value })
     }
 
     // Leaves the nearest loop or switch where the flag of a loop is set.
     fn break_if_flag<L: FunctionBuilder>(&mut self, lowering: &mut L, token: u32) {
         let pointer = self.flag(lowering, token);
-        let condition = lowering.compute(Expression::Load { pointer }, Span::UNDEFINED);
+        let condition = lowering.emit(Expression::Load { pointer }, &Instruction::NONE);
         lowering.open();
         push(lowering, Statement::Break);
         let accept = lowering.close();
@@ -212,12 +200,12 @@ impl Assembly {
     }
 
     // The operand of the end of the block that was lowered last.
-    fn need<L: FunctionBuilder>(&self, source: Source, lowering: &mut L, block: u32) -> Value {
+    fn need<L: FunctionBuilder>(&self, lowering: &mut L, block: u32) -> Value {
         match self.value {
             Some(value) => value,
             None => refuse(
                 lowering,
-                source.end_of(block).malformed(Malformed::MissingOperand),
+                end_of(lowering, block).malformed(Malformed::MissingOperand),
             ),
         }
     }
@@ -242,14 +230,9 @@ impl Assembly {
         )
     }
 
-    fn end_loop<L: FunctionBuilder>(
-        &mut self,
-        source: Source,
-        lowering: &mut L,
-        condition: Option<BreakIf>,
-    ) {
+    fn end_loop<L: FunctionBuilder>(&mut self, lowering: &mut L, condition: Option<BreakIf>) {
         let break_if = match condition {
-            Some(condition) => Some(self.break_if(source, lowering, condition)),
+            Some(condition) => Some(self.break_if(lowering, condition)),
             None => None,
         };
         let continuing = lowering.close();
@@ -267,33 +250,27 @@ impl Assembly {
     }
 
     // The condition that leaves a loop.
-    fn break_if<L: FunctionBuilder>(
-        &mut self,
-        source: Source,
-        lowering: &mut L,
-        condition: BreakIf,
-    ) -> Value {
-        let expr = self.need(source, lowering, condition.block);
+    fn break_if<L: FunctionBuilder>(&mut self, lowering: &mut L, condition: BreakIf) -> Value {
+        let expr = self.need(lowering, condition.block);
         if !condition.negated {
             return expr;
         }
-        let operation = source.operation(source.end_of(condition.block));
+        let end = end_of(lowering, condition.block);
         let op = UnaryOperator::LogicalNot;
-        lowering.emit(Expression::Unary { op, expr }, &operation)
+        lowering.emit(Expression::Unary { op, expr }, &end)
     }
 
     fn begin_switch<L: FunctionBuilder>(
         &mut self,
-        source: Source,
         lowering: &mut L,
         block: u32,
         first: u32,
         count: u32,
         after: u32,
     ) {
-        let value = self.need(source, lowering, block);
-        let operation = source.operation(source.end_of(block));
-        let (selector, signed) = selector_of(lowering, &operation, value);
+        let value = self.need(lowering, block);
+        let end = end_of(lowering, block);
+        let (selector, signed) = selector_of(lowering, &end, value);
         let open = OpenSwitch {
             selector,
             signed,
@@ -307,17 +284,12 @@ impl Assembly {
     }
 
     // Goes on with the next case of the innermost switch, or ends it. Answers the next step.
-    fn next_case<L: FunctionBuilder>(
-        &mut self,
-        source: Source,
-        lowering: &mut L,
-        after: u32,
-    ) -> u32 {
+    fn next_case<L: FunctionBuilder>(&mut self, lowering: &mut L, after: u32) -> u32 {
         let Some(Frame::Switch(open)) = self.frames.last().copied() else {
             return after;
         };
         for number in open.next..open.end {
-            let case = source.case(lowering, number);
+            let case = case_at(lowering, number);
             match case.body {
                 CaseBody::Steps(at) => {
                     if let Some(Frame::Switch(open)) = self.frames.last_mut() {
@@ -337,26 +309,21 @@ impl Assembly {
                 }
             }
         }
-        self.end_switch(source, lowering, &open)
+        self.end_switch(lowering, &open)
     }
 
     // Ends the case whose body was lowered. Answers the next step.
-    fn end_case<L: FunctionBuilder>(
-        &mut self,
-        source: Source,
-        lowering: &mut L,
-        after: u32,
-    ) -> u32 {
+    fn end_case<L: FunctionBuilder>(&mut self, lowering: &mut L, after: u32) -> u32 {
         let Some(Frame::Switch(open)) = self.frames.last().copied() else {
             lowering.fail(unbalanced());
             return after;
         };
-        let case = source.case(lowering, open.next);
+        let case = case_at(lowering, open.next);
         if let Some(Frame::Switch(open)) = self.frames.last_mut() {
             open.next = open.next.saturating_add(1);
         }
         self.add_case(lowering, &case, open.signed);
-        self.next_case(source, lowering, after)
+        self.next_case(lowering, after)
     }
 
     // A case whose body is the innermost block.
@@ -378,37 +345,31 @@ impl Assembly {
         );
     }
 
-    fn end_switch<L: FunctionBuilder>(
-        &mut self,
-        source: Source,
-        lowering: &mut L,
-        open: &OpenSwitch,
-    ) -> u32 {
+    fn end_switch<L: FunctionBuilder>(&mut self, lowering: &mut L, open: &OpenSwitch) -> u32 {
         let _ = self.frames.pop();
         let first = open.first.min(self.cases.len());
-        let operation = source.operation(source.end_of(open.block));
+        let end = end_of(lowering, open.block);
         match self.cases.split_off(first) {
             Ok(cases) => {
                 let switch = Statement::Switch {
                     selector: open.selector,
                     cases,
                 };
-                statement(lowering, &operation, switch);
+                lowering.add(switch, &end);
             }
             Err(_) => lowering.fail(SpirvError::Memory),
         }
         open.after
     }
 
-    fn end_function<L: FunctionBuilder>(&mut self, source: Source, lowering: &mut L, block: u32) {
-        let end = source.end_of(block);
+    fn end_function<L: FunctionBuilder>(&mut self, lowering: &mut L, block: u32) {
+        let end = end_of(lowering, block);
         let value = if end.opcode == ops::RETURN_VALUE {
-            Some(self.need(source, lowering, block))
+            Some(self.need(lowering, block))
         } else {
             None
         };
-        let operation = source.operation(end);
-        statement(lowering, &operation, Statement::Return { value })
+        lowering.add(Statement::Return { value }, &end)
     }
 }
 
@@ -427,47 +388,51 @@ fn unbalanced() -> SpirvError {
 
 // A statement that no instruction is alone.
 fn push<L: FunctionBuilder>(lowering: &mut L, statement: Statement) {
-    lowering.add(statement, Span::UNDEFINED)
+    lowering.add(statement, &Instruction::NONE)
 }
 
 // The instructions of a block, and what goes from it into others. Answers the operand of its end.
-fn lower_block<L: FunctionBuilder>(source: Source, lowering: &mut L, number: u32) -> Option<Value> {
-    let flow = source.flow;
+fn lower_block<L: FunctionBuilder>(lowering: &mut L, number: u32) -> Option<Value> {
+    let flow = &lowering.reading().flow;
+    let scope = flow.steps.scopes.of_block(number).unwrap_or(0);
     let Some(block) = flow.blocks.get(number) else {
         lowering.fail(unbalanced());
         return None;
     };
-    lowering.enter(flow.steps.scopes.of_block(number).unwrap_or(0));
+    lowering.enter(scope);
     for place in block.first..block.end {
         if lowering.has_failed() {
             break;
         }
-        lower(source, lowering, source.listing.at(place));
+        let instruction = lowering.reading().listing.at(place);
+        lower(lowering, &instruction);
     }
-    let end = source.listing.at(block.end);
-    let operation = source.operation(end);
+    let end = lowering.reading().listing.at(block.end);
     let value = match end.opcode {
         ops::BRANCH_CONDITIONAL | ops::SWITCH | ops::RETURN_VALUE => {
-            let id = need(lowering, &operation, 0);
-            Some(lowering.value(id, &operation))
+            let id = need(lowering, &end, 0);
+            Some(lowering.value(id, &end))
         }
         _ => None,
     };
     lowering.flush();
-    for place in flow.kept.from_block(number) {
-        if let Some(incoming) = flow.kept.incoming.get(*place as usize) {
-            store_incoming(lowering, &operation, incoming.phi, incoming.value);
+    for place in 0..lowering.reading().flow.kept.from_block(number).len() {
+        let incoming = lowering.reading().flow.kept.incoming_at(number, place);
+        if let Some(incoming) = incoming {
+            store_incoming(lowering, &end, incoming.phi, incoming.value);
         }
     }
     value
 }
 
 // What an `OpPhi` becomes when it comes from this block.
-fn store_incoming<L: FunctionBuilder>(lowering: &mut L, operation: &Operation, phi: u32, id: u32) {
+fn store_incoming<L: FunctionBuilder>(
+    lowering: &mut L,
+    operation: &Instruction,
+    phi: u32,
+    id: u32,
+) {
     let pointer = phi_local(lowering, phi, operation);
     let value = lowering.value(id, operation);
-    lowering.add(
-        Statement::Store { pointer, value },
-        span_of(&operation.instruction),
-    )
+    lowering.add(Statement::Store { pointer, value }, operation)
 }

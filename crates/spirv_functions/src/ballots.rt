@@ -3,12 +3,12 @@
 use ir_kinds::{BinaryOperator, Literal, MathFunction, Scalar, ScalarKind, VectorSize};
 use ir_types::Expression;
 use spirv_expressions::{
-    Operation, Value, as_kind, binary, call, compose, keep, need, part_of, refuse, result_scalar,
-    select, signed, splat,
+    Value, Words, as_kind, binary, call, need, part_of, refuse, result_scalar, select, signed,
 };
 use spirv_flow::SUBGROUP_NUMBERS;
 use spirv_operations::FunctionBuilder;
-use spirv_words::Feature;
+use spirv_types::span_of;
+use spirv_words::{Feature, Instruction};
 
 const INVERSE_BALLOT: u16 = 340;
 
@@ -21,8 +21,8 @@ const FIND_LSB: u16 = 343;
 const FIND_MSB: u16 = 344;
 
 /// What an operation on a set of invocations is, if it is one.
-pub fn of_set<L: FunctionBuilder>(lowering: &mut L, operation: &Operation) -> Option<Value> {
-    let value = match operation.instruction.opcode {
+pub fn of_set<L: FunctionBuilder>(lowering: &mut L, operation: &Instruction) -> Option<Value> {
+    let value = match operation.opcode {
         INVERSE_BALLOT => {
             let set = signed(lowering, operation, 1, ScalarKind::Uint);
             let at = invocation(lowering, operation);
@@ -52,31 +52,26 @@ pub fn of_set<L: FunctionBuilder>(lowering: &mut L, operation: &Operation) -> Op
 }
 
 /// The number of the invocation in its subgroup.
-pub fn invocation<L: FunctionBuilder>(lowering: &mut L, operation: &Operation) -> Value {
+pub fn invocation<L: FunctionBuilder>(lowering: &mut L, operation: &Instruction) -> Value {
     number(lowering, operation, 0)
 }
 
 // A number that each entry point stores for its functions: that of the invocation, or the subgroup's size.
-fn number<L: FunctionBuilder>(lowering: &mut L, operation: &Operation, index: u32) -> Value {
+fn number<L: FunctionBuilder>(lowering: &mut L, operation: &Instruction, index: u32) -> Value {
     let place = lowering.pointer(SUBGROUP_NUMBERS, operation);
     let both = lowering.way(place, operation);
     let pointer = part_of(lowering, operation, both, index);
     lowering.emit(Expression::Load { pointer }, operation)
 }
 
-fn word<L: FunctionBuilder>(lowering: &mut L, operation: &Operation, word: u32) -> Value {
+fn word<L: FunctionBuilder>(lowering: &mut L, operation: &Instruction, word: u32) -> Value {
     lowering.literal(Literal::U32(word), operation)
-}
-
-// Four times the same word.
-fn words<L: FunctionBuilder>(lowering: &mut L, operation: &Operation, value: Value) -> Value {
-    splat(lowering, operation, Some(VectorSize::Quad), value)
 }
 
 /// Whether the invocation with this number is in a set.
 pub fn is_in<L: FunctionBuilder>(
     lowering: &mut L,
-    operation: &Operation,
+    operation: &Instruction,
     set: Value,
     at: Value,
 ) -> Value {
@@ -93,59 +88,31 @@ pub fn is_in<L: FunctionBuilder>(
     binary(lowering, operation, BinaryOperator::NotEqual, bit, zero)
 }
 
-// The words 0, 1, 2 and 3.
-fn indices<L: FunctionBuilder>(lowering: &mut L, operation: &Operation) -> Value {
-    let mut components = Vec::new(lowering.alloc());
-    for index in 0..4u32 {
-        let part = word(lowering, operation, index);
-        keep(lowering, &mut components, part);
-    }
-    let ty = lowering.vector(Some(VectorSize::Quad), Scalar::U32);
-    compose(lowering, operation, ty, components)
-}
-
-// The set of all invocations below one: the words before that of its bit are full, and of that one the bits below.
-fn below<L: FunctionBuilder>(lowering: &mut L, operation: &Operation, at: Value) -> Value {
-    let five = word(lowering, operation, 5);
-    let last = word(lowering, operation, 31);
-    let one = word(lowering, operation, 1);
-    let zero = word(lowering, operation, 0);
-    let full = word(lowering, operation, u32::MAX);
-    let indices = indices(lowering, operation);
-    let index = binary(lowering, operation, BinaryOperator::ShiftRight, at, five);
-    let place = binary(lowering, operation, BinaryOperator::And, at, last);
-    let bit = binary(lowering, operation, BinaryOperator::ShiftLeft, one, place);
-    let lower = binary(lowering, operation, BinaryOperator::Subtract, bit, one);
-    let index = words(lowering, operation, index);
-    let lower = words(lowering, operation, lower);
-    let none = words(lowering, operation, zero);
-    let all = words(lowering, operation, full);
-    let here = binary(lowering, operation, BinaryOperator::Equal, index, indices);
-    let rest = select(lowering, operation, here, lower, none);
-    let before = binary(lowering, operation, BinaryOperator::Greater, index, indices);
-    select(lowering, operation, before, all, rest)
-}
-
 // What of a set lies below an invocation.
 fn within<L: FunctionBuilder>(
     lowering: &mut L,
-    operation: &Operation,
+    operation: &Instruction,
     place: usize,
     at: Value,
 ) -> Value {
     let set = signed(lowering, operation, place, ScalarKind::Uint);
-    let lower = below(lowering, operation, at);
+    let ty = lowering.vector(Some(VectorSize::Quad), Scalar::U32);
+    let words = Words {
+        alloc: lowering.alloc(),
+        span: span_of(operation),
+    };
+    let lower = words.below(lowering, ty, at);
     binary(lowering, operation, BinaryOperator::And, set, lower)
 }
 
 // A word with the sign of the result.
-fn answered<L: FunctionBuilder>(lowering: &mut L, operation: &Operation, value: Value) -> Value {
+fn answered<L: FunctionBuilder>(lowering: &mut L, operation: &Instruction, value: Value) -> Value {
     let to = result_scalar(lowering, operation).kind;
     as_kind(lowering, operation, value, ScalarKind::Uint, to)
 }
 
 // How many invocations of a set there are, or are before this one, itself included or not.
-fn count<L: FunctionBuilder>(lowering: &mut L, operation: &Operation) -> Value {
+fn count<L: FunctionBuilder>(lowering: &mut L, operation: &Instruction) -> Value {
     let end = match need(lowering, operation, 1) {
         0 => number(lowering, operation, 1),
         1 => {
@@ -170,7 +137,7 @@ fn count<L: FunctionBuilder>(lowering: &mut L, operation: &Operation) -> Value {
 // The first or the last invocation of a set: of the words with a bit that which comes last in this order.
 fn find<L: FunctionBuilder>(
     lowering: &mut L,
-    operation: &Operation,
+    operation: &Instruction,
     fun: MathFunction,
     order: [u32; 4],
 ) -> Value {

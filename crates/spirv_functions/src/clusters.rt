@@ -5,16 +5,16 @@ use ir_blocks::{GatherMode, Statement};
 use ir_flags::SubgroupOperationSet;
 use ir_kinds::{BinaryOperator, Literal, MathFunction, SubgroupOperation};
 use ir_types::Expression;
-use spirv_expressions::{Operation, Value, binary, call, need, refuse, select};
-use spirv_operations::{FunctionBuilder, statement};
+use spirv_expressions::{Value, binary, call, need, refuse, select};
+use spirv_operations::FunctionBuilder;
 use spirv_types::TypeHandle;
-use spirv_words::Feature;
+use spirv_words::{Feature, Instruction};
 
 // The most invocations that a subgroup may have.
 const MAX_SIZE: u32 = 128;
 
 // How many invocations a cluster has, the operand after the value; a constant power of two.
-fn size_of<L: FunctionBuilder>(lowering: &mut L, operation: &Operation) -> Option<u32> {
+fn size_of<L: FunctionBuilder>(lowering: &mut L, operation: &Instruction) -> Option<u32> {
     let id = need(lowering, operation, 3);
     let size = u32::try_from(lowering.constant(id)?).ok()?;
     if size.is_power_of_two() {
@@ -27,7 +27,7 @@ fn size_of<L: FunctionBuilder>(lowering: &mut L, operation: &Operation) -> Optio
 // The operation on two values.
 fn combined<L: FunctionBuilder>(
     lowering: &mut L,
-    operation: &Operation,
+    operation: &Instruction,
     op: SubgroupOperation,
     left: Value,
     right: Value,
@@ -51,20 +51,20 @@ fn combined<L: FunctionBuilder>(
 }
 
 // Which invocations are active.
-fn active<L: FunctionBuilder>(lowering: &mut L, operation: &Operation) -> Value {
+fn active<L: FunctionBuilder>(lowering: &mut L, operation: &Instruction) -> Value {
     let result = lowering.always(Expression::SubgroupBallotResult, operation);
     let ballot = Statement::SubgroupBallot {
         result,
         predicate: None,
     };
-    statement(lowering, operation, ballot);
+    lowering.add(ballot, operation);
     result
 }
 
 // The value of the invocation whose number differs in these bits.
 fn value_across<L: FunctionBuilder>(
     lowering: &mut L,
-    operation: &Operation,
+    operation: &Instruction,
     argument: Value,
     ty: TypeHandle,
     distance: Value,
@@ -75,14 +75,14 @@ fn value_across<L: FunctionBuilder>(
         argument,
         result,
     };
-    statement(lowering, operation, gather);
+    lowering.add(gather, operation);
     result
 }
 
 /// The operation over the values of this type that the active invocations of a cluster have.
 pub fn clustered<L: FunctionBuilder>(
     lowering: &mut L,
-    operation: &Operation,
+    operation: &Instruction,
     op: SubgroupOperation,
     argument: Value,
     ty: TypeHandle,

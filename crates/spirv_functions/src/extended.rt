@@ -1,13 +1,12 @@
 // Instructions of extended sets.
 
-use crate::assembly::Source;
 use ir_flags::Capabilities;
 use ir_kinds::{MathFunction, ScalarKind};
-use spirv_expressions::{Operation, Value, as_kind, call, math, need, result_scalar, signed};
+use spirv_expressions::{Value, as_kind, call, math, need, result_scalar, signed};
 use spirv_flow::is_debug;
 use spirv_images::cast;
 use spirv_operations::{FunctionBuilder, split};
-use spirv_words::{Feature, starts_text};
+use spirv_words::{Feature, Instruction, starts_text};
 
 // Doubles out of two words, and the other way.
 const PACK_DOUBLE_2X32: u32 = 59;
@@ -15,17 +14,19 @@ const PACK_DOUBLE_2X32: u32 = 59;
 const UNPACK_DOUBLE_2X32: u32 = 65;
 
 /// Does an instruction of an extended set.
-pub fn extended<L: FunctionBuilder>(source: Source, lowering: &mut L, operation: &Operation) {
-    if is_debug(source.listing, &operation.instruction) {
+pub fn extended<L: FunctionBuilder>(lowering: &mut L, operation: &Instruction) {
+    if is_debug(&lowering.reading().listing, operation) {
         return;
     }
     let set = need(lowering, operation, 0);
-    let import = source.listing.defined(set);
-    let name = source.listing.operands(&import);
+    let listing = &lowering.reading().listing;
+    let name = listing.operands(&listing.defined(set));
+    let is_standard = starts_text(name, "GLSL.std.450", true);
+    let is_trinary = starts_text(name, "SPV_AMD_shader_trinary_minmax", true);
     let number = need(lowering, operation, 1);
-    let value = if starts_text(name, "GLSL.std.450", true) {
+    let value = if is_standard {
         function(lowering, operation, number)
-    } else if starts_text(name, "SPV_AMD_shader_trinary_minmax", true) {
+    } else if is_trinary {
         trinary(lowering, operation, number)
     } else {
         None
@@ -39,7 +40,7 @@ pub fn extended<L: FunctionBuilder>(source: Source, lowering: &mut L, operation:
 // The value of a function of GLSL.std.450.
 fn function<L: FunctionBuilder>(
     lowering: &mut L,
-    operation: &Operation,
+    operation: &Instruction,
     number: u32,
 ) -> Option<Value> {
     if number == PACK_DOUBLE_2X32 || number == UNPACK_DOUBLE_2X32 {
@@ -57,7 +58,7 @@ fn function<L: FunctionBuilder>(
 // signed.
 fn trinary<L: FunctionBuilder>(
     lowering: &mut L,
-    operation: &Operation,
+    operation: &Instruction,
     number: u32,
 ) -> Option<Value> {
     let kind = match number.checked_rem(3) {
@@ -91,7 +92,7 @@ fn trinary<L: FunctionBuilder>(
 
 fn of_two<L: FunctionBuilder>(
     lowering: &mut L,
-    operation: &Operation,
+    operation: &Instruction,
     fun: MathFunction,
     left: Value,
     right: Value,

@@ -10,12 +10,12 @@ use ir_kinds::{
 };
 use ir_types::Expression;
 use spirv_expressions::{
-    Operation, Value, as_kind, binary, need, operand, result_scalar, select, signed, splat,
+    Value, as_kind, binary, need, operand, result_scalar, select, signed, splat,
 };
 use spirv_numbers::ops;
-use spirv_operations::{FunctionBuilder, statement};
+use spirv_operations::FunctionBuilder;
 use spirv_types::TypeHandle;
-use spirv_words::Feature;
+use spirv_words::{Feature, Instruction};
 
 // Whose scope a barrier or an operation has (section 3.27).
 const WORKGROUP: i64 = 2;
@@ -31,8 +31,8 @@ static MEMORY: [(i64, Barrier); 4] = [
 ];
 
 /// Waits for other invocations, or for memory.
-pub fn barrier<L: FunctionBuilder>(lowering: &mut L, operation: &Operation) {
-    let is_control = operation.instruction.opcode == ops::CONTROL_BARRIER;
+pub fn barrier<L: FunctionBuilder>(lowering: &mut L, operation: &Instruction) {
+    let is_control = operation.opcode == ops::CONTROL_BARRIER;
     let semantics = need(lowering, operation, if is_control { 2 } else { 1 });
     let scope = need(lowering, operation, 0);
     let (Some(semantics), Some(scope)) = (lowering.constant(semantics), lowering.constant(scope))
@@ -60,7 +60,7 @@ pub fn barrier<L: FunctionBuilder>(lowering: &mut L, operation: &Operation) {
     } else {
         Statement::MemoryBarrier(Barrier(set))
     };
-    statement(lowering, operation, barrier);
+    lowering.add(barrier, operation);
 }
 
 // Operations over a subgroup, with the sign that their argument gets.
@@ -166,8 +166,8 @@ pub fn is_group(opcode: u16) -> bool {
 }
 
 /// Does an operation of a subgroup.
-pub fn group<L: FunctionBuilder>(lowering: &mut L, operation: &Operation) {
-    match operation.instruction.opcode {
+pub fn group<L: FunctionBuilder>(lowering: &mut L, operation: &Instruction) {
+    match operation.opcode {
         BALLOT_KHR => return ballot(lowering, operation, 0),
         FIRST_INVOCATION_KHR => return first_value(lowering, operation),
         ALL_KHR => return vote(lowering, operation, SubgroupOperation::All, 0),
@@ -181,7 +181,7 @@ pub fn group<L: FunctionBuilder>(lowering: &mut L, operation: &Operation) {
         lowering.fail(operation.unsupported_by(Feature::GroupScope));
         return;
     }
-    let opcode = operation.instruction.opcode;
+    let opcode = operation.opcode;
     for row in &COLLECTIVES {
         if row.0 == opcode {
             return collective(lowering, operation, row.1, row.2);
@@ -201,7 +201,7 @@ pub fn group<L: FunctionBuilder>(lowering: &mut L, operation: &Operation) {
 }
 
 // The value of the invocation with a number that all have alike.
-fn read_invocation<L: FunctionBuilder>(lowering: &mut L, operation: &Operation) {
+fn read_invocation<L: FunctionBuilder>(lowering: &mut L, operation: &Instruction) {
     lowering.require_operations(SubgroupOperationSet::SHUFFLE);
     let argument = operand(lowering, operation, 0);
     let index = signed(lowering, operation, 1, ScalarKind::Uint);
@@ -209,7 +209,7 @@ fn read_invocation<L: FunctionBuilder>(lowering: &mut L, operation: &Operation) 
 }
 
 // Which invocations have a predicate, the operand at this place.
-fn ballot<L: FunctionBuilder>(lowering: &mut L, operation: &Operation, place: usize) {
+fn ballot<L: FunctionBuilder>(lowering: &mut L, operation: &Instruction, place: usize) {
     lowering.require_operations(SubgroupOperationSet::BALLOT);
     let predicate = Some(operand(lowering, operation, place));
     let value = lowering.always(Expression::SubgroupBallotResult, operation);
@@ -217,14 +217,14 @@ fn ballot<L: FunctionBuilder>(lowering: &mut L, operation: &Operation, place: us
         result: value,
         predicate,
     };
-    statement(lowering, operation, ballot);
+    lowering.add(ballot, operation);
     lowering.define(operation, value)
 }
 
 // The value of the first invocation.
-fn first_value<L: FunctionBuilder>(lowering: &mut L, operation: &Operation) {
+fn first_value<L: FunctionBuilder>(lowering: &mut L, operation: &Instruction) {
     let argument = operand(lowering, operation, 0);
-    let ty = lowering.built(operation.instruction.ty, operation);
+    let ty = lowering.built(operation.ty, operation);
     let value = broadcast_first(lowering, operation, argument, ty);
     lowering.define(operation, value)
 }
@@ -232,7 +232,7 @@ fn first_value<L: FunctionBuilder>(lowering: &mut L, operation: &Operation) {
 // A value of this type as the first invocation has it.
 fn broadcast_first<L: FunctionBuilder>(
     lowering: &mut L,
-    operation: &Operation,
+    operation: &Instruction,
     argument: Value,
     ty: TypeHandle,
 ) -> Value {
@@ -243,14 +243,14 @@ fn broadcast_first<L: FunctionBuilder>(
         argument,
         result: first,
     };
-    statement(lowering, operation, gather);
+    lowering.add(gather, operation);
     first
 }
 
 // Truth values as the numbers 1 and 0, since no truth values are taken from other invocations.
 fn numbers_of<L: FunctionBuilder>(
     lowering: &mut L,
-    operation: &Operation,
+    operation: &Instruction,
     condition: Value,
     size: Option<VectorSize>,
 ) -> Value {
@@ -262,7 +262,7 @@ fn numbers_of<L: FunctionBuilder>(
 }
 
 // Whether all invocations have the same value, the operand at this place: that of the first one.
-fn all_equal<L: FunctionBuilder>(lowering: &mut L, operation: &Operation, place: usize) {
+fn all_equal<L: FunctionBuilder>(lowering: &mut L, operation: &Instruction, place: usize) {
     let id = need(lowering, operation, place);
     let ty = lowering.type_of(id);
     let shape = lowering.shape(ty);
@@ -285,7 +285,7 @@ fn all_equal<L: FunctionBuilder>(lowering: &mut L, operation: &Operation, place:
 }
 
 // Whether no active invocation comes before: the sum of ones over those before is 0.
-fn elect<L: FunctionBuilder>(lowering: &mut L, operation: &Operation) {
+fn elect<L: FunctionBuilder>(lowering: &mut L, operation: &Instruction) {
     lowering.require_operations(SubgroupOperationSet::ARITHMETIC);
     let argument = lowering.literal(Literal::U32(1), operation);
     let right = lowering.literal(Literal::U32(0), operation);
@@ -297,20 +297,24 @@ fn elect<L: FunctionBuilder>(lowering: &mut L, operation: &Operation) {
         argument,
         result: left,
     };
-    statement(lowering, operation, sum);
+    lowering.add(sum, operation);
     let value = binary(lowering, operation, BinaryOperator::Equal, left, right);
     lowering.define(operation, value)
 }
 
 // The result of an operation of a subgroup.
-fn result_of<L: FunctionBuilder>(lowering: &mut L, operation: &Operation, ty: TypeHandle) -> Value {
+fn result_of<L: FunctionBuilder>(
+    lowering: &mut L,
+    operation: &Instruction,
+    ty: TypeHandle,
+) -> Value {
     lowering.always(Expression::SubgroupOperationResult { ty }, operation)
 }
 
 // A vote on the operand at this place.
 fn vote<L: FunctionBuilder>(
     lowering: &mut L,
-    operation: &Operation,
+    operation: &Instruction,
     op: SubgroupOperation,
     place: usize,
 ) {
@@ -321,12 +325,12 @@ fn vote<L: FunctionBuilder>(
 // A vote on a value.
 fn vote_on<L: FunctionBuilder>(
     lowering: &mut L,
-    operation: &Operation,
+    operation: &Instruction,
     op: SubgroupOperation,
     argument: Value,
 ) {
     lowering.require_operations(SubgroupOperationSet::VOTE);
-    let ty = lowering.built(operation.instruction.ty, operation);
+    let ty = lowering.built(operation.ty, operation);
     let value = result_of(lowering, operation, ty);
     let vote = Statement::SubgroupCollectiveOperation {
         op,
@@ -334,14 +338,14 @@ fn vote_on<L: FunctionBuilder>(
         argument,
         result: value,
     };
-    statement(lowering, operation, vote);
+    lowering.add(vote, operation);
     lowering.define(operation, value)
 }
 
 // An operation over all values of a subgroup, over those before, or over those of a cluster.
 fn collective<L: FunctionBuilder>(
     lowering: &mut L,
-    operation: &Operation,
+    operation: &Instruction,
     op: SubgroupOperation,
     sign: Option<ScalarKind>,
 ) {
@@ -367,7 +371,7 @@ fn collective<L: FunctionBuilder>(
         argument,
         result: value,
     };
-    statement(lowering, operation, collect);
+    lowering.add(collect, operation);
     let value = as_kind(lowering, operation, value, kind, to.kind);
     lowering.define(operation, value)
 }
@@ -375,20 +379,20 @@ fn collective<L: FunctionBuilder>(
 // The type of the result with scalars of this kind.
 fn typed<L: FunctionBuilder>(
     lowering: &mut L,
-    operation: &Operation,
+    operation: &Instruction,
     scalar: Scalar,
     kind: ScalarKind,
 ) -> TypeHandle {
     let mut of_kind = scalar;
     of_kind.kind = kind;
-    let size = lowering.shape(operation.instruction.ty).size();
+    let size = lowering.shape(operation.ty).size();
     lowering.vector(size, of_kind)
 }
 
 // The same over the values of a cluster.
 fn over_cluster<L: FunctionBuilder>(
     lowering: &mut L,
-    operation: &Operation,
+    operation: &Instruction,
     op: SubgroupOperation,
     sign: Option<ScalarKind>,
 ) {
@@ -407,10 +411,10 @@ fn over_cluster<L: FunctionBuilder>(
 // The same over truth values, as numbers.
 fn truths_over_cluster<L: FunctionBuilder>(
     lowering: &mut L,
-    operation: &Operation,
+    operation: &Instruction,
     op: SubgroupOperation,
 ) {
-    let size = lowering.shape(operation.instruction.ty).size();
+    let size = lowering.shape(operation.ty).size();
     let truth = operand(lowering, operation, 2);
     let argument = numbers_of(lowering, operation, truth, size);
     let ty = lowering.vector(size, Scalar::U32);
@@ -422,8 +426,8 @@ fn truths_over_cluster<L: FunctionBuilder>(
 }
 
 // A value of another invocation.
-fn gather<L: FunctionBuilder>(lowering: &mut L, operation: &Operation) {
-    if !is_gather(operation.instruction.opcode) {
+fn gather<L: FunctionBuilder>(lowering: &mut L, operation: &Instruction) {
+    if !is_gather(operation.opcode) {
         lowering.fail(operation.unsupported());
         return;
     }
@@ -435,18 +439,18 @@ fn gather<L: FunctionBuilder>(lowering: &mut L, operation: &Operation) {
 // A value of the invocation that is named so.
 fn gather_by<L: FunctionBuilder>(
     lowering: &mut L,
-    operation: &Operation,
+    operation: &Instruction,
     mode: GatherMode,
     argument: Value,
 ) {
-    let ty = lowering.built(operation.instruction.ty, operation);
+    let ty = lowering.built(operation.ty, operation);
     let value = result_of(lowering, operation, ty);
     let gather = Statement::SubgroupGather {
         mode,
         argument,
         result: value,
     };
-    statement(lowering, operation, gather);
+    lowering.add(gather, operation);
     lowering.define(operation, value)
 }
 
@@ -466,8 +470,8 @@ fn is_gather(opcode: u16) -> bool {
 }
 
 // Of which invocation the value is.
-fn gather_mode<L: FunctionBuilder>(lowering: &mut L, operation: &Operation) -> GatherMode {
-    let opcode = operation.instruction.opcode;
+fn gather_mode<L: FunctionBuilder>(lowering: &mut L, operation: &Instruction) -> GatherMode {
+    let opcode = operation.opcode;
     if opcode == ops::GROUP_NON_UNIFORM_BROADCAST_FIRST {
         return GatherMode::BroadcastFirst;
     }
@@ -488,7 +492,7 @@ fn gather_mode<L: FunctionBuilder>(lowering: &mut L, operation: &Operation) -> G
 // A value that is taken from an invocation that is no constant, and that all have alike, is exchanged.
 fn broadcast_mode<L: FunctionBuilder>(
     lowering: &mut L,
-    operation: &Operation,
+    operation: &Instruction,
     index: Value,
 ) -> GatherMode {
     let id = need(lowering, operation, 2);
@@ -500,7 +504,7 @@ fn broadcast_mode<L: FunctionBuilder>(
 }
 
 // Along what values of a quad are exchanged.
-fn direction<L: FunctionBuilder>(lowering: &mut L, operation: &Operation) -> Direction {
+fn direction<L: FunctionBuilder>(lowering: &mut L, operation: &Instruction) -> Direction {
     let id = need(lowering, operation, 2);
     match lowering.constant(id) {
         Some(0) => Direction::X,

@@ -1,10 +1,9 @@
 // What an instruction of a block does.
 
-use crate::assembly::Source;
 use crate::extended::extended;
 use crate::groups::{barrier, group, is_group};
 use ir_types::Expression;
-use spirv_expressions::{Operation, Value, arithmetic, composite, conversion};
+use spirv_expressions::{Value, arithmetic, composite, conversion};
 use spirv_flow::is_atomic;
 use spirv_images::{image_operation, wide};
 use spirv_numbers::ops;
@@ -12,35 +11,34 @@ use spirv_operations::{FunctionBuilder, atomic, call_function, memory, phi_local
 use spirv_words::Instruction;
 
 /// Does what an instruction does.
-pub fn lower<L: FunctionBuilder>(source: Source, lowering: &mut L, instruction: Instruction) {
-    let operation = source.operation(instruction);
-    match instruction.opcode {
+pub fn lower<L: FunctionBuilder>(lowering: &mut L, operation: &Instruction) {
+    match operation.opcode {
         ops::NOP | ops::LINE | ops::NO_LINE | ops::SELECTION_MERGE | ops::LOOP_MERGE => {}
         ops::PHI => {
-            let pointer = phi_local(lowering, instruction.id, &operation);
-            let value = lowering.emit(Expression::Load { pointer }, &operation);
-            lowering.define(&operation, value)
+            let pointer = phi_local(lowering, operation.id, operation);
+            let value = lowering.emit(Expression::Load { pointer }, operation);
+            lowering.define(operation, value)
         }
-        ops::FUNCTION_CALL => call_function(lowering, &operation),
-        ops::EXT_INST => extended(source, lowering, &operation),
-        ops::IMAGE_WRITE => store_texel(lowering, &operation),
-        ops::CONTROL_BARRIER | ops::MEMORY_BARRIER => barrier(lowering, &operation),
-        opcode if is_atomic(opcode) => atomic(lowering, &operation),
-        opcode if is_group(opcode) => group(lowering, &operation),
+        ops::FUNCTION_CALL => call_function(lowering, operation),
+        ops::EXT_INST => extended(lowering, operation),
+        ops::IMAGE_WRITE => store_texel(lowering, operation),
+        ops::CONTROL_BARRIER | ops::MEMORY_BARRIER => barrier(lowering, operation),
+        opcode if is_atomic(opcode) => atomic(lowering, operation),
+        opcode if is_group(opcode) => group(lowering, operation),
         _ => {
-            if memory(lowering, &operation) {
+            if memory(lowering, operation) {
                 return;
             }
-            match computed(lowering, &operation) {
-                Some(value) => lowering.define(&operation, value),
-                None => lowering.fail(instruction.unsupported()),
+            match computed(lowering, operation) {
+                Some(value) => lowering.define(operation, value),
+                None => lowering.fail(operation.unsupported()),
             }
         }
     }
 }
 
 // The value of an instruction that only computes, if it is one.
-fn computed<L: FunctionBuilder>(lowering: &mut L, operation: &Operation) -> Option<Value> {
+fn computed<L: FunctionBuilder>(lowering: &mut L, operation: &Instruction) -> Option<Value> {
     if let Some(value) = composite(lowering, operation) {
         return Some(value);
     }

@@ -8,4 +8,4 @@ mod extended;
 mod groups;
 mod instructions;
 
-pub use assembly::{Source, assemble};
+pub use assembly::assemble;

@@ -8,17 +8,17 @@ use ir_kinds::{
 };
 use ir_types::{Expression, ImageQuery, SampleLevel};
 use spirv_expressions::{
-    Builder, ImageValue, Operation, Value, as_kind, binary, compose, convert, keep, need, operand,
-    operand_scalar, part_of, result_scalar, splat,
+    Builder, ImageValue, Value, as_kind, binary, compose, convert, keep, need, operand,
+    operand_scalar, part_of, parts_from, result_scalar, splat,
 };
 use spirv_flow::FRAGMENT_PLACE;
 use spirv_numbers::ops;
 use spirv_types::Shape;
-use spirv_words::Feature;
+use spirv_words::{Feature, Instruction};
 
 /// What an operation on an image is, if it is one.
-pub fn image_operation<B: Builder>(builder: &mut B, operation: &Operation) -> Option<Value> {
-    let value = match operation.instruction.opcode {
+pub fn image_operation<B: Builder>(builder: &mut B, operation: &Instruction) -> Option<Value> {
+    let value = match operation.opcode {
         ops::IMAGE_SAMPLE_IMPLICIT_LOD..=ops::IMAGE_SAMPLE_PROJ_DREF_EXPLICIT_LOD
         | ops::IMAGE_GATHER
         | ops::IMAGE_DREF_GATHER => sample(builder, operation),
@@ -53,8 +53,8 @@ fn projects(opcode: u16) -> bool {
 }
 
 // The component that a gather takes.
-fn gathered<B: Builder>(builder: &mut B, operation: &Operation) -> Option<SwizzleComponent> {
-    match operation.instruction.opcode {
+fn gathered<B: Builder>(builder: &mut B, operation: &Instruction) -> Option<SwizzleComponent> {
+    match operation.opcode {
         ops::IMAGE_DREF_GATHER => Some(SwizzleComponent::X),
         ops::IMAGE_GATHER => {
             let id = need(builder, operation, 2);
@@ -70,11 +70,12 @@ fn gathered<B: Builder>(builder: &mut B, operation: &Operation) -> Option<Swizzl
 }
 
 // A sample.
-fn sample<B: Builder>(builder: &mut B, operation: &Operation) -> Value {
-    let opcode = operation.instruction.opcode;
+fn sample<B: Builder>(builder: &mut B, operation: &Instruction) -> Value {
+    let opcode = operation.opcode;
     let pair = need(builder, operation, 0);
     let image = builder.image(pair, operation);
-    let at = read_coordinates(builder, operation, &image, 1, projects(opcode));
+    let place = need(builder, operation, 1);
+    let at = read_coordinates(builder, operation, &image, place, projects(opcode));
     let gather = gathered(builder, operation);
     let mut depth_ref = None;
     let mut mask = if opcode == ops::IMAGE_GATHER { 3 } else { 2 };
@@ -105,8 +106,8 @@ fn sample<B: Builder>(builder: &mut B, operation: &Operation) -> Value {
 }
 
 // A depth as the vector that the result is, if it is one.
-fn filled<B: Builder>(builder: &mut B, operation: &Operation, value: Value) -> Value {
-    let size = match builder.shape(operation.instruction.ty) {
+fn filled<B: Builder>(builder: &mut B, operation: &Instruction, value: Value) -> Value {
+    let size = match builder.shape(operation.ty) {
         Shape::Vector { .. } => Some(VectorSize::Quad),
         _ => None,
     };
@@ -119,13 +120,17 @@ fn is_depth(image: &ImageValue) -> bool {
 }
 
 // The value of an operand that may be missing.
-fn value_of<B: Builder>(builder: &mut B, operation: &Operation, id: Option<u32>) -> Option<Value> {
+fn value_of<B: Builder>(
+    builder: &mut B,
+    operation: &Instruction,
+    id: Option<u32>,
+) -> Option<Value> {
     let id = id?;
     Some(builder.value(id, operation))
 }
 
 // The reference depth, divided as the coordinate is.
-fn reference<B: Builder>(builder: &mut B, operation: &Operation, at: &Coordinates) -> Value {
+fn reference<B: Builder>(builder: &mut B, operation: &Instruction, at: &Coordinates) -> Value {
     let left = operand(builder, operation, 2);
     match at.divisor {
         Some(right) => binary(builder, operation, BinaryOperator::Divide, left, right),
@@ -136,7 +141,7 @@ fn reference<B: Builder>(builder: &mut B, operation: &Operation, at: &Coordinate
 // The level that is sampled.
 fn level_of<B: Builder>(
     builder: &mut B,
-    operation: &Operation,
+    operation: &Instruction,
     options: &ImageOperands,
     image: &ImageValue,
     gathers: bool,
@@ -145,7 +150,7 @@ fn level_of<B: Builder>(
         return SampleLevel::Bias(builder.value(bias, operation));
     }
     if let Some(level) = options.level {
-        if compares(operation.instruction.opcode) {
+        if compares(operation.opcode) {
             return SampleLevel::Zero;
         }
         let kind = builder.shape(builder.type_of(level)).kind();
@@ -167,13 +172,18 @@ fn level_of<B: Builder>(
 }
 
 // A texel.
-fn fetch<B: Builder>(builder: &mut B, operation: &Operation) -> Value {
+fn fetch<B: Builder>(builder: &mut B, operation: &Instruction) -> Value {
     let id = need(builder, operation, 0);
     let image = builder.image(id, operation);
-    let at = read_coordinates(builder, operation, &image, 1, false);
+    let place = need(builder, operation, 1);
+    let at = read_coordinates(builder, operation, &image, place, false);
     let options = image_operands(builder, operation, 2);
     let sample = value_of(builder, operation, options.sample);
-    let mut coordinate = moved(builder, operation, at.coordinate, &options);
+    let mut coordinate = at.coordinate;
+    if let Some(offset) = options.offset {
+        let right = builder.value(offset, operation);
+        coordinate = binary(builder, operation, BinaryOperator::Add, coordinate, right);
+    }
     if image.shape.attachment {
         coordinate = at_fragment(builder, operation, coordinate);
     }
@@ -196,7 +206,7 @@ fn fetch<B: Builder>(builder: &mut B, operation: &Operation) -> Value {
 }
 
 // The coordinate counted from the place of the fragment.
-fn at_fragment<B: Builder>(builder: &mut B, operation: &Operation, coordinate: Value) -> Value {
+fn at_fragment<B: Builder>(builder: &mut B, operation: &Instruction, coordinate: Value) -> Value {
     let pointer = builder.value(FRAGMENT_PLACE, operation);
     let place = builder.emit(Expression::Load { pointer }, operation);
     let kind = operand_scalar(builder, operation, 1).kind;
@@ -204,28 +214,14 @@ fn at_fragment<B: Builder>(builder: &mut B, operation: &Operation, coordinate: V
     binary(builder, operation, BinaryOperator::Add, place, coordinate)
 }
 
-// The coordinate with an offset.
-fn moved<B: Builder>(
-    builder: &mut B,
-    operation: &Operation,
-    coordinate: Value,
-    options: &ImageOperands,
-) -> Value {
-    let Some(offset) = options.offset else {
-        return coordinate;
-    };
-    let right = builder.value(offset, operation);
-    binary(builder, operation, BinaryOperator::Add, coordinate, right)
-}
-
 // The level that is fetched: the finest where none is named.
 fn fetched_level<B: Builder>(
     builder: &mut B,
-    operation: &Operation,
+    operation: &Instruction,
     options: &ImageOperands,
     image: &ImageValue,
 ) -> Option<Value> {
-    if operation.instruction.opcode == ops::IMAGE_READ && !image.shape.attachment {
+    if operation.opcode == ops::IMAGE_READ && !image.shape.attachment {
         return None;
     }
     match options.level {
@@ -236,8 +232,8 @@ fn fetched_level<B: Builder>(
 }
 
 // As many of four components as the result has.
-fn narrowed<B: Builder>(builder: &mut B, operation: &Operation, vector: Value) -> Value {
-    match builder.shape(operation.instruction.ty) {
+fn narrowed<B: Builder>(builder: &mut B, operation: &Instruction, vector: Value) -> Value {
+    match builder.shape(operation.ty) {
         Shape::Scalar(_) => part_of(builder, operation, vector, 0),
         Shape::Vector { size, .. } if size != VectorSize::Quad => {
             let pattern = SwizzleComponent::XYZW;
@@ -255,7 +251,7 @@ fn narrowed<B: Builder>(builder: &mut B, operation: &Operation, vector: Value) -
 // A question to an image.
 fn ask<B: Builder>(
     builder: &mut B,
-    operation: &Operation,
+    operation: &Instruction,
     image: &ImageValue,
     query: ImageQuery,
 ) -> Value {
@@ -267,7 +263,7 @@ fn ask<B: Builder>(
 }
 
 // The answer with the sign of the result.
-fn answered<B: Builder>(builder: &mut B, operation: &Operation, value: Value) -> Value {
+fn answered<B: Builder>(builder: &mut B, operation: &Instruction, value: Value) -> Value {
     if result_scalar(builder, operation).kind == ScalarKind::Sint {
         convert(builder, operation, value, ScalarKind::Sint, Some(4))
     } else {
@@ -275,7 +271,7 @@ fn answered<B: Builder>(builder: &mut B, operation: &Operation, value: Value) ->
     }
 }
 
-fn query<B: Builder>(builder: &mut B, operation: &Operation, query: ImageQuery) -> Value {
+fn query<B: Builder>(builder: &mut B, operation: &Instruction, query: ImageQuery) -> Value {
     let id = need(builder, operation, 0);
     let image = builder.image(id, operation);
     let value = ask(builder, operation, &image, query);
@@ -283,7 +279,7 @@ fn query<B: Builder>(builder: &mut B, operation: &Operation, query: ImageQuery) 
 }
 
 // The size of an image, and how many layers it has after that.
-fn size<B: Builder>(builder: &mut B, operation: &Operation, has_level: bool) -> Value {
+fn size<B: Builder>(builder: &mut B, operation: &Instruction, has_level: bool) -> Value {
     let id = need(builder, operation, 0);
     let image = builder.image(id, operation);
     let level = if has_level {
@@ -295,17 +291,15 @@ fn size<B: Builder>(builder: &mut B, operation: &Operation, has_level: bool) -> 
     if !image.shape.arrayed {
         return answered(builder, operation, size);
     }
-    let mut components = Vec::new(builder.alloc());
-    let whole = if image.shape.dim == ImageDimension::D1 {
-        keep(builder, &mut components, size);
-        VectorSize::Bi
+    let (whole, count) = if image.shape.dim == ImageDimension::D1 {
+        (VectorSize::Bi, 0)
     } else {
-        for index in 0..2u32 {
-            let part = part_of(builder, operation, size, index);
-            keep(builder, &mut components, part);
-        }
-        VectorSize::Tri
+        (VectorSize::Tri, 2)
     };
+    let mut components = parts_from(builder, operation, size, 0, count);
+    if count == 0 {
+        keep(builder, &mut components, size);
+    }
     let layers = ask(builder, operation, &image, ImageQuery::NumLayers);
     keep(builder, &mut components, layers);
     let ty = builder.vector(Some(whole), Scalar::U32);

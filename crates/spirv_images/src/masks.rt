@@ -1,7 +1,7 @@
 // The operands of images that a mask names (section 3.14).
 
-use spirv_expressions::{Builder, Operation, need};
-use spirv_words::Feature;
+use spirv_expressions::{Builder, need};
+use spirv_words::{Feature, Instruction};
 
 /// The operands of images, by the ids of their values.
 #[derive(Clone, Copy)]
@@ -37,7 +37,7 @@ const MIN_LOD: u32 = 128;
 // The operand at this place, if the mask has this bit; the place is then the next one.
 fn taken<B: Builder>(
     builder: &mut B,
-    operation: &Operation,
+    operation: &Instruction,
     has: bool,
     place: &mut usize,
 ) -> Option<u32> {
@@ -52,13 +52,10 @@ fn taken<B: Builder>(
 /// The operands after the mask at this place.
 pub fn image_operands<B: Builder>(
     builder: &mut B,
-    operation: &Operation,
+    operation: &Instruction,
     place: usize,
 ) -> ImageOperands {
-    let mask = match operation.operands.get(place) {
-        Some(mask) => *mask,
-        None => 0,
-    };
+    let mask = builder.given(operation, place).unwrap_or(0);
     if mask & CONST_OFFSETS != 0 {
         builder.fail(operation.unsupported_by(Feature::ConstOffsets));
     }

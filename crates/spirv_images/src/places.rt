@@ -2,11 +2,11 @@
 
 use ir_kinds::{BinaryOperator, ImageDimension, Scalar, ScalarKind};
 use spirv_expressions::{
-    Builder, ImageValue, Operation, Value, binary, component_count, compose, convert, keep,
-    operand, operand_scalar, operand_shape, part_of, refuse, splat,
+    Builder, ImageValue, Value, binary, component_count, compose, convert, keep, operand,
+    operand_scalar, operand_shape, part_of, parts_from, refuse, scalar_of, splat,
 };
 use spirv_types::vector_size;
-use spirv_words::{Feature, Malformed};
+use spirv_words::{Feature, Instruction, Malformed};
 
 /// Where an image is sampled or a texel lies.
 #[derive(Clone, Copy)]
@@ -28,52 +28,56 @@ pub fn coordinate_count(dim: ImageDimension) -> u32 {
     }
 }
 
-/// The coordinate and the layer out of what SPIR-V passes as one vector, which is the operand at this place.
+/// The coordinate and the layer out of what SPIR-V passes as one vector, which is the value of this id.
 pub fn read_coordinates<B: Builder>(
     builder: &mut B,
-    operation: &Operation,
+    operation: &Instruction,
     image: &ImageValue,
-    place: usize,
+    id: u32,
     project: bool,
 ) -> Coordinates {
-    let scalar = operand_scalar(builder, operation, place);
+    let shape = builder.shape(builder.type_of(id));
+    let scalar = scalar_of(builder, &shape, operation);
     let is_float = scalar.kind == ScalarKind::Float;
     if image.shape.dim == ImageDimension::Cube && image.shape.arrayed && !is_float {
         builder.fail(operation.unsupported_by(Feature::CubeArrayTexel));
     }
-    let value = operand(builder, operation, place);
-    let given = component_count(operand_shape(builder, operation, place));
+    let value = builder.value(id, operation);
+    let given = component_count(shape);
     let wanted = coordinate_count(image.shape.dim);
     let layer = if image.shape.arrayed {
         Some(layer_of(builder, operation, value, wanted, is_float))
     } else {
         None
     };
-    let coordinate = if given > wanted {
-        first_components(builder, operation, value, wanted, scalar)
-    } else {
-        value
-    };
-    if !project {
-        return Coordinates {
-            coordinate,
-            layer,
-            divisor: None,
-        };
+    let mut coordinate = value;
+    if given > wanted {
+        coordinate = first_components(builder, operation, value, wanted, scalar);
     }
-    let divisor = part_of(builder, operation, value, given.saturating_sub(1));
-    let coordinate = divide(builder, operation, coordinate, divisor, wanted);
+    let mut divisor = None;
+    if project {
+        let last = part_of(builder, operation, value, given.saturating_sub(1));
+        let right = splat(builder, operation, vector_size(wanted), last);
+        coordinate = binary(
+            builder,
+            operation,
+            BinaryOperator::Divide,
+            coordinate,
+            right,
+        );
+        divisor = Some(last);
+    }
     Coordinates {
         coordinate,
         layer,
-        divisor: Some(divisor),
+        divisor,
     }
 }
 
 // The layer, which is the component at this index, as a whole number.
 fn layer_of<B: Builder>(
     builder: &mut B,
-    operation: &Operation,
+    operation: &Instruction,
     value: Value,
     index: u32,
     is_float: bool,
@@ -89,7 +93,7 @@ fn layer_of<B: Builder>(
 // The first components of a vector.
 fn first_components<B: Builder>(
     builder: &mut B,
-    operation: &Operation,
+    operation: &Instruction,
     value: Value,
     count: u32,
     scalar: Scalar,
@@ -97,29 +101,13 @@ fn first_components<B: Builder>(
     let Some(size) = vector_size(count) else {
         return part_of(builder, operation, value, 0);
     };
-    let mut components = Vec::new(builder.alloc());
-    for index in 0..count {
-        let part = part_of(builder, operation, value, index);
-        keep(builder, &mut components, part);
-    }
+    let components = parts_from(builder, operation, value, 0, count);
     let ty = builder.vector(Some(size), scalar);
     compose(builder, operation, ty, components)
 }
 
-// A coordinate divided by one number.
-fn divide<B: Builder>(
-    builder: &mut B,
-    operation: &Operation,
-    left: Value,
-    divisor: Value,
-    count: u32,
-) -> Value {
-    let right = splat(builder, operation, vector_size(count), divisor);
-    binary(builder, operation, BinaryOperator::Divide, left, right)
-}
-
 /// A texel of four components, the missing ones 0.
-pub fn widened<B: Builder>(builder: &mut B, operation: &Operation, place: usize) -> Value {
+pub fn widened<B: Builder>(builder: &mut B, operation: &Instruction, place: usize) -> Value {
     let value = operand(builder, operation, place);
     let scalar = operand_scalar(builder, operation, place);
     let count = component_count(operand_shape(builder, operation, place));
@@ -130,16 +118,13 @@ pub fn widened<B: Builder>(builder: &mut B, operation: &Operation, place: usize)
         return refuse(builder, operation.malformed(Malformed::WrongType));
     };
     let zero = builder.literal(zero, operation);
-    let mut components = Vec::new(builder.alloc());
-    for index in 0..4u32 {
-        let part = if index >= count {
-            zero
-        } else if count == 1 {
-            value
-        } else {
-            part_of(builder, operation, value, index)
-        };
-        keep(builder, &mut components, part);
+    let parts = if count == 1 { 0 } else { count };
+    let mut components = parts_from(builder, operation, value, 0, parts);
+    if count == 1 {
+        keep(builder, &mut components, value);
+    }
+    for _ in count..4 {
+        keep(builder, &mut components, zero);
     }
     let ty = builder.vector(vector_size(4), scalar);
     compose(builder, operation, ty, components)

@@ -1,13 +1,13 @@
 // On what switches choose, which is a word in the IR.
 
 use ir_kinds::{BinaryOperator, Literal, Scalar, ScalarKind};
-use spirv_expressions::{Builder, Operation, Value, binary, convert, operand_scalar, select};
-use spirv_words::number_at;
+use spirv_expressions::{Builder, Value, binary, convert, need, operand_scalar, select};
+use spirv_words::Instruction;
 
 /// The selector of a switch out of its value, and whether its cases are signed.
 pub fn selector_of<B: Builder>(
     builder: &mut B,
-    operation: &Operation,
+    operation: &Instruction,
     value: Value,
 ) -> (Value, bool) {
     let scalar = operand_scalar(builder, operation, 0);
@@ -25,14 +25,18 @@ pub fn selector_of<B: Builder>(
 // The place of a value of two words among those of the cases, and one that none has where it is none of them.
 fn place_of<B: Builder>(
     builder: &mut B,
-    operation: &Operation,
+    operation: &Instruction,
     value: Value,
     scalar: Scalar,
 ) -> Value {
     let mut chosen = builder.literal(Literal::U32(u32::MAX), operation);
     let mut place = 0u32;
-    for words in operation.operands.get(2..).unwrap_or(&[]).chunks_exact(3) {
-        let literal = literal_of(words, scalar);
+    let words = builder.given_count(operation).saturating_sub(2);
+    for case in 0..words / 3 {
+        let first = case.saturating_mul(3).saturating_add(2);
+        let low = need(builder, operation, first);
+        let high = need(builder, operation, first.saturating_add(1));
+        let literal = literal_of(low, high, scalar);
         let right = builder.literal(literal, operation);
         let accept = builder.literal(Literal::U32(place), operation);
         let equal = binary(builder, operation, BinaryOperator::Equal, value, right);
@@ -43,10 +47,8 @@ fn place_of<B: Builder>(
 }
 
 // A value of two words, the lower one first.
-fn literal_of(words: &[u32], scalar: Scalar) -> Literal {
-    let low = u64::from(number_at(words, 0));
-    let high = u64::from(number_at(words, 1));
-    let bits = high << 32 | low;
+fn literal_of(low: u32, high: u32, scalar: Scalar) -> Literal {
+    let bits = u64::from(high) << 32 | u64::from(low);
     if scalar.kind == ScalarKind::Sint {
         Literal::I64(bits.cast_signed())
     } else {

@@ -2,11 +2,13 @@
 
 use ir_kinds::{BinaryOperator, Literal, Scalar, ScalarKind, VectorSize};
 use spirv_expressions::{
-    Builder, Operation, Value, as_kind, binary, component_count, compose_result, convert, keep,
-    operand, operand_scalar, operand_shape, part_of, refuse, result_scalar, signed, splat,
+    Builder, Value, as_kind, binary, component_count, compose_pair, compose_result, convert, keep,
+    no_value, operand, operand_scalar, operand_shape, part_of, refuse, result_scalar, signed,
+    splat,
 };
 use spirv_numbers::ops;
 use spirv_types::Shape;
+use spirv_words::Instruction;
 
 // Products of two words (section 3.52.13).
 const U_MUL_EXTENDED: u16 = 151;
@@ -14,8 +16,8 @@ const U_MUL_EXTENDED: u16 = 151;
 const S_MUL_EXTENDED: u16 = 152;
 
 /// What a conversion that keeps the bits is, or a product of two words, if it is one.
-pub fn wide<B: Builder>(builder: &mut B, operation: &Operation) -> Option<Value> {
-    let value = match operation.instruction.opcode {
+pub fn wide<B: Builder>(builder: &mut B, operation: &Instruction) -> Option<Value> {
+    let value = match operation.opcode {
         ops::BITCAST => cast(builder, operation, 0),
         U_MUL_EXTENDED => product(builder, operation, false),
         S_MUL_EXTENDED => product(builder, operation, true),
@@ -27,7 +29,7 @@ pub fn wide<B: Builder>(builder: &mut B, operation: &Operation) -> Option<Value>
 // A value shifted by so many bits.
 fn shifted<B: Builder>(
     builder: &mut B,
-    operation: &Operation,
+    operation: &Instruction,
     op: BinaryOperator,
     value: Value,
     bits: u32,
@@ -39,31 +41,21 @@ fn shifted<B: Builder>(
     binary(builder, operation, op, value, count)
 }
 
-// The component of an operand at this place, as the unsigned number that its bits are.
-fn bits_at<B: Builder>(
-    builder: &mut B,
-    operation: &Operation,
+// An operand whose bits are taken: its value, what each component is, and how many there are.
+#[derive(Clone, Copy)]
+struct Bits {
     value: Value,
-    shape: &Shape,
-    place: u32,
-) -> Value {
-    let part = match shape {
-        Shape::Vector { .. } => part_of(builder, operation, value, place),
-        _ => value,
-    };
-    let kind = match shape.kind() {
-        Some(kind) => kind,
-        None => ScalarKind::Uint,
-    };
-    as_kind(builder, operation, part, kind, ScalarKind::Uint)
+    scalar: Scalar,
+    count: u32,
 }
 
-// How many bytes a scalar of a type has; so many where it has none.
-fn width_of(shape: &Shape, otherwise: u8) -> u8 {
-    match shape.scalar() {
-        Some(scalar) => scalar.width,
-        None => otherwise,
+// The component at this place, as the unsigned number that its bits are.
+fn bits_at<B: Builder>(builder: &mut B, operation: &Instruction, from: &Bits, place: u32) -> Value {
+    let mut part = from.value;
+    if from.count > 1 {
+        part = part_of(builder, operation, part, place);
     }
+    as_kind(builder, operation, part, from.scalar.kind, ScalarKind::Uint)
 }
 
 // How often one width is in another.
@@ -77,23 +69,15 @@ fn times_in(wide: u8, narrow: u8) -> u32 {
 // So many components of an operand, from one on, as one wide number: the first has the lowest bits.
 fn joined<B: Builder>(
     builder: &mut B,
-    operation: &Operation,
-    value: Value,
-    shape: &Shape,
+    operation: &Instruction,
+    from: &Bits,
     first: u32,
     to: Scalar,
 ) -> Value {
-    let width = width_of(shape, 4);
-    let count = times_in(to.width, width);
+    let width = from.scalar.width;
     let mut whole = None;
-    for place in 0..count {
-        let narrow = bits_at(
-            builder,
-            operation,
-            value,
-            shape,
-            first.saturating_add(place),
-        );
+    for place in 0..times_in(to.width, width) {
+        let narrow = bits_at(builder, operation, from, first.saturating_add(place));
         let wide = convert(builder, operation, narrow, ScalarKind::Uint, Some(to.width));
         let bits = place.saturating_mul(u32::from(width)).saturating_mul(8);
         let part = shifted(builder, operation, BinaryOperator::ShiftLeft, wide, bits);
@@ -114,7 +98,7 @@ fn joined<B: Builder>(
 // The part at a place of a wide number, counted from the lowest bits.
 fn part_at<B: Builder>(
     builder: &mut B,
-    operation: &Operation,
+    operation: &Instruction,
     wide: Value,
     place: u32,
     to: Scalar,
@@ -126,20 +110,24 @@ fn part_at<B: Builder>(
 }
 
 /// The bits of the operand at this place as those of the result's type, of scalars of the same width or of another one.
-pub fn cast<B: Builder>(builder: &mut B, operation: &Operation, place: usize) -> Value {
+pub fn cast<B: Builder>(builder: &mut B, operation: &Instruction, place: usize) -> Value {
     let to = result_scalar(builder, operation);
-    let from = operand_scalar(builder, operation, place);
+    let scalar = operand_scalar(builder, operation, place);
     let value = operand(builder, operation, place);
-    if from.width == to.width {
+    if scalar.width == to.width {
         return convert(builder, operation, value, to.kind, None);
     }
-    let shape = operand_shape(builder, operation, place);
-    let components = if from.width < to.width {
-        widened(builder, operation, value, &shape, to)
-    } else {
-        narrowed(builder, operation, value, &shape, to)
+    let from = Bits {
+        value,
+        scalar,
+        count: component_count(operand_shape(builder, operation, place)),
     };
-    match (builder.shape(operation.instruction.ty), components.first()) {
+    let components = if scalar.width < to.width {
+        widened(builder, operation, &from, to)
+    } else {
+        narrowed(builder, operation, &from, to)
+    };
+    match (builder.shape(operation.ty), components.first()) {
         (Shape::Scalar(_), Some(alone)) => *alone,
         _ => compose_result(builder, operation, components),
     }
@@ -148,16 +136,14 @@ pub fn cast<B: Builder>(builder: &mut B, operation: &Operation, place: usize) ->
 // The components of the result, each out of several of the operand.
 fn widened<B: Builder>(
     builder: &mut B,
-    operation: &Operation,
-    value: Value,
-    shape: &Shape,
+    operation: &Instruction,
+    from: &Bits,
     to: Scalar,
 ) -> Vec<Value> {
-    let each = times_in(to.width, width_of(shape, to.width));
+    let each = times_in(to.width, from.scalar.width);
     let mut components = Vec::new(builder.alloc());
-    for place in 0..component_count(builder.shape(operation.instruction.ty)) {
-        let first = place.saturating_mul(each);
-        let part = joined(builder, operation, value, shape, first, to);
+    for place in 0..component_count(builder.shape(operation.ty)) {
+        let part = joined(builder, operation, from, place.saturating_mul(each), to);
         keep(builder, &mut components, part);
     }
     components
@@ -166,15 +152,14 @@ fn widened<B: Builder>(
 // The components of the result, several out of each of the operand.
 fn narrowed<B: Builder>(
     builder: &mut B,
-    operation: &Operation,
-    value: Value,
-    shape: &Shape,
+    operation: &Instruction,
+    from: &Bits,
     to: Scalar,
 ) -> Vec<Value> {
-    let each = times_in(width_of(shape, to.width), to.width);
+    let each = times_in(from.scalar.width, to.width);
     let mut components = Vec::new(builder.alloc());
-    for place in 0..component_count(*shape) {
-        let wide = bits_at(builder, operation, value, shape, place);
+    for place in 0..from.count {
+        let wide = bits_at(builder, operation, from, place);
         for part in 0..each {
             let part = part_at(builder, operation, wide, part, to);
             keep(builder, &mut components, part);
@@ -186,7 +171,7 @@ fn narrowed<B: Builder>(
 // A constant of as many components as the operands have.
 fn constant<B: Builder>(
     builder: &mut B,
-    operation: &Operation,
+    operation: &Instruction,
     size: Option<VectorSize>,
     number: u32,
 ) -> Value {
@@ -194,60 +179,64 @@ fn constant<B: Builder>(
     splat(builder, operation, size, value)
 }
 
-// What is shifted and masked, by halves of words.
-#[derive(Clone, Copy)]
-struct Halves {
-    sixteen: Value,
-    mask: Value,
-}
+// How the upper word of a product of unsigned words x and y is made by their halves. Each row is an operator of two values by
+// their numbers: x is 0, y is 1, the number 16 is 2, the mask of a lower half is 3, and the rows follow from 4 on.
+static UPPER: [(BinaryOperator, u8, u8); 16] = [
+    (BinaryOperator::ShiftRight, 0, 2), // 4: the upper half of x
+    (BinaryOperator::And, 0, 3), // 5: its lower half
+    (BinaryOperator::ShiftRight, 1, 2), // 6: the upper half of y
+    (BinaryOperator::And, 1, 3), // 7: its lower half
+    (BinaryOperator::Multiply, 5, 7), // 8: the product of the lower halves
+    (BinaryOperator::ShiftRight, 8, 2), // 9: what it carries
+    (BinaryOperator::Multiply, 4, 7), // 10: one product across
+    (BinaryOperator::Add, 10, 9), // 11
+    (BinaryOperator::ShiftRight, 11, 2), // 12: what this carries
+    (BinaryOperator::And, 11, 3), // 13: and what it leaves
+    (BinaryOperator::Multiply, 5, 6), // 14: the other product across
+    (BinaryOperator::Add, 14, 13), // 15
+    (BinaryOperator::ShiftRight, 15, 2), // 16: what this carries
+    (BinaryOperator::Multiply, 4, 6), // 17: the product of the upper halves
+    (BinaryOperator::Add, 17, 12),
+    (BinaryOperator::Add, 18, 16),
+];
 
-impl Halves {
-    // The upper half of a word.
-    fn high<B: Builder>(&self, builder: &mut B, operation: &Operation, word: Value) -> Value {
-        let op = BinaryOperator::ShiftRight;
-        binary(builder, operation, op, word, self.sixteen)
-    }
-
-    // The lower half of a word.
-    fn low<B: Builder>(&self, builder: &mut B, operation: &Operation, word: Value) -> Value {
-        binary(builder, operation, BinaryOperator::And, word, self.mask)
-    }
-}
-
-// The upper word of a product of unsigned words, by their halves.
+// The upper word of a product of unsigned words.
 fn upper<B: Builder>(
     builder: &mut B,
-    operation: &Operation,
+    operation: &Instruction,
     size: Option<VectorSize>,
     x: Value,
     y: Value,
 ) -> Value {
-    let halves = Halves {
-        sixteen: constant(builder, operation, size, 16),
-        mask: constant(builder, operation, size, 65535),
-    };
-    let x1 = halves.high(builder, operation, x);
-    let x0 = halves.low(builder, operation, x);
-    let y1 = halves.high(builder, operation, y);
-    let y0 = halves.low(builder, operation, y);
-    let low = binary(builder, operation, BinaryOperator::Multiply, x0, y0);
-    let carried = halves.high(builder, operation, low);
-    let crossed = binary(builder, operation, BinaryOperator::Multiply, x1, y0);
-    let middle = binary(builder, operation, BinaryOperator::Add, crossed, carried);
-    let high = halves.high(builder, operation, middle);
-    let rest = halves.low(builder, operation, middle);
-    let other = binary(builder, operation, BinaryOperator::Multiply, x0, y1);
-    let sum = binary(builder, operation, BinaryOperator::Add, other, rest);
-    let over = halves.high(builder, operation, sum);
-    let top = binary(builder, operation, BinaryOperator::Multiply, x1, y1);
-    let whole = binary(builder, operation, BinaryOperator::Add, top, high);
-    binary(builder, operation, BinaryOperator::Add, whole, over)
+    let mut values = [x; 20];
+    values[1] = y;
+    values[2] = constant(builder, operation, size, 16);
+    values[3] = constant(builder, operation, size, 65535);
+    let mut last = x;
+    for (place, row) in UPPER.iter().enumerate() {
+        let (op, left, right) = *row;
+        let left = numbered(&values, left);
+        let right = numbered(&values, right);
+        last = binary(builder, operation, op, left, right);
+        if let Some(slot) = values.get_mut(place.saturating_add(4)) {
+            *slot = last;
+        }
+    }
+    last
+}
+
+// The value with this number.
+fn numbered(values: &[Value; 20], number: u8) -> Value {
+    values
+        .get(usize::from(number))
+        .copied()
+        .unwrap_or(no_value())
 }
 
 // A word where another one is negative, else 0.
 fn where_negative<B: Builder>(
     builder: &mut B,
-    operation: &Operation,
+    operation: &Instruction,
     size: Option<VectorSize>,
     place: usize,
     word: Value,
@@ -260,7 +249,7 @@ fn where_negative<B: Builder>(
 }
 
 // The product of two words as a struct of its lower and its upper word.
-fn product<B: Builder>(builder: &mut B, operation: &Operation, is_signed: bool) -> Value {
+fn product<B: Builder>(builder: &mut B, operation: &Instruction, is_signed: bool) -> Value {
     let scalar = operand_scalar(builder, operation, 0);
     if scalar.width != 4 {
         return refuse(builder, operation.unsupported());
@@ -278,8 +267,5 @@ fn product<B: Builder>(builder: &mut B, operation: &Operation, is_signed: bool) 
     }
     let low = as_kind(builder, operation, low, ScalarKind::Uint, scalar.kind);
     let high = as_kind(builder, operation, high, ScalarKind::Uint, scalar.kind);
-    let mut components = Vec::new(builder.alloc());
-    keep(builder, &mut components, low);
-    keep(builder, &mut components, high);
-    compose_result(builder, operation, components)
+    compose_pair(builder, operation, low, high)
 }

@@ -1,16 +1,15 @@
 // Atomic operations (section 3.52.18), and stores to images.
 
 use crate::builder::{FunctionBuilder, Slot};
-use crate::storage::statement;
 use ir_blocks::{AtomicFunction, Statement};
 use ir_flags::Capabilities;
 use ir_kinds::{Literal, PredeclaredType, Scalar};
 use ir_types::Expression;
-use spirv_expressions::{Operation, Value, as_kind, need, part_of, refuse, result_scalar, signed};
+use spirv_expressions::{Value, as_kind, need, part_of, refuse, result_scalar, signed};
 use spirv_images::{read_coordinates, widened};
 use spirv_numbers::ops;
 use spirv_types::Shape;
-use spirv_words::{Feature, Malformed};
+use spirv_words::{Feature, Instruction, Malformed};
 
 // What the opcode does, if it is one that takes a value.
 fn function(opcode: u16) -> Option<AtomicFunction> {
@@ -28,7 +27,7 @@ fn function(opcode: u16) -> Option<AtomicFunction> {
 }
 
 /// Does an atomic operation.
-pub fn atomic<L: FunctionBuilder>(lowering: &mut L, operation: &Operation) {
+pub fn atomic<L: FunctionBuilder>(lowering: &mut L, operation: &Instruction) {
     let id = need(lowering, operation, 0);
     if let Slot::Texel { image, .. } = lowering.slot(id) {
         return change_texel(lowering, operation, image);
@@ -40,14 +39,14 @@ pub fn atomic<L: FunctionBuilder>(lowering: &mut L, operation: &Operation) {
         return;
     };
     let pointer = lowering.way(place, operation);
-    match operation.instruction.opcode {
+    match operation.opcode {
         ops::ATOMIC_LOAD => {
             let value = lowering.emit(Expression::Load { pointer }, operation);
             lowering.define(operation, value)
         }
         ops::ATOMIC_STORE => {
             let value = signed(lowering, operation, 3, scalar.kind);
-            statement(lowering, operation, Statement::Store { pointer, value })
+            lowering.add(Statement::Store { pointer, value }, operation)
         }
         ops::ATOMIC_COMPARE_EXCHANGE => compare(lowering, operation, pointer, scalar),
         _ => change(lowering, operation, pointer, scalar),
@@ -57,7 +56,7 @@ pub fn atomic<L: FunctionBuilder>(lowering: &mut L, operation: &Operation) {
 // Exchanges what a pointer points to where it equals another value.
 fn compare<L: FunctionBuilder>(
     lowering: &mut L,
-    operation: &Operation,
+    operation: &Instruction,
     pointer: Value,
     scalar: Scalar,
 ) {
@@ -77,7 +76,7 @@ fn compare<L: FunctionBuilder>(
         value,
         result: Some(answer),
     };
-    statement(lowering, operation, exchange);
+    lowering.add(exchange, operation);
     let old = part_of(lowering, operation, answer, 0);
     let to = result_scalar(lowering, operation);
     let old = as_kind(lowering, operation, old, scalar.kind, to.kind);
@@ -87,11 +86,11 @@ fn compare<L: FunctionBuilder>(
 // Changes what a pointer points to.
 fn change<L: FunctionBuilder>(
     lowering: &mut L,
-    operation: &Operation,
+    operation: &Instruction,
     pointer: Value,
     scalar: Scalar,
 ) {
-    let (fun, value) = match operation.instruction.opcode {
+    let (fun, value) = match operation.opcode {
         ops::ATOMIC_I_INCREMENT => (AtomicFunction::Add, one(lowering, operation, scalar)),
         ops::ATOMIC_I_DECREMENT => (AtomicFunction::Subtract, one(lowering, operation, scalar)),
         opcode => match function(opcode) {
@@ -114,14 +113,14 @@ fn change<L: FunctionBuilder>(
         value,
         result: Some(answer),
     };
-    statement(lowering, operation, change);
+    lowering.add(change, operation);
     let to = result_scalar(lowering, operation);
     let old = as_kind(lowering, operation, answer, scalar.kind, to.kind);
     lowering.define(operation, old)
 }
 
 // The number 1.
-fn one<L: FunctionBuilder>(lowering: &mut L, operation: &Operation, scalar: Scalar) -> Value {
+fn one<L: FunctionBuilder>(lowering: &mut L, operation: &Instruction, scalar: Scalar) -> Value {
     match Literal::one(scalar) {
         Some(literal) => lowering.literal(literal, operation),
         None => refuse(lowering, operation.malformed(Malformed::WrongType)),
@@ -129,8 +128,8 @@ fn one<L: FunctionBuilder>(lowering: &mut L, operation: &Operation, scalar: Scal
 }
 
 // Changes a texel. The IR gives no result for it.
-fn change_texel<L: FunctionBuilder>(lowering: &mut L, operation: &Operation, id: u32) {
-    let opcode = operation.instruction.opcode;
+fn change_texel<L: FunctionBuilder>(lowering: &mut L, operation: &Instruction, id: u32) {
+    let opcode = operation.opcode;
     let fun = match function(opcode) {
         Some(fun) if opcode != ops::ATOMIC_EXCHANGE => fun,
         _ => {
@@ -145,12 +144,7 @@ fn change_texel<L: FunctionBuilder>(lowering: &mut L, operation: &Operation, id:
     };
     lowering.require(Capabilities::TEXTURE_ATOMIC);
     let image = lowering.image(id, operation);
-    let place = [id, coordinate];
-    let texel = Operation {
-        instruction: operation.instruction,
-        operands: &place,
-    };
-    let at = read_coordinates(lowering, &texel, &image, 1, false);
+    let at = read_coordinates(lowering, operation, &image, coordinate, false);
     let value = signed(lowering, operation, 3, image.shape.scalar.kind);
     let change = Statement::ImageAtomic {
         image: image.value,
@@ -159,21 +153,19 @@ fn change_texel<L: FunctionBuilder>(lowering: &mut L, operation: &Operation, id:
         fun,
         value,
     };
-    statement(lowering, operation, change)
+    lowering.add(change, operation)
 }
 
 // Operands of an image that only say how memory is ordered.
 const ORDERING: u32 = 0x7f00;
 
 /// Stores a texel.
-pub fn store_texel<L: FunctionBuilder>(lowering: &mut L, operation: &Operation) {
+pub fn store_texel<L: FunctionBuilder>(lowering: &mut L, operation: &Instruction) {
     let id = need(lowering, operation, 0);
     let image = lowering.image(id, operation);
-    let at = read_coordinates(lowering, operation, &image, 1, false);
-    let mask = match operation.operands.get(3) {
-        Some(mask) => *mask,
-        None => 0,
-    };
+    let place = need(lowering, operation, 1);
+    let at = read_coordinates(lowering, operation, &image, place, false);
+    let mask = lowering.given(operation, 3).unwrap_or(0);
     if mask & !ORDERING != 0 {
         lowering.fail(operation.unsupported_by(Feature::ImageWriteOperands));
         return;
@@ -185,5 +177,5 @@ pub fn store_texel<L: FunctionBuilder>(lowering: &mut L, operation: &Operation) 
         array_index: at.layer,
         value,
     };
-    statement(lowering, operation, store)
+    lowering.add(store, operation)
 }

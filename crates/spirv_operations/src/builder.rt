@@ -5,8 +5,9 @@ use ir_blocks::{Block, Statement};
 use ir_flags::{Capabilities, SubgroupOperationSet};
 use ir_kinds::{ImageClass, ImageDimension, PredeclaredType, Scalar, ScalarKind};
 use ir_types::Expression;
-use spirv_expressions::{Builder, Operation, Value, no_value};
-use spirv_types::{ImageShape, ImageUse, Stored, TypeHandle};
+use spirv_expressions::{Builder, Value, no_value};
+use spirv_types::{ImageShape, ImageUse, Reading, Stored, TypeHandle};
+use spirv_words::Instruction;
 
 /// What an id is in the function that is built.
 #[derive(Clone, Copy)]
@@ -119,11 +120,11 @@ pub const NO_IMAGE: ImageUse = ImageUse {
 
 /// A function that is being built, with its statements, and with what its ids are.
 pub trait FunctionBuilder: Builder {
+    /// The module that is read.
+    fn reading(&self) -> &Reading;
+
     /// The name of an id, if it has one.
     fn name_of(&mut self, id: u32) -> Option<String>;
-
-    /// The place of the function with this id among those that are built.
-    fn place_of(&self, function: u32) -> Option<u32>;
 
     /// Whether an id is of a constant or of a specialization constant.
     fn is_known(&self, id: u32) -> bool;
@@ -135,22 +136,22 @@ pub trait FunctionBuilder: Builder {
     fn set(&mut self, id: u32, slot: Slot);
 
     /// What a variable or a pointer is; a variable is named where it was not before.
-    fn resolve(&mut self, id: u32, operation: &Operation) -> Slot;
+    fn resolve(&mut self, id: u32, operation: &Instruction) -> Slot;
 
     /// The place of the pointer that an id is.
-    fn pointer(&mut self, id: u32, operation: &Operation) -> u32;
+    fn pointer(&mut self, id: u32, operation: &Instruction) -> u32;
 
     /// The pointer at a place.
-    fn pointer_at(&mut self, place: u32, operation: &Operation) -> Pointer;
+    fn pointer_at(&mut self, place: u32, operation: &Instruction) -> Pointer;
 
     /// A pointer more; answers its place.
     fn add_pointer(&mut self, pointer: Pointer) -> u32;
 
     /// The expression of a pointer, made anew where the one that it has is not in scope.
-    fn way(&mut self, place: u32, operation: &Operation) -> Value;
+    fn way(&mut self, place: u32, operation: &Instruction) -> Value;
 
     /// A part of a value or of what a pointer points to.
-    fn step(&mut self, base: Value, step: PointerStep, operation: &Operation) -> Value;
+    fn step(&mut self, base: Value, step: PointerStep, operation: &Instruction) -> Value;
 
     /// The same from what a pointer points to, which may be an array in an array of resources.
     fn step_from(
@@ -158,7 +159,7 @@ pub trait FunctionBuilder: Builder {
         place: u32,
         base: Value,
         step: PointerStep,
-        operation: &Operation,
+        operation: &Instruction,
     ) -> Value;
 
     /// The scope that is built.
@@ -168,10 +169,10 @@ pub trait FunctionBuilder: Builder {
     fn enter(&mut self, scope: u32);
 
     /// The result of an instruction is this value; one that outlives its scope is kept in a local.
-    fn define(&mut self, operation: &Operation, value: Value);
+    fn define(&mut self, operation: &Instruction, value: Value);
 
     /// An expression that is always there.
-    fn always(&mut self, expression: Expression, operation: &Operation) -> Value;
+    fn always(&mut self, expression: Expression, operation: &Instruction) -> Value;
 
     /// The expression that an id was named as before in the function that is built.
     fn named_before(&self, id: u32) -> Option<Value>;
@@ -197,14 +198,8 @@ pub trait FunctionBuilder: Builder {
         span: Span,
     ) -> Value;
 
-    /// An expression that is computed here, with this span.
-    fn compute(&mut self, expression: Expression, span: Span) -> Value;
-
-    /// An expression that is always there, with this span.
-    fn place(&mut self, expression: Expression, span: Span) -> Value;
-
     /// A statement in the innermost block.
-    fn add(&mut self, statement: Statement, span: Span);
+    fn add(&mut self, statement: Statement, operation: &Instruction);
 
     /// Opens a block.
     fn open(&mut self);

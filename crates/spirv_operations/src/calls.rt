@@ -1,19 +1,19 @@
 // Calls of functions.
 
 use crate::builder::{FunctionBuilder, Slot};
-use crate::storage::statement;
 use ir_arena::handle::{Handle, NonMaxU32};
 use ir_blocks::Statement;
 use ir_types::Expression;
-use spirv_expressions::{Operation, Value, keep, need, refuse};
+use spirv_expressions::{Value, keep, need, refuse};
 use spirv_types::Shape;
-use spirv_words::{Feature, Malformed};
+use spirv_words::{Feature, Instruction, Malformed};
 
 /// A call of a function, which stands before this one.
-pub fn call_function<L: FunctionBuilder>(lowering: &mut L, operation: &Operation) {
+pub fn call_function<L: FunctionBuilder>(lowering: &mut L, operation: &Instruction) {
     let mut arguments = Vec::new(lowering.alloc());
-    for id in operation.operands.get(1..).unwrap_or(&[]) {
-        let [first, second] = argument(lowering, *id, operation);
+    for place in 1..lowering.given_count(operation) {
+        let id = need(lowering, operation, place);
+        let [first, second] = argument(lowering, id, operation);
         if let Some(value) = first {
             keep(lowering, &mut arguments, value);
         }
@@ -22,19 +22,24 @@ pub fn call_function<L: FunctionBuilder>(lowering: &mut L, operation: &Operation
         }
     }
     let callee = need(lowering, operation, 0);
-    let place = lowering.place_of(callee).and_then(NonMaxU32::new);
+    let place = lowering
+        .reading()
+        .flow
+        .order
+        .place_of(callee)
+        .and_then(NonMaxU32::new);
     let Some(place) = place else {
         lowering.fail(operation.malformed(Malformed::NoFunction));
         return;
     };
     let function = Handle::new(place);
-    if matches!(lowering.shape(operation.instruction.ty), Shape::Void) {
+    if matches!(lowering.shape(operation.ty), Shape::Void) {
         let call = Statement::Call {
             function,
             arguments,
             result: None,
         };
-        return statement(lowering, operation, call);
+        return lowering.add(call, operation);
     }
     let value = lowering.always(Expression::CallResult(function), operation);
     let call = Statement::Call {
@@ -42,7 +47,7 @@ pub fn call_function<L: FunctionBuilder>(lowering: &mut L, operation: &Operation
         arguments,
         result: Some(value),
     };
-    statement(lowering, operation, call);
+    lowering.add(call, operation);
     lowering.define(operation, value)
 }
 
@@ -50,7 +55,7 @@ pub fn call_function<L: FunctionBuilder>(lowering: &mut L, operation: &Operation
 fn argument<L: FunctionBuilder>(
     lowering: &mut L,
     id: u32,
-    operation: &Operation,
+    operation: &Instruction,
 ) -> [Option<Value>; 2] {
     if is_resources(lowering, id) {
         return [None, None];
@@ -84,7 +89,7 @@ fn is_resources<L: FunctionBuilder>(lowering: &L, id: u32) -> bool {
 }
 
 // A pointer that is passed; none to matrices that are stored row by row.
-fn pointer<L: FunctionBuilder>(lowering: &mut L, place: u32, operation: &Operation) -> Value {
+fn pointer<L: FunctionBuilder>(lowering: &mut L, place: u32, operation: &Instruction) -> Value {
     let pointer = lowering.pointer_at(place, operation);
     let is_matrix = matches!(
         lowering.shape(pointer.ty),
@@ -97,7 +102,7 @@ fn pointer<L: FunctionBuilder>(lowering: &mut L, place: u32, operation: &Operati
         );
     }
     if pointer.column.is_some() || !pointer.stored.is_plain() && is_matrix {
-        let instruction = &operation.instruction;
+        let instruction = operation;
         let error = pointer
             .stored
             .unsupported(instruction, Feature::RowMajorArgument);

@@ -15,4 +15,4 @@ pub use builder::{FunctionBuilder, NO_IMAGE, Pointer, PointerStep, Slot, no_poin
 pub use calls::call_function;
 pub use names::{Names, Special};
 pub use splits::split;
-pub use storage::{made_name, memory, phi_local, statement};
+pub use storage::{made_name, memory, phi_local};

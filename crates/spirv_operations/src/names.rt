@@ -4,7 +4,7 @@ use crate::builder::{Pointer, Slot};
 use ir_kinds::PredeclaredType;
 use spirv_expressions::Value;
 use spirv_types::TypeHandle;
-use spirv_words::SpirvError;
+use spirv_words::{Failure, SpirvError};
 use std::alloc::Global;
 
 /// A struct that an expression gives.
@@ -33,15 +33,15 @@ pub struct Names {
 
 impl Names {
     /// None, with ids below the bound.
-    pub fn new(alloc: Global, bound: usize) -> Result<Names, SpirvError> {
-        Ok(Names {
-            slots: vec![in alloc; Slot::Nothing; bound]?,
+    pub fn new(alloc: Global, bound: usize, failed: &mut Failure) -> Names {
+        Names {
+            slots: failed.table(alloc, Slot::Nothing, bound),
             pointers: Vec::new(alloc),
-            named: vec![in alloc; None; bound]?,
-            samplers: vec![in alloc; None; bound]?,
+            named: failed.table(alloc, None, bound),
+            samplers: failed.table(alloc, None, bound),
             special: Vec::new(alloc),
             function: 0,
-        })
+        }
     }
 
     /// Begins another function.

@@ -5,11 +5,11 @@ use ir_blocks::Statement;
 use ir_kinds::{MathFunction, Scalar, VectorSize};
 use ir_types::{ArraySize, Expression};
 use spirv_expressions::{
-    Operation, Value, call, component_count, compose, keep, need, no_value, packed_line, part_of,
-    plain_line, plain_matrix, relaid_matrix,
+    Value, call, component_count, compose, keep, need, no_value, packed_line, part_of, plain_line,
+    plain_matrix, relaid_matrix,
 };
-use spirv_types::{MatrixShape, MemberShape, Shape, Stored, TypeHandle, span_of};
-use spirv_words::{Feature, Malformed, Unsupported};
+use spirv_types::{MatrixShape, MemberShape, Shape, Stored, TypeHandle};
+use spirv_words::{Feature, Instruction, Malformed, Unsupported};
 
 // The pointer that is a step on, to this part.
 fn go_on<L: FunctionBuilder>(
@@ -17,7 +17,7 @@ fn go_on<L: FunctionBuilder>(
     place: u32,
     step: PointerStep,
     part: MemberShape,
-    operation: &Operation,
+    operation: &Instruction,
 ) -> u32 {
     let from = lowering.pointer_at(place, operation);
     let base = lowering.way(place, operation);
@@ -66,7 +66,7 @@ fn index_step<L: FunctionBuilder>(
     lowering: &mut L,
     ty: u32,
     id: u32,
-    operation: &Operation,
+    operation: &Instruction,
 ) -> PointerStep {
     let constant = match lowering.constant(id) {
         Some(value) => u32::try_from(value).ok(),
@@ -85,7 +85,12 @@ fn index_step<L: FunctionBuilder>(
 }
 
 // The pointer to the part of what a pointer points to at the index that an id is.
-fn follow<L: FunctionBuilder>(lowering: &mut L, place: u32, id: u32, operation: &Operation) -> u32 {
+fn follow<L: FunctionBuilder>(
+    lowering: &mut L,
+    place: u32,
+    id: u32,
+    operation: &Instruction,
+) -> u32 {
     let from = lowering.pointer_at(place, operation);
     let mut step = index_step(lowering, from.ty, id, operation);
     let index = match step {
@@ -148,7 +153,7 @@ fn line_step<L: FunctionBuilder>(
     lowering: &mut L,
     from: &Pointer,
     step: PointerStep,
-    operation: &Operation,
+    operation: &Instruction,
 ) -> PointerStep {
     let Some(first) = from.split else {
         return step;
@@ -163,13 +168,13 @@ fn line_step<L: FunctionBuilder>(
 }
 
 // An operation of a matrix whose columns or rows are members of its struct is not translated.
-fn refuse_split<L: FunctionBuilder>(lowering: &mut L, pointer: &Pointer, operation: &Operation) {
+fn refuse_split<L: FunctionBuilder>(lowering: &mut L, pointer: &Pointer, operation: &Instruction) {
     let what = Unsupported::MatrixStride(pointer.stored.stride);
-    lowering.fail(operation.instruction.unsupported_as(what));
+    lowering.fail(operation.unsupported_as(what));
 }
 
 // The pointer to the matrix of which a pointer is a column.
-fn matrix_of<L: FunctionBuilder>(lowering: &mut L, place: u32, operation: &Operation) -> u32 {
+fn matrix_of<L: FunctionBuilder>(lowering: &mut L, place: u32, operation: &Instruction) -> u32 {
     let mut matrix = lowering.pointer_at(place, operation);
     matrix.column = None;
     lowering.add_pointer(matrix)
@@ -184,64 +189,49 @@ fn stored_part<L: FunctionBuilder>(lowering: &L, from: &Pointer, part: &MemberSh
     }
 }
 
-/// An access chain.
-pub fn chain<L: FunctionBuilder>(lowering: &mut L, operation: &Operation) {
+/// An access chain; where an image or a sampler is extracted out of an array of those, its indices are written as they are.
+pub fn chain<L: FunctionBuilder>(lowering: &mut L, operation: &Instruction, written: bool) {
     let id = need(lowering, operation, 0);
     let slot = match lowering.resolve(id, operation) {
         Slot::Pair { image, sampler } => Slot::Pair {
-            image: follow_all(lowering, image, operation),
-            sampler: follow_all(lowering, sampler, operation),
+            image: follow_all(lowering, image, operation, written),
+            sampler: follow_all(lowering, sampler, operation, written),
         },
-        Slot::Pointer(place) => Slot::Pointer(follow_all(lowering, place, operation)),
+        Slot::Pointer(place) => Slot::Pointer(follow_all(lowering, place, operation, written)),
         Slot::Nothing | Slot::Value { .. } | Slot::Texel { .. } => {
             lowering.fail(operation.malformed(Malformed::NoPointer));
             return;
         }
     };
-    lowering.set(operation.instruction.id, slot);
+    lowering.set(operation.id, slot);
 }
 
-fn follow_all<L: FunctionBuilder>(lowering: &mut L, place: u32, operation: &Operation) -> u32 {
+// The pointer to the part at all indices of an instruction.
+fn follow_all<L: FunctionBuilder>(
+    lowering: &mut L,
+    place: u32,
+    operation: &Instruction,
+    written: bool,
+) -> u32 {
     let mut at = place;
-    for id in operation.operands.get(1..).unwrap_or(&[]) {
-        at = follow(lowering, at, *id, operation);
-    }
-    at
-}
-
-/// An image or a sampler out of an array of those.
-pub fn extract_handle<L: FunctionBuilder>(lowering: &mut L, operation: &Operation) {
-    let id = need(lowering, operation, 0);
-    let slot = match lowering.resolve(id, operation) {
-        Slot::Pair { image, sampler } => Slot::Pair {
-            image: element(lowering, image, operation),
-            sampler: element(lowering, sampler, operation),
-        },
-        Slot::Pointer(place) => Slot::Pointer(element(lowering, place, operation)),
-        Slot::Nothing | Slot::Value { .. } | Slot::Texel { .. } => {
-            lowering.fail(operation.malformed(Malformed::NoPointer));
-            return;
+    for step in 1..lowering.given_count(operation) {
+        let index = need(lowering, operation, step);
+        if !written {
+            at = follow(lowering, at, index, operation);
+            continue;
         }
-    };
-    lowering.set(operation.instruction.id, slot);
-}
-
-// The element of an array at the indices that are written in the instruction.
-fn element<L: FunctionBuilder>(lowering: &mut L, place: u32, operation: &Operation) -> u32 {
-    let mut at = place;
-    for index in operation.operands.get(1..).unwrap_or(&[]) {
         let ty = lowering.pointer_at(at, operation).ty;
-        let Some(part) = lowering.part(ty, *index) else {
+        let Some(part) = lowering.part(ty, index) else {
             lowering.fail(operation.malformed(Malformed::Index));
             return at;
         };
-        at = go_on(lowering, at, PointerStep::Index(*index), part, operation);
+        at = go_on(lowering, at, PointerStep::Index(index), part, operation);
     }
     at
 }
 
 /// What a pointer points to.
-pub fn load<L: FunctionBuilder>(lowering: &mut L, place: u32, operation: &Operation) -> Value {
+pub fn load<L: FunctionBuilder>(lowering: &mut L, place: u32, operation: &Instruction) -> Value {
     let from = lowering.pointer_at(place, operation);
     let pointer = lowering.way(place, operation);
     if let Some(column) = from.column {
@@ -271,7 +261,7 @@ fn load_split<L: FunctionBuilder>(
     lowering: &mut L,
     block: Value,
     pointer: &Pointer,
-    operation: &Operation,
+    operation: &Instruction,
 ) -> Value {
     let (Some(matrix), Some(first)) = (MatrixShape::of(&lowering.shape(pointer.ty)), pointer.split)
     else {
@@ -300,13 +290,13 @@ fn vector_of(shape: &Shape) -> Option<(VectorSize, Scalar)> {
 // Refuses arrays of matrices that are stored otherwise than as the IR has them.
 fn refuse_arrays<L: FunctionBuilder>(
     lowering: &mut L,
-    operation: &Operation,
+    operation: &Instruction,
     pointer: &Pointer,
     shape: &Shape,
     feature: Feature,
 ) {
     if matches!(shape, Shape::Array { .. }) && !pointer.stored.is_plain() {
-        lowering.fail(pointer.stored.unsupported(&operation.instruction, feature));
+        lowering.fail(pointer.stored.unsupported(operation, feature));
     }
 }
 
@@ -316,7 +306,7 @@ fn load_column<L: FunctionBuilder>(
     matrix: Value,
     pointer: &Pointer,
     column: PointerStep,
-    operation: &Operation,
+    operation: &Instruction,
 ) -> Value {
     if pointer.stored.stride == 0 {
         let none = [None, None, None];
@@ -351,7 +341,7 @@ fn compose_again<L: FunctionBuilder>(
     base: Value,
     ty: TypeHandle,
     count: u32,
-    operation: &Operation,
+    operation: &Instruction,
 ) -> Value {
     let mut components = Vec::new(lowering.alloc());
     for index in 0..count {
@@ -369,7 +359,7 @@ fn stored_value<L: FunctionBuilder>(
     lowering: &mut L,
     to: &Pointer,
     value: Value,
-    operation: &Operation,
+    operation: &Instruction,
 ) -> Value {
     let mut value = value;
     if let (Some(ty), Some(count)) = (to.rebuilt, rebuilt_parts(lowering, to)) {
@@ -391,7 +381,7 @@ pub fn store_into<L: FunctionBuilder>(
     lowering: &mut L,
     place: u32,
     value: Value,
-    operation: &Operation,
+    operation: &Instruction,
 ) {
     let to = lowering.pointer_at(place, operation);
     if to.column.is_some() {
@@ -402,8 +392,5 @@ pub fn store_into<L: FunctionBuilder>(
     }
     let value = stored_value(lowering, &to, value, operation);
     let pointer = lowering.way(place, operation);
-    lowering.add(
-        Statement::Store { pointer, value },
-        span_of(&operation.instruction),
-    );
+    lowering.add(Statement::Store { pointer, value }, operation);
 }

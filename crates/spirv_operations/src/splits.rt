@@ -4,10 +4,10 @@ use crate::builder::FunctionBuilder;
 use crate::pointers::store_into;
 use ir_kinds::{MathFunction, PredeclaredType, Scalar};
 use spirv_expressions::{
-    Operation, Value, call, compose_result, keep, need, operand, operand_scalar, operand_shape,
-    part_of, refuse, resized, scalar_of,
+    Value, call, compose_result, keep, need, operand, operand_scalar, operand_shape, part_of,
+    refuse, resized, scalar_of,
 };
-use spirv_words::Malformed;
+use spirv_words::{Instruction, Malformed};
 
 const MODF: u32 = 35;
 
@@ -20,7 +20,7 @@ const FREXP_STRUCT: u32 = 52;
 /// The value of a function that splits a float, if the number is of one; the operands begin with the set and the number.
 pub fn split<L: FunctionBuilder>(
     lowering: &mut L,
-    operation: &Operation,
+    operation: &Instruction,
     number: u32,
 ) -> Option<Value> {
     let (fun, is_struct) = match number {
@@ -52,12 +52,12 @@ pub fn split<L: FunctionBuilder>(
 // Both values as the struct that is the result.
 fn as_struct<L: FunctionBuilder>(
     lowering: &mut L,
-    operation: &Operation,
+    operation: &Instruction,
     first: Value,
     second: Value,
     from: Scalar,
 ) -> Value {
-    let Some(part) = lowering.part(operation.instruction.ty, 1) else {
+    let Some(part) = lowering.part(operation.ty, 1) else {
         return refuse(lowering, operation.malformed(Malformed::WrongType));
     };
     let shape = lowering.shape(part.ty);
@@ -72,7 +72,7 @@ fn as_struct<L: FunctionBuilder>(
 // The second value into what a pointer points to.
 fn store_second<L: FunctionBuilder>(
     lowering: &mut L,
-    operation: &Operation,
+    operation: &Instruction,
     second: Value,
     from: Scalar,
 ) {

@@ -1,27 +1,27 @@
 // Memory, and what leads to images (sections 3.52.8 and 3.52.10).
 
 use crate::builder::{FunctionBuilder, PointerStep, Slot, root};
-use crate::pointers::{chain, extract_handle, load, store_into};
+use crate::pointers::{chain, load, store_into};
 use ir_arena::span::Span;
 use ir_blocks::Statement;
 use ir_types::Expression;
-use spirv_expressions::{Operation, Value, component_count, need, part_of};
+use spirv_expressions::{Value, component_count, need, part_of};
 use spirv_numbers::ops;
 use spirv_types::{Shape, span_of};
-use spirv_words::{Feature, Malformed, SpirvError};
+use spirv_words::{Feature, Instruction, Malformed, SpirvError};
 use std::alloc::AllocError;
 
 /// Does an operation on memory, if it is one.
-pub fn memory<L: FunctionBuilder>(lowering: &mut L, operation: &Operation) -> bool {
-    match operation.instruction.opcode {
+pub fn memory<L: FunctionBuilder>(lowering: &mut L, operation: &Instruction) -> bool {
+    match operation.opcode {
         ops::VARIABLE => declare_local(lowering, operation),
         ops::LOAD => load_value(lowering, operation),
         ops::STORE => store(lowering, operation),
         ops::COPY_MEMORY => copy_memory(lowering, operation),
-        ops::ACCESS_CHAIN | ops::IN_BOUNDS_ACCESS_CHAIN => chain(lowering, operation),
+        ops::ACCESS_CHAIN | ops::IN_BOUNDS_ACCESS_CHAIN => chain(lowering, operation, false),
         ops::COPY_OBJECT => copy_object(lowering, operation),
-        ops::COMPOSITE_EXTRACT if lowering.shape(operation.instruction.ty).is_handle() => {
-            extract_handle(lowering, operation)
+        ops::COMPOSITE_EXTRACT if lowering.shape(operation.ty).is_handle() => {
+            chain(lowering, operation, true)
         }
         ops::ARRAY_LENGTH => array_length(lowering, operation),
         ops::IMAGE_TEXEL_POINTER => point_at_texel(lowering, operation),
@@ -29,7 +29,7 @@ pub fn memory<L: FunctionBuilder>(lowering: &mut L, operation: &Operation) -> bo
         ops::IMAGE => {
             let id = need(lowering, operation, 0);
             let place = lowering.pointer(id, operation);
-            lowering.set(operation.instruction.id, Slot::Pointer(place));
+            lowering.set(operation.id, Slot::Pointer(place));
         }
         ops::UNDEF => undefined(lowering, operation),
         _ => return false,
@@ -38,15 +38,15 @@ pub fn memory<L: FunctionBuilder>(lowering: &mut L, operation: &Operation) -> bo
 }
 
 // A texel of an image.
-fn point_at_texel<L: FunctionBuilder>(lowering: &mut L, operation: &Operation) {
+fn point_at_texel<L: FunctionBuilder>(lowering: &mut L, operation: &Instruction) {
     let image = need(lowering, operation, 0);
     let coordinate = need(lowering, operation, 1);
-    lowering.set(operation.instruction.id, Slot::Texel { image, coordinate });
+    lowering.set(operation.id, Slot::Texel { image, coordinate });
 }
 
 // A local variable.
-fn declare_local<L: FunctionBuilder>(lowering: &mut L, operation: &Operation) {
-    let instruction = operation.instruction;
+fn declare_local<L: FunctionBuilder>(lowering: &mut L, operation: &Instruction) {
+    let instruction = *operation;
     let Shape::Pointer { to, .. } = lowering.shape(instruction.ty) else {
         lowering.fail(operation.malformed(Malformed::NoPointer));
         return;
@@ -57,8 +57,8 @@ fn declare_local<L: FunctionBuilder>(lowering: &mut L, operation: &Operation) {
         return;
     }
     let ty = lowering.built(to, operation);
-    let init = match operation.operands.get(1) {
-        Some(id) => Some(lowering.value(*id, operation)),
+    let init = match lowering.given(operation, 1) {
+        Some(id) => Some(lowering.value(id, operation)),
         None => None,
     };
     let name = lowering.name_of(instruction.id);
@@ -69,9 +69,9 @@ fn declare_local<L: FunctionBuilder>(lowering: &mut L, operation: &Operation) {
 }
 
 // What a pointer points to; an image, a sampler or an array of those stays what it is.
-fn load_value<L: FunctionBuilder>(lowering: &mut L, operation: &Operation) {
-    let id = operation.instruction.id;
-    let shape = lowering.shape(operation.instruction.ty);
+fn load_value<L: FunctionBuilder>(lowering: &mut L, operation: &Instruction) {
+    let id = operation.id;
+    let shape = lowering.shape(operation.ty);
     let from = need(lowering, operation, 0);
     let slot = lowering.resolve(from, operation);
     if is_resource(lowering, &shape) || matches!(slot, Slot::Pair { .. }) {
@@ -106,7 +106,7 @@ fn is_resource<L: FunctionBuilder>(lowering: &L, shape: &Shape) -> bool {
 }
 
 // A value into what a pointer points to.
-fn store<L: FunctionBuilder>(lowering: &mut L, operation: &Operation) {
+fn store<L: FunctionBuilder>(lowering: &mut L, operation: &Instruction) {
     let to = need(lowering, operation, 0);
     let Slot::Pointer(place) = lowering.resolve(to, operation) else {
         lowering.fail(operation.unsupported_by(Feature::StoreOfPair));
@@ -123,7 +123,7 @@ fn store<L: FunctionBuilder>(lowering: &mut L, operation: &Operation) {
 // A column of a matrix that is stored row by row: number by number.
 fn store_column<L: FunctionBuilder>(
     lowering: &mut L,
-    operation: &Operation,
+    operation: &Instruction,
     place: u32,
     column: PointerStep,
     vector: Value,
@@ -136,21 +136,12 @@ fn store_column<L: FunctionBuilder>(
         let row = part_of(lowering, operation, matrix, first.saturating_add(index));
         let pointer = lowering.step(row, column, operation);
         let value = part_of(lowering, operation, vector, index);
-        statement(lowering, operation, Statement::Store { pointer, value });
+        lowering.add(Statement::Store { pointer, value }, operation);
     }
 }
 
-/// A statement of an instruction.
-pub fn statement<L: FunctionBuilder>(
-    lowering: &mut L,
-    operation: &Operation,
-    statement: Statement,
-) {
-    lowering.add(statement, span_of(&operation.instruction))
-}
-
 // What one pointer points to, into what another does.
-fn copy_memory<L: FunctionBuilder>(lowering: &mut L, operation: &Operation) {
+fn copy_memory<L: FunctionBuilder>(lowering: &mut L, operation: &Instruction) {
     let from = need(lowering, operation, 1);
     let from = lowering.pointer(from, operation);
     let to = need(lowering, operation, 0);
@@ -160,12 +151,12 @@ fn copy_memory<L: FunctionBuilder>(lowering: &mut L, operation: &Operation) {
 }
 
 // The same as another id.
-fn copy_object<L: FunctionBuilder>(lowering: &mut L, operation: &Operation) {
+fn copy_object<L: FunctionBuilder>(lowering: &mut L, operation: &Instruction) {
     let id = need(lowering, operation, 0);
     let shape = lowering.shape(lowering.type_of(id));
     if shape.is_handle() || matches!(shape, Shape::Pointer { .. }) {
         let slot = lowering.resolve(id, operation);
-        lowering.set(operation.instruction.id, slot);
+        lowering.set(operation.id, slot);
         return;
     }
     let value = lowering.value(id, operation);
@@ -173,7 +164,7 @@ fn copy_object<L: FunctionBuilder>(lowering: &mut L, operation: &Operation) {
 }
 
 // How many elements the last member of a block has.
-fn array_length<L: FunctionBuilder>(lowering: &mut L, operation: &Operation) {
+fn array_length<L: FunctionBuilder>(lowering: &mut L, operation: &Instruction) {
     let id = need(lowering, operation, 0);
     let member = need(lowering, operation, 1);
     let place = lowering.pointer(id, operation);
@@ -189,20 +180,20 @@ fn array_length<L: FunctionBuilder>(lowering: &mut L, operation: &Operation) {
 }
 
 // An image with a sampler.
-fn combine<L: FunctionBuilder>(lowering: &mut L, operation: &Operation) {
+fn combine<L: FunctionBuilder>(lowering: &mut L, operation: &Instruction) {
     let image = need(lowering, operation, 0);
     let image = lowering.pointer(image, operation);
     let sampler = need(lowering, operation, 1);
     let sampler = lowering.pointer(sampler, operation);
-    lowering.set(operation.instruction.id, Slot::Pair { image, sampler });
+    lowering.set(operation.id, Slot::Pair { image, sampler });
 }
 
 // A value that may be any.
-fn undefined<L: FunctionBuilder>(lowering: &mut L, operation: &Operation) {
-    let ty = lowering.built(operation.instruction.ty, operation);
+fn undefined<L: FunctionBuilder>(lowering: &mut L, operation: &Instruction) {
+    let ty = lowering.built(operation.ty, operation);
     let value = lowering.always(Expression::ZeroValue(ty), operation);
     lowering.set(
-        operation.instruction.id,
+        operation.id,
         Slot::Value {
             value,
             scope: None,
@@ -226,7 +217,7 @@ pub fn made_name<L: FunctionBuilder>(
 }
 
 /// The local that an `OpPhi` is; made where it is named first.
-pub fn phi_local<L: FunctionBuilder>(lowering: &mut L, phi: u32, operation: &Operation) -> Value {
+pub fn phi_local<L: FunctionBuilder>(lowering: &mut L, phi: u32, operation: &Instruction) -> Value {
     if let Some(local) = lowering.named_before(phi) {
         return local;
     }

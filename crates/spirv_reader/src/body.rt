@@ -7,7 +7,7 @@ use ir_items::{
     Block, Expression, Function, FunctionArgument, FunctionResult, LocalVariable, Statement, key,
 };
 use spirv_bodies::Writing;
-use spirv_expressions::{Value, no_value};
+use spirv_expressions::{Emits, Value, no_value};
 use spirv_words::{Feature, SpirvError};
 use std::alloc::Global;
 use std::mem;
@@ -129,18 +129,14 @@ impl Body {
     }
 }
 
-impl Writing for Body {
+impl Emits for Body {
     fn fail(&mut self, error: SpirvError) {
         if self.failure.is_none() {
             self.failure = Some(error);
         }
     }
 
-    fn failure(&self) -> Option<SpirvError> {
-        self.failure
-    }
-
-    fn emit(&mut self, expression: Expression, span: Span) -> Value {
+    fn compute(&mut self, expression: Expression, span: Span) -> Value {
         match self.start {
             None => {
                 self.start = Some(self.count());
@@ -154,6 +150,12 @@ impl Writing for Body {
     fn place(&mut self, expression: Expression, span: Span) -> Value {
         self.flush();
         self.append(expression, span)
+    }
+}
+
+impl Writing for Body {
+    fn failure(&self) -> Option<SpirvError> {
+        self.failure
     }
 
     fn flush(&mut self) {

@@ -4,7 +4,6 @@ use ir_arena::arena::Arena;
 use ir_arena::handle::Handle;
 use ir_arena::span::Span;
 use ir_items::{Constant, GlobalVariable, Override};
-use ir_sets::keyed::KeyedState;
 use ir_sets::unique_arena::UniqueArena;
 use ir_types::{Expression, IrType, TypeInner, key};
 use spirv_constants::{Constants, ExpressionHandle};
@@ -18,15 +17,6 @@ use std::alloc::Global;
 pub struct BuiltTypes {
     /// The types.
     pub arena: UniqueArena<IrType, key::IrType>,
-}
-
-impl BuiltTypes {
-    /// None. Hashers of the types know the key.
-    pub fn new(alloc: Global, key: KeyedState) -> BuiltTypes {
-        BuiltTypes {
-            arena: UniqueArena::with_hasher(alloc, key),
-        }
-    }
 }
 
 impl Types for BuiltTypes {
@@ -64,17 +54,6 @@ pub struct BuiltConstants {
     pub overrides: Arena<Override, key::Override>,
     /// The expressions of the module.
     pub expressions: Arena<Expression, key::Expression>,
-}
-
-impl BuiltConstants {
-    /// None.
-    pub fn new(alloc: Global) -> BuiltConstants {
-        BuiltConstants {
-            constants: Arena::new(alloc),
-            overrides: Arena::new(alloc),
-            expressions: Arena::new(alloc),
-        }
-    }
 }
 
 impl Constants for BuiltConstants {
@@ -123,15 +102,6 @@ impl Constants for BuiltConstants {
 pub struct BuiltVariables {
     /// The variables.
     pub arena: Arena<GlobalVariable, key::GlobalVariable>,
-}
-
-impl BuiltVariables {
-    /// None.
-    pub fn new(alloc: Global) -> BuiltVariables {
-        BuiltVariables {
-            arena: Arena::new(alloc),
-        }
-    }
 }
 
 impl Variables for BuiltVariables {

@@ -1,32 +1,32 @@
 // Entry points: functions that take and give what goes between stages, and call those of SPIR-V.
 
 use crate::body::Body;
-use crate::located::{Piece, Whole};
+use crate::located::{MAX_PIECES, Piece, Port, Whole, pieces_of, ports_of};
+use crate::shared::fail_in;
 use ir_arena::handle::{Handle, NonMaxU32};
 use ir_arena::span::Span;
 use ir_items::{
-    EntryPoint, Expression, Function, FunctionArgument, FunctionResult, Statement, StructMember,
-    TypeInner, key,
+    EntryPoint, Expression, Function, FunctionArgument, FunctionResult, IrType, Statement,
+    StructMember, TypeInner, key,
 };
 use ir_kinds::{Binding, ScalarKind, ShaderStage};
 use ir_types::clone_name;
-use spirv_bodies::{Subgroups, Words, Writing, keep_in, read_in, type_in};
+use spirv_bodies::{Subgroups, Writing, read_in, type_in};
 use spirv_declarations::{
-    GlobalHandle, Interface, Modes, Variable, Varying, decorated_size, modes_of, stage_of,
+    Declared, GlobalHandle, decorated_size, members_of, modes_of, scalar_kind, stage_of,
 };
-use spirv_expressions::Value;
-use spirv_flow::{FRAGMENT_PLACE, Order, SUBGROUP_NUMBERS};
+use spirv_expressions::{Emits, Value, Words, keep};
+use spirv_flow::{FRAGMENT_PLACE, SUBGROUP_NUMBERS};
 use spirv_numbers::numbers;
-use spirv_tables::{Decorated, SubgroupMask, with_default};
-use spirv_types::{TypeHandle, span_of};
-use spirv_words::{Feature, Instruction, Listing, Malformed, SpirvError, Unsupported, read_text};
+use spirv_tables::with_default;
+use spirv_types::{Reading, TypeHandle, Types, span_of};
+use spirv_words::{Failure, Feature, Instruction, Malformed, SpirvError, Unsupported, read_text};
 use std::alloc::Global;
 
 // An entry point that is being built.
 #[derive(Clone, Copy)]
-pub(crate) struct Entry<'a> {
+pub(crate) struct Entry {
     pub alloc: Global,
-    pub listing: &'a Listing,
     pub instruction: Instruction,
     pub stage: ShaderStage,
     pub span: Span,
@@ -52,37 +52,27 @@ struct Given {
 // The bytes of a struct that is only given (as naga's front end has it).
 const SPAN: u32 = 65535;
 
-/// All entry points, in order.
-pub fn lower_entries<I: Interface>(
-    alloc: Global,
-    listing: &Listing,
-    order: &Order,
-    declared: &mut I,
-) -> Result<Vec<EntryPoint>, SpirvError> {
-    let mut entries = Vec::new(alloc);
-    add_entries(alloc, listing, order, declared, &mut entries)?;
-    Ok(entries)
-}
+// How many parts of locations there may be for each variable, where some are shared.
+const PIECES_A_VARIABLE: usize = 16;
 
-// Adds them to a list.
-fn add_entries<I: Interface>(
-    alloc: Global,
-    listing: &Listing,
-    order: &Order,
-    declared: &mut I,
+/// Adds all entry points in order.
+pub fn lower_entries<T: Types>(
+    reading: &Reading,
+    declared: &mut Declared,
+    built: &mut T,
     entries: &mut Vec<EntryPoint>,
 ) -> Result<(), SpirvError> {
+    let listing = &reading.listing;
     let decorated = decorated_size(listing, declared)?;
     for place in &listing.parts.entry_points {
         let instruction = listing.at(*place);
         let entry = Entry {
-            alloc,
-            listing,
+            alloc: reading.alloc,
             instruction,
             stage: stage_of(listing, &instruction)?,
             span: span_of(&instruction),
         };
-        entries.push(entry.lower(order, declared, decorated)?)?;
+        entries.push(entry.lower(reading, declared, built, decorated)?)?;
     }
     if entries.is_empty() {
         Err(SpirvError::untranslated(Feature::NoEntryPoint, 0))
@@ -91,141 +81,141 @@ fn add_entries<I: Interface>(
     }
 }
 
-impl Entry<'_> {
+impl Entry {
     // The whole entry point.
-    fn lower<I: Interface>(
+    fn lower<T: Types>(
         &self,
-        order: &Order,
-        declared: &mut I,
+        reading: &Reading,
+        declared: &mut Declared,
+        built: &mut T,
         decorated: Option<[u32; 3]>,
     ) -> Result<EntryPoint, SpirvError> {
-        let id = self.listing.need(&self.instruction, 1)?;
-        let operands = self.listing.operands(&self.instruction);
-        let words = operands.get(2..).unwrap_or(&[]);
-        let modes = modes_of(self.listing, declared, id)?;
-        let Some(place) = order.place_of(id).and_then(NonMaxU32::new) else {
+        let listing = &reading.listing;
+        let id = listing.need(&self.instruction, 1)?;
+        let words = listing.operands_from(&self.instruction, 2);
+        let modes = modes_of(listing, declared, id)?;
+        let place = reading.flow.order.place_of(id).and_then(NonMaxU32::new);
+        let Some(place) = place else {
             return Err(self.instruction.malformed(Malformed::NoFunction));
         };
         let (name, taken) = read_text(self.alloc, words, self.instruction.start)?;
         let interface = words.get(taken..).unwrap_or(&[]);
-        let function = self.wrap(Handle::new(place), interface, declared, name.as_str())?;
+        let function = self.wrap(
+            reading,
+            Handle::new(place),
+            interface,
+            declared,
+            built,
+            name.as_str(),
+        )?;
         Ok(EntryPoint {
             name,
             stage: self.stage,
             early_depth_test: modes.early,
-            workgroup_size: self.size(&modes, decorated),
+            // the decorated constant counts before the mode
+            workgroup_size: match (self.stage, decorated) {
+                (ShaderStage::Compute, Some(size)) => size,
+                _ => modes.size,
+            },
             mesh_info: None,
             task_payload: None,
             function,
         })
     }
 
-    // The size of its workgroups: the decorated constant counts before the mode.
-    fn size(&self, modes: &Modes, decorated: Option<[u32; 3]>) -> [u32; 3] {
-        match (self.stage, decorated) {
-            (ShaderStage::Compute, Some(size)) => size,
-            _ => modes.size,
-        }
-    }
-
     // The function that stores what it is given, calls another, and returns what that has stored.
-    fn wrap<I: Interface>(
+    fn wrap<T: Types>(
         &self,
+        reading: &Reading,
         callee: Handle<key::Function>,
         interface: &[u32],
-        declared: &mut I,
+        declared: &Declared,
+        built: &mut T,
         name: &str,
     ) -> Result<Function, SpirvError> {
         let count = u64::try_from(interface.len()).unwrap_or(0);
-        let room = u64::try_from(self.listing.words.len()).unwrap_or(0);
+        let room = u64::try_from(reading.listing.words.len()).unwrap_or(0);
         let name = format!(in self.alloc; "{name}_wrap")?;
         let mut body = Body::new(self.alloc, count.saturating_add(room).saturating_mul(8));
-        let (arguments, result) = self.fill(callee, interface, declared, &mut body);
-        body.into_function(Some(name), arguments, result)
-    }
-
-    // Its statements; answers what it takes and gives.
-    fn fill<I: Interface, W: Writing>(
-        &self,
-        callee: Handle<key::Function>,
-        interface: &[u32],
-        declared: &mut I,
-        body: &mut W,
-    ) -> (Vec<FunctionArgument>, Option<FunctionResult>) {
         body.open();
-        let arguments = self.take_inputs(interface, declared, body);
+        let arguments = self.take_inputs(reading, interface, declared, built, &mut body);
         let call = Statement::Call {
             function: callee,
             arguments: Vec::new(self.alloc),
             result: None,
         };
         body.statement(call, self.span);
-        let mut given = Vec::new(self.alloc);
-        let mut members = self.find_outputs(interface, declared, body, &mut given);
-        let pieces = self.pieces(declared, body, interface, numbers::CLASS_OUTPUT);
-        self.find_shared(declared, body, &pieces, &mut given, &mut members);
-        let result = self.give(declared, body, &pieces, &given, members);
-        (arguments, result)
+        let result = self.give_outputs(reading, interface, declared, built, &mut body);
+        body.into_function(Some(name), arguments, result)
     }
 
-    // The variable with this id, if it goes between stages and is of this storage class.
-    pub(crate) fn varying<I: Interface>(
+    // The variables of this storage class, and the parts of locations that they are where they share some.
+    fn ports<T: Types, W: Writing>(
         &self,
-        declared: &I,
-        id: u32,
+        reading: &Reading,
+        declared: &Declared,
+        built: &T,
+        body: &mut W,
+        interface: &[u32],
         class: u32,
-    ) -> Option<(Variable, Varying)> {
-        let variable = declared.variable(id)?;
-        if variable.class == class {
-            Some((variable, variable.varying?))
-        } else {
-            None
-        }
+    ) -> (Vec<Port>, Vec<Piece>) {
+        let mut failed = Failure {
+            first: body.failure(),
+        };
+        let most = interface.len().saturating_mul(PIECES_A_VARIABLE);
+        let ports = ports_of(reading, declared, built, interface, class, &mut failed);
+        let pieces = pieces_of(
+            self.alloc,
+            &ports,
+            most.min(MAX_PIECES as usize),
+            &mut failed,
+        );
+        fail_in(body, &failed);
+        (ports, pieces)
     }
 
     // Takes the inputs as arguments, and stores each into its variable.
-    fn take_inputs<I: Interface, W: Writing>(
+    fn take_inputs<T: Types, W: Writing>(
         &self,
+        reading: &Reading,
         interface: &[u32],
-        declared: &mut I,
+        declared: &Declared,
+        built: &mut T,
         body: &mut W,
     ) -> Vec<FunctionArgument> {
         let mut arguments = Vec::new(self.alloc);
-        let pieces = self.pieces(declared, body, interface, numbers::CLASS_INPUT);
-        for id in interface {
+        let (ports, pieces) = self.ports(
+            reading,
+            declared,
+            built,
+            body,
+            interface,
+            numbers::CLASS_INPUT,
+        );
+        for port in &ports {
             if body.failure().is_some() {
                 break;
             }
-            let Some((variable, varying)) = self.varying(declared, *id, numbers::CLASS_INPUT) else {
-                continue;
-            };
-            if self.mask(*id).is_some() {
-                continue;
+            let is_part = !pieces.is_empty() && port.piece().is_some();
+            if port.mask.is_none() && !is_part {
+                let number = u32::try_from(arguments.len()).unwrap_or(u32::MAX);
+                let argument = self.argument(reading, body, port);
+                keep(body, &mut arguments, argument);
+                self.store_input(body, port, number);
             }
-            if !pieces.is_empty() && self.piece_of(declared, &variable, &varying).is_some() {
-                continue;
-            }
-            let number = u32::try_from(arguments.len()).unwrap_or(u32::MAX);
-            let argument = self.argument(declared, body, *id, &varying);
-            keep_in(body, &mut arguments, argument);
-            self.store_input(body, &variable, &varying, number);
         }
-        self.take_shared(declared, body, &pieces, &mut arguments);
-        self.take_subgroup(interface, declared, body, &mut arguments);
+        self.take_shared(&reading.listing, built, body, &pieces, &mut arguments);
+        self.take_subgroup(declared, built, body, &ports, &mut arguments);
         arguments
     }
 
-    // The mask of a subgroup's invocations that a variable is.
-    fn mask(&self, id: u32) -> Option<SubgroupMask> {
-        Decorated::of(self.listing, id, None).mask()
-    }
-
     // Stores what is computed of the number of the invocation in its subgroup and of the subgroup's size.
-    fn take_subgroup<I: Interface, W: Writing>(
+    fn take_subgroup<T: Types, W: Writing>(
         &self,
-        interface: &[u32],
-        declared: &mut I,
+        declared: &Declared,
+        built: &mut T,
         body: &mut W,
+        ports: &[Port],
         arguments: &mut Vec<FunctionArgument>,
     ) {
         let subgroups = Subgroups {
@@ -234,71 +224,69 @@ impl Entry<'_> {
                 span: self.span,
             },
         };
-        for id in interface {
+        for port in ports {
             if body.failure().is_some() {
                 break;
             }
-            let varying = self.varying(declared, *id, numbers::CLASS_INPUT);
-            if let (Some((variable, _)), Some(mask)) = (varying, self.mask(*id)) {
-                subgroups.store_mask(declared, body, arguments, &variable, mask);
+            if let Some(mask) = port.mask {
+                subgroups.store_mask(built, body, arguments, &port.variable, mask);
             }
         }
-        if let (Some(variable), ShaderStage::Fragment) = (
-            declared.variable(FRAGMENT_PLACE),
-            self.stage,
-        ) {
-            subgroups.store_place(declared, body, arguments, &variable);
+        let place = declared.variables.of(FRAGMENT_PLACE);
+        if let (Some(variable), ShaderStage::Fragment) = (place, self.stage) {
+            subgroups.store_place(built, body, arguments, &variable);
         }
-        let Some(variable) = declared.variable(SUBGROUP_NUMBERS) else {
+        let Some(variable) = declared.variables.of(SUBGROUP_NUMBERS) else {
             return;
         };
         if self.stage == ShaderStage::Vertex {
-            let number = numbers::BUILT_IN_SUBGROUP_LOCAL_INVOCATION_ID;
-            let what = Unsupported::BuiltIn(number);
+            let what = Unsupported::BuiltIn(numbers::BUILT_IN_SUBGROUP_LOCAL_INVOCATION_ID);
             body.fail(self.instruction.unsupported_as(what));
         }
-        subgroups.store_numbers(declared, body, arguments, &variable);
+        subgroups.store_numbers(built, body, arguments, &variable);
     }
 
     // What an input is taken as.
-    fn argument<I: Interface, W: Writing>(
+    fn argument<W: Writing>(
         &self,
-        declared: &I,
+        reading: &Reading,
         body: &mut W,
-        id: u32,
-        varying: &Varying,
+        port: &Port,
     ) -> FunctionArgument {
-        let binding = if self.stage == ShaderStage::Fragment {
-            with_default(varying.binding, declared.scalar_kind(varying.ty))
-        } else {
-            varying.binding
-        };
-        let name = self.listing.name(self.alloc, id, None);
+        let name = reading.listing.name(self.alloc, port.variable.id, None);
         FunctionArgument {
             name: read_in(body, name),
-            ty: varying.ty,
-            binding,
+            ty: port.varying.ty,
+            binding: self.bound(ShaderStage::Fragment, port.varying.binding, port.kind),
+        }
+    }
+
+    // A binding of scalars of this kind; with its interpolation in this stage.
+    pub(crate) fn bound(
+        &self,
+        stage: ShaderStage,
+        binding: Option<Binding>,
+        kind: Option<ScalarKind>,
+    ) -> Option<Binding> {
+        if self.stage == stage {
+            with_default(binding, kind)
+        } else {
+            binding
         }
     }
 
     // Stores an argument; one that is signed in SPIR-V alone is converted.
-    fn store_input<W: Writing>(
-        &self,
-        body: &mut W,
-        variable: &Variable,
-        varying: &Varying,
-        number: u32,
-    ) {
+    fn store_input<W: Writing>(&self, body: &mut W, port: &Port, number: u32) {
         let mut value = body.place(Expression::FunctionArgument(number), self.span);
-        if varying.ty != variable.built {
+        if port.varying.ty != port.variable.built {
             let signed = Expression::As {
                 expr: value,
                 kind: ScalarKind::Sint,
                 convert: Some(4),
             };
-            value = body.emit(signed, self.span);
+            value = body.compute(signed, self.span);
         }
-        let pointer = self.global(body, variable.handle);
+        let pointer = self.global(body, port.variable.handle);
         body.statement(Statement::Store { pointer, value }, self.span);
     }
 
@@ -306,63 +294,80 @@ impl Entry<'_> {
         body.place(Expression::GlobalVariable(handle), self.span)
     }
 
-    // What the outputs give; answers the members that they are in a struct of all.
-    fn find_outputs<I: Interface, W: Writing>(
+    // Returns what the outputs give.
+    fn give_outputs<T: Types, W: Writing>(
         &self,
+        reading: &Reading,
         interface: &[u32],
-        declared: &I,
+        declared: &Declared,
+        built: &mut T,
         body: &mut W,
-        given: &mut Vec<Given>,
-    ) -> Vec<StructMember> {
+    ) -> Option<FunctionResult> {
+        let (ports, pieces) = self.ports(
+            reading,
+            declared,
+            built,
+            body,
+            interface,
+            numbers::CLASS_OUTPUT,
+        );
+        let mut given = Vec::new(self.alloc);
         let mut members = Vec::new(self.alloc);
-        let shares = self.shares(declared, interface, numbers::CLASS_OUTPUT);
-        for id in interface {
+        for port in &ports {
             if body.failure().is_some() {
                 break;
             }
-            let Some((variable, varying)) = self.varying(declared, *id, numbers::CLASS_OUTPUT)
-            else {
-                continue;
-            };
-            if shares && self.piece_of(declared, &variable, &varying).is_some() {
-                continue;
-            }
-            let pointer = self.global(body, variable.handle);
-            if varying.binding.is_some() {
-                let binding = self.bound(declared, varying.binding, variable.built);
-                add_given(body, given, From::Pointer(pointer), variable.built, binding);
-                let part = member(None, variable.built, binding, 0);
-                keep_in(body, &mut members, part);
-            } else {
-                let parts = declared.members(variable.built);
-                self.find_members(declared, body, pointer, parts, given, &mut members);
+            if pieces.is_empty() || port.piece().is_none() {
+                self.find_output(built, body, port, &mut given, &mut members);
             }
         }
-        members
+        self.find_shared(built, body, &pieces, &mut given, &mut members);
+        self.give(built, body, &pieces, &given, members)
+    }
+
+    // What an output gives, with the members that it is in a struct of all.
+    fn find_output<T: Types, W: Writing>(
+        &self,
+        built: &T,
+        body: &mut W,
+        port: &Port,
+        given: &mut Vec<Given>,
+        members: &mut Vec<StructMember>,
+    ) {
+        let ty = port.variable.built;
+        let pointer = self.global(body, port.variable.handle);
+        if port.varying.binding.is_none() {
+            self.find_members(built, body, pointer, members_of(built, ty), given, members);
+            return;
+        }
+        let binding = self.bound(ShaderStage::Vertex, port.varying.binding, port.kind);
+        let from = From::Pointer(pointer);
+        keep(body, given, Given { from, ty, binding });
+        keep(body, members, member(None, ty, binding, 0));
     }
 
     // The locations that outputs share.
-    fn find_shared<I: Interface, W: Writing>(
+    fn find_shared<T: Types, W: Writing>(
         &self,
-        declared: &mut I,
+        built: &mut T,
         body: &mut W,
         pieces: &[Piece],
         given: &mut Vec<Given>,
         members: &mut Vec<StructMember>,
     ) {
-        let wholes = self.wholes(body, pieces);
-        for whole in &wholes {
-            let ty = self.whole_type(declared, body, whole);
+        for whole in &self.wholes(body, pieces) {
+            let ty = self.whole_type(built, body, whole);
             let binding = self.whole_binding(whole, ShaderStage::Vertex);
-            add_given(body, given, From::Location(*whole), ty, binding);
-            keep_in(body, members, member(None, ty, binding, 0));
+            let from = From::Location(*whole);
+            keep(body, given, Given { from, ty, binding });
+            keep(body, members, member(None, ty, binding, 0));
         }
     }
 
     // What the bound members of a struct give.
-    fn find_members<I: Interface, W: Writing>(
+    fn find_members<T: Types, W: Writing>(
         &self,
-        declared: &I,
+        built: &T,
         body: &mut W,
         base: Value,
         parts: &[StructMember],
@@ -372,9 +377,12 @@ impl Entry<'_> {
         let mut index = 0u32;
         for part in parts {
             if part.binding.is_some() {
-                let pointer = body.emit(Expression::AccessIndex { base, index }, self.span);
-                let binding = self.bound(declared, part.binding, part.ty);
-                add_given(body, given, From::Pointer(pointer), part.ty, binding);
+                let ty = part.ty;
+                let pointer = body.compute(Expression::AccessIndex { base, index }, self.span);
+                let kind = scalar_kind(built.inner(ty));
+                let binding = self.bound(ShaderStage::Vertex, part.binding, kind);
+                let from = From::Pointer(pointer);
+                keep(body, given, Given { from, ty, binding });
                 let name = match clone_name(self.alloc, &part.name) {
                     Ok(name) => name,
                     Err(_) => {
@@ -382,30 +390,16 @@ impl Entry<'_> {
                         None
                     }
                 };
-                keep_in(body, members, member(name, part.ty, binding, part.offset));
+                keep(body, members, member(name, ty, binding, part.offset));
             }
             index = index.saturating_add(1);
         }
     }
 
-    // The binding of an output; of a vertex stage with its interpolation.
-    fn bound<I: Interface>(
-        &self,
-        declared: &I,
-        binding: Option<Binding>,
-        ty: TypeHandle,
-    ) -> Option<Binding> {
-        if self.stage == ShaderStage::Vertex {
-            with_default(binding, declared.scalar_kind(ty))
-        } else {
-            binding
-        }
-    }
-
     // Returns what is given: one value as it is, several as a struct.
-    fn give<I: Interface, W: Writing>(
+    fn give<T: Types, W: Writing>(
         &self,
-        declared: &mut I,
+        built: &mut T,
         body: &mut W,
         pieces: &[Piece],
         given: &[Given],
@@ -415,10 +409,10 @@ impl Entry<'_> {
         let mut components = Vec::new(self.alloc);
         for each in given {
             let value = match each.from {
-                From::Pointer(pointer) => body.emit(Expression::Load { pointer }, self.span),
+                From::Pointer(pointer) => body.compute(Expression::Load { pointer }, self.span),
                 From::Location(whole) => self.give_whole(body, pieces, &whole, each.ty),
             };
-            keep_in(body, &mut components, value);
+            keep(body, &mut components, value);
         }
         let (result, value) = match components.as_slice() {
             [value] => (
@@ -433,27 +427,15 @@ impl Entry<'_> {
                     members,
                     span: SPAN,
                 };
-                let made = declared.insert(inner, self.span);
+                let made = built.insert(IrType { name: None, inner }, self.span);
                 let ty = type_in(body, made);
-                let whole = body.emit(Expression::Compose { ty, components }, self.span);
+                let whole = body.compute(Expression::Compose { ty, components }, self.span);
                 (FunctionResult { ty, binding: None }, whole)
             }
         };
         body.statement(Statement::Return { value: Some(value) }, self.span);
         Some(result)
     }
-}
-
-// One more that an entry point gives.
-fn add_given<W: Writing>(
-    body: &mut W,
-    given: &mut Vec<Given>,
-    from: From,
-    ty: TypeHandle,
-    binding: Option<Binding>,
-) {
-    let one = Given { from, ty, binding };
-    keep_in(body, given, one);
 }
 
 // A member of the struct that is given.

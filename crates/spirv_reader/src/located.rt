@@ -1,10 +1,79 @@
-// Locations that variables share, each with some of the components.
+// The variables that an entry point takes and gives, and the locations that they share, each with some of the components.
 
 use ir_kinds::{
     Binding, Interpolation, Sampling, Scalar, ScalarKind, SwizzleComponent, VectorSize,
 };
-use spirv_declarations::{GlobalHandle, Located, Variable, Varying};
-use std::alloc::{AllocError, Global};
+use spirv_declarations::{
+    Declared, GlobalHandle, Located, Variable, Varying, located_type, scalar_kind,
+};
+use spirv_numbers::numbers;
+use spirv_tables::{Decorated, SubgroupMask};
+use spirv_types::{Reading, Types};
+use spirv_words::{Failure, SpirvError, Unsupported};
+use std::alloc::Global;
+
+/// A variable that an entry point takes or gives.
+#[derive(Clone, Copy)]
+pub struct Port {
+    /// The variable.
+    pub variable: Variable,
+    /// What goes between stages by it.
+    pub varying: Varying,
+    /// The kind of its scalars, as it is taken or given.
+    pub kind: Option<ScalarKind>,
+    /// The mask of a subgroup's invocations that it is.
+    pub mask: Option<SubgroupMask>,
+    // what it is, of a number or a vector, or an array of those
+    located: Option<Located>,
+    // the first word of its instruction
+    word: u32,
+}
+
+/// The variables of this storage class among those of an entry point, in order.
+pub fn ports_of<T: Types>(
+    reading: &Reading,
+    declared: &Declared,
+    built: &T,
+    interface: &[u32],
+    class: u32,
+    failed: &mut Failure,
+) -> Vec<Port> {
+    let mut ports = Vec::new(reading.alloc);
+    for id in interface {
+        if let Some(port) = port_of(reading, declared, built, *id, class) {
+            failed.push(&mut ports, port);
+        }
+    }
+    ports
+}
+
+// The variable with this id, if it goes between stages and is of this storage class.
+fn port_of<T: Types>(
+    reading: &Reading,
+    declared: &Declared,
+    built: &T,
+    id: u32,
+    class: u32,
+) -> Option<Port> {
+    let variable = declared.variables.of(id)?;
+    let varying = variable.varying?;
+    let ty = if class == numbers::CLASS_INPUT {
+        varying.ty
+    } else {
+        variable.built
+    };
+    if variable.class != class {
+        return None;
+    }
+    Some(Port {
+        variable,
+        varying,
+        kind: scalar_kind(built.inner(ty)),
+        mask: Decorated::of(&reading.listing, id, None).mask(),
+        located: located_type(built, varying.ty),
+        word: reading.listing.defined(id).start,
+    })
+}
 
 /// A location, with the source of a blend.
 #[derive(Clone, Copy, PartialEq, Eq)]
@@ -32,6 +101,8 @@ pub struct Piece {
     pub sampling: Option<Sampling>,
     /// The id of the variable.
     pub id: u32,
+    // the first word of its instruction
+    word: u32,
     /// The variable.
     pub variable: GlobalHandle,
     /// Which element of it.
@@ -67,46 +138,103 @@ impl Piece {
     }
 }
 
-/// The part of a location that a variable begins with, if it is at one and has parts.
-pub fn first_piece(variable: &Variable, varying: &Varying, located: &Located) -> Option<Piece> {
-    let Some(
-        Binding::Location {
-            location,
+impl Port {
+    /// The part of a location that it begins with, if it is at one and has parts.
+    pub fn piece(&self) -> Option<Piece> {
+        let located = self.located?;
+        let Some(
+            Binding::Location {
+                location,
+                interpolation,
+                sampling,
+                blend_src,
+                per_primitive: false,
+            },
+        ) = self.varying.binding
+        else {
+            return None;
+        };
+        let blend = match blend_src {
+            Some(blend) => blend.saturating_add(1),
+            None => 0,
+        };
+        // a number of 64 bits has two components
+        if located.scalar.width == 8 || blend > MAX_BLEND {
+            return None;
+        }
+        Some(Piece {
+            place: Place { location, blend },
+            component: self.varying.component.unwrap_or(0),
+            size: located.size,
+            scalar: located.scalar,
             interpolation,
             sampling,
-            blend_src,
-            per_primitive: false,
-        },
-    ) = varying.binding
-    else {
-        return None;
-    };
-    let blend = match blend_src {
-        Some(blend) => blend.saturating_add(1),
-        None => 0,
-    };
-    // a number of 64 bits has two components
-    if located.scalar.width == 8 || blend > MAX_BLEND {
-        return None;
+            id: self.variable.id,
+            word: self.word,
+            variable: self.variable.handle,
+            element: None,
+        })
     }
-    Some(Piece {
-        place: Place { location, blend },
-        component: varying.component.unwrap_or(0),
-        size: located.size,
-        scalar: located.scalar,
-        interpolation,
-        sampling,
-        id: variable.id,
-        variable: variable.handle,
-        element: None,
-    })
+
+    // Adds the part of a location that it is, or one for each element; at most so many in all.
+    fn add_pieces(&self, most: usize, pieces: &mut Vec<Piece>, failed: &mut Failure) {
+        let Some(first) = self.piece() else {
+            if self.varying.component.is_some() {
+                failed.fail(refusal(self.word));
+            }
+            return;
+        };
+        let count = match self.located {
+            Some(located) => located.count,
+            None => None,
+        };
+        for element in 0..count.unwrap_or(1) {
+            if failed.first.is_some() {
+                break;
+            }
+            let mut piece = first;
+            if count.is_some() {
+                piece.element = Some(element);
+            }
+            piece.place.location = first.place.location.saturating_add(element);
+            if pieces.len() < most {
+                failed.push(pieces, piece);
+            } else {
+                failed.fail(refusal(self.word));
+            }
+        }
+    }
+}
+
+// Why the parts of a location are not translated, of the variable whose instruction begins at this word.
+fn refusal(word: u32) -> SpirvError {
+    let what = Unsupported::Decoration(numbers::DECORATION_COMPONENT);
+    SpirvError::unsupported(what, word)
+}
+
+/// The parts of locations that these are, at most so many, in order; none where they share no location.
+pub fn pieces_of(alloc: Global, ports: &[Port], most: usize, failed: &mut Failure) -> Vec<Piece> {
+    let mut pieces = Vec::new(alloc);
+    let mut shares = false;
+    for port in ports {
+        shares |= port.varying.component.is_some();
+    }
+    if !shares {
+        return pieces;
+    }
+    for port in ports {
+        if failed.first.is_none() {
+            port.add_pieces(most, &mut pieces, failed);
+        }
+    }
+    in_order(alloc, &pieces, failed)
 }
 
 // The last source of a blend, and one.
 const MAX_BLEND: u32 = 3;
 
-// How many parts there may be.
-const MAX_PIECES: u64 = 65536;
+/// How many parts of locations an entry point may take or give that shares some.
+pub const MAX_PIECES: u64 = 65536;
 
 // Where a part stands among all: by location, source and component, and then by its number.
 fn key_of(piece: &Piece, number: u64) -> u64 {
@@ -120,22 +248,22 @@ fn key_of(piece: &Piece, number: u64) -> u64 {
         .saturating_add(number % MAX_PIECES)
 }
 
-/// The parts in the order of their locations and components.
-pub fn in_order(alloc: Global, pieces: &[Piece]) -> Result<Vec<Piece>, AllocError> {
-    let mut keys = Vec::with_capacity(alloc, pieces.len())?;
+// The parts in the order of their locations and components.
+fn in_order(alloc: Global, pieces: &[Piece], failed: &mut Failure) -> Vec<Piece> {
+    let mut keys = failed.list(alloc, pieces.len());
     let mut number = 0u64;
     for piece in pieces {
-        keys.push(key_of(piece, number))?;
+        failed.push(&mut keys, key_of(piece, number));
         number = number.saturating_add(1);
     }
     keys.sort_unstable();
-    let mut sorted = Vec::with_capacity(alloc, pieces.len())?;
+    let mut sorted = failed.list(alloc, pieces.len());
     for key in &keys {
         if let Some(piece) = pieces.get((*key % MAX_PIECES) as usize) {
-            sorted.push(*piece)?;
+            failed.push(&mut sorted, *piece);
         }
     }
-    Ok(sorted)
+    sorted
 }
 
 /// A location that is taken or given whole.
@@ -155,9 +283,27 @@ pub struct Whole {
     taken: [bool; 4],
 }
 
+/// The locations that these are parts of, in order.
+pub fn wholes_of(alloc: Global, pieces: &[Piece], failed: &mut Failure) -> Vec<Whole> {
+    let mut wholes = Vec::new(alloc);
+    let mut at = 0usize;
+    for _ in 0..pieces.len() {
+        let Some(first) = pieces.get(at) else {
+            break;
+        };
+        let (whole, is_whole) = Whole::at(pieces, at, first);
+        if !is_whole {
+            failed.fail(refusal(first.word));
+        }
+        at = whole.end;
+        failed.push(&mut wholes, whole);
+    }
+    wholes
+}
+
 impl Whole {
-    /// The location of the part at this place, and whether its parts are alike and no two have the same component.
-    pub fn at(pieces: &[Piece], start: usize, first: &Piece) -> (Whole, bool) {
+    // The location of the part at this place, and whether its parts are alike and no two have the same component.
+    fn at(pieces: &[Piece], start: usize, first: &Piece) -> (Whole, bool) {
         let mut whole = Whole {
             start,
             end: start,
@@ -175,6 +321,11 @@ impl Whole {
             whole.end = whole.end.saturating_add(1);
         }
         (whole, is_whole)
+    }
+
+    /// Why it is not translated where it is not.
+    pub fn refusal(&self) -> SpirvError {
+        refusal(self.first.word)
     }
 
     /// Its parts, out of all in order.

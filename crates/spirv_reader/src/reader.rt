@@ -8,14 +8,15 @@ use crate::entries::lower_entries;
 use document_reader::Document;
 use ir_arena::arena::Arena;
 use ir_flags::{Settings, ShaderStages, SubgroupOperationSet, ValidationFlags};
-use ir_items::{EntryPoint, Function, Module, SpecialTypes, key};
+use ir_items::{EntryPoint, Module, SpecialTypes};
 use ir_sets::keyed::KeyedState;
-use spirv_bodies::{Special, Writing, lower_functions};
-use spirv_declarations::{Declarations, Interface, Tables, declare};
-use spirv_flow::{Flow, Order, flow_of};
-use spirv_functions::Source;
+use ir_sets::unique_arena::UniqueArena;
+use spirv_bodies::{Lowered, Writing, lower_functions};
+use spirv_declarations::{Declared, declare};
+use spirv_flow::flow_of;
 use spirv_tables::Demands;
-use spirv_words::{Listing, SpirvError, list};
+use spirv_types::Reading;
+use spirv_words::{SpirvError, list};
 use std::alloc::Global;
 
 /// The module that the bytes of SPIR-V say, with the settings that it is to be judged by: all checks, the capabilities that
@@ -25,61 +26,87 @@ pub fn read_spirv(alloc: Global, bytes: &[u8]) -> Result<Document, SpirvError>
     ensures { IfOk result (λ d. MakesSixChecks d.settings.flags) }
 {
     let listing = list(alloc, bytes)?;
-    read_listing(alloc, &listing, KeyedState::of_bytes(bytes))
+    let flow = flow_of(alloc, &listing)?;
+    let reading = Reading::of(alloc, listing, flow)?;
+    read_module(reading, KeyedState::of_bytes(bytes))
 }
 
 // The same of a module whose words are sorted out.
-fn read_listing(alloc: Global, listing: &Listing, key: KeyedState) -> Result<Document, SpirvError>
+fn read_module(reading: Reading, key: KeyedState) -> Result<Document, SpirvError>
     ensures { IfOk result (λ d. MakesSixChecks d.settings.flags) }
 {
-    let flow = flow_of(alloc, listing)?;
-    let declared = declare(
-        alloc,
-        listing,
-        &flow.uses,
-        BuiltTypes::new(alloc, key),
-        BuiltConstants::new(alloc),
-        BuiltVariables::new(alloc),
+    let alloc = reading.alloc;
+    let words = u64::try_from(reading.listing.words.len()).unwrap_or(0);
+    let (declared, types, constants, variables) = declare(
+        &reading,
+        BuiltTypes {
+            arena: UniqueArena::with_hasher(alloc, key),
+        },
+        BuiltConstants {
+            constants: Arena::new(alloc),
+            overrides: Arena::new(alloc),
+            expressions: Arena::new(alloc),
+        },
+        BuiltVariables {
+            arena: Arena::new(alloc),
+        },
     )?;
-    let words = u64::try_from(listing.words.len()).unwrap_or(0);
     let body = Body::new(alloc, words.saturating_mul(64).saturating_add(1024));
-    match read_functions(alloc, listing, &flow, declared, body) {
-        Ok((declared, body, special, entries)) => {
-            Ok(document_of(alloc, declared, special, body.into_functions(), entries))
-        }
+    match read_functions(reading, declared, types, body) {
+        Ok(read) => Ok(document_of(alloc, read, constants, variables)),
         Err(error) => Err(error),
     }
 }
 
-// What a module declares, its functions, the structs that their expressions give, and its entry points.
-fn read_functions<D: Tables + Interface, W: Writing>(
-    alloc: Global,
-    listing: &Listing,
-    flow: &Flow,
-    declared: D,
-    body: W,
-) -> Result<(D, W, SpecialTypes, Vec<EntryPoint>), SpirvError> {
-    let source = Source { listing, flow };
-    let (declared, body, special) = lower_functions(alloc, source, declared, body)?;
-    with_entries(alloc, listing, &flow.order, declared, body, &special)
+// What was read of a module beside its constants and variables.
+#[derive(Drop)]
+struct Read {
+    demands: Demands,
+    types: BuiltTypes,
+    body: Body,
+    special: SpecialTypes,
+    entries: Vec<EntryPoint>,
 }
 
-// The structs that expressions give, and the entry points, beside what was read before.
-fn with_entries<I: Interface, R: Drop>(
+// The structs that the expressions of functions give, where nothing was wrong with these.
+fn special_of(
     alloc: Global,
-    listing: &Listing,
-    order: &Order,
-    declared: I,
-    rest: R,
-    special: &[Special],
-) -> Result<(I, R, SpecialTypes, Vec<EntryPoint>), SpirvError> {
-    let mut declared = declared;
-    let mut special_types = SpecialTypes::new(alloc);
-    for each in special {
-        let _ = special_types.predeclared_types.insert(each.of, each.ty)?;
+    lowered: &Lowered<BuiltTypes, Body>,
+) -> Result<SpecialTypes, SpirvError> {
+    if let Some(error) = lowered.body.failure() {
+        return Err(error);
     }
-    let entry_points = lower_entries(alloc, listing, order, &mut declared)?;
-    Ok((declared, rest, special_types, entry_points))
+    let mut special = SpecialTypes::new(alloc);
+    for each in &lowered.special {
+        let _ = special.predeclared_types.insert(each.of, each.ty)?;
+    }
+    Ok(special)
+}
+
+// What a module declares, its functions, the structs that their expressions give, and its entry points.
+fn read_functions(
+    reading: Reading,
+    declared: Declared,
+    types: BuiltTypes,
+    body: Body,
+) -> Result<Read, SpirvError> {
+    let alloc = reading.alloc;
+    let mut lowered = lower_functions(reading, declared, types, body);
+    let special = special_of(alloc, &lowered)?;
+    let mut entries = Vec::new(alloc);
+    lower_entries(
+        &lowered.reading,
+        &mut lowered.declared,
+        &mut lowered.built,
+        &mut entries,
+    )?;
+    Ok(Read {
+        demands: lowered.declared.demands,
+        types: lowered.built,
+        body: lowered.body,
+        special,
+        entries,
+    })
 }
 
 // The settings of a module with these demands.
@@ -102,34 +129,26 @@ fn settings_of(demands: &Demands) -> Settings
 // The document of a module with these parts.
 fn document_of(
     alloc: Global,
-    declared: Declarations<BuiltTypes, BuiltConstants, BuiltVariables>,
-    special_types: SpecialTypes,
-    functions: Arena<Function, key::Function>,
-    entry_points: Vec<EntryPoint>,
+    read: Read,
+    constants: BuiltConstants,
+    variables: BuiltVariables,
 ) -> Document
     ensures { MakesSixChecks result.settings.flags }
 {
-    let settings = settings_of(&declared.demands);
-    let Declarations {
-        types,
-        constants,
-        variables,
-        demands: _,
-    } = declared;
     let module = Module {
-        types: types.types.arena,
-        special_types,
-        constants: constants.built.constants,
-        overrides: constants.built.overrides,
-        global_variables: variables.built.arena,
-        global_expressions: constants.built.expressions,
-        functions,
-        entry_points,
+        types: read.types.arena,
+        special_types: read.special,
+        constants: constants.constants,
+        overrides: constants.overrides,
+        global_variables: variables.arena,
+        global_expressions: constants.expressions,
+        functions: read.body.into_functions(),
+        entry_points: read.entries,
         diagnostic_filters: Arena::new(alloc),
         diagnostic_filter_leaf: None,
     };
     Document {
-        settings,
+        settings: settings_of(&read.demands),
         returns: true,
         module,
     }

@@ -1,7 +1,9 @@
 // The blocks of functions (section 2.2.5).
 
 use spirv_numbers::ops;
-use spirv_words::{Failure, FunctionParts, Instruction, Listing, Malformed, as_word, number_at};
+use spirv_words::{
+    Failure, FunctionParts, Instruction, Listing, Malformed, as_word, number_at, set_number,
+};
 use std::alloc::Global;
 
 /// A block, by the places of its instructions.
@@ -15,6 +17,16 @@ pub struct Block {
     pub merge: Option<u32>,
     /// The instruction that ends it.
     pub end: u32,
+}
+
+impl Block {
+    /// No block.
+    pub const NONE: Block = Block {
+        label: 0,
+        first: 0,
+        merge: None,
+        end: 0,
+    };
 }
 
 /// A function, with its blocks by their numbers.
@@ -39,36 +51,17 @@ pub struct Blocks {
     labelled: Vec<u32>,
 }
 
-/// What ends a block.
-pub fn is_end(opcode: u16) -> bool {
-    matches!(
-        opcode,
-        ops::BRANCH
-            | ops::BRANCH_CONDITIONAL
-            | ops::SWITCH
-            | ops::KILL
-            | ops::RETURN
-            | ops::RETURN_VALUE
-            | ops::UNREACHABLE
-            | ops::TERMINATE_INVOCATION
-    )
-}
-
-// What may stand between blocks.
-fn is_aside(opcode: u16) -> bool {
-    matches!(
-        opcode,
-        ops::NOP | ops::LINE | ops::NO_LINE | ops::FUNCTION_PARAMETER
-    )
-}
-
-// A block that has begun.
-#[derive(Clone, Copy)]
-struct Open {
-    label: u32,
-    first: u32,
-    merge: Option<u32>,
-}
+// What ends a block.
+static ENDS: [u16; 8] = [
+    ops::BRANCH,
+    ops::BRANCH_CONDITIONAL,
+    ops::SWITCH,
+    ops::KILL,
+    ops::RETURN,
+    ops::RETURN_VALUE,
+    ops::UNREACHABLE,
+    ops::TERMINATE_INVOCATION,
+];
 
 impl Blocks {
     /// The blocks of all functions.
@@ -80,72 +73,62 @@ impl Blocks {
             labelled,
         };
         for parts in &listing.parts.functions {
-            all.add_function(listing, *parts, failed);
+            let first = as_word(all.blocks.len());
+            let mut open = None;
+            for place in parts.start.saturating_add(1)..parts.end {
+                open = all.take(open, &listing.at(place), place, failed);
+            }
+            if open.is_some() {
+                failed.fail(listing.at(parts.end).malformed(Malformed::OpenBlock));
+            }
+            let function = FunctionBlocks {
+                parts: *parts,
+                first,
+                end: as_word(all.blocks.len()),
+            };
+            failed.push(&mut all.functions, function);
         }
         all
     }
 
-    // The number of the next block.
-    fn next(&self) -> u32 {
-        as_word(self.blocks.len())
-    }
-
-    fn add_function(&mut self, listing: &Listing, parts: FunctionParts, failed: &mut Failure) {
-        let first = self.next();
-        let mut open = None;
-        for place in parts.start.saturating_add(1)..parts.end {
-            let instruction = listing.at(place);
-            open = match open {
-                Some(block) => self.take(block, &instruction, place, failed),
-                None => begin(&instruction, place, failed),
-            };
-        }
-        if open.is_some() {
-            failed.fail(listing.at(parts.end).malformed(Malformed::OpenBlock));
-        }
-        let end = self.next();
-        failed.push(&mut self.functions, FunctionBlocks { parts, first, end });
-    }
-
-    // Takes one more instruction to a block, which ends it or not.
+    // Takes one more instruction, inside of the block that is open or outside of blocks. Answers the block that is open
+    // after it.
     fn take(
         &mut self,
-        open: Open,
+        open: Option<Block>,
         instruction: &Instruction,
         place: u32,
         failed: &mut Failure,
-    ) -> Option<Open> {
-        match instruction.opcode {
-            ops::SELECTION_MERGE | ops::LOOP_MERGE => Some(Open {
-                label: open.label,
-                first: open.first,
-                merge: Some(place),
-            }),
-            ops::LABEL => {
-                failed.fail(instruction.malformed(Malformed::OpenBlock));
-                None
-            }
-            opcode if is_end(opcode) => {
-                self.add_block(&open, place, failed);
-                None
-            }
-            _ => Some(open),
-        }
-    }
-
-    // Ends a block with the instruction at this place.
-    fn add_block(&mut self, open: &Open, end: u32, failed: &mut Failure) {
-        let number = self.next().saturating_add(1);
-        if let Some(at) = self.labelled.get_mut(open.label as usize) {
-            *at = number;
-        }
-        let block = Block {
-            label: open.label,
-            first: open.first,
-            merge: open.merge,
-            end,
+    ) -> Option<Block> {
+        let what = match open {
+            None => match instruction.opcode {
+                ops::NOP | ops::LINE | ops::NO_LINE | ops::FUNCTION_PARAMETER => return None,
+                ops::LABEL => {
+                    let mut begun = Block::NONE;
+                    begun.label = instruction.id;
+                    begun.first = place.saturating_add(1);
+                    return Some(begun);
+                }
+                _ => Malformed::Misplaced,
+            },
+            Some(mut block) => match instruction.opcode {
+                ops::LABEL => Malformed::OpenBlock,
+                ops::SELECTION_MERGE | ops::LOOP_MERGE => {
+                    block.merge = Some(place);
+                    return Some(block);
+                }
+                opcode if ENDS.contains(&opcode) => {
+                    block.end = place;
+                    failed.push(&mut self.blocks, block);
+                    let number = as_word(self.blocks.len());
+                    set_number(&mut self.labelled, block.label, number);
+                    return None;
+                }
+                _ => return open,
+            },
         };
-        failed.push(&mut self.blocks, block);
+        failed.fail(instruction.malformed(what));
+        None
     }
 
     /// The number of the block with this label, if it is one of the function's.
@@ -158,24 +141,6 @@ impl Blocks {
 
     /// The block with this number.
     pub fn get(&self, number: u32) -> Option<Block> {
-        match self.blocks.get(number as usize) {
-            Some(block) => Some(*block),
-            None => None,
-        }
+        self.blocks.get(number as usize).copied()
     }
-}
-
-// What an instruction outside of blocks begins.
-fn begin(instruction: &Instruction, place: u32, failed: &mut Failure) -> Option<Open> {
-    if instruction.opcode == ops::LABEL {
-        return Some(Open {
-            label: instruction.id,
-            first: place.saturating_add(1),
-            merge: None,
-        });
-    }
-    if !is_aside(instruction.opcode) {
-        failed.fail(instruction.malformed(Malformed::Misplaced));
-    }
-    None
 }

@@ -11,5 +11,5 @@ mod walk;
 
 pub use blocks::{Block, Blocks, FunctionBlocks};
 pub use scopes::Scopes;
-pub use steps::{BreakIf, Case, CaseBody, Choice, Step};
-pub use walk::{Steps, Walk};
+pub use steps::{BreakIf, Case, CaseBody, Choice, FunctionSteps, Step};
+pub use walk::{Steps, steps_of};

@@ -1,17 +1,25 @@
 // Where a value is in scope.
 
-use spirv_words::{Failure, as_word, number_at};
+use spirv_words::{Failure, as_word, number_at, set_number};
 use std::alloc::Global;
+
+// A scope.
+#[derive(Clone, Copy)]
+struct Scope {
+    // the number after the last one inside it
+    end: u32,
+    // the one around it and one, or 0
+    outer: u32,
+}
 
 /// The scopes of all functions, numbered as they are opened, so that those inside a scope have the numbers after its own.
 #[derive(Drop)]
 pub struct Scopes {
-    // for each scope the number after the last one inside it
-    ends: Vec<u32>,
+    scopes: Vec<Scope>,
     // for each block its scope and one, or 0
     of_block: Vec<u32>,
-    // those that are open
-    open: Vec<u32>,
+    // the innermost that is open and one, or 0
+    innermost: u32,
 }
 
 impl Scopes {
@@ -19,38 +27,35 @@ impl Scopes {
     pub fn new(alloc: Global, blocks: usize, failed: &mut Failure) -> Scopes {
         let of_block = failed.table(alloc, 0u32, blocks);
         Scopes {
-            ends: Vec::new(alloc),
+            scopes: Vec::new(alloc),
             of_block,
-            open: Vec::new(alloc),
+            innermost: 0,
         }
     }
 
     /// Opens one inside the innermost that is open.
     pub fn open(&mut self, failed: &mut Failure) {
-        let number = as_word(self.ends.len());
-        failed.push(&mut self.ends, u32::MAX);
-        failed.push(&mut self.open, number);
+        let scope = Scope {
+            end: u32::MAX,
+            outer: self.innermost,
+        };
+        failed.push(&mut self.scopes, scope);
+        self.innermost = as_word(self.scopes.len());
     }
 
     /// Closes the innermost.
     pub fn close(&mut self) {
-        let next = as_word(self.ends.len());
-        if let Some(number) = self.open.pop() {
-            if let Some(end) = self.ends.get_mut(number as usize) {
-                *end = next;
-            }
+        let end = as_word(self.scopes.len());
+        let innermost = self.innermost.saturating_sub(1);
+        if let Some(scope) = self.scopes.get_mut(innermost as usize) {
+            scope.end = end;
+            self.innermost = scope.outer;
         }
     }
 
     /// The block stands in the innermost.
     pub fn enter(&mut self, block: u32) {
-        let scope = match self.open.last() {
-            Some(scope) => *scope,
-            None => 0,
-        };
-        if let Some(place) = self.of_block.get_mut(block as usize) {
-            *place = scope.saturating_add(1);
-        }
+        set_number(&mut self.of_block, block, self.innermost);
     }
 
     /// The scope of a block, if it is walked.
@@ -60,6 +65,9 @@ impl Scopes {
 
     /// Whether what is in scope in the one is so in the other.
     pub fn reaches(&self, outer: u32, inner: u32) -> bool {
-        outer <= inner && inner < number_at(&self.ends, outer)
+        match self.scopes.get(outer as usize) {
+            Some(scope) => outer <= inner && inner < scope.end,
+            None => false,
+        }
     }
 }

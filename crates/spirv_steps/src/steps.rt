@@ -47,6 +47,17 @@ pub enum Step {
     Kill,
 }
 
+/// The steps of one function.
+#[derive(Clone, Copy)]
+pub struct FunctionSteps {
+    /// The function by its number in the module.
+    pub function: u32,
+    /// Its first step.
+    pub first: u32,
+    /// The step after its last one.
+    pub end: u32,
+}
+
 /// The condition that leaves a loop.
 #[derive(Clone, Copy)]
 pub struct BreakIf {

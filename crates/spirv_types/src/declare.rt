@@ -1,332 +1,255 @@
 // The declarations of types (section 3.52.6).
 
 use crate::shapes::{ImageShape, Shape, TypeHandle, span_of};
-use crate::table::{TypeTable, Types};
-use ir_arena::span::Span;
+use crate::table::{TypeTable, Types, insert};
+use ir_arena::handle::Handle;
 use ir_flags::{Capabilities, StorageAccess};
-use ir_kinds::{AddressSpace, ImageClass, Scalar, StorageFormat};
+use ir_kinds::{AddressSpace, ImageClass, ImageDimension, Scalar, StorageFormat};
 use ir_types::{ArraySize, TypeInner};
-use spirv_flow::{DIM_SUBPASS_DATA, Use, Uses};
+use spirv_flow::{DIM_SUBPASS_DATA, Flow, Use};
 use spirv_numbers::{numbers, ops};
 use spirv_tables::{
     Decorated, Demands, Layout, Scan, dimension, image_format, is_norm16, matrix_layout,
     scalar_layout, scalar_type, vector_layout, vector_size,
 };
-use spirv_words::{Feature, Instruction, Listing, Malformed, SpirvError, Unsupported};
+use spirv_words::{Failure, Feature, Instruction, Listing, Malformed, SpirvError, Unsupported};
 use std::alloc::Global;
 
-/// What the declarations of types are read with.
-#[derive(Clone, Copy)]
-pub struct Reading<'a> {
+/// What the declarations of a module are read with.
+#[derive(Drop)]
+pub struct Reading {
     /// The allocator.
     pub alloc: Global,
     /// The module.
-    pub listing: &'a Listing,
+    pub listing: Listing,
+    /// What its functions do, and what its variables are used for.
+    pub flow: Flow,
     /// What was found of its types before.
-    pub scan: &'a Scan,
-    /// What its variables are used for.
-    pub uses: &'a Uses,
+    pub scan: Scan,
 }
 
-impl<T: Types> TypeTable<T> {
+impl Reading {
+    /// A module of whose functions this is known.
+    pub fn of(alloc: Global, listing: Listing, flow: Flow) -> Result<Reading, SpirvError> {
+        match Scan::of_module(alloc, &listing) {
+            Ok(scan) => Ok(Reading {
+                alloc,
+                listing,
+                flow,
+                scan,
+            }),
+            Err(error) => Err(error),
+        }
+    }
+}
+
+impl TypeTable {
     /// A type that is not an array or a struct.
-    pub fn declare(
+    pub fn declare<T: Types>(
         &mut self,
+        built: &mut T,
         reading: &Reading,
         instruction: &Instruction,
         demands: &mut Demands,
     ) -> Result<(), SpirvError> {
-        match instruction.opcode {
-            ops::TYPE_VOID => self.set(instruction.id, Shape::Void, None, Layout::NONE),
-            ops::TYPE_FUNCTION => self.set(instruction.id, Shape::Function, None, Layout::NONE),
-            ops::TYPE_BOOL => self.declare_scalar(instruction, Scalar::BOOL),
-            ops::TYPE_INT | ops::TYPE_FLOAT => match scalar_type(reading.listing, instruction) {
-                Ok(scalar) => self.declare_scalar(instruction, scalar),
-                Err(error) => self.fail(error),
-            },
-            ops::TYPE_VECTOR => self.declare_vector(reading.listing, instruction),
-            ops::TYPE_MATRIX => self.declare_matrix(reading.listing, instruction),
-            ops::TYPE_IMAGE => self.declare_image(reading.listing, instruction, demands),
-            ops::TYPE_SAMPLER => {
-                let inner = TypeInner::Sampler { comparison: false };
-                self.declare_as(instruction, inner, Shape::Sampler, Layout::NONE);
+        let mut failed = Failure::NONE;
+        let shape = self.declared(&reading.listing, instruction, &mut failed);
+        let inner = match shape {
+            Shape::Pointer { class, to } => {
+                self.pointer(reading, instruction, class, to, &mut failed)
             }
-            ops::TYPE_SAMPLED_IMAGE => {
-                let image = self.operand(reading.listing, instruction, 0);
-                let handle = self.needed(image, instruction);
-                let shape = Shape::SampledImage(image);
-                self.set(instruction.id, shape, Some(handle), Layout::NONE);
-            }
-            ops::TYPE_POINTER => self.declare_pointer(reading, instruction),
-            _ => self.fail(instruction.unsupported()),
-        }
-        self.made(())
-    }
-
-    // A type that is made of this.
-    fn declare_as(
-        &mut self,
-        instruction: &Instruction,
-        inner: TypeInner,
-        shape: Shape,
-        layout: Layout,
-    ) {
-        let handle = self.build(None, inner, span_of(instruction));
-        self.set(instruction.id, shape, Some(handle), layout);
-    }
-
-    fn declare_scalar(&mut self, instruction: &Instruction, scalar: Scalar) {
-        let inner = TypeInner::Scalar(scalar);
-        let layout = scalar_layout(scalar);
-        self.declare_as(instruction, inner, Shape::Scalar(scalar), layout);
-    }
-
-    fn declare_vector(&mut self, listing: &Listing, instruction: &Instruction) {
-        let component = self.operand(listing, instruction, 0);
-        let count = self.operand(listing, instruction, 1);
-        let Some(size) = vector_size(count) else {
-            self.fail(instruction.unsupported_as(Unsupported::VectorSize(count)));
-            return;
+            _ => inner_of(&shape),
         };
-        let Shape::Scalar(scalar) = self.shape(component) else {
-            self.fail(instruction.malformed(Malformed::WrongType));
-            return;
+        let handle = match (inner, shape) {
+            (Some(inner), _) => Some(insert(built, inner, span_of(instruction), &mut failed)),
+            (None, Shape::SampledImage(image)) => self.handle(image),
+            (None, _) => None,
         };
-        let inner = TypeInner::Vector { size, scalar };
-        let shape = Shape::Vector {
-            size,
-            scalar,
-            component,
-        };
-        self.declare_as(instruction, inner, shape, vector_layout(size, scalar));
-    }
-
-    fn declare_matrix(&mut self, listing: &Listing, instruction: &Instruction) {
-        let column = self.operand(listing, instruction, 0);
-        let columns = vector_size(self.operand(listing, instruction, 1));
-        let (
-            Some(columns),
-            Shape::Vector {
-                size: rows,
-                scalar,
-                ..
-            },
-        ) = (columns, self.shape(column))
-        else {
-            self.fail(instruction.malformed(Malformed::WrongType));
-            return;
-        };
-        let inner = TypeInner::Matrix {
-            columns,
-            rows,
-            scalar,
-        };
-        let shape = Shape::Matrix {
-            columns,
-            rows,
-            scalar,
-            column,
-        };
-        let layout = matrix_layout(columns, rows, scalar);
-        self.declare_as(instruction, inner, shape, layout);
-    }
-
-    fn declare_image(
-        &mut self,
-        listing: &Listing,
-        instruction: &Instruction,
-        demands: &mut Demands,
-    ) {
-        let sampled = self.operand(listing, instruction, 0);
-        let Shape::Scalar(scalar) = self.shape(sampled) else {
-            self.fail(instruction.unsupported_by(Feature::ImageOfNoNumber));
-            return;
-        };
-        let image = match read_image(listing, instruction, scalar) {
-            Ok(image) => image,
-            Err(error) => {
-                self.fail(error);
-                return;
-            }
-        };
-        if image.format.is_some_and(is_norm16) {
+        if is_norm16_image(&shape) {
             demands.ask(Capabilities::STORAGE_TEXTURE_16BIT_NORM_FORMATS);
         }
-        let inner = image_inner(&image, Use::NONE, StorageAccess(0));
-        self.declare_as(instruction, inner, Shape::Image(image), Layout::NONE);
+        self.set(instruction.id, shape, handle, layout_of(&shape));
+        failed.answer(())
     }
 
-    /// The type of an image that is used so, and may be accessed so where it is for storage.
-    pub fn image(
-        &mut self,
-        image: &ImageShape,
-        used: Use,
-        access: StorageAccess,
-        span: Span,
-    ) -> Result<TypeHandle, SpirvError> {
-        self.insert(None, image_inner(image, used, access), span)
-    }
-
-    fn declare_pointer(&mut self, reading: &Reading, instruction: &Instruction) {
-        let class = self.operand(reading.listing, instruction, 0);
-        let to = self.operand(reading.listing, instruction, 1);
-        let handle = match self.shape(to) {
-            Shape::Nothing => {
-                self.fail(instruction.unsupported_as(Unsupported::StorageClass(class)));
-                None
+    // What a type is that is not an array or a struct.
+    fn declared(
+        &self,
+        listing: &Listing,
+        instruction: &Instruction,
+        failed: &mut Failure,
+    ) -> Shape {
+        match instruction.opcode {
+            ops::TYPE_VOID => Shape::Void,
+            ops::TYPE_FUNCTION => Shape::Function,
+            ops::TYPE_SAMPLER => Shape::Sampler,
+            ops::TYPE_BOOL => Shape::Scalar(Scalar::BOOL),
+            ops::TYPE_INT | ops::TYPE_FLOAT => {
+                let scalar = scalar_type(listing, instruction);
+                Shape::Scalar(failed.take(scalar, Scalar::BOOL))
             }
-            Shape::Function
-            | Shape::Void
-            | Shape::Pointer { .. }
-            | Shape::Image(_)
-            | Shape::Sampler
-            | Shape::SampledImage(_)
-            | Shape::Array { binding: true, .. } => None,
-            Shape::Scalar(_)
-            | Shape::Vector { .. }
-            | Shape::Matrix { .. }
-            | Shape::Array { .. }
-            | Shape::Struct { .. } => self.pointer(reading, instruction, class, to),
-        };
-        self.set(
-            instruction.id,
-            Shape::Pointer { class, to },
-            handle,
-            POINTER,
-        );
+            ops::TYPE_VECTOR | ops::TYPE_MATRIX | ops::TYPE_POINTER => {
+                let second = failed.take(listing.need(instruction, 1), 0);
+                let first = listing.operand(instruction, 0).unwrap_or(0);
+                self.declared_of(instruction, first, second, failed)
+            }
+            ops::TYPE_SAMPLED_IMAGE => {
+                let image = failed.take(listing.need(instruction, 0), 0);
+                match self.need(image, instruction) {
+                    Ok(_) => {}
+                    Err(error) => failed.fail(error),
+                }
+                Shape::SampledImage(image)
+            }
+            ops::TYPE_IMAGE => {
+                let of = failed.take(listing.need(instruction, 0), 0);
+                match self.shape(of) {
+                    Shape::Scalar(scalar) => {
+                        Shape::Image(read_image(listing, instruction, scalar, failed))
+                    }
+                    _ => refused(instruction.unsupported_by(Feature::ImageOfNoNumber), failed),
+                }
+            }
+            _ => refused(instruction.unsupported(), failed),
+        }
     }
 
-    // The type of a pointer to a value.
+    // What a vector, a matrix or a pointer with these operands is.
+    fn declared_of(
+        &self,
+        instruction: &Instruction,
+        first: u32,
+        second: u32,
+        failed: &mut Failure,
+    ) -> Shape {
+        let error = match (instruction.opcode, vector_size(second), self.shape(first)) {
+            (ops::TYPE_VECTOR, Some(size), Shape::Scalar(scalar)) => {
+                return Shape::Vector {
+                    size,
+                    scalar,
+                    component: first,
+                };
+            }
+            (ops::TYPE_MATRIX, Some(columns), Shape::Vector { size, scalar, .. }) => {
+                return Shape::Matrix {
+                    columns,
+                    rows: size,
+                    scalar,
+                    column: first,
+                };
+            }
+            (ops::TYPE_POINTER, _, _) if !matches!(self.shape(second), Shape::Nothing) => {
+                return Shape::Pointer {
+                    class: first,
+                    to: second,
+                };
+            }
+            (ops::TYPE_POINTER, _, _) => {
+                instruction.unsupported_as(Unsupported::StorageClass(first))
+            }
+            (ops::TYPE_VECTOR, None, _) => {
+                instruction.unsupported_as(Unsupported::VectorSize(second))
+            }
+            _ => instruction.malformed(Malformed::WrongType),
+        };
+        refused(error, failed)
+    }
+
+    // What the type of a pointer is made of, where it is one to a value.
     fn pointer(
-        &mut self,
+        &self,
         reading: &Reading,
         instruction: &Instruction,
         class: u32,
         to: u32,
-    ) -> Option<TypeHandle> {
-        if class == numbers::CLASS_UNIFORM_CONSTANT || class == numbers::CLASS_IMAGE {
+        failed: &mut Failure,
+    ) -> Option<TypeInner> {
+        let is_value = matches!(
+            self.shape(to),
+            Shape::Scalar(_)
+                | Shape::Vector { .. }
+                | Shape::Matrix { .. }
+                | Shape::Array { binding: false, .. }
+                | Shape::Struct { .. }
+        );
+        if !is_value || class == numbers::CLASS_UNIFORM_CONSTANT || class == numbers::CLASS_IMAGE {
             return None;
         }
-        let base = self.needed(to, instruction);
-        let space = match space_of(reading, class, to) {
-            Some(AddressSpace::Storage { .. }) => AddressSpace::Storage {
-                access: StorageAccess(0),
-            },
-            Some(space) => space,
-            None => {
-                self.fail(instruction.unsupported_as(Unsupported::StorageClass(class)));
-                return None;
-            }
+        let base = failed.take(self.need(to, instruction), Handle::at(0));
+        let Some(space) = space_of(reading, class, to) else {
+            failed.fail(instruction.unsupported_as(Unsupported::StorageClass(class)));
+            return None;
         };
-        let inner = TypeInner::Pointer { base, space };
-        Some(self.build(None, inner, span_of(instruction)))
+        Some(TypeInner::Pointer { base, space })
     }
 
     /// An array whose length is known, or is found when it runs.
-    pub fn declare_array(
+    pub fn declare_array<T: Types>(
         &mut self,
+        built: &mut T,
         reading: &Reading,
         instruction: &Instruction,
         size: &ArraySize,
     ) -> Result<(), SpirvError> {
-        let element = self.operand(reading.listing, instruction, 0);
-        let base = self.needed(element, instruction);
-        if self.is_resource(reading, instruction, element) {
-            self.declare_resources(instruction, element, base, size);
+        let mut failed = Failure::NONE;
+        let element = failed.take(reading.listing.need(instruction, 0), 0);
+        let base = failed.take(self.need(element, instruction), Handle::at(0));
+        let binding = self.is_resource(reading, instruction, element);
+        let (inner, layout) = if binding {
+            let (base, size) = resources_of(built, instruction, base, size, &mut failed);
+            (TypeInner::BindingArray { base, size }, Layout::NONE)
         } else {
-            self.declare_elements(reading, instruction, element, base, size);
-        }
-        self.made(())
-    }
-
-    // An array of what is no resource.
-    fn declare_elements(
-        &mut self,
-        reading: &Reading,
-        instruction: &Instruction,
-        element: u32,
-        base: TypeHandle,
-        size: &ArraySize,
-    ) {
-        let said = Decorated::of(reading.listing, instruction.id, None).array_stride;
-        let stride = match said {
-            Some(stride) => stride,
-            None => self.natural_stride(element),
+            let size = *size;
+            let stride = self.stride(&reading.listing, instruction.id, element);
+            let layout = self.array_layout(element, &size, stride);
+            (TypeInner::Array { base, size, stride }, layout)
         };
-        let inner = TypeInner::Array {
-            base,
-            size: *size,
-            stride,
-        };
+        let handle = insert(built, inner, span_of(instruction), &mut failed);
         let shape = Shape::Array {
             element,
             size: *size,
-            binding: false,
+            binding,
         };
-        let layout = self.array_layout(element, size, stride);
-        self.declare_as(instruction, inner, shape, layout);
-    }
-
-    // An array of resources. One of arrays of them is built as one array of all.
-    fn declare_resources(
-        &mut self,
-        instruction: &Instruction,
-        element: u32,
-        base: TypeHandle,
-        size: &ArraySize,
-    ) {
-        let (base, whole) = match self.types.inner(base) {
-            Some(TypeInner::BindingArray { base, size: inner }) => (*base, product(size, inner)),
-            _ => (base, Some(*size)),
-        };
-        let Some(size_of_all) = whole else {
-            self.fail(instruction.unsupported_by(Feature::ResourceArrays));
-            return;
-        };
-        let inner = TypeInner::BindingArray {
-            base,
-            size: size_of_all,
-        };
-        let shape = Shape::Array {
-            element,
-            size: *size,
-            binding: true,
-        };
-        self.declare_as(instruction, inner, shape, Layout::NONE);
+        self.set(instruction.id, shape, Some(handle), layout);
+        failed.answer(())
     }
 
     /// The resources that a type is an array of, or an array of arrays of: what each is, and how many they are together.
     pub fn resources(&self, ty: u32) -> Option<Resources> {
-        let Shape::Array {
-            element,
-            size,
-            binding: true,
-        } = self.shape(ty)
-        else {
-            return None;
-        };
-        let mut all = Resources { element, size };
+        let mut all = self.elements(ty)?;
         for _ in 0..MAX_DEPTH {
-            let Shape::Array {
-                element,
-                size,
-                binding: true,
-            } = self.shape(all.element)
-            else {
+            let Some(inside) = self.elements(all.element) else {
                 break;
             };
             all = Resources {
-                element,
-                size: product(&all.size, &size)?,
+                element: inside.element,
+                size: product(&all.size, &inside.size)?,
             };
         }
         Some(all)
     }
 
-    // From element to element of an array where it is not said.
-    fn natural_stride(&self, element: u32) -> u32 {
-        let layout = self.layout(element);
-        u32::try_from(layout.round(layout.size)).unwrap_or(u32::MAX)
+    // The elements of an array of resources.
+    fn elements(&self, ty: u32) -> Option<Resources> {
+        match self.shape(ty) {
+            Shape::Array {
+                element,
+                size,
+                binding: true,
+            } => Some(Resources { element, size }),
+            _ => None,
+        }
+    }
+
+    // From element to element of an array.
+    fn stride(&self, listing: &Listing, id: u32, element: u32) -> u32 {
+        match Decorated::of(listing, id, None).array_stride {
+            Some(stride) => stride,
+            None => {
+                let layout = self.layout(element);
+                u32::try_from(layout.round(layout.size)).unwrap_or(u32::MAX)
+            }
+        }
     }
 
     // How an array lies in memory; one whose length is not known as one of one element.
@@ -349,13 +272,19 @@ impl<T: Types> TypeTable<T> {
             Shape::Image(_) | Shape::Sampler | Shape::SampledImage(_) => true,
             Shape::Array { binding, .. } => binding,
             Shape::Struct { .. } => {
-                let said = Decorated::of(reading.listing, element, None);
+                let said = Decorated::of(&reading.listing, element, None);
                 let is_block = said.block || said.buffer_block;
                 is_block && !reading.scan.is_between(instruction.id)
             }
             _ => false,
         }
     }
+}
+
+// No type, since this is wrong.
+fn refused(error: SpirvError, failed: &mut Failure) -> Shape {
+    failed.fail(error);
+    Shape::Nothing
 }
 
 /// Resources in a row.
@@ -380,6 +309,42 @@ fn product(outer: &ArraySize, inner: &ArraySize) -> Option<ArraySize> {
     }
 }
 
+// The elements of an array of resources, and how many there are. One of arrays of them is built as one array of all.
+fn resources_of<T: Types>(
+    built: &T,
+    instruction: &Instruction,
+    element: TypeHandle,
+    count: &ArraySize,
+    failed: &mut Failure,
+) -> (TypeHandle, ArraySize) {
+    let Some(TypeInner::BindingArray { base, size }) = built.inner(element) else {
+        return (element, *count);
+    };
+    match product(count, size) {
+        Some(whole) => (*base, whole),
+        None => {
+            failed.fail(instruction.unsupported_by(Feature::ResourceArrays));
+            (*base, *count)
+        }
+    }
+}
+
+// How a value of a type lies in memory that is not an array or a struct.
+fn layout_of(shape: &Shape) -> Layout {
+    match *shape {
+        Shape::Scalar(scalar) => scalar_layout(scalar),
+        Shape::Vector { size, scalar, .. } => vector_layout(size, scalar),
+        Shape::Matrix {
+            columns,
+            rows,
+            scalar,
+            ..
+        } => matrix_layout(columns, rows, scalar),
+        Shape::Pointer { .. } => POINTER,
+        _ => Layout::NONE,
+    }
+}
+
 // How a pointer lies in memory.
 const POINTER: Layout = Layout {
     size: 4,
@@ -392,39 +357,78 @@ fn read_image(
     listing: &Listing,
     instruction: &Instruction,
     scalar: Scalar,
-) -> Result<ImageShape, SpirvError> {
-    let number = listing.need(instruction, 1)?;
+    failed: &mut Failure,
+) -> ImageShape {
+    let number = failed.take(listing.need(instruction, 1), 0);
     let attachment = number == DIM_SUBPASS_DATA;
     let plain = if attachment { numbers::DIM_2_D } else { number };
-    let Some(dim) = dimension(plain) else {
-        return Err(instruction.unsupported_as(Unsupported::Dimension(number)));
+    let dim = match dimension(plain) {
+        Some(dim) => Ok(dim),
+        None => Err(instruction.unsupported_as(Unsupported::Dimension(number))),
     };
-    let multi = listing.need(instruction, 4)? != 0;
-    let format = if listing.need(instruction, 5)? == 2 && !attachment {
-        Some(image_format(listing, instruction)?)
+    let dim = failed.take(dim, ImageDimension::D2);
+    let is_storage = failed.take(listing.need(instruction, 5), 0) == 2 && !attachment;
+    let format = if is_storage {
+        let format = image_format(listing, instruction);
+        Some(failed.take(format, StorageFormat::R32Uint))
     } else {
         None
     };
-    if multi && format.is_some() {
-        return Err(instruction.unsupported_by(Feature::MultisampledStorage));
-    }
+    let multi = listing.operand(instruction, 4) != Some(0);
     let wide = format == Some(StorageFormat::R64Uint);
-    if scalar.width != 4 && !wide {
-        return Err(instruction.unsupported_by(Feature::ImageWidth));
+    if multi && is_storage {
+        failed.fail(instruction.unsupported_by(Feature::MultisampledStorage));
     }
-    Ok(ImageShape {
+    if scalar.width != 4 && !wide {
+        failed.fail(instruction.unsupported_by(Feature::ImageWidth));
+    }
+    ImageShape {
         dim,
-        arrayed: listing.need(instruction, 3)? != 0,
+        arrayed: listing.operand(instruction, 3) != Some(0),
         multi,
-        depth: listing.need(instruction, 2)? == 1,
+        depth: listing.operand(instruction, 2) == Some(1),
         scalar,
         format,
         attachment,
-    })
+    }
 }
 
-// What the type of an image is made of that is used so.
-fn image_inner(image: &ImageShape, used: Use, access: StorageAccess) -> TypeInner {
+// Whether it is an image whose texels are fractions of 16 bits.
+fn is_norm16_image(shape: &Shape) -> bool {
+    match shape {
+        Shape::Image(
+            ImageShape {
+                format: Some(format),
+                ..
+            },
+        ) => is_norm16(*format),
+        _ => false,
+    }
+}
+
+// What a number, a vector, a matrix, an image or a sampler is made of.
+fn inner_of(shape: &Shape) -> Option<TypeInner> {
+    match *shape {
+        Shape::Scalar(scalar) => Some(TypeInner::Scalar(scalar)),
+        Shape::Vector { size, scalar, .. } => Some(TypeInner::Vector { size, scalar }),
+        Shape::Matrix {
+            columns,
+            rows,
+            scalar,
+            ..
+        } => Some(TypeInner::Matrix {
+            columns,
+            rows,
+            scalar,
+        }),
+        Shape::Image(image) => Some(image_inner(&image, Use::NONE, StorageAccess(0))),
+        Shape::Sampler => Some(TypeInner::Sampler { comparison: false }),
+        _ => None,
+    }
+}
+
+/// What the type of an image is made of that is used so, and may be accessed so where it is for storage.
+pub fn image_inner(image: &ImageShape, used: Use, access: StorageAccess) -> TypeInner {
     TypeInner::Image {
         dim: image.dim,
         arrayed: image.arrayed,
@@ -447,18 +451,10 @@ pub fn image_class(image: &ImageShape, used: Use, access: StorageAccess) -> Imag
 /// The space of a storage class, for what points to a type; a storage buffer with all accesses.
 pub fn space_of(reading: &Reading, class: u32, to: u32) -> Option<AddressSpace> {
     match class {
-        numbers::CLASS_STORAGE_BUFFER => Some(AddressSpace::Storage {
+        numbers::CLASS_UNIFORM if !reading.scan.is_buffer_block(to) => Some(AddressSpace::Uniform),
+        numbers::CLASS_STORAGE_BUFFER | numbers::CLASS_UNIFORM => Some(AddressSpace::Storage {
             access: StorageAccess(0),
         }),
-        numbers::CLASS_UNIFORM => {
-            if reading.scan.is_buffer_block(to) {
-                Some(AddressSpace::Storage {
-                    access: StorageAccess(0),
-                })
-            } else {
-                Some(AddressSpace::Uniform)
-            }
-        }
         numbers::CLASS_INPUT | numbers::CLASS_OUTPUT | numbers::CLASS_PRIVATE => {
             Some(AddressSpace::Private)
         }

@@ -6,10 +6,10 @@ mod shapes;
 mod structs;
 mod table;
 
-pub use declare::{Reading, Resources, image_class, space_of};
+pub use declare::{Reading, Resources, image_class, image_inner, space_of};
 pub use shapes::{
     ImageShape, ImageUse, MatrixShape, MemberShape, Shape, Stored, TypeHandle, span_of,
 };
 pub use spirv_tables::{Layout, vector_size};
-pub use structs::block_access;
-pub use table::{TypeTable, Types};
+pub use structs::{block_access, packed_line, stored_matrix};
+pub use table::{TypeTable, Types, insert, numbered, vector_type};

@@ -214,10 +214,27 @@ impl MatrixShape {
         }
     }
 
-    // How it lies in memory, column by column or row by row.
-    pub(crate) fn layout(&self, row_major: bool) -> Layout {
-        let (lines, length) = self.lines(row_major);
-        matrix_layout(lines, length, self.scalar)
+    // How it lies in memory where it is stored so.
+    pub(crate) fn stored_layout(&self, stored: Stored) -> Layout {
+        let (lines, length) = self.lines(stored.row_major);
+        let mut layout = matrix_layout(lines, length, self.scalar);
+        if stored.stride != 0 {
+            layout.size = u64::from(stored.stride).saturating_mul(u64::from(u8::from(lines)));
+        }
+        if stored.is_packed(self) {
+            layout.alignment = u64::from(self.scalar.width);
+        }
+        layout
+    }
+
+    // How a column or a row of it lies in memory where it is stored so.
+    pub(crate) fn line_layout(&self, stored: Stored) -> Layout {
+        let (_, length) = self.lines(stored.row_major);
+        let mut layout = vector_layout(length, self.scalar);
+        if stored.is_packed(self) {
+            layout.alignment = u64::from(self.scalar.width);
+        }
+        layout
     }
 
     /// How many columns or rows it is stored as, and how many scalars each has.

@@ -6,7 +6,7 @@ use ir_arena::span::Span;
 use ir_kinds::{Scalar, VectorSize};
 use ir_types::{IrType, TypeInner};
 use spirv_tables::Layout;
-use spirv_words::{Instruction, Listing, Malformed, SpirvError};
+use spirv_words::{Failure, Instruction, Malformed, SpirvError};
 use std::alloc::Global;
 
 /// Where the types of a module are built.
@@ -21,6 +21,38 @@ pub trait Types: Drop {
     fn copy(&self, alloc: Global, ty: TypeHandle) -> Result<Option<IrType>, SpirvError>;
 }
 
+/// The type of a vector, of a scalar where there is no size.
+pub fn vector_type<T: Types>(
+    built: &mut T,
+    size: Option<VectorSize>,
+    scalar: Scalar,
+) -> Result<TypeHandle, SpirvError> {
+    let inner = match size {
+        None => TypeInner::Scalar(scalar),
+        Some(size) => TypeInner::Vector { size, scalar },
+    };
+    built.insert(IrType { name: None, inner }, Span::UNDEFINED)
+}
+
+/// The type without a name that is made of this.
+pub fn insert<T: Types>(
+    built: &mut T,
+    inner: TypeInner,
+    span: Span,
+    failed: &mut Failure,
+) -> TypeHandle {
+    let handle = built.insert(IrType { name: None, inner }, span);
+    failed.take(handle, Handle::at(0))
+}
+
+/// A name with a number after it.
+pub fn numbered(alloc: Global, name: &str, number: u32) -> Result<String, SpirvError> {
+    match format!(in alloc; "{name}_{number}") {
+        Ok(name) => Ok(name),
+        Err(_) => Err(SpirvError::Memory),
+    }
+}
+
 // What is known of a type.
 #[derive(Clone, Copy)]
 struct Entry {
@@ -29,129 +61,62 @@ struct Entry {
     layout: Layout,
 }
 
-/// The types of a module: those that are built, and what each id of a type is. What is wrong first is kept: after that every
-/// call that may fail does.
+// Nothing is known.
+const NOTHING: Entry = Entry {
+    shape: Shape::Nothing,
+    handle: None,
+    layout: Layout::NONE,
+};
+
+/// What each id of a type is, wherever the types are built.
 #[derive(Drop)]
-pub struct TypeTable<T: Types> {
-    /// The types that are built.
-    pub types: T,
+pub struct TypeTable {
     entries: Vec<Entry>,
     members: Vec<MemberShape>,
     // whether the columns or rows of a matrix are members of a struct
     splits: bool,
-    // what was wrong first
-    failure: Option<SpirvError>,
 }
 
-impl<T: Types> TypeTable<T> {
-    /// None, with ids below the bound, to be built there.
-    pub fn new(alloc: Global, bound: usize, types: T) -> Result<TypeTable<T>, SpirvError> {
-        let none = Entry {
-            shape: Shape::Nothing,
-            handle: None,
-            layout: Layout::NONE,
-        };
-        let entries = vec![in alloc; none; bound]?;
-        Ok(TypeTable {
-            types,
-            entries,
+impl TypeTable {
+    /// None, with ids below the bound.
+    pub fn new(alloc: Global, bound: usize, failed: &mut Failure) -> TypeTable {
+        TypeTable {
+            entries: failed.table(alloc, NOTHING, bound),
             members: Vec::new(alloc),
             splits: false,
-            failure: None,
-        })
-    }
-
-    // This is wrong. It is kept where nothing was before.
-    pub(crate) fn fail(&mut self, error: SpirvError) {
-        if self.failure.is_none() {
-            self.failure = Some(error);
         }
     }
 
-    // What was made, where nothing was wrong.
-    pub(crate) fn made<M: Copy>(&self, made: M) -> Result<M, SpirvError> {
-        match self.failure {
-            Some(error) => Err(error),
-            None => Ok(made),
-        }
-    }
-
-    // The operand at this place, which the instruction has to have.
-    pub(crate) fn operand(
-        &mut self,
-        listing: &Listing,
-        instruction: &Instruction,
-        place: usize,
-    ) -> u32 {
-        match listing.need(instruction, place) {
-            Ok(word) => word,
-            Err(error) => {
-                self.fail(error);
-                0
-            }
-        }
-    }
-
-    // The type that is built for an id, which an instruction has to have.
-    pub(crate) fn needed(&mut self, id: u32, instruction: &Instruction) -> TypeHandle {
-        match self.need(id, instruction) {
-            Ok(handle) => handle,
-            Err(error) => {
-                self.fail(error);
-                Handle::at(0)
-            }
-        }
-    }
-
-    // The type with this name that is made of this.
-    pub(crate) fn build(
-        &mut self,
-        name: Option<String>,
-        inner: TypeInner,
-        span: Span,
-    ) -> TypeHandle {
-        match self.types.insert(IrType { name, inner }, span) {
-            Ok(handle) => handle,
-            Err(error) => {
-                self.fail(error);
-                Handle::at(0)
-            }
+    fn entry(&self, id: u32) -> Entry {
+        match self.entries.get(id as usize) {
+            Some(entry) => *entry,
+            None => NOTHING,
         }
     }
 
     /// What a type is.
     pub fn shape(&self, id: u32) -> Shape {
-        match self.entries.get(id as usize) {
-            Some(entry) => entry.shape,
-            None => Shape::Nothing,
-        }
+        self.entry(id).shape
     }
 
     /// The type that is built for it, if any.
     pub fn handle(&self, id: u32) -> Option<TypeHandle> {
-        match self.entries.get(id as usize) {
-            Some(entry) => entry.handle,
-            None => None,
-        }
+        self.entry(id).handle
     }
 
     /// The type that is built for it, which an instruction has to have.
     pub fn need(&self, id: u32, instruction: &Instruction) -> Result<TypeHandle, SpirvError> {
-        match self.handle(id) {
-            Some(handle) => Ok(handle),
-            None => Err(match self.shape(id) {
-                Shape::Nothing => instruction.malformed(Malformed::NoType),
-                _ => instruction.unsupported(),
-            }),
+        let entry = self.entry(id);
+        match (entry.handle, entry.shape) {
+            (Some(handle), _) => Ok(handle),
+            (None, Shape::Nothing) => Err(instruction.malformed(Malformed::NoType)),
+            (None, _) => Err(instruction.unsupported()),
         }
     }
 
     /// How a value of the type lies in memory.
     pub fn layout(&self, id: u32) -> Layout {
-        match self.entries.get(id as usize) {
-            Some(entry) => entry.layout,
-            None => Layout::NONE,
-        }
+        self.entry(id).layout
     }
 
     /// A member of a struct.
@@ -201,45 +166,13 @@ impl<T: Types> TypeTable<T> {
     }
 
     // A member more.
-    pub(crate) fn add_member(&mut self, member: MemberShape) {
+    pub(crate) fn add_member(&mut self, member: MemberShape, failed: &mut Failure) {
         self.splits |= member.split;
-        if self.members.push(member).is_err() {
-            self.fail(SpirvError::Memory);
-        }
+        failed.push(&mut self.members, member);
     }
 
     /// Whether the columns or rows of a matrix are members of a struct, so that its members have other places.
     pub fn splits(&self) -> bool {
         self.splits
-    }
-
-    /// The type with this name that is made of this.
-    pub fn insert(
-        &mut self,
-        name: Option<String>,
-        inner: TypeInner,
-        span: Span,
-    ) -> Result<TypeHandle, SpirvError> {
-        let handle = self.build(name, inner, span);
-        self.made(handle)
-    }
-
-    /// The type of a vector, of a scalar where there is no size.
-    pub fn vector(
-        &mut self,
-        size: Option<VectorSize>,
-        scalar: Scalar,
-    ) -> Result<TypeHandle, SpirvError> {
-        let handle = self.build_vector(size, scalar);
-        self.made(handle)
-    }
-
-    // The same.
-    pub(crate) fn build_vector(&mut self, size: Option<VectorSize>, scalar: Scalar) -> TypeHandle {
-        let inner = match size {
-            None => TypeInner::Scalar(scalar),
-            Some(size) => TypeInner::Vector { size, scalar },
-        };
-        self.build(None, inner, Span::UNDEFINED)
     }
 }

@@ -83,10 +83,7 @@ static TEXTS: [&str; 21] = [
 impl Malformed {
     /// The same in words.
     pub fn text(self) -> &'static str {
-        match TEXTS.get(self as usize) {
-            Some(text) => *text,
-            None => "",
-        }
+        TEXTS.get(self as usize).copied().unwrap_or("")
     }
 }
 

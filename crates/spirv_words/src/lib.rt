@@ -9,7 +9,7 @@ mod text;
 mod unsupported;
 
 pub use error::{Failure, Malformed, SpirvError};
-pub use listing::{Instruction, Listing, as_word, list, number_at};
+pub use listing::{Instruction, Listing, as_word, list, number_at, set_number};
 pub use parts::{FunctionParts, Parts};
 pub use pieces::{HEADER, Piece, cut};
 pub use spirv_numbers::{Groups, MAX_LEN};

@@ -70,24 +70,12 @@ pub struct Listing {
     pub words: Vec<u32>,
     /// The instructions in order.
     pub instructions: Vec<Instruction>,
-    ids: Ids,
-    said: Said,
     /// The parts of the module.
     pub parts: Parts,
-}
-
-// Which instruction defines an id, and the slots of what is said of it and of its members.
-#[derive(Drop)]
-struct Ids {
     // for each id the place of the instruction that defines it and one, or 0
     defined: Vec<u32>,
-    // for each instruction the first of its slots
+    // for each instruction the first of its slots: one for its id, one for each of a struct's members
     slots: Vec<u32>,
-}
-
-// What is said of ids.
-#[derive(Drop)]
-struct Said {
     // for each slot the word where its name begins, or 0
     names: Vec<u32>,
     // for each slot the instructions that decorate it
@@ -102,88 +90,49 @@ pub fn list(alloc: Global, bytes: &[u8]) -> Result<Listing, SpirvError> {
         Ok(words) => words,
         Err(error) => return Err(SpirvError::from(error)),
     };
-    match cut(alloc, &words) {
-        Ok(pieces) => list_pieces(alloc, words, pieces),
+    let pieces = match cut(alloc, &words) {
+        Ok(pieces) => pieces,
         Err(error) => {
             drop(words);
-            Err(error)
+            return Err(error);
         }
-    }
-}
-
-// The same of its words, which are cut so.
-fn list_pieces(alloc: Global, words: Vec<u32>, pieces: Vec<Piece>) -> Result<Listing, SpirvError> {
+    };
     let mut failed = Failure::NONE;
     let mut instructions = failed.list(alloc, pieces.len());
     read_instructions(&words, &pieces, &mut instructions, &mut failed);
     drop(pieces);
-    let ids = Ids::of(alloc, &words, &instructions, &mut failed);
+    let defined = define(alloc, &words, &instructions, &mut failed);
+    let slots = number_slots(alloc, &instructions, &mut failed);
     let parts = sort_out(alloc, &instructions, &mut failed);
-    let finder = Finder {
-        words: &words,
-        instructions: &instructions,
-        ids: &ids,
-    };
-    let said = finder.find(alloc, &parts, &mut failed);
-    failed.answer(Listing {
+    let mut listing = Listing {
         words,
         instructions,
-        ids,
-        said,
         parts,
-    })
+        defined,
+        slots,
+        names: Vec::new(alloc),
+        decorations: Groups::none(alloc),
+        modes: Groups::none(alloc),
+    };
+    listing.find_said(alloc, &mut failed);
+    failed.answer(listing)
 }
 
 /// The number at this place; 0 where there is none.
 pub fn number_at(numbers: &[u32], place: u32) -> u32 {
-    match numbers.get(place as usize) {
-        Some(number) => *number,
-        None => 0,
+    numbers.get(place as usize).copied().unwrap_or(0)
+}
+
+/// Puts a number at this place, if there is one.
+pub fn set_number(numbers: &mut [u32], place: u32, number: u32) {
+    if let Some(old) = numbers.get_mut(place as usize) {
+        *old = number;
     }
 }
 
 /// A place or a count as a word; the greatest word where it is none.
 pub fn as_word(place: usize) -> u32 {
     u32::try_from(place).unwrap_or(u32::MAX)
-}
-
-impl Ids {
-    // Those that these instructions define.
-    fn of(alloc: Global, words: &[u32], instructions: &[Instruction], failed: &mut Failure) -> Ids {
-        let defined = define(alloc, words, instructions, failed);
-        let slots = number_slots(alloc, instructions, failed);
-        Ids { defined, slots }
-    }
-
-    // The place of the instruction that defines an id.
-    fn place_of(&self, id: u32) -> Option<u32> {
-        number_at(&self.defined, id).checked_sub(1)
-    }
-
-    // The slot of an id, or of a member of its struct.
-    fn slot(&self, id: u32, member: Option<u32>) -> Option<u32> {
-        let Some(place) = self.place_of(id) else {
-            return None;
-        };
-        let first = number_at(&self.slots, place);
-        let slot = match member {
-            None => first,
-            Some(member) => first.saturating_add(member).saturating_add(1),
-        };
-        if slot < number_at(&self.slots, place.saturating_add(1)) {
-            Some(slot)
-        } else {
-            None
-        }
-    }
-
-    // How many slots there are.
-    fn count(&self) -> usize {
-        match self.slots.last() {
-            Some(count) => *count as usize,
-            None => 0,
-        }
-    }
 }
 
 // All instructions, one after the other.
@@ -240,16 +189,11 @@ fn define(
     let mut place = 0u32;
     for instruction in instructions {
         place = place.saturating_add(1);
-        if has_result(instruction.opcode) {
+        if results_of(instruction.opcode) != Results::Nothing {
             define_one(&mut defined, instruction, bound, place, failed);
         }
     }
     defined
-}
-
-// Whether the opcode has a result.
-fn has_result(number: u16) -> bool {
-    results_of(number) != Results::Nothing
 }
 
 // Writes down that this id is defined by the instruction at `place`, counted from 1.
@@ -287,100 +231,86 @@ fn number_slots(alloc: Global, instructions: &[Instruction], failed: &mut Failur
     slots
 }
 
-// What names, decorations and modes are found with.
-#[derive(Clone, Copy)]
-struct Finder<'a> {
-    words: &'a [u32],
-    instructions: &'a [Instruction],
-    ids: &'a Ids,
-}
+impl Listing {
+    // Finds what is said of ids.
+    fn find_said(&mut self, alloc: Global, failed: &mut Failure) {
+        self.names = self.find_names(alloc, failed);
+        self.decorations = self.find_decorations(alloc, failed);
+        self.modes = self.find_modes(alloc, failed);
+    }
 
-impl Finder<'_> {
-    // What is said in these parts.
-    fn find(&self, alloc: Global, parts: &Parts, failed: &mut Failure) -> Said {
-        let names = self.find_names(alloc, &parts.names, failed);
-        let decorations = self.find_decorations(alloc, parts, failed);
-        let modes = self.find_modes(alloc, &parts.modes, failed);
-        Said {
-            names,
-            decorations,
-            modes,
+    // The slot of an id, or of a member of its struct.
+    fn slot(&self, id: u32, member: Option<u32>) -> Option<u32> {
+        let Some(place) = self.place_of(id) else {
+            return None;
+        };
+        let first = number_at(&self.slots, place);
+        let slot = match member {
+            None => first,
+            Some(member) => first.saturating_add(member).saturating_add(1),
+        };
+        if slot < number_at(&self.slots, place.saturating_add(1)) {
+            Some(slot)
+        } else {
+            None
         }
     }
 
-    // The word at this place.
-    fn word(&self, place: u32) -> u32 {
-        number_at(self.words, place)
-    }
-
-    // The slot of what the instruction speaks of: of an id, or of a member where the operand after it counts.
-    fn slot(&self, instruction: &Instruction, of_member: bool) -> Option<u32> {
-        self.slot_at(instruction.first, of_member)
+    // How many slots there are.
+    fn count_slots(&self) -> usize {
+        self.slots.last().copied().unwrap_or(0) as usize
     }
 
     // The slot of the id that is this word, or of a member where the word after it counts.
     fn slot_at(&self, word: u32, of_member: bool) -> Option<u32> {
-        let id = self.word(word);
         let member = if of_member {
-            Some(self.word(word.saturating_add(1)))
+            Some(number_at(&self.words, word.saturating_add(1)))
         } else {
             None
         };
-        self.ids.slot(id, member)
+        self.slot(number_at(&self.words, word), member)
     }
 
     // For each slot the word where its name begins.
-    fn find_names(&self, alloc: Global, places: &[u32], failed: &mut Failure) -> Vec<u32> {
-        let mut names = failed.table(alloc, 0u32, self.ids.count());
-        for place in places {
-            let instruction = instruction_at(self.instructions, *place);
+    fn find_names(&self, alloc: Global, failed: &mut Failure) -> Vec<u32> {
+        let mut names = failed.table(alloc, 0u32, self.count_slots());
+        for place in &self.parts.names {
+            let instruction = self.at(*place);
             let of_member = instruction.opcode == ops::MEMBER_NAME;
-            let slot = self.slot(&instruction, of_member).unwrap_or(u32::MAX);
-            if let Some(name) = names.get_mut(slot as usize) {
-                *name = instruction
-                    .first
-                    .saturating_add(if of_member { 2 } else { 1 });
-            }
+            let slot = self.slot_at(instruction.first, of_member);
+            let name = instruction
+                .first
+                .saturating_add(if of_member { 2 } else { 1 });
+            set_number(&mut names, slot.unwrap_or(u32::MAX), name);
         }
         names
     }
 
     // For each slot the instructions that decorate it, itself or by a group.
-    fn find_decorations(&self, alloc: Global, parts: &Parts, failed: &mut Failure) -> Groups {
+    fn find_decorations(&self, alloc: Global, failed: &mut Failure) -> Groups {
         let mut pairs = Vec::new(alloc);
-        self.add_decorations(&parts.decorations, &mut pairs, failed);
-        if !parts.groups.is_empty() {
-            let own = failed.groups(alloc, self.ids.count(), &pairs);
-            self.add_groups(&parts.groups, &own, &mut pairs, failed);
+        for place in &self.parts.decorations {
+            let instruction = self.at(*place);
+            let of_member = instruction.opcode == ops::MEMBER_DECORATE;
+            if let Some(slot) = self.slot_at(instruction.first, of_member) {
+                failed.push(&mut pairs, (slot, *place));
+            }
+        }
+        if !self.parts.groups.is_empty() {
+            let own = failed.groups(alloc, self.count_slots(), &pairs);
+            self.add_groups(&own, &mut pairs, failed);
             drop(own);
         }
-        let found = failed.groups(alloc, self.ids.count(), &pairs);
+        let found = failed.groups(alloc, self.count_slots(), &pairs);
         drop(pairs);
         found
     }
 
-    // Adds each slot that is decorated itself, with the instruction.
-    fn add_decorations(&self, places: &[u32], pairs: &mut Vec<(u32, u32)>, failed: &mut Failure) {
-        for place in places {
-            let instruction = instruction_at(self.instructions, *place);
-            let of_member = instruction.opcode == ops::MEMBER_DECORATE;
-            if let Some(slot) = self.slot(&instruction, of_member) {
-                failed.push(pairs, (slot, *place));
-            }
-        }
-    }
-
     // Adds each slot that a group decorates.
-    fn add_groups(
-        &self,
-        groups: &[u32],
-        own: &Groups,
-        pairs: &mut Vec<(u32, u32)>,
-        failed: &mut Failure,
-    ) {
-        for place in groups {
-            let instruction = instruction_at(self.instructions, *place);
-            match self.slot(&instruction, false) {
+    fn add_groups(&self, own: &Groups, pairs: &mut Vec<(u32, u32)>, failed: &mut Failure) {
+        for place in &self.parts.groups {
+            let instruction = self.at(*place);
+            match self.slot_at(instruction.first, false) {
                 Some(group) => {
                     self.add_group(&instruction, own.of(group as usize), pairs, failed);
                 }
@@ -418,45 +348,36 @@ impl Finder<'_> {
     }
 
     // For each id the instructions that say how its function is executed.
-    fn find_modes(&self, alloc: Global, places: &[u32], failed: &mut Failure) -> Groups {
-        let mut pairs = failed.list(alloc, places.len());
-        for place in places {
-            let instruction = instruction_at(self.instructions, *place);
-            failed.push(&mut pairs, (self.word(instruction.first), *place));
+    fn find_modes(&self, alloc: Global, failed: &mut Failure) -> Groups {
+        let mut pairs = failed.list(alloc, self.parts.modes.len());
+        for place in &self.parts.modes {
+            let id = number_at(&self.words, self.at(*place).first);
+            failed.push(&mut pairs, (id, *place));
         }
-        let modes = failed.groups(alloc, self.ids.defined.len(), &pairs);
+        let modes = failed.groups(alloc, self.bound(), &pairs);
         drop(pairs);
         modes
     }
-}
 
-// The instruction at this place.
-fn instruction_at(instructions: &[Instruction], place: u32) -> Instruction {
-    match instructions.get(place as usize) {
-        Some(instruction) => *instruction,
-        None => Instruction::NONE,
-    }
-}
-
-impl Listing {
     /// Every id that is defined is below this.
     pub fn bound(&self) -> usize {
-        self.ids.defined.len()
+        self.defined.len()
     }
 
     /// The instruction at this place.
     pub fn at(&self, place: u32) -> Instruction {
-        instruction_at(&self.instructions, place)
+        let instruction = self.instructions.get(place as usize).copied();
+        instruction.unwrap_or(Instruction::NONE)
     }
 
     /// The place of the instruction that defines an id.
     pub fn place_of(&self, id: u32) -> Option<u32> {
-        self.ids.place_of(id)
+        number_at(&self.defined, id).checked_sub(1)
     }
 
     /// The instruction that defines an id.
     pub fn definition(&self, id: u32) -> Option<Instruction> {
-        match self.ids.place_of(id) {
+        match self.place_of(id) {
             Some(place) => Some(self.at(place)),
             None => None,
         }
@@ -464,7 +385,7 @@ impl Listing {
 
     /// The instruction that defines an id; none where it is not defined.
     pub fn defined(&self, id: u32) -> Instruction {
-        match self.ids.place_of(id) {
+        match self.place_of(id) {
             Some(place) => self.at(place),
             None => Instruction::NONE,
         }
@@ -472,29 +393,18 @@ impl Listing {
 
     /// The operands of an instruction, after its results.
     pub fn operands(&self, instruction: &Instruction) -> &[u32] {
-        match self
-            .words
-            .get(instruction.first as usize..instruction.end as usize)
-        {
-            Some(operands) => operands,
-            None => &[],
-        }
+        let place = instruction.first as usize..instruction.end as usize;
+        self.words.get(place).unwrap_or(&[])
     }
 
     /// The operand at this place, if the instruction has so many.
     pub fn operand(&self, instruction: &Instruction, place: usize) -> Option<u32> {
-        match self.operands(instruction).get(place) {
-            Some(word) => Some(*word),
-            None => None,
-        }
+        self.operands(instruction).get(place).copied()
     }
 
     /// The operands of an instruction from this place on.
     pub fn operands_from(&self, instruction: &Instruction, place: usize) -> &[u32] {
-        match self.operands(instruction).get(place..) {
-            Some(operands) => operands,
-            None => &[],
-        }
+        self.operands(instruction).get(place..).unwrap_or(&[])
     }
 
     /// The operand at this place, which the instruction has to have.
@@ -512,8 +422,8 @@ impl Listing {
         id: u32,
         member: Option<u32>,
     ) -> Result<Option<String>, SpirvError> {
-        let slot = self.ids.slot(id, member).unwrap_or(u32::MAX);
-        let start = number_at(&self.said.names, slot);
+        let slot = self.slot(id, member).unwrap_or(u32::MAX);
+        let start = number_at(&self.names, slot);
         if (start as usize) < HEADER {
             return Ok(None);
         }
@@ -526,14 +436,14 @@ impl Listing {
 
     /// The instructions that decorate an id, or a member of its struct.
     pub fn decorations(&self, id: u32, member: Option<u32>) -> &[u32] {
-        match self.ids.slot(id, member) {
-            Some(slot) => self.said.decorations.of(slot as usize),
+        match self.slot(id, member) {
+            Some(slot) => self.decorations.of(slot as usize),
             None => &[],
         }
     }
 
     /// The instructions that say how a function is executed.
     pub fn modes(&self, id: u32) -> &[u32] {
-        self.said.modes.of(id as usize)
+        self.modes.of(id as usize)
     }
 }

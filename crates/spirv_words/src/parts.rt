@@ -35,71 +35,31 @@ pub struct Parts {
     pub functions: Vec<FunctionParts>,
 }
 
-// Where an instruction outside of functions belongs.
-#[derive(Clone, Copy)]
-enum Part {
-    Ignored,
-    Name,
-    Decoration,
-    Group,
-    Mode,
-    EntryPoint,
-    Capability,
-    Declaration,
-}
-
-// Where the opcode belongs.
-fn part_of(opcode: u16) -> Part {
-    match opcode {
-        ops::NOP
-        | ops::LINE
-        | ops::NO_LINE
-        | ops::SOURCE
-        | ops::SOURCE_CONTINUED
-        | ops::SOURCE_EXTENSION
-        | ops::STRING
-        | ops::MODULE_PROCESSED
-        | ops::EXTENSION
-        | ops::EXT_INST_IMPORT
-        | ops::MEMORY_MODEL
-        | ops::DECORATION_GROUP
-        | ops::DECORATE_STRING
-        | ops::MEMBER_DECORATE_STRING => Part::Ignored,
-        ops::NAME | ops::MEMBER_NAME => Part::Name,
-        ops::DECORATE | ops::DECORATE_ID | ops::MEMBER_DECORATE => Part::Decoration,
-        ops::GROUP_DECORATE | ops::GROUP_MEMBER_DECORATE => Part::Group,
-        ops::EXECUTION_MODE | ops::EXECUTION_MODE_ID => Part::Mode,
-        ops::ENTRY_POINT => Part::EntryPoint,
-        ops::CAPABILITY => Part::Capability,
-        _ => Part::Declaration,
-    }
-}
-
 impl Parts {
-    fn new(alloc: Global) -> Parts {
-        Parts {
-            names: Vec::new(alloc),
-            decorations: Vec::new(alloc),
-            groups: Vec::new(alloc),
-            modes: Vec::new(alloc),
-            entry_points: Vec::new(alloc),
-            capabilities: Vec::new(alloc),
-            declarations: Vec::new(alloc),
-            functions: Vec::new(alloc),
-        }
-    }
-
     // Takes an instruction outside of functions to its part.
     fn add(&mut self, opcode: u16, place: u32, failed: &mut Failure) {
-        let part = match part_of(opcode) {
-            Part::Ignored => return,
-            Part::Name => &mut self.names,
-            Part::Decoration => &mut self.decorations,
-            Part::Group => &mut self.groups,
-            Part::Mode => &mut self.modes,
-            Part::EntryPoint => &mut self.entry_points,
-            Part::Capability => &mut self.capabilities,
-            Part::Declaration => &mut self.declarations,
+        let part = match opcode {
+            ops::NOP
+            | ops::LINE
+            | ops::NO_LINE
+            | ops::SOURCE
+            | ops::SOURCE_CONTINUED
+            | ops::SOURCE_EXTENSION
+            | ops::STRING
+            | ops::MODULE_PROCESSED
+            | ops::EXTENSION
+            | ops::EXT_INST_IMPORT
+            | ops::MEMORY_MODEL
+            | ops::DECORATION_GROUP
+            | ops::DECORATE_STRING
+            | ops::MEMBER_DECORATE_STRING => return,
+            ops::NAME | ops::MEMBER_NAME => &mut self.names,
+            ops::DECORATE | ops::DECORATE_ID | ops::MEMBER_DECORATE => &mut self.decorations,
+            ops::GROUP_DECORATE | ops::GROUP_MEMBER_DECORATE => &mut self.groups,
+            ops::EXECUTION_MODE | ops::EXECUTION_MODE_ID => &mut self.modes,
+            ops::ENTRY_POINT => &mut self.entry_points,
+            ops::CAPABILITY => &mut self.capabilities,
+            _ => &mut self.declarations,
         };
         failed.push(part, place);
     }
@@ -132,7 +92,16 @@ impl Parts {
 
 /// The parts of a module.
 pub fn sort_out(alloc: Global, instructions: &[Instruction], failed: &mut Failure) -> Parts {
-    let mut parts = Parts::new(alloc);
+    let mut parts = Parts {
+        names: Vec::new(alloc),
+        decorations: Vec::new(alloc),
+        groups: Vec::new(alloc),
+        modes: Vec::new(alloc),
+        entry_points: Vec::new(alloc),
+        capabilities: Vec::new(alloc),
+        declarations: Vec::new(alloc),
+        functions: Vec::new(alloc),
+    };
     parts.add_all(instructions, failed);
     parts
 }

@@ -223,10 +223,7 @@ static TEXTS: [&str; 69] = [
 impl Feature {
     /// The same in words.
     pub fn text(self) -> &'static str {
-        match TEXTS.get(self as usize) {
-            Some(text) => *text,
-            None => "",
-        }
+        TEXTS.get(self as usize).copied().unwrap_or("")
     }
 }
 
@@ -323,9 +320,9 @@ impl Display for Unsupported {
             Name(names) => names.name(number),
         };
         if name.is_empty() {
-            return f.write_str(what.trim_ascii_end());
+            f.write_str(what.trim_ascii_end())
+        } else {
+            write!(f, "{what}{name}")
         }
-        f.write_str(what)?;
-        f.write_str(name)
     }
 }

@@ -10,8 +10,5 @@ decreases-upgraded_inner g l = 3 * l.depth + 2
 abbrev pub decreases-upgrade_members : goal.decreases-upgrade_members
 decreases-upgrade_members g l = 3 * l.depth + 1
 
-abbrev pub decreases-upgraded_part : goal.decreases-upgraded_part
-decreases-upgraded_part g l = 3 * l.depth + 1
-
 abbrev pub invariant-upgrade_members-loop : goal.invariant-upgrade_members-loop
 invariant-upgrade_members-loop g l = Unit {0}

@@ -1,10 +1,9 @@
-// Words that are computed where no instruction is.
+// Sets of a subgroup's invocations, as words that are computed with one span.
 
-use crate::writing::{Writing, keep_in};
+use crate::builder::{Emits, Value, keep};
 use ir_arena::span::Span;
-use ir_items::Expression;
 use ir_kinds::{BinaryOperator, Literal, VectorSize};
-use spirv_expressions::Value;
+use ir_types::Expression;
 use spirv_types::TypeHandle;
 use std::alloc::Global;
 
@@ -19,30 +18,30 @@ pub struct Words {
 
 impl Words {
     /// A word.
-    pub fn word<W: Writing>(&self, body: &mut W, word: u32) -> Value {
+    pub fn word<E: Emits>(&self, body: &mut E, word: u32) -> Value {
         body.place(Expression::Literal(Literal::U32(word)), self.span)
     }
 
     /// An operator of two values.
-    pub fn binary<W: Writing>(
+    pub fn binary<E: Emits>(
         &self,
-        body: &mut W,
+        body: &mut E,
         op: BinaryOperator,
         left: Value,
         right: Value,
     ) -> Value {
-        body.emit(Expression::Binary { op, left, right }, self.span)
+        body.compute(Expression::Binary { op, left, right }, self.span)
     }
 
     // Four times the same word.
-    fn four<W: Writing>(&self, body: &mut W, value: Value) -> Value {
+    fn four<E: Emits>(&self, body: &mut E, value: Value) -> Value {
         let size = VectorSize::Quad;
-        body.emit(Expression::Splat { size, value }, self.span)
+        body.compute(Expression::Splat { size, value }, self.span)
     }
 
-    fn select<W: Writing>(
+    fn select<E: Emits>(
         &self,
-        body: &mut W,
+        body: &mut E,
         condition: Value,
         accept: Value,
         reject: Value,
@@ -52,21 +51,21 @@ impl Words {
             accept,
             reject,
         };
-        body.emit(select, self.span)
+        body.compute(select, self.span)
     }
 
     // The words 0, 1, 2 and 3.
-    fn indices<W: Writing>(&self, body: &mut W, ty: TypeHandle) -> Value {
+    fn indices<E: Emits>(&self, body: &mut E, ty: TypeHandle) -> Value {
         let mut components = Vec::new(self.alloc);
         for index in 0..4u32 {
             let part = self.word(body, index);
-            keep_in(body, &mut components, part);
+            keep(body, &mut components, part);
         }
-        body.emit(Expression::Compose { ty, components }, self.span)
+        body.compute(Expression::Compose { ty, components }, self.span)
     }
 
     /// The mask of all invocations below one, four words of this type: the words before that of its bit are full, and of that one the bits below.
-    pub fn below<W: Writing>(&self, body: &mut W, ty: TypeHandle, at: Value) -> Value {
+    pub fn below<E: Emits>(&self, body: &mut E, ty: TypeHandle, at: Value) -> Value {
         let five = self.word(body, 5);
         let last = self.word(body, 31);
         let one = self.word(body, 1);
