@@ -13,14 +13,16 @@ use ir_kinds::{Binding, ScalarKind, ShaderStage};
 use ir_types::clone_name;
 use spirv_bodies::{Subgroups, Writing, read_in, type_in};
 use spirv_declarations::{
-    Declared, GlobalHandle, decorated_size, members_of, modes_of, scalar_kind, stage_of,
+    Declared, KnownVariables, decorated_size, members_of, modes_of, scalar_kind, stage_of,
 };
 use spirv_expressions::{Emits, Value, Words, keep};
 use spirv_flow::{FRAGMENT_PLACE, SUBGROUP_NUMBERS};
 use spirv_numbers::numbers;
 use spirv_tables::with_default;
 use spirv_types::{Reading, TypeHandle, Types, span_of};
-use spirv_words::{Failure, Feature, Instruction, Malformed, SpirvError, Unsupported, read_text};
+use spirv_words::{
+    Failure, Feature, Instruction, Listing, Malformed, SpirvError, Unsupported, read_text,
+};
 use std::alloc::Global;
 
 // An entry point that is being built.
@@ -101,10 +103,10 @@ impl Entry {
         let (name, taken) = read_text(self.alloc, words, self.instruction.start)?;
         let interface = words.get(taken..).unwrap_or(&[]);
         let function = self.wrap(
-            reading,
+            listing,
             Handle::new(place),
             interface,
-            declared,
+            &declared.variables,
             built,
             name.as_str(),
         )?;
@@ -126,34 +128,34 @@ impl Entry {
     // The function that stores what it is given, calls another, and returns what that has stored.
     fn wrap<T: Types>(
         &self,
-        reading: &Reading,
+        listing: &Listing,
         callee: Handle<key::Function>,
         interface: &[u32],
-        declared: &Declared,
+        variables: &KnownVariables,
         built: &mut T,
         name: &str,
     ) -> Result<Function, SpirvError> {
         let count = u64::try_from(interface.len()).unwrap_or(0);
-        let room = u64::try_from(reading.listing.words.len()).unwrap_or(0);
+        let room = u64::try_from(listing.words.len()).unwrap_or(0);
         let name = format!(in self.alloc; "{name}_wrap")?;
         let mut body = Body::new(self.alloc, count.saturating_add(room).saturating_mul(8));
         body.open();
-        let arguments = self.take_inputs(reading, interface, declared, built, &mut body);
+        let arguments = self.take_inputs(listing, interface, variables, built, &mut body);
         let call = Statement::Call {
             function: callee,
             arguments: Vec::new(self.alloc),
             result: None,
         };
         body.statement(call, self.span);
-        let result = self.give_outputs(reading, interface, declared, built, &mut body);
+        let result = self.give_outputs(listing, interface, variables, built, &mut body);
         body.into_function(Some(name), arguments, result)
     }
 
     // The variables of this storage class, and the parts of locations that they are where they share some.
     fn ports<T: Types, W: Writing>(
         &self,
-        reading: &Reading,
-        declared: &Declared,
+        listing: &Listing,
+        variables: &KnownVariables,
         built: &T,
         body: &mut W,
         interface: &[u32],
@@ -163,7 +165,15 @@ impl Entry {
             first: body.failure(),
         };
         let most = interface.len().saturating_mul(PIECES_A_VARIABLE);
-        let ports = ports_of(reading, declared, built, interface, class, &mut failed);
+        let ports = ports_of(
+            self.alloc,
+            listing,
+            variables,
+            built,
+            interface,
+            class,
+            &mut failed,
+        );
         let pieces = pieces_of(
             self.alloc,
             &ports,
@@ -177,16 +187,16 @@ impl Entry {
     // Takes the inputs as arguments, and stores each into its variable.
     fn take_inputs<T: Types, W: Writing>(
         &self,
-        reading: &Reading,
+        listing: &Listing,
         interface: &[u32],
-        declared: &Declared,
+        variables: &KnownVariables,
         built: &mut T,
         body: &mut W,
     ) -> Vec<FunctionArgument> {
         let mut arguments = Vec::new(self.alloc);
         let (ports, pieces) = self.ports(
-            reading,
-            declared,
+            listing,
+            variables,
             built,
             body,
             interface,
@@ -199,20 +209,25 @@ impl Entry {
             let is_part = !pieces.is_empty() && port.piece().is_some();
             if port.mask.is_none() && !is_part {
                 let number = u32::try_from(arguments.len()).unwrap_or(u32::MAX);
-                let argument = self.argument(reading, body, port);
+                let name = listing.name(self.alloc, port.variable.id, None);
+                let argument = FunctionArgument {
+                    name: read_in(body, name),
+                    ty: port.varying.ty,
+                    binding: self.bound(ShaderStage::Fragment, port.varying.binding, port.kind),
+                };
                 keep(body, &mut arguments, argument);
                 self.store_input(body, port, number);
             }
         }
-        self.take_shared(&reading.listing, built, body, &pieces, &mut arguments);
-        self.take_subgroup(declared, built, body, &ports, &mut arguments);
+        self.take_shared(listing, built, body, &pieces, &mut arguments);
+        self.take_subgroup(variables, built, body, &ports, &mut arguments);
         arguments
     }
 
     // Stores what is computed of the number of the invocation in its subgroup and of the subgroup's size.
     fn take_subgroup<T: Types, W: Writing>(
         &self,
-        declared: &Declared,
+        variables: &KnownVariables,
         built: &mut T,
         body: &mut W,
         ports: &[Port],
@@ -232,11 +247,11 @@ impl Entry {
                 subgroups.store_mask(built, body, arguments, &port.variable, mask);
             }
         }
-        let place = declared.variables.of(FRAGMENT_PLACE);
+        let place = variables.of(FRAGMENT_PLACE);
         if let (Some(variable), ShaderStage::Fragment) = (place, self.stage) {
             subgroups.store_place(built, body, arguments, &variable);
         }
-        let Some(variable) = declared.variables.of(SUBGROUP_NUMBERS) else {
+        let Some(variable) = variables.of(SUBGROUP_NUMBERS) else {
             return;
         };
         if self.stage == ShaderStage::Vertex {
@@ -244,21 +259,6 @@ impl Entry {
             body.fail(self.instruction.unsupported_as(what));
         }
         subgroups.store_numbers(built, body, arguments, &variable);
-    }
-
-    // What an input is taken as.
-    fn argument<W: Writing>(
-        &self,
-        reading: &Reading,
-        body: &mut W,
-        port: &Port,
-    ) -> FunctionArgument {
-        let name = reading.listing.name(self.alloc, port.variable.id, None);
-        FunctionArgument {
-            name: read_in(body, name),
-            ty: port.varying.ty,
-            binding: self.bound(ShaderStage::Fragment, port.varying.binding, port.kind),
-        }
     }
 
     // A binding of scalars of this kind; with its interpolation in this stage.
@@ -286,26 +286,22 @@ impl Entry {
             };
             value = body.compute(signed, self.span);
         }
-        let pointer = self.global(body, port.variable.handle);
+        let pointer = body.place(Expression::GlobalVariable(port.variable.handle), self.span);
         body.statement(Statement::Store { pointer, value }, self.span);
-    }
-
-    pub(crate) fn global<W: Writing>(&self, body: &mut W, handle: GlobalHandle) -> Value {
-        body.place(Expression::GlobalVariable(handle), self.span)
     }
 
     // Returns what the outputs give.
     fn give_outputs<T: Types, W: Writing>(
         &self,
-        reading: &Reading,
+        listing: &Listing,
         interface: &[u32],
-        declared: &Declared,
+        variables: &KnownVariables,
         built: &mut T,
         body: &mut W,
     ) -> Option<FunctionResult> {
         let (ports, pieces) = self.ports(
-            reading,
-            declared,
+            listing,
+            variables,
             built,
             body,
             interface,
@@ -335,7 +331,7 @@ impl Entry {
         members: &mut Vec<StructMember>,
     ) {
         let ty = port.variable.built;
-        let pointer = self.global(body, port.variable.handle);
+        let pointer = body.place(Expression::GlobalVariable(port.variable.handle), self.span);
         if port.varying.binding.is_none() {
             self.find_members(built, body, pointer, members_of(built, ty), given, members);
             return;

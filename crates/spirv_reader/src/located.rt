@@ -4,12 +4,12 @@ use ir_kinds::{
     Binding, Interpolation, Sampling, Scalar, ScalarKind, SwizzleComponent, VectorSize,
 };
 use spirv_declarations::{
-    Declared, GlobalHandle, Located, Variable, Varying, located_type, scalar_kind,
+    GlobalHandle, KnownVariables, Located, Variable, Varying, located_type, scalar_kind,
 };
 use spirv_numbers::numbers;
 use spirv_tables::{Decorated, SubgroupMask};
-use spirv_types::{Reading, Types};
-use spirv_words::{Failure, SpirvError, Unsupported};
+use spirv_types::Types;
+use spirv_words::{Failure, Listing, SpirvError, Unsupported};
 use std::alloc::Global;
 
 /// A variable that an entry point takes or gives.
@@ -31,16 +31,17 @@ pub struct Port {
 
 /// The variables of this storage class among those of an entry point, in order.
 pub fn ports_of<T: Types>(
-    reading: &Reading,
-    declared: &Declared,
+    alloc: Global,
+    listing: &Listing,
+    variables: &KnownVariables,
     built: &T,
     interface: &[u32],
     class: u32,
     failed: &mut Failure,
 ) -> Vec<Port> {
-    let mut ports = Vec::new(reading.alloc);
+    let mut ports = Vec::new(alloc);
     for id in interface {
-        if let Some(port) = port_of(reading, declared, built, *id, class) {
+        if let Some(port) = port_of(listing, variables, built, *id, class) {
             failed.push(&mut ports, port);
         }
     }
@@ -49,13 +50,13 @@ pub fn ports_of<T: Types>(
 
 // The variable with this id, if it goes between stages and is of this storage class.
 fn port_of<T: Types>(
-    reading: &Reading,
-    declared: &Declared,
+    listing: &Listing,
+    variables: &KnownVariables,
     built: &T,
     id: u32,
     class: u32,
 ) -> Option<Port> {
-    let variable = declared.variables.of(id)?;
+    let variable = variables.of(id)?;
     let varying = variable.varying?;
     let ty = if class == numbers::CLASS_INPUT {
         varying.ty
@@ -69,9 +70,9 @@ fn port_of<T: Types>(
         variable,
         varying,
         kind: scalar_kind(built.inner(ty)),
-        mask: Decorated::of(&reading.listing, id, None).mask(),
+        mask: Decorated::of(listing, id, None).mask(),
         located: located_type(built, varying.ty),
-        word: reading.listing.defined(id).start,
+        word: listing.defined(id).start,
     })
 }
 
