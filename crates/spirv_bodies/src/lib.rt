@@ -2,6 +2,7 @@
 //! any tables and with whatever writes functions, so that all tables of a module are looked at in few places.
 #![tactic(auto)]
 
+mod budget;
 mod building;
 mod functions;
 mod lowering;
@@ -9,7 +10,8 @@ mod predeclared;
 mod subgroups;
 mod writing;
 
+pub use budget::{Budget, expression_size, type_size};
 pub use functions::{Lowered, lower_functions};
 pub use spirv_operations::Special;
 pub use subgroups::Subgroups;
-pub use writing::{Writing, read_in, type_in};
+pub use writing::{Writing, clone_in, copy_name, fail_in, type_in};

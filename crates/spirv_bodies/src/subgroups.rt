@@ -62,10 +62,12 @@ impl Subgroups {
         arguments: &mut Vec<FunctionArgument>,
         built_in: BuiltIn,
     ) -> Value {
+        let count = u32::try_from(arguments.len()).unwrap_or(u32::MAX);
+        // each mask looks at all of them
+        body.spend(u64::from(count), self.words.span);
         let place = match place_of(arguments, built_in) {
             Some(place) => place,
             None => {
-                let place = u32::try_from(arguments.len()).unwrap_or(u32::MAX);
                 let inner = inner_of(built_in);
                 let made = built.insert(IrType { name: None, inner }, Span::UNDEFINED);
                 let argument = FunctionArgument {
@@ -74,7 +76,7 @@ impl Subgroups {
                     binding: Some(Binding::BuiltIn(built_in)),
                 };
                 keep(body, arguments, argument);
-                place
+                count
             }
         };
         body.place(Expression::FunctionArgument(place), self.words.span)

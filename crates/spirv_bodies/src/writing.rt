@@ -1,16 +1,21 @@
 // What functions are written with.
 
+use crate::budget::words_of;
 use ir_arena::span::Span;
 use ir_items::{Block, FunctionArgument, FunctionResult, LocalVariable, Statement};
+use ir_types::clone_name;
 use spirv_expressions::{Emits, Value, no_type};
 use spirv_types::TypeHandle;
-use spirv_words::SpirvError;
-use std::alloc::AllocError;
+use spirv_words::{Failure, Listing, SpirvError};
+use std::alloc::{AllocError, Global};
 
 /// What functions are written with, one after the other. What is wrong first is kept, and after that nothing is written.
 pub trait Writing: Emits + Drop {
     /// What was wrong first.
     fn failure(&self) -> Option<SpirvError>;
+
+    /// So much is made, beside expressions.
+    fn spend(&mut self, count: u64, span: Span);
 
     /// Emits what no statement emits yet.
     fn flush(&mut self);
@@ -72,5 +77,42 @@ pub fn read_in<W: Writing>(
             body.fail(error);
             None
         }
+    }
+}
+
+/// A copy of an id's name, if it has one, where this is not the only one.
+pub fn copy_name<W: Writing>(
+    body: &mut W,
+    alloc: Global,
+    listing: &Listing,
+    id: u32,
+    span: Span,
+) -> Option<String> {
+    let name = read_in(body, listing.name(alloc, id, None));
+    body.spend(words_of(&name), span);
+    name
+}
+
+/// A copy of a name.
+pub fn clone_in<W: Writing>(
+    body: &mut W,
+    alloc: Global,
+    name: &Option<String>,
+    span: Span,
+) -> Option<String> {
+    body.spend(words_of(name), span);
+    match clone_name(alloc, name) {
+        Ok(name) => name,
+        Err(_) => {
+            body.fail(SpirvError::Memory);
+            None
+        }
+    }
+}
+
+/// What was wrong, if anything was.
+pub fn fail_in<W: Writing>(body: &mut W, failed: &Failure) {
+    if let Some(error) = failed.first {
+        body.fail(error);
     }
 }

@@ -130,10 +130,16 @@ impl<C: Constants> ConstantTable<C> {
                 constant: at,
                 index: *index,
             };
+            if self.failed.first.is_some() {
+                break;
+            }
             self.failed.push(&mut around, place);
             at = self.constant_in(types, at, *index, instruction);
         }
         for place in around.iter().rev() {
+            if self.failed.first.is_some() {
+                break;
+            }
             made = self.replaced(reading.alloc, types, instruction, place, made);
         }
         self.known.set_same(instruction.id, made);
@@ -157,6 +163,9 @@ impl<C: Constants> ConstantTable<C> {
         }
         let mut parts = Vec::new(alloc);
         for index in 0..count {
+            if self.failed.first.is_some() {
+                break;
+            }
             let part = if index == place.index {
                 made
             } else {

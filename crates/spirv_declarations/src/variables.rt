@@ -12,10 +12,10 @@ use ir_types::{ArraySize, TypeInner, key};
 use spirv_constants::{Constants, ExpressionHandle};
 use spirv_flow::Use;
 use spirv_numbers::{numbers, ops};
-use spirv_tables::{Decorated, Demands};
+use spirv_tables::{Decorated, Demands, SubgroupMask};
 use spirv_types::{
-    ImageShape, ImageUse, Reading, Resources, Shape, TypeHandle, TypeTable, Types, block_access,
-    image_class, insert, space_of, span_of, vector_type,
+    ImageShape, ImageUse, Reading, Resources, Shape, TypeHandle, TypeTable, Types, image_class,
+    insert, space_of, span_of, vector_type,
 };
 use spirv_words::{Failure, Feature, Instruction, Listing, Malformed, SpirvError, number_at};
 use std::alloc::Global;
@@ -31,6 +31,8 @@ pub struct Varying {
     pub binding: Option<Binding>,
     /// The component of its location that is its first, where that is said.
     pub component: Option<u32>,
+    /// The mask of a subgroup's invocations that it is.
+    pub mask: Option<SubgroupMask>,
     /// The type that an entry point takes or gives it as.
     pub ty: TypeHandle,
 }
@@ -454,7 +456,7 @@ fn memory_of(
     };
     let capability = match variable.space {
         AddressSpace::Storage { .. } => {
-            store(reading, types, demands, draft, element, &mut variable);
+            store(types, demands, draft, element, &mut variable);
             Capabilities::STORAGE_BUFFER_BINDING_ARRAY
         }
         AddressSpace::Uniform => Capabilities::BUFFER_BINDING_ARRAY,
@@ -550,34 +552,34 @@ pub fn sampler_name(alloc: Global, listing: &Listing, id: u32) -> Result<String,
 
 // A storage buffer of this block, or of an array of those: its accesses, and what is said of its memory.
 fn store(
-    reading: &Reading,
     types: &TypeTable,
     demands: &mut Demands,
     draft: &Draft,
     block: u32,
     variable: &mut Built,
 ) {
-    let count = match types.shape(block) {
-        Shape::Struct { count, .. } => count,
-        _ => 0,
-    };
-    let access = block_access(reading, block, count).0 & draft.said.access().0;
-    variable.space = AddressSpace::Storage {
-        access: StorageAccess(access),
-    };
-    let mut coherent = count > 0;
-    let mut volatile = count > 0;
-    for place in 0..count {
-        let said = Decorated::of(&reading.listing, block, Some(place));
-        coherent &= said.coherent;
-        volatile &= said.volatile;
+    let mut said = draft.said;
+    match types.shape(block) {
+        Shape::Struct { count, memory, .. } => {
+            said.coherent |= memory.coherent && count > 0;
+            said.volatile |= memory.volatile && count > 0;
+            said.non_writable |= memory.non_writable;
+            said.non_readable |= memory.non_readable;
+        }
+        _ => {
+            said.non_writable = true;
+            said.non_readable = true;
+        }
     }
+    variable.space = AddressSpace::Storage {
+        access: said.access(),
+    };
     let mut decorations = 0;
-    if coherent || draft.said.coherent {
+    if said.coherent {
         demands.ask(Capabilities::MEMORY_DECORATION_COHERENT);
         decorations |= MemoryDecorations::COHERENT.0;
     }
-    if volatile || draft.said.volatile {
+    if said.volatile {
         demands.ask(Capabilities::MEMORY_DECORATION_VOLATILE);
         decorations |= MemoryDecorations::VOLATILE.0;
     }

@@ -44,6 +44,7 @@ pub(crate) fn varying_of<T: Types>(
     variable.varying = Some(Varying {
         binding,
         component: draft.said.component,
+        mask: draft.said.mask(),
         ty: if is_input { taken } else { ty },
     });
     variable

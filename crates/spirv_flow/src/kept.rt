@@ -157,10 +157,16 @@ fn use_id(
         return;
     }
     let mut at = id;
+    let mut steps = 0usize;
     for _ in 0..MAX_STEPS {
         let made = listing.defined(at);
         if is_chain(made.opcode) {
-            for index in listing.operands_from(&made, 1) {
+            let indexes = listing.operands_from(&made, 1);
+            steps = steps.saturating_add(indexes.len());
+            if steps > MAX_STEPS {
+                break;
+            }
+            for index in indexes {
                 keep(known, scopes, scope, *index);
             }
         } else {

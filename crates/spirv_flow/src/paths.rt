@@ -5,9 +5,12 @@ use spirv_numbers::ops;
 use spirv_words::{Failure, Feature, Instruction, Listing, as_word, number_at, set_number};
 use std::alloc::Global;
 
-// How many steps an access chain may have from its variable (universal limit of the standard), and how many parts of one
-// value may be atomic.
+// How many steps a pointer may have from its variable (universal limit of the standard), and how many parts of one value may be
+// atomic.
 const MAX_STEPS: usize = 255;
+
+// How many parts may be looked at for each word, to find those that are changed.
+const PARTS_A_WORD: usize = 64;
 
 /// A part of a variable: the variable itself, a member of a struct, or the elements of an array.
 #[derive(Clone, Copy)]
@@ -37,14 +40,17 @@ pub struct Paths {
     parts: Vec<PathPart>,
     // for each id of a variable its place and one, or 0
     variables: Vec<u32>,
+    // how many parts may still be looked at
+    left: usize,
 }
 
 impl Paths {
     /// None.
-    pub fn new(alloc: Global, bound: usize, failed: &mut Failure) -> Paths {
+    pub fn new(alloc: Global, listing: &Listing, failed: &mut Failure) -> Paths {
         Paths {
             parts: Vec::new(alloc),
-            variables: failed.table(alloc, 0u32, bound),
+            variables: failed.table(alloc, 0u32, listing.bound()),
+            left: listing.words.len().saturating_mul(PARTS_A_WORD),
         }
     }
 
@@ -88,7 +94,8 @@ impl Paths {
     ) -> u32 {
         let first = self.at(place).first;
         let mut at = first;
-        for _ in 0..MAX_STEPS {
+        for _ in 0..MAX_STEPS.min(self.left) {
+            self.left = self.left.saturating_sub(1);
             let Some(found) = at.checked_sub(1) else {
                 let made = PathPart {
                     member,
@@ -108,7 +115,12 @@ impl Paths {
             }
             at = part.next;
         }
-        failed.fail(atomic.unsupported_by(Feature::AtomicParts));
+        let feature = if self.left == 0 {
+            Feature::TooMuch
+        } else {
+            Feature::AtomicParts
+        };
+        failed.fail(atomic.unsupported_by(feature));
         place
     }
 
@@ -170,9 +182,14 @@ fn add_chains(
     failed: &mut Failure,
 ) {
     let mut id = pointer;
+    let mut steps = 0usize;
     for _ in 0..MAX_STEPS {
         let made = listing.defined(id);
         if is_chain(made.opcode) {
+            steps = steps.saturating_add(listing.operands_from(&made, 1).len());
+            if steps > MAX_STEPS {
+                break;
+            }
             failed.push(chains, made);
         } else if made.opcode != ops::COPY_OBJECT {
             return;

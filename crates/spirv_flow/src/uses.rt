@@ -189,7 +189,7 @@ impl Uses {
         let mut uses = Uses {
             known: failed.table(alloc, Known::NOTHING, listing.bound()),
             touched: 0,
-            atomics: Paths::new(alloc, listing.bound(), failed),
+            atomics: Paths::new(alloc, listing, failed),
             numbered: false,
             placed: false,
         };

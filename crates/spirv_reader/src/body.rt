@@ -6,9 +6,9 @@ use ir_arena::span::Span;
 use ir_items::{
     Block, Expression, Function, FunctionArgument, FunctionResult, LocalVariable, Statement, key,
 };
-use spirv_bodies::Writing;
+use spirv_bodies::{Budget, Writing, expression_size};
 use spirv_expressions::{Emits, Value, no_value};
-use spirv_words::{Feature, SpirvError};
+use spirv_words::SpirvError;
 use std::alloc::Global;
 use std::mem;
 
@@ -24,15 +24,15 @@ pub struct Body {
     // the first expression that no statement emits yet, and the spans from it on
     start: Option<u32>,
     span: Span,
-    // how many expressions there may still be
-    left: u64,
+    // how much may still be made
+    budget: Budget,
     // what was wrong first
     failure: Option<SpirvError>,
 }
 
 impl Body {
-    /// One with nothing in it, in which so many expressions may be made.
-    pub fn new(alloc: Global, left: u64) -> Body {
+    /// One with nothing in it, in which so much may be made.
+    pub fn new(alloc: Global, budget: Budget) -> Body {
         Body {
             alloc,
             functions: Arena::new(alloc),
@@ -41,22 +41,14 @@ impl Body {
             open: Vec::new(alloc),
             start: None,
             span: Span::UNDEFINED,
-            left,
+            budget,
             failure: None,
         }
     }
 
     // An expression.
     fn append(&mut self, expression: Expression, span: Span) -> Value {
-        let left = self.left.checked_sub(1);
-        if left.is_none() {
-            let word = match span.to_range() {
-                Some(range) => u32::try_from(range.start).unwrap_or(u32::MAX),
-                None => 0,
-            };
-            self.fail(SpirvError::untranslated(Feature::ExpressionLimit, word));
-        }
-        self.left = left.unwrap_or(0);
+        self.spend(expression_size(&expression), span);
         if self.failure.is_some() {
             return no_value();
         }
@@ -67,6 +59,11 @@ impl Body {
                 no_value()
             }
         }
+    }
+
+    /// How much may still be made.
+    pub fn budget(&self) -> Budget {
+        self.budget
     }
 
     fn count(&self) -> u32 {
@@ -156,6 +153,12 @@ impl Emits for Body {
 impl Writing for Body {
     fn failure(&self) -> Option<SpirvError> {
         self.failure
+    }
+
+    fn spend(&mut self, count: u64, span: Span) {
+        if let Err(error) = self.budget.spend(count, span) {
+            self.fail(error);
+        }
     }
 
     fn flush(&mut self) {

@@ -6,6 +6,7 @@ use ir_arena::span::Span;
 use ir_items::{Constant, GlobalVariable, Override};
 use ir_sets::unique_arena::UniqueArena;
 use ir_types::{Expression, IrType, TypeInner, key};
+use spirv_bodies::{Budget, expression_size, type_size};
 use spirv_constants::{Constants, ExpressionHandle};
 use spirv_declarations::{GlobalHandle, Variables};
 use spirv_types::{TypeHandle, Types};
@@ -17,10 +18,15 @@ use std::alloc::Global;
 pub struct BuiltTypes {
     /// The types.
     pub arena: UniqueArena<IrType, key::IrType>,
+    /// How much of them there may still be.
+    pub budget: Budget,
 }
 
 impl Types for BuiltTypes {
     fn insert(&mut self, ty: IrType, span: Span) -> Result<TypeHandle, SpirvError> {
+        if let Err(error) = self.budget.spend(type_size(&ty), span) {
+            return Err(error);
+        }
         match self.arena.insert(ty, span) {
             Ok(handle) => Ok(handle),
             Err(_) => Err(SpirvError::Memory),
@@ -54,6 +60,8 @@ pub struct BuiltConstants {
     pub overrides: Arena<Override, key::Override>,
     /// The expressions of the module.
     pub expressions: Arena<Expression, key::Expression>,
+    /// How many of these there may still be.
+    pub budget: Budget,
 }
 
 impl Constants for BuiltConstants {
@@ -90,6 +98,9 @@ impl Constants for BuiltConstants {
         expression: Expression,
         span: Span,
     ) -> Result<ExpressionHandle, SpirvError> {
+        if let Err(error) = self.budget.spend(expression_size(&expression), span) {
+            return Err(error);
+        }
         match self.expressions.append(expression, span) {
             Ok(handle) => Ok(handle),
             Err(_) => Err(SpirvError::Memory),

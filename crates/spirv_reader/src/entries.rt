@@ -2,7 +2,6 @@
 
 use crate::body::Body;
 use crate::located::{MAX_PIECES, Piece, Port, Whole, pieces_of, ports_of};
-use crate::shared::fail_in;
 use ir_arena::handle::{Handle, NonMaxU32};
 use ir_arena::span::Span;
 use ir_items::{
@@ -10,8 +9,7 @@ use ir_items::{
     StructMember, TypeInner, key,
 };
 use ir_kinds::{Binding, ScalarKind, ShaderStage};
-use ir_types::clone_name;
-use spirv_bodies::{Subgroups, Writing, read_in, type_in};
+use spirv_bodies::{Budget, Subgroups, Writing, clone_in, copy_name, fail_in, type_in};
 use spirv_declarations::{
     Declared, KnownVariables, decorated_size, members_of, modes_of, scalar_kind, stage_of,
 };
@@ -66,6 +64,7 @@ pub fn lower_entries<T: Types>(
 ) -> Result<(), SpirvError> {
     let listing = &reading.listing;
     let decorated = decorated_size(listing, declared)?;
+    let mut budget = Budget::of_rest(listing.words.len());
     for place in &listing.parts.entry_points {
         let instruction = listing.at(*place);
         let entry = Entry {
@@ -74,7 +73,7 @@ pub fn lower_entries<T: Types>(
             stage: stage_of(listing, &instruction)?,
             span: span_of(&instruction),
         };
-        entries.push(entry.lower(reading, declared, built, decorated)?)?;
+        entries.push(entry.lower(reading, declared, built, decorated, &mut budget)?)?;
     }
     if entries.is_empty() {
         Err(SpirvError::untranslated(Feature::NoEntryPoint, 0))
@@ -91,6 +90,7 @@ impl Entry {
         declared: &mut Declared,
         built: &mut T,
         decorated: Option<[u32; 3]>,
+        budget: &mut Budget,
     ) -> Result<EntryPoint, SpirvError> {
         let listing = &reading.listing;
         let id = listing.need(&self.instruction, 1)?;
@@ -109,6 +109,7 @@ impl Entry {
             &declared.variables,
             built,
             name.as_str(),
+            budget,
         )?;
         Ok(EntryPoint {
             name,
@@ -134,11 +135,10 @@ impl Entry {
         variables: &KnownVariables,
         built: &mut T,
         name: &str,
+        budget: &mut Budget,
     ) -> Result<Function, SpirvError> {
-        let count = u64::try_from(interface.len()).unwrap_or(0);
-        let room = u64::try_from(listing.words.len()).unwrap_or(0);
         let name = format!(in self.alloc; "{name}_wrap")?;
-        let mut body = Body::new(self.alloc, count.saturating_add(room).saturating_mul(8));
+        let mut body = Body::new(self.alloc, *budget);
         body.open();
         let arguments = self.take_inputs(listing, interface, variables, built, &mut body);
         let call = Statement::Call {
@@ -148,6 +148,7 @@ impl Entry {
         };
         body.statement(call, self.span);
         let result = self.give_outputs(listing, interface, variables, built, &mut body);
+        *budget = body.budget();
         body.into_function(Some(name), arguments, result)
     }
 
@@ -207,11 +208,10 @@ impl Entry {
                 break;
             }
             let is_part = !pieces.is_empty() && port.piece().is_some();
-            if port.mask.is_none() && !is_part {
+            if port.varying.mask.is_none() && !is_part {
                 let number = u32::try_from(arguments.len()).unwrap_or(u32::MAX);
-                let name = listing.name(self.alloc, port.variable.id, None);
                 let argument = FunctionArgument {
-                    name: read_in(body, name),
+                    name: copy_name(body, self.alloc, listing, port.variable.id, self.span),
                     ty: port.varying.ty,
                     binding: self.bound(ShaderStage::Fragment, port.varying.binding, port.kind),
                 };
@@ -243,7 +243,7 @@ impl Entry {
             if body.failure().is_some() {
                 break;
             }
-            if let Some(mask) = port.mask {
+            if let Some(mask) = port.varying.mask {
                 subgroups.store_mask(built, body, arguments, &port.variable, mask);
             }
         }
@@ -372,6 +372,10 @@ impl Entry {
     ) {
         let mut index = 0u32;
         for part in parts {
+            body.spend(1, self.span);
+            if body.failure().is_some() {
+                break;
+            }
             if part.binding.is_some() {
                 let ty = part.ty;
                 let pointer = body.compute(Expression::AccessIndex { base, index }, self.span);
@@ -379,13 +383,7 @@ impl Entry {
                 let binding = self.bound(ShaderStage::Vertex, part.binding, kind);
                 let from = From::Pointer(pointer);
                 keep(body, given, Given { from, ty, binding });
-                let name = match clone_name(self.alloc, &part.name) {
-                    Ok(name) => name,
-                    Err(_) => {
-                        body.fail(SpirvError::Memory);
-                        None
-                    }
-                };
+                let name = clone_in(body, self.alloc, &part.name, self.span);
                 keep(body, members, member(name, ty, binding, part.offset));
             }
             index = index.saturating_add(1);

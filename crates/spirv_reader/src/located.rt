@@ -7,7 +7,6 @@ use spirv_declarations::{
     GlobalHandle, KnownVariables, Located, Variable, Varying, located_type, scalar_kind,
 };
 use spirv_numbers::numbers;
-use spirv_tables::{Decorated, SubgroupMask};
 use spirv_types::Types;
 use spirv_words::{Failure, Listing, SpirvError, Unsupported};
 use std::alloc::Global;
@@ -21,8 +20,6 @@ pub struct Port {
     pub varying: Varying,
     /// The kind of its scalars, as it is taken or given.
     pub kind: Option<ScalarKind>,
-    /// The mask of a subgroup's invocations that it is.
-    pub mask: Option<SubgroupMask>,
     // what it is, of a number or a vector, or an array of those
     located: Option<Located>,
     // the first word of its instruction
@@ -70,7 +67,6 @@ fn port_of<T: Types>(
         variable,
         varying,
         kind: scalar_kind(built.inner(ty)),
-        mask: Decorated::of(listing, id, None).mask(),
         located: located_type(built, varying.ty),
         word: listing.defined(id).start,
     })

@@ -11,7 +11,7 @@ use ir_flags::{Settings, ShaderStages, SubgroupOperationSet, ValidationFlags};
 use ir_items::{EntryPoint, Module, SpecialTypes};
 use ir_sets::keyed::KeyedState;
 use ir_sets::unique_arena::UniqueArena;
-use spirv_bodies::{Lowered, Writing, lower_functions};
+use spirv_bodies::{Budget, Lowered, Writing, lower_functions};
 use spirv_declarations::{Declared, declare};
 use spirv_flow::flow_of;
 use spirv_tables::Demands;
@@ -36,22 +36,25 @@ fn read_module(reading: Reading, key: KeyedState) -> Result<Document, SpirvError
     ensures { IfOk result (λ d. MakesSixChecks d.settings.flags) }
 {
     let alloc = reading.alloc;
-    let words = u64::try_from(reading.listing.words.len()).unwrap_or(0);
+    let words = reading.listing.words.len();
+    let budget = Budget::of_rest(words);
     let (declared, types, constants, variables) = declare(
         &reading,
         BuiltTypes {
             arena: UniqueArena::with_hasher(alloc, key),
+            budget,
         },
         BuiltConstants {
             constants: Arena::new(alloc),
             overrides: Arena::new(alloc),
             expressions: Arena::new(alloc),
+            budget,
         },
         BuiltVariables {
             arena: Arena::new(alloc),
         },
     )?;
-    let body = Body::new(alloc, words.saturating_mul(64).saturating_add(1024));
+    let body = Body::new(alloc, Budget::of_functions(words));
     match read_functions(reading, declared, types, body) {
         Ok(read) => Ok(document_of(alloc, read, constants, variables)),
         Err(error) => Err(error),

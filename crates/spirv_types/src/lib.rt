@@ -8,8 +8,9 @@ mod table;
 
 pub use declare::{Reading, Resources, image_class, image_inner, space_of};
 pub use shapes::{
-    ImageShape, ImageUse, MatrixShape, MemberShape, Shape, Stored, TypeHandle, span_of,
+    ImageShape, ImageUse, MatrixShape, MemberMemory, MemberShape, Shape, Stored, TypeHandle,
+    span_of,
 };
 pub use spirv_tables::{Layout, vector_size};
-pub use structs::{block_access, packed_line, stored_matrix};
+pub use structs::{packed_line, stored_matrix};
 pub use table::{TypeTable, Types, insert, numbered, vector_type};

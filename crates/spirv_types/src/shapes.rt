@@ -4,7 +4,7 @@ use ir_arena::handle::Handle;
 use ir_arena::span::Span;
 use ir_kinds::{ImageClass, ImageDimension, Scalar, ScalarKind, StorageFormat, VectorSize};
 use ir_types::{ArraySize, key};
-use spirv_tables::{Layout, matrix_layout, vector_layout};
+use spirv_tables::{Decorated, Layout, matrix_layout, vector_layout};
 use spirv_words::{Feature, Instruction, SpirvError, Unsupported};
 
 /// The handle of a type of the module that is built.
@@ -36,6 +36,39 @@ pub struct ImageUse {
     pub shape: ImageShape,
     /// Its class, as it is used.
     pub class: ImageClass,
+}
+
+/// What is said of the memory of each member of a struct.
+#[derive(Clone, Copy)]
+pub struct MemberMemory {
+    /// It is coherent.
+    pub coherent: bool,
+    /// It is volatile.
+    pub volatile: bool,
+    /// It is not written.
+    pub non_writable: bool,
+    /// It is not read.
+    pub non_readable: bool,
+}
+
+impl MemberMemory {
+    // What is said of each of no members.
+    pub(crate) const ALL: MemberMemory = MemberMemory {
+        coherent: true,
+        volatile: true,
+        non_writable: true,
+        non_readable: true,
+    };
+
+    // With a member more, of which this is said.
+    pub(crate) fn and(&self, said: &Decorated) -> MemberMemory {
+        MemberMemory {
+            coherent: self.coherent && said.coherent,
+            volatile: self.volatile && said.volatile,
+            non_writable: self.non_writable && said.non_writable,
+            non_readable: self.non_readable && said.non_readable,
+        }
+    }
 }
 
 /// What a type is.
@@ -88,6 +121,8 @@ pub enum Shape {
         first: u32,
         /// How many.
         count: u32,
+        /// What is said of the memory of each.
+        memory: MemberMemory,
     },
     /// A pointer into a storage class.
     Pointer {

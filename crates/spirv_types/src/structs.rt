@@ -1,11 +1,10 @@
 // The declarations of structs.
 
 use crate::declare::Reading;
-use crate::shapes::{MatrixShape, MemberShape, Shape, Stored, TypeHandle, span_of};
+use crate::shapes::{MatrixShape, MemberMemory, MemberShape, Shape, Stored, TypeHandle, span_of};
 use crate::table::{TypeTable, Types, insert, numbered, vector_type};
 use ir_arena::handle::Handle;
 use ir_arena::span::Span;
-use ir_flags::StorageAccess;
 use ir_kinds::{Binding, Scalar, VectorSize};
 use ir_types::{ArraySize, IrType, StructMember, TypeInner};
 use spirv_numbers::numbers;
@@ -101,6 +100,7 @@ impl Field {
 struct Fields {
     members: Vec<StructMember>,
     extent: Extent,
+    memory: MemberMemory,
     failed: Failure,
 }
 
@@ -153,6 +153,7 @@ impl TypeTable {
         let mut fields = Fields {
             members: Vec::new(reading.alloc),
             extent: Extent::NONE,
+            memory: MemberMemory::ALL,
             failed: Failure::NONE,
         };
         let mut place = 0u32;
@@ -172,6 +173,7 @@ impl TypeTable {
         let Fields {
             members,
             extent,
+            memory,
             mut failed,
         } = fields;
         let layout = extent.layout();
@@ -184,7 +186,11 @@ impl TypeTable {
         let inner = TypeInner::Struct { members, span };
         let handle = built.insert(IrType { name, inner }, span_of(instruction));
         let handle = failed.take(handle, Handle::at(0));
-        let shape = Shape::Struct { first, count };
+        let shape = Shape::Struct {
+            first,
+            count,
+            memory,
+        };
         self.set(instruction.id, shape, Some(handle), layout);
         failed.answer(())
     }
@@ -204,6 +210,7 @@ impl TypeTable {
         let after = place.saturating_add(1);
         let next = Decorated::of(&reading.listing, instruction.id, Some(after)).offset;
         let index = fields.count();
+        fields.memory = fields.memory.and(&said);
         let failed = &mut fields.failed;
         let member = self.shape_member(instruction, &said, next, ty, index, failed);
         self.add_member(member, failed);
@@ -467,13 +474,4 @@ fn member_binding(
         }
     }
     said.bound(demands)
-}
-
-/// How the members of a block may be accessed, all together.
-pub fn block_access(reading: &Reading, id: u32, count: u32) -> StorageAccess {
-    let mut all = 0;
-    for place in 0..count {
-        all |= Decorated::of(&reading.listing, id, Some(place)).access().0;
-    }
-    StorageAccess(all)
 }

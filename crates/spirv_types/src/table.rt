@@ -122,7 +122,7 @@ impl TypeTable {
     /// A member of a struct.
     pub fn member(&self, id: u32, place: u32) -> Option<MemberShape> {
         match self.shape(id) {
-            Shape::Struct { first, count } if place < count => {
+            Shape::Struct { first, count, .. } if place < count => {
                 match self.members.get(first.saturating_add(place) as usize) {
                     Some(member) => Some(*member),
                     None => None,

@@ -14,6 +14,9 @@ const IDS_A_WORD: usize = 16;
 // How many decorations groups may make for each word.
 const DECORATIONS_A_WORD: usize = 16;
 
+// How many decorations an id or a member may have, and a function modes, since they are looked through at each use.
+const DECORATIONS_AN_ID: usize = 32;
+
 /// An instruction. The places of words are counted from 0.
 #[derive(Clone, Copy)]
 pub struct Instruction {
@@ -301,8 +304,24 @@ impl Listing {
             self.add_groups(&own, &mut pairs, failed);
             drop(own);
         }
-        let found = failed.groups(alloc, self.count_slots(), &pairs);
+        self.grouped(alloc, self.count_slots(), pairs, failed)
+    }
+
+    // The instructions of each slot or id, which may have so many.
+    fn grouped(
+        &self,
+        alloc: Global,
+        count: usize,
+        pairs: Vec<(u32, u32)>,
+        failed: &mut Failure,
+    ) -> Groups {
+        let found = failed.groups(alloc, count, &pairs);
         drop(pairs);
+        for place in 0..count {
+            if let Some(place) = found.of(place).get(DECORATIONS_AN_ID) {
+                failed.fail(self.at(*place).unsupported_by(Feature::ManyDecorations));
+            }
+        }
         found
     }
 
@@ -354,9 +373,7 @@ impl Listing {
             let id = number_at(&self.words, self.at(*place).first);
             failed.push(&mut pairs, (id, *place));
         }
-        let modes = failed.groups(alloc, self.bound(), &pairs);
-        drop(pairs);
-        modes
+        self.grouped(alloc, self.bound(), pairs, failed)
     }
 
     /// Every id that is defined is below this.

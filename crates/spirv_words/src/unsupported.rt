@@ -7,8 +7,8 @@ use std::fmt::{self, Display};
 /// Something that a module says and the IR can't say, or that is not translated.
 #[derive(Clone, Copy)]
 pub enum Feature {
-    /// More than 64 expressions for each word.
-    ExpressionLimit,
+    /// More expressions, types, members, atomic parts or names than so many words may make.
+    TooMuch,
     /// Composites of specialization constants more than 32 deep.
     DeepComposite,
     /// A value out of its scope.
@@ -145,11 +145,13 @@ pub enum Feature {
     LargeId,
     /// More than sixteen decorations for each word, by groups.
     LargeGroups,
+    /// More than 32 decorations of one id or member, or execution modes of one function.
+    ManyDecorations,
 }
 
 // What they are in words, in the order of the variants.
-static TEXTS: [&str; 69] = [
-    "more than 64 expressions for each word",
+static TEXTS: [&str; 70] = [
+    "more expressions, types, members, atomic parts or names than so many words may make",
     "composites of specialization constants more than 32 deep",
     "a value out of its scope",
     "a combined image sampler as a value",
@@ -218,6 +220,7 @@ static TEXTS: [&str; 69] = [
     "an atomic of what is no number",
     "an id above sixteen times the count of words",
     "more than sixteen decorations for each word, by groups",
+    "more than 32 decorations of one id or member, or execution modes of one function",
 ];
 
 impl Feature {
