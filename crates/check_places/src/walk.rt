@@ -279,7 +279,7 @@ impl Search<'_> {
             "Break" => around.breaks,
             "Continue" => around.continues,
             "Return" => around.returns,
-            _ => true,
+            _ => return false,
         };
         !may && word(statement) == self.words
     }
