@@ -11,7 +11,7 @@ use spirv_flow::{FunctionSteps, Use};
 use spirv_functions::assemble;
 use spirv_numbers::{numbers, ops};
 use spirv_operations::{FunctionBuilder, Names, Slot, Special, root};
-use spirv_tables::Decorated;
+use spirv_tables::{Decorated, Demands};
 use spirv_types::{
     ImageShape, ImageUse, Reading, Shape, TypeHandle, Types, image_class, image_inner, span_of,
 };
@@ -32,15 +32,15 @@ pub struct Lowered<T: Types, W: Writing> {
     pub special: Vec<Special>,
 }
 
-/// Builds the functions of a module; they are of no use where the body keeps something that was wrong.
+/// Builds the functions of a module, if nothing was wrong so far; they are of no use where the body keeps something that was wrong.
 pub fn lower_functions<T: Types, W: Writing>(
     reading: Reading,
     declared: Declared,
     built: T,
     body: W,
+    failed: &mut Failure,
 ) -> Lowered<T, W> {
-    let mut failed = Failure::NONE;
-    let names = Names::new(reading.alloc, reading.listing.bound(), &mut failed);
+    let names = Names::new(reading.alloc, reading.listing.bound(), failed);
     let mut lowering = Lowering {
         alloc: reading.alloc,
         reading,
@@ -54,7 +54,17 @@ pub fn lower_functions<T: Types, W: Writing>(
         lowering.fail(error);
     }
     lowering.lower_all();
+    if let Some(error) = lowering.body.failure() {
+        failed.fail(error);
+    }
     lowering.finish()
+}
+
+impl<T: Types, W: Writing> Lowered<T, W> {
+    /// What the module needs of a validator, its types and its functions.
+    pub fn into_parts(self) -> (Demands, T, W) {
+        (self.declared.demands, self.built, self.body)
+    }
 }
 
 impl<T: Types, W: Writing> Lowering<T, W> {

@@ -14,4 +14,4 @@ pub use budget::{Budget, expression_size, type_size};
 pub use functions::{Lowered, lower_functions};
 pub use spirv_operations::Special;
 pub use subgroups::Subgroups;
-pub use writing::{Writing, clone_in, copy_name, fail_in, type_in};
+pub use writing::{Writing, clone_in, copy_name, fail_in, made_in, type_in};

@@ -40,21 +40,18 @@ pub fn declare<T: Types, C: Constants, V: Variables>(
     types: T,
     constants: C,
     variables: V,
-) -> Result<(Declared, T, C, V), SpirvError> {
-    let mut failed = Failure::NONE;
+    failed: &mut Failure,
+) -> (Declared, T, C, V) {
     let (alloc, bound) = (reading.alloc, reading.listing.bound());
     let mut all = Declarations {
-        types: TypeTable::new(alloc, bound, &mut failed),
+        types: TypeTable::new(alloc, bound, failed),
         built: types,
-        constants: ConstantTable::new(alloc, bound, constants, &mut failed),
-        variables: KnownVariables::new(alloc, &reading.listing, &mut failed),
+        constants: ConstantTable::new(alloc, bound, constants, failed),
+        variables: KnownVariables::new(alloc, &reading.listing, failed),
         built_variables: variables,
         demands: Demands::NONE,
     };
-    all.take_all(reading, &mut failed);
-    if let Some(error) = failed.first {
-        return Err(error);
-    }
+    all.take_all(reading, failed);
     let Declarations {
         types,
         built,
@@ -70,7 +67,7 @@ pub fn declare<T: Types, C: Constants, V: Variables>(
         variables,
         demands,
     };
-    Ok((declared, built, built_constants, built_variables))
+    (declared, built, built_constants, built_variables)
 }
 
 impl<T: Types, C: Constants, V: Variables> Declarations<T, C, V> {

@@ -1,6 +1,6 @@
 // What goes between stages, as entry points take and give it.
 
-use ir_kinds::{Scalar, VectorSize};
+use ir_kinds::{Scalar, ScalarKind, VectorSize};
 use ir_types::{ArraySize, StructMember, TypeInner};
 use spirv_types::{TypeHandle, Types};
 
@@ -44,4 +44,21 @@ pub fn members_of<T: Types>(built: &T, ty: TypeHandle) -> &[StructMember] {
         Some(TypeInner::Struct { members, .. }) => members.as_slice(),
         _ => &[],
     }
+}
+
+/// What the components of a location are that has components of these two kinds: bit for bit the same, which a float and an
+/// integer only are where they are flat.
+pub fn common_kind(kind: ScalarKind, other: ScalarKind, is_flat: bool) -> Option<ScalarKind> {
+    if kind == other || is_integer(kind) && is_integer(other) {
+        return Some(kind);
+    }
+    if is_flat && kind != ScalarKind::Bool && other != ScalarKind::Bool {
+        Some(ScalarKind::Uint)
+    } else {
+        None
+    }
+}
+
+fn is_integer(kind: ScalarKind) -> bool {
+    matches!(kind, ScalarKind::Sint | ScalarKind::Uint)
 }

@@ -10,7 +10,7 @@ mod variables;
 mod varyings;
 
 pub use declarations::{Declared, declare};
-pub use interface::{Located, located_type, members_of};
+pub use interface::{Located, common_kind, located_type, members_of};
 pub use modes::{Modes, decorated_size, modes_of, stage_of};
 pub use variables::{GlobalHandle, KnownVariables, Variable, Variables, Varying, sampler_name};
 pub use varyings::scalar_kind;

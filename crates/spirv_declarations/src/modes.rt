@@ -5,7 +5,7 @@ use ir_flags::Capabilities;
 use ir_kinds::{EarlyDepthTest, ShaderStage};
 use spirv_numbers::{numbers, ops};
 use spirv_tables::Decorated;
-use spirv_words::{Failure, Feature, Instruction, Listing, SpirvError, Unsupported};
+use spirv_words::{Failure, Feature, Instruction, Listing, Unsupported};
 
 /// How an entry point is executed.
 #[derive(Clone, Copy)]
@@ -17,13 +17,15 @@ pub struct Modes {
 }
 
 /// The stage of an entry point.
-pub fn stage_of(listing: &Listing, entry: &Instruction) -> Result<ShaderStage, SpirvError> {
-    match listing.need(entry, 0) {
-        Ok(numbers::MODEL_VERTEX) => Ok(ShaderStage::Vertex),
-        Ok(numbers::MODEL_FRAGMENT) => Ok(ShaderStage::Fragment),
-        Ok(numbers::MODEL_GL_COMPUTE) => Ok(ShaderStage::Compute),
-        Ok(model) => Err(entry.unsupported_as(Unsupported::Stage(model))),
-        Err(error) => Err(error),
+pub fn stage_of(listing: &Listing, entry: &Instruction, failed: &mut Failure) -> ShaderStage {
+    match failed.take(listing.need(entry, 0), 0) {
+        numbers::MODEL_VERTEX => ShaderStage::Vertex,
+        numbers::MODEL_FRAGMENT => ShaderStage::Fragment,
+        numbers::MODEL_GL_COMPUTE => ShaderStage::Compute,
+        model => {
+            failed.fail(entry.unsupported_as(Unsupported::Stage(model)));
+            ShaderStage::Compute
+        }
     }
 }
 
@@ -59,7 +61,8 @@ fn read_size(
 pub fn decorated_size(
     listing: &Listing,
     declared: &Declared,
-) -> Result<Option<[u32; 3]>, SpirvError> {
+    failed: &mut Failure,
+) -> Option<[u32; 3]> {
     for place in &listing.parts.declarations {
         let instruction = listing.at(*place);
         let is_composite = matches!(
@@ -69,13 +72,11 @@ pub fn decorated_size(
         if is_composite {
             let said = Decorated::of(listing, instruction.id, None).built_in;
             if said == Some(numbers::BUILT_IN_WORKGROUP_SIZE) {
-                let mut failed = Failure::NONE;
-                let size = read_size(listing, declared, &instruction, 0, true, &mut failed);
-                return failed.answer(Some(size));
+                return Some(read_size(listing, declared, &instruction, 0, true, failed));
             }
         }
     }
-    Ok(None)
+    None
 }
 
 /// How the entry point with this function is executed.
@@ -83,8 +84,8 @@ pub fn modes_of(
     listing: &Listing,
     declared: &mut Declared,
     function: u32,
-) -> Result<Modes, SpirvError> {
-    let mut failed = Failure::NONE;
+    failed: &mut Failure,
+) -> Modes {
     let mut modes = Modes {
         early: None,
         size: [0, 0, 0],
@@ -98,8 +99,8 @@ pub fn modes_of(
         }
         if number == numbers::MODE_LOCAL_SIZE || number == numbers::MODE_LOCAL_SIZE_ID {
             let by_constants = number == numbers::MODE_LOCAL_SIZE_ID;
-            modes.size = read_size(listing, declared, &mode, 2, by_constants, &mut failed);
+            modes.size = read_size(listing, declared, &mode, 2, by_constants, failed);
         }
     }
-    failed.answer(modes)
+    modes
 }

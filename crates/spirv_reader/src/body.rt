@@ -72,13 +72,13 @@ impl Body {
 
     // A statement in the innermost block.
     fn push(&mut self, statement: Statement, span: Span) {
-        if self.failure.is_some() {
-            return;
-        }
-        if let Some(block) = self.open.last_mut() {
-            if block.push(statement, span).is_err() {
-                self.fail(SpirvError::Memory);
+        match self.open.last_mut() {
+            Some(block) if self.failure.is_none() => {
+                if block.push(statement, span).is_err() {
+                    self.failure = Some(SpirvError::Memory);
+                }
             }
+            _ => drop(statement),
         }
     }
 
@@ -116,13 +116,10 @@ impl Body {
         name: Option<String>,
         arguments: Vec<FunctionArgument>,
         gives: Option<FunctionResult>,
-    ) -> Result<Function, SpirvError> {
+    ) -> Function {
         let mut body = self;
         let block = body.close();
-        match body.failure {
-            Some(error) => Err(error),
-            None => Ok(body.take(name, arguments, gives, block)),
-        }
+        body.take(name, arguments, gives, block)
     }
 }
 

@@ -9,7 +9,7 @@ use ir_items::{
     StructMember, TypeInner, key,
 };
 use ir_kinds::{Binding, ScalarKind, ShaderStage};
-use spirv_bodies::{Budget, Subgroups, Writing, clone_in, copy_name, fail_in, type_in};
+use spirv_bodies::{Budget, Subgroups, Writing, clone_in, copy_name, fail_in, made_in, type_in};
 use spirv_declarations::{
     Declared, KnownVariables, decorated_size, members_of, modes_of, scalar_kind, stage_of,
 };
@@ -55,31 +55,35 @@ const SPAN: u32 = 65535;
 // How many parts of locations there may be for each variable, where some are shared.
 const PIECES_A_VARIABLE: usize = 16;
 
-/// Adds all entry points in order.
+/// All entry points in order, until something is wrong.
 pub fn lower_entries<T: Types>(
     reading: &Reading,
     declared: &mut Declared,
     built: &mut T,
-    entries: &mut Vec<EntryPoint>,
-) -> Result<(), SpirvError> {
+    failed: &mut Failure,
+) -> Vec<EntryPoint> {
     let listing = &reading.listing;
-    let decorated = decorated_size(listing, declared)?;
+    let mut entries = Vec::new(reading.alloc);
+    let decorated = decorated_size(listing, declared, failed);
     let mut budget = Budget::of_rest(listing.words.len());
     for place in &listing.parts.entry_points {
+        if failed.first.is_some() {
+            break;
+        }
         let instruction = listing.at(*place);
         let entry = Entry {
             alloc: reading.alloc,
             instruction,
-            stage: stage_of(listing, &instruction)?,
+            stage: stage_of(listing, &instruction, failed),
             span: span_of(&instruction),
         };
-        entries.push(entry.lower(reading, declared, built, decorated, &mut budget)?)?;
+        let made = entry.lower(reading, declared, built, decorated, &mut budget, failed);
+        failed.push(&mut entries, made);
     }
     if entries.is_empty() {
-        Err(SpirvError::untranslated(Feature::NoEntryPoint, 0))
-    } else {
-        Ok(())
+        failed.fail(SpirvError::untranslated(Feature::NoEntryPoint, 0));
     }
+    entries
 }
 
 impl Entry {
@@ -91,27 +95,32 @@ impl Entry {
         built: &mut T,
         decorated: Option<[u32; 3]>,
         budget: &mut Budget,
-    ) -> Result<EntryPoint, SpirvError> {
+        failed: &mut Failure,
+    ) -> EntryPoint {
         let listing = &reading.listing;
-        let id = listing.need(&self.instruction, 1)?;
+        let id = failed.take(listing.need(&self.instruction, 1), 0);
         let words = listing.operands_from(&self.instruction, 2);
-        let modes = modes_of(listing, declared, id)?;
-        let place = reading.flow.order.place_of(id).and_then(NonMaxU32::new);
-        let Some(place) = place else {
-            return Err(self.instruction.malformed(Malformed::NoFunction));
+        let modes = modes_of(listing, declared, id, failed);
+        let callee = match reading.flow.order.place_of(id).and_then(NonMaxU32::new) {
+            Some(place) => Handle::new(place),
+            None => {
+                failed.fail(self.instruction.malformed(Malformed::NoFunction));
+                Handle::at(0)
+            }
         };
-        let (name, taken) = read_text(self.alloc, words, self.instruction.start)?;
-        let interface = words.get(taken..).unwrap_or(&[]);
+        let read = read_text(self.alloc, words, self.instruction.start);
+        let (name, taken) = failed.take(read, (String::new(self.alloc), 0));
         let function = self.wrap(
             listing,
-            Handle::new(place),
-            interface,
+            callee,
+            words.get(taken..).unwrap_or(&[]),
             &declared.variables,
             built,
             name.as_str(),
             budget,
-        )?;
-        Ok(EntryPoint {
+            failed,
+        );
+        EntryPoint {
             name,
             stage: self.stage,
             early_depth_test: modes.early,
@@ -123,7 +132,7 @@ impl Entry {
             mesh_info: None,
             task_payload: None,
             function,
-        })
+        }
     }
 
     // The function that stores what it is given, calls another, and returns what that has stored.
@@ -136,9 +145,11 @@ impl Entry {
         built: &mut T,
         name: &str,
         budget: &mut Budget,
-    ) -> Result<Function, SpirvError> {
-        let name = format!(in self.alloc; "{name}_wrap")?;
+        failed: &mut Failure,
+    ) -> Function {
         let mut body = Body::new(self.alloc, *budget);
+        fail_in(&mut body, failed);
+        let name = made_in(&mut body, format!(in self.alloc; "{name}_wrap"));
         body.open();
         let arguments = self.take_inputs(listing, interface, variables, built, &mut body);
         let call = Statement::Call {
@@ -149,7 +160,10 @@ impl Entry {
         body.statement(call, self.span);
         let result = self.give_outputs(listing, interface, variables, built, &mut body);
         *budget = body.budget();
-        body.into_function(Some(name), arguments, result)
+        if let Some(error) = body.failure() {
+            failed.fail(error);
+        }
+        body.into_function(name, arguments, result)
     }
 
     // The variables of this storage class, and the parts of locations that they are where they share some.

@@ -4,7 +4,8 @@ use ir_kinds::{
     Binding, Interpolation, Sampling, Scalar, ScalarKind, SwizzleComponent, VectorSize,
 };
 use spirv_declarations::{
-    GlobalHandle, KnownVariables, Located, Variable, Varying, located_type, scalar_kind,
+    GlobalHandle, KnownVariables, Located, Variable, Varying, common_kind, located_type,
+    scalar_kind,
 };
 use spirv_numbers::numbers;
 use spirv_types::Types;
@@ -340,7 +341,8 @@ impl Whole {
             }
         }
         self.count = self.count.max(end);
-        match common_kind(self.scalar.kind, piece) {
+        let is_flat = piece.interpolation == Some(Interpolation::Flat);
+        match common_kind(self.scalar.kind, piece.scalar.kind, is_flat) {
             Some(kind) => self.scalar.kind = kind,
             None => return false,
         }
@@ -348,23 +350,4 @@ impl Whole {
             && self.first.interpolation == piece.interpolation
             && self.first.sampling == piece.sampling
     }
-}
-
-// What the components of a location are that has components of this kind, and this part: bit for bit the same, which a float and
-// an integer only are where they are flat.
-fn common_kind(kind: ScalarKind, piece: &Piece) -> Option<ScalarKind> {
-    let other = piece.scalar.kind;
-    if kind == other || is_integer(kind) && is_integer(other) {
-        return Some(kind);
-    }
-    let are_numbers = kind != ScalarKind::Bool && other != ScalarKind::Bool;
-    if are_numbers && piece.interpolation == Some(Interpolation::Flat) {
-        Some(ScalarKind::Uint)
-    } else {
-        None
-    }
-}
-
-fn is_integer(kind: ScalarKind) -> bool {
-    matches!(kind, ScalarKind::Sint | ScalarKind::Uint)
 }

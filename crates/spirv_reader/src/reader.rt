@@ -11,12 +11,12 @@ use ir_flags::{Settings, ShaderStages, SubgroupOperationSet, ValidationFlags};
 use ir_items::{EntryPoint, Module, SpecialTypes};
 use ir_sets::keyed::KeyedState;
 use ir_sets::unique_arena::UniqueArena;
-use spirv_bodies::{Budget, Lowered, Writing, lower_functions};
+use spirv_bodies::{Budget, Special, lower_functions};
 use spirv_declarations::{Declared, declare};
 use spirv_flow::flow_of;
 use spirv_tables::Demands;
 use spirv_types::Reading;
-use spirv_words::{SpirvError, list};
+use spirv_words::{Failure, SpirvError, list};
 use std::alloc::Global;
 
 /// The module that the bytes of SPIR-V say, with the settings that it is to be judged by: all checks, the capabilities that
@@ -38,6 +38,7 @@ fn read_module(reading: Reading, key: KeyedState) -> Result<Document, SpirvError
     let alloc = reading.alloc;
     let words = reading.listing.words.len();
     let budget = Budget::of_rest(words);
+    let mut failed = Failure::NONE;
     let (declared, types, constants, variables) = declare(
         &reading,
         BuiltTypes {
@@ -53,12 +54,12 @@ fn read_module(reading: Reading, key: KeyedState) -> Result<Document, SpirvError
         BuiltVariables {
             arena: Arena::new(alloc),
         },
-    )?;
+        &mut failed,
+    );
     let body = Body::new(alloc, Budget::of_functions(words));
-    match read_functions(reading, declared, types, body) {
-        Ok(read) => Ok(document_of(alloc, read, constants, variables)),
-        Err(error) => Err(error),
-    }
+    let read = read_functions(reading, declared, types, body, &mut failed);
+    let document = document_of(alloc, read, constants, variables);
+    failed.answer(document)
 }
 
 // What was read of a module beside its constants and variables.
@@ -71,19 +72,15 @@ struct Read {
     entries: Vec<EntryPoint>,
 }
 
-// The structs that the expressions of functions give, where nothing was wrong with these.
-fn special_of(
-    alloc: Global,
-    lowered: &Lowered<BuiltTypes, Body>,
-) -> Result<SpecialTypes, SpirvError> {
-    if let Some(error) = lowered.body.failure() {
-        return Err(error);
-    }
+// The structs that the expressions of functions give.
+fn special_of(alloc: Global, all: &[Special], failed: &mut Failure) -> SpecialTypes {
     let mut special = SpecialTypes::new(alloc);
-    for each in &lowered.special {
-        let _ = special.predeclared_types.insert(each.of, each.ty)?;
+    for each in all {
+        if special.predeclared_types.insert(each.of, each.ty).is_err() {
+            failed.fail(SpirvError::Memory);
+        }
     }
-    Ok(special)
+    special
 }
 
 // What a module declares, its functions, the structs that their expressions give, and its entry points.
@@ -92,24 +89,25 @@ fn read_functions(
     declared: Declared,
     types: BuiltTypes,
     body: Body,
-) -> Result<Read, SpirvError> {
+    failed: &mut Failure,
+) -> Read {
     let alloc = reading.alloc;
-    let mut lowered = lower_functions(reading, declared, types, body);
-    let special = special_of(alloc, &lowered)?;
-    let mut entries = Vec::new(alloc);
-    lower_entries(
+    let mut lowered = lower_functions(reading, declared, types, body, failed);
+    let special = special_of(alloc, &lowered.special, failed);
+    let entries = lower_entries(
         &lowered.reading,
         &mut lowered.declared,
         &mut lowered.built,
-        &mut entries,
-    )?;
-    Ok(Read {
-        demands: lowered.declared.demands,
-        types: lowered.built,
-        body: lowered.body,
+        failed,
+    );
+    let (demands, types, body) = lowered.into_parts();
+    Read {
+        demands,
+        types,
+        body,
         special,
         entries,
-    })
+    }
 }
 
 // The settings of a module with these demands.

@@ -1,5 +1,5 @@
 // Why no module was read.
-ghost use Rattle.std.specs.Prelude.{◌≡◌};
+ghost use Rattle.std.specs.Prelude.{◌≡◌, IfOk};
 ghost use Rattle.spirv_words.specs.declared.error.SpirvError.TheVariants.{Memory};
 
 use crate::unsupported::{Feature, Unsupported};
@@ -231,7 +231,9 @@ impl Failure {
     }
 
     /// What was made, if nothing was wrong.
-    pub fn answer<T: Drop>(&self, made: T) -> Result<T, SpirvError> {
+    pub fn answer<T: Drop>(&self, made: T) -> Result<T, SpirvError>
+        ensures { IfOk result (λ kept. kept ≡ made) }
+    {
         match self.first {
             None => Ok(made),
             Some(error) => {
