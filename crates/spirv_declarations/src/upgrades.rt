@@ -1,11 +1,11 @@
 // Types with atomics in them.
 
-use ir_types::{IrType, StructMember, TypeInner};
+use ir_types::{StructMember, TypeInner};
 use spirv_flow::PathPart;
-use spirv_types::{Reading, TypeHandle, Types, span_of};
-use spirv_words::{Feature, Instruction, SpirvError};
+use spirv_types::{Reading, TypeHandle, Types, insert, span_of};
+use spirv_words::{Failure, Feature, Instruction};
 
-// The type in which the parts that this place of the paths has are atomic.
+// The type in which the parts that this place of the paths has are atomic; the same one where something is wrong.
 #[cycle(upgrading)]
 pub(crate) fn upgraded<T: Types>(
     built: &mut T,
@@ -14,68 +14,69 @@ pub(crate) fn upgraded<T: Types>(
     handle: TypeHandle,
     place: u32,
     depth: u32,
-) -> Result<TypeHandle, SpirvError> {
+    failed: &mut Failure,
+) -> TypeHandle {
+    let span = span_of(instruction);
     let (Some(part), Some(depth)) = (reading.flow.uses.atomics.part(place), depth.checked_sub(1))
     else {
-        return Err(instruction.unsupported_by(Feature::DeepAtomic));
+        failed.fail(instruction.unsupported_by(Feature::DeepAtomic));
+        return handle;
     };
     if let Some(TypeInner::Struct { .. }) = built.inner(handle) {
         if let Some(inside) = elements_in(reading, place) {
-            return upgraded(built, reading, instruction, handle, inside, depth);
+            return upgraded(built, reading, instruction, handle, inside, depth, failed);
         }
     }
-    let Some(IrType { name, inner }) = built.copy(reading.alloc, handle)? else {
-        return Err(instruction.unsupported());
-    };
-    match upgraded_inner(
-        built,
-        reading,
-        instruction,
-        inner,
-        place,
-        part.is_atomic,
-        depth,
-    ) {
-        Ok(inner) => built.insert(IrType { name, inner }, span_of(instruction)),
-        Err(error) => Err(error),
+    if let Some(TypeInner::Scalar(scalar)) = built.inner(handle) {
+        if part.is_atomic {
+            let atomic = TypeInner::Atomic(*scalar);
+            return insert(built, atomic, span, failed);
+        }
+    }
+    match failed.take(built.copy(reading.alloc, handle), None) {
+        Some(ty) => {
+            let mut ty = ty;
+            upgrade(
+                built,
+                reading,
+                instruction,
+                &mut ty.inner,
+                place,
+                depth,
+                failed,
+            );
+            failed.take(built.insert(ty, span), handle)
+        }
+        None => {
+            failed.fail(instruction.unsupported());
+            handle
+        }
     }
 }
 
 // The same of what a type is made of, of which this place is.
 #[cycle(upgrading)]
-fn upgraded_inner<T: Types>(
+fn upgrade<T: Types>(
     built: &mut T,
     reading: &Reading,
     instruction: &Instruction,
-    inner: TypeInner,
+    inner: &mut TypeInner,
     place: u32,
-    is_atomic: bool,
     depth: u32,
-) -> Result<TypeInner, SpirvError> {
+    failed: &mut Failure,
+) {
     let first = reading.flow.uses.atomics.first(place);
-    let inside = first.unwrap_or(0);
     match inner {
-        TypeInner::Scalar(scalar) if is_atomic => Ok(TypeInner::Atomic(scalar)),
-        TypeInner::Array { base, size, stride } if first.is_some() => {
-            match upgraded(built, reading, instruction, base, inside, depth) {
-                Ok(base) => Ok(TypeInner::Array { base, size, stride }),
-                Err(error) => Err(error),
+        TypeInner::Array { base, .. } | TypeInner::BindingArray { base, .. } => match first {
+            Some(inside) => {
+                *base = upgraded(built, reading, instruction, *base, inside, depth, failed);
             }
+            None => failed.fail(instruction.unsupported_by(Feature::AtomicOfNoNumber)),
+        },
+        TypeInner::Struct { members, .. } => {
+            upgrade_members(built, reading, instruction, members, first, depth, failed);
         }
-        TypeInner::BindingArray { base, size } if first.is_some() => {
-            match upgraded(built, reading, instruction, base, inside, depth) {
-                Ok(base) => Ok(TypeInner::BindingArray { base, size }),
-                Err(error) => Err(error),
-            }
-        }
-        TypeInner::Struct { members, span } => {
-            let mut members = members;
-            match upgrade_members(built, reading, instruction, &mut members, first, depth) {
-                Ok(()) => Ok(TypeInner::Struct { members, span }),
-                Err(error) => Err(error),
-            }
-        }
-        _ => Err(instruction.unsupported_by(Feature::AtomicOfNoNumber)),
+        _ => failed.fail(instruction.unsupported_by(Feature::AtomicOfNoNumber)),
     }
 }
 
@@ -100,7 +101,8 @@ fn upgrade_members<T: Types>(
     members: &mut [StructMember],
     first: Option<u32>,
     depth: u32,
-) -> Result<(), SpirvError> {
+    failed: &mut Failure,
+) {
     let paths = &reading.flow.uses.atomics;
     let mut at = first;
     for _ in 0..MAX_PARTS {
@@ -112,11 +114,18 @@ fn upgrade_members<T: Types>(
             None => 0,
         };
         if let Some(member) = members.get_mut(index as usize) {
-            member.ty = upgraded(built, reading, instruction, member.ty, inside, depth)?;
+            member.ty = upgraded(
+                built,
+                reading,
+                instruction,
+                member.ty,
+                inside,
+                depth,
+                failed,
+            );
         }
         at = paths.next(inside);
     }
-    Ok(())
 }
 
 // How many parts of one value may be atomic; there are no more in the paths.

@@ -426,8 +426,7 @@ fn plain_of<T: Types>(
             failed.fail(instruction.unsupported_by(Feature::AtomicOfNoNumber));
         }
         Some(place) => {
-            let ty = upgraded(built, reading, instruction, whole, place, MAX_STEPS);
-            variable.ty = failed.take(ty, whole);
+            variable.ty = upgraded(built, reading, instruction, whole, place, MAX_STEPS, failed);
         }
         None => {}
     }

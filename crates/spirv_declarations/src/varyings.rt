@@ -5,7 +5,7 @@ use ir_arena::handle::Handle;
 use ir_arena::span::Span;
 use ir_flags::Capabilities;
 use ir_kinds::{AddressSpace, Binding, BuiltIn, Scalar, ScalarKind, VectorSize};
-use ir_types::{Expression, IrType, StructMember, TypeInner};
+use ir_types::{Expression, StructMember, TypeInner};
 use spirv_constants::{ConstantTable, Constants, ExpressionHandle};
 use spirv_numbers::{numbers, ops};
 use spirv_tables::{Decorated, Demands, is_unsigned, with_default};
@@ -170,21 +170,22 @@ fn bound_struct<T: Types>(
     plain: TypeHandle,
     failed: &mut Failure,
 ) -> TypeHandle {
-    let what = match failed.take(built.copy(reading.alloc, plain), None) {
-        Some(IrType { name, inner }) => match inner {
-            TypeInner::Struct { members, span } => {
-                let mut members = members;
-                bind_members(reading, types, built, demands, draft, &mut members, failed);
-                let inner = TypeInner::Struct { members, span };
-                let made = built.insert(IrType { name, inner }, span_of(&draft.instruction));
-                return failed.take(made, plain);
+    match failed.take(built.copy(reading.alloc, plain), None) {
+        Some(ty) => {
+            let mut ty = ty;
+            match &mut ty.inner {
+                TypeInner::Struct { members, .. } => {
+                    bind_members(reading, types, built, demands, draft, members, failed);
+                }
+                _ => failed.fail(draft.instruction.malformed(Malformed::WrongType)),
             }
-            _ => Malformed::WrongType,
-        },
-        None => Malformed::NoType,
-    };
-    failed.fail(draft.instruction.malformed(what));
-    plain
+            failed.take(built.insert(ty, span_of(&draft.instruction)), plain)
+        }
+        None => {
+            failed.fail(draft.instruction.malformed(Malformed::NoType));
+            plain
+        }
+    }
 }
 
 // Gives each member of such a block its binding: locations are counted on from the block's.

@@ -101,18 +101,11 @@ impl Entry {
         let id = failed.take(listing.need(&self.instruction, 1), 0);
         let words = listing.operands_from(&self.instruction, 2);
         let modes = modes_of(listing, declared, id, failed);
-        let callee = match reading.flow.order.place_of(id).and_then(NonMaxU32::new) {
-            Some(place) => Handle::new(place),
-            None => {
-                failed.fail(self.instruction.malformed(Malformed::NoFunction));
-                Handle::at(0)
-            }
-        };
         let read = read_text(self.alloc, words, self.instruction.start);
         let (name, taken) = failed.take(read, (String::new(self.alloc), 0));
         let function = self.wrap(
             listing,
-            callee,
+            self.callee(reading, id, failed),
             words.get(taken..).unwrap_or(&[]),
             &declared.variables,
             built,
@@ -132,6 +125,17 @@ impl Entry {
             mesh_info: None,
             task_payload: None,
             function,
+        }
+    }
+
+    // The function with this id, among those that are built.
+    fn callee(&self, reading: &Reading, id: u32, failed: &mut Failure) -> Handle<key::Function> {
+        match reading.flow.order.place_of(id).and_then(NonMaxU32::new) {
+            Some(place) => Handle::new(place),
+            None => {
+                failed.fail(self.instruction.malformed(Malformed::NoFunction));
+                Handle::at(0)
+            }
         }
     }
 

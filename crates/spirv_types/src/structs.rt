@@ -150,25 +150,7 @@ impl TypeTable {
         demands: &mut Demands,
     ) -> Result<(), SpirvError> {
         let first = self.next_member();
-        let mut fields = Fields {
-            members: Vec::new(reading.alloc),
-            extent: Extent::NONE,
-            memory: MemberMemory::ALL,
-            failed: Failure::NONE,
-        };
-        let mut place = 0u32;
-        for ty in reading.listing.operands(instruction) {
-            self.declare_member(
-                built,
-                reading,
-                instruction,
-                *ty,
-                place,
-                &mut fields,
-                demands,
-            );
-            place = place.saturating_add(1);
-        }
+        let fields = self.declare_members(built, reading, instruction, demands);
         let count = fields.count();
         let Fields {
             members,
@@ -193,6 +175,36 @@ impl TypeTable {
         };
         self.set(instruction.id, shape, Some(handle), layout);
         failed.answer(())
+    }
+
+    // The members of a struct.
+    fn declare_members<T: Types>(
+        &mut self,
+        built: &mut T,
+        reading: &Reading,
+        instruction: &Instruction,
+        demands: &mut Demands,
+    ) -> Fields {
+        let mut fields = Fields {
+            members: Vec::new(reading.alloc),
+            extent: Extent::NONE,
+            memory: MemberMemory::ALL,
+            failed: Failure::NONE,
+        };
+        let mut place = 0u32;
+        for ty in reading.listing.operands(instruction) {
+            self.declare_member(
+                built,
+                reading,
+                instruction,
+                *ty,
+                place,
+                &mut fields,
+                demands,
+            );
+            place = place.saturating_add(1);
+        }
+        fields
     }
 
     // The member of this type at this place of a struct.
