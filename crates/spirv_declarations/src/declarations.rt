@@ -1,6 +1,6 @@
 // All declarations of a module, in order.
 
-use crate::variables::{KnownVariables, Variables};
+use crate::variables::{Bindings, KnownVariables, Variables};
 use ir_flags::Capabilities;
 use ir_types::ArraySize;
 use spirv_constants::{ConstantTable, Constants, KnownConstants};
@@ -30,6 +30,7 @@ pub(crate) struct Declarations<T: Types, C: Constants, V: Variables> {
     pub built: T,
     pub constants: ConstantTable<C>,
     pub variables: KnownVariables,
+    pub bindings: Bindings,
     pub built_variables: V,
     pub demands: Demands,
 }
@@ -47,7 +48,8 @@ pub fn declare<T: Types, C: Constants, V: Variables>(
         types: TypeTable::new(alloc, bound, failed),
         built: types,
         constants: ConstantTable::new(alloc, bound, constants, failed),
-        variables: KnownVariables::new(alloc, &reading.listing, failed),
+        variables: KnownVariables::new(alloc, bound, failed),
+        bindings: Bindings::of(alloc, &reading.listing, failed),
         built_variables: variables,
         demands: Demands::NONE,
     };
@@ -57,9 +59,11 @@ pub fn declare<T: Types, C: Constants, V: Variables>(
         built,
         constants,
         variables,
+        bindings,
         built_variables,
         demands,
     } = all;
+    drop(bindings);
     let (constants, built_constants) = constants.finish();
     let declared = Declared {
         types,

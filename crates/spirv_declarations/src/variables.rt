@@ -73,8 +73,6 @@ pub struct KnownVariables {
     places: Vec<u32>,
     // those that no id of the module is
     hidden: Vec<Variable>,
-    // for each group the binding after the last one that is taken
-    free: BTreeMap<u32, u32>,
 }
 
 impl KnownVariables {
@@ -91,24 +89,13 @@ impl KnownVariables {
         None
     }
 
-    // None, with the bindings that the variables of a module take.
-    pub(crate) fn new(alloc: Global, listing: &Listing, failed: &mut Failure) -> KnownVariables {
-        let mut known = KnownVariables {
+    // None, with ids below the bound.
+    pub(crate) fn new(alloc: Global, bound: usize, failed: &mut Failure) -> KnownVariables {
+        KnownVariables {
             all: Vec::new(alloc),
-            places: failed.table(alloc, 0u32, listing.bound()),
+            places: failed.table(alloc, 0u32, bound),
             hidden: Vec::new(alloc),
-            free: BTreeMap::new(alloc),
-        };
-        for place in &listing.parts.declarations {
-            let instruction = listing.at(*place);
-            if instruction.opcode == ops::VARIABLE {
-                let said = Decorated::of(listing, instruction.id, None);
-                if said.binding.is_some() {
-                    known.take_binding(said.set.unwrap_or(0), said.binding, failed);
-                }
-            }
         }
-        known
     }
 
     // The variable of a draft, as which this was built, with the sampler beside it.
@@ -137,9 +124,35 @@ impl KnownVariables {
             *at = place;
         }
     }
+}
+
+// Which bindings are taken.
+#[derive(Drop)]
+pub(crate) struct Bindings {
+    // for each group the one after the last that is
+    free: BTreeMap<u32, u32>,
+}
+
+impl Bindings {
+    // Those that the variables of a module take.
+    pub(crate) fn of(alloc: Global, listing: &Listing, failed: &mut Failure) -> Bindings {
+        let mut all = Bindings {
+            free: BTreeMap::new(alloc),
+        };
+        for place in &listing.parts.declarations {
+            let instruction = listing.at(*place);
+            if instruction.opcode == ops::VARIABLE {
+                let said = Decorated::of(listing, instruction.id, None);
+                if said.binding.is_some() {
+                    all.take(said.set.unwrap_or(0), said.binding, failed);
+                }
+            }
+        }
+        all
+    }
 
     // A binding of a group is taken: this one, or the next that no variable takes.
-    fn take_binding(&mut self, group: u32, wanted: Option<u32>, failed: &mut Failure) -> u32 {
+    fn take(&mut self, group: u32, wanted: Option<u32>, failed: &mut Failure) -> u32 {
         let free = self.free.get(&group).copied().unwrap_or(0);
         let binding = wanted.unwrap_or(free);
         let after = free.max(binding.saturating_add(1));
@@ -162,7 +175,7 @@ impl KnownVariables {
             Some(resource) => resource.group,
             None => 0,
         };
-        let binding = self.take_binding(group, None, failed);
+        let binding = self.take(group, None, failed);
         let name = sampler_name(reading.alloc, &reading.listing, id);
         let name = failed.take(name, String::new(reading.alloc));
         let mut sampler = Built::of(ty, AddressSpace::Handle);
@@ -347,8 +360,8 @@ impl<T: Types, C: Constants, V: Variables> Declarations<T, C, V> {
         let handle = failed.take(added, Handle::at(0));
         let sampler = match variable.sampler {
             Some(ty) => {
-                let known = &mut self.variables;
-                let sampler = known.sampler_beside(reading, id, variable, ty, failed);
+                let bindings = &mut self.bindings;
+                let sampler = bindings.sampler_beside(reading, id, variable, ty, failed);
                 let added = self.built_variables.add(sampler, span);
                 Some(failed.take(added, Handle::at(0)))
             }
