@@ -1,5 +1,5 @@
 // Why no module was read.
-ghost use Rattle.std.specs.Prelude.{◌≡◌, IfOk};
+ghost use Rattle.std.specs.Prelude.{◌≡◌, IfOk, MatchResult, None, Some};
 ghost use Rattle.spirv_words.specs.declared.error.SpirvError.TheVariants.{Memory};
 
 use crate::unsupported::{Feature, Unsupported};
@@ -232,7 +232,8 @@ impl Failure {
 
     /// What was made, if nothing was wrong.
     pub fn answer<T: Drop>(&self, made: T) -> Result<T, SpirvError>
-        ensures { IfOk result (λ kept. kept ≡ made) }
+        ensures kept { IfOk result (λ kept. kept ≡ made) }
+        ensures told { MatchResult result (λ _. self.now.first ≡ None) (λ e. self.now.first ≡ Some e) }
     {
         match self.first {
             None => Ok(made),
