@@ -4,8 +4,8 @@ use ir_arena::span::Span;
 use ir_types::{Expression, IrType, StructMember, TypeInner};
 use spirv_words::{Feature, SpirvError};
 
-// How much for a module without words.
-const AT_LEAST: u64 = 1024;
+// How much for any module, however few words it has: what is made of that is little.
+const AT_LEAST: u64 = 65_536;
 
 /// How many expressions, types, members and words of names may still be made.
 #[derive(Clone, Copy)]
