@@ -9,7 +9,7 @@ use ir_items::Module;
 use std::alloc::{AllocError, Global};
 
 /// Everything that the bytes of a document say. An item's place in its list is its handle.
-#[derive(Debug, Drop)]
+#[derive(Debug)]
 pub struct Document {
     /// The settings by which it is to be judged.
     pub settings: Settings,
@@ -27,6 +27,17 @@ pub fn build_module(alloc: Global, document: &Document) -> Result<Module, AllocE
     document.module.clone(alloc)
 }
 
+// Written out, so that what a module is made of is freed in a call of this crate wherever a document is let go.
+impl Drop for Document {
+    fn drop(self) {
+        let Document {
+            settings: _settings,
+            returns: _returns,
+            module: _module,
+        } = self;
+    }
+}
+
 impl Document {
     /// The same in memory of its own. The error is out of memory.
     pub fn clone(&self, alloc: Global) -> Result<Document, AllocError>
@@ -39,5 +50,17 @@ impl Document {
             returns: self.returns,
             module,
         })
+    }
+
+    /// Its module, which is not freed with it.
+    pub fn into_module(self) -> Module
+        ensures { result ≡ self.«module» }
+    {
+        let Document {
+            settings: _,
+            returns: _,
+            module: own,
+        } = self;
+        own
     }
 }

@@ -176,7 +176,7 @@ impl Item for Module {
     fn read(alloc: Global, value: &Value) -> Result<Option<Self>, AllocError> {
         let text = value.as_str().unwrap_or("");
         match document_of(alloc, text.as_bytes())? {
-            Some(document) => Ok(Some(document.module)),
+            Some(document) => Ok(Some(document.into_module())),
             None => Ok(None),
         }
     }
