@@ -7,7 +7,9 @@ use ir_flags::{Capabilities, SubgroupOperationSet};
 use ir_items::{Block, Expression, LocalVariable, Statement};
 use ir_kinds::{BinaryOperator, Literal, PredeclaredType, Scalar, ScalarKind, VectorSize};
 use spirv_constants::Made;
+use spirv_declarations::Knowledge;
 use spirv_expressions::{Builder, Emits, ImageValue, Value, keep, no_type, no_value, refuse};
+use spirv_flow::Flow;
 use spirv_operations::{FunctionBuilder, NO_IMAGE, Pointer, PointerStep, Slot, no_pointer};
 use spirv_types::{
     MatrixShape, MemberShape, Reading, Shape, Stored, TypeHandle, Types, packed_line, span_of,
@@ -19,7 +21,7 @@ use std::alloc::Global;
 // How many steps a pointer may have from its variable (universal limit of the standard).
 const MAX_STEPS: usize = 255;
 
-impl<T: Types, W: Writing> Emits for Lowering<T, W> {
+impl<K: Knowledge, T: Types, W: Writing> Emits for Lowering<K, T, W> {
     fn fail(&mut self, error: SpirvError) {
         self.body.fail(error);
     }
@@ -33,7 +35,7 @@ impl<T: Types, W: Writing> Emits for Lowering<T, W> {
     }
 }
 
-impl<T: Types, W: Writing> Builder for Lowering<T, W> {
+impl<K: Knowledge, T: Types, W: Writing> Builder for Lowering<K, T, W> {
     fn alloc(&self) -> Global {
         self.alloc
     }
@@ -43,23 +45,23 @@ impl<T: Types, W: Writing> Builder for Lowering<T, W> {
     }
 
     fn given(&self, operation: &Instruction, place: usize) -> Option<u32> {
-        self.reading.listing.operand(operation, place)
+        self.known.reading().listing.operand(operation, place)
     }
 
     fn given_count(&self, operation: &Instruction) -> usize {
-        self.reading.listing.operands(operation).len()
+        self.known.reading().listing.operands(operation).len()
     }
 
     fn shape(&self, ty: u32) -> Shape {
-        self.declared.types.shape(ty)
+        self.known.declared().types.shape(ty)
     }
 
     fn part(&self, ty: u32, index: u32) -> Option<MemberShape> {
-        self.declared.types.part(ty, index)
+        self.known.declared().types.part(ty, index)
     }
 
     fn type_of(&self, id: u32) -> u32 {
-        match self.reading.listing.definition(id) {
+        match self.known.reading().listing.definition(id) {
             Some(made) => made.ty,
             None => 0,
         }
@@ -67,8 +69,8 @@ impl<T: Types, W: Writing> Builder for Lowering<T, W> {
 
     fn built(&mut self, ty: u32, operation: &Instruction) -> TypeHandle {
         match (
-            self.declared.types.handle(ty),
-            self.declared.types.shape(ty),
+            self.known.declared().types.handle(ty),
+            self.known.declared().types.shape(ty),
         ) {
             (Some(handle), _) => handle,
             (None, Shape::Nothing) => {
@@ -98,14 +100,14 @@ impl<T: Types, W: Writing> Builder for Lowering<T, W> {
     }
 
     fn is_constant(&self, id: u32) -> bool {
-        match self.declared.constants.of(id) {
+        match self.known.declared().constants.of(id) {
             Some(known) => matches!(known.made, Made::Constant(_)),
             None => false,
         }
     }
 
     fn constant(&self, id: u32) -> Option<i64> {
-        self.declared.constants.of(id)?.value
+        self.known.declared().constants.of(id)?.value
     }
 
     fn value(&mut self, id: u32, operation: &Instruction) -> Value {
@@ -163,7 +165,7 @@ enum WholeIndex {
     Computed(Value),
 }
 
-impl<T: Types, W: Writing> Lowering<T, W> {
+impl<K: Knowledge, T: Types, W: Writing> Lowering<K, T, W> {
     // The index into all resources of an array of arrays: the steps to the array at this place, each by how many resources it
     // counts, and the last one.
     fn whole_index(
@@ -246,18 +248,22 @@ impl<T: Types, W: Writing> Lowering<T, W> {
     }
 }
 
-impl<T: Types, W: Writing> FunctionBuilder for Lowering<T, W> {
+impl<K: Knowledge, T: Types, W: Writing> FunctionBuilder for Lowering<K, T, W> {
     fn name_of(&mut self, id: u32) -> Option<String> {
-        let name = self.reading.listing.name(self.alloc, id, None);
+        let name = self.known.reading().listing.name(self.alloc, id, None);
         read_in(&mut self.body, name)
     }
 
     fn reading(&self) -> &Reading {
-        &self.reading
+        self.known.reading()
+    }
+
+    fn flow(&self) -> &Flow {
+        self.known.flow()
     }
 
     fn is_known(&self, id: u32) -> bool {
-        self.declared.constants.of(id).is_some()
+        self.known.declared().constants.of(id).is_some()
     }
 
     fn slot(&self, id: u32) -> Slot {
@@ -273,13 +279,13 @@ impl<T: Types, W: Writing> FunctionBuilder for Lowering<T, W> {
             Slot::Nothing | Slot::Value { .. } => {}
             slot => return slot,
         }
-        let Some(variable) = self.declared.variables.of(id) else {
+        let Some(variable) = self.known.declared().variables.of(id) else {
             let error = self.missing(id, operation);
             self.body.fail(error);
             return Slot::Nothing;
         };
         let value = self.name(id, Expression::GlobalVariable(variable.handle), operation);
-        let is_rebuilt = self.declared.types.handle(variable.ty) != Some(variable.built);
+        let is_rebuilt = self.known.declared().types.handle(variable.ty) != Some(variable.built);
         let pointer = Pointer {
             base: None,
             step: PointerStep::Root,
@@ -420,7 +426,7 @@ impl<T: Types, W: Writing> FunctionBuilder for Lowering<T, W> {
     fn define(&mut self, operation: &Instruction, value: Value) {
         let id = operation.id;
         let span = span_of(operation);
-        let local = if self.reading.flow.kept.is_kept(id) {
+        let local = if self.known.flow().kept.is_kept(id) {
             let ty = self.built(operation.ty, operation);
             let pointer = self.local(None, ty, None, span);
             self.body
@@ -455,12 +461,12 @@ impl<T: Types, W: Writing> FunctionBuilder for Lowering<T, W> {
 
     fn require_operations(&mut self, operations: SubgroupOperationSet) {
         self.require(Capabilities::SUBGROUP);
-        let before = self.declared.demands.operations;
-        self.declared.demands.operations = SubgroupOperationSet(before.0 | operations.0);
+        let before = self.known.demands().operations;
+        self.known.demands().operations = SubgroupOperationSet(before.0 | operations.0);
     }
 
     fn require(&mut self, capability: Capabilities) {
-        self.declared.demands.ask(capability);
+        self.known.demands().ask(capability);
     }
 
     fn local(

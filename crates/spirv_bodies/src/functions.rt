@@ -5,25 +5,22 @@ use crate::writing::{Writing, read_in, type_in};
 use ir_flags::StorageAccess;
 use ir_items::{Expression, FunctionArgument, FunctionResult};
 use ir_types::{IrType, TypeInner};
-use spirv_declarations::{Declared, sampler_name};
+use spirv_declarations::{Knowledge, sampler_name};
 use spirv_expressions::{Builder, Emits, Value, keep};
 use spirv_flow::{FunctionSteps, Use};
 use spirv_functions::assemble;
 use spirv_numbers::{numbers, ops};
 use spirv_operations::{FunctionBuilder, Names, Slot, Special, root};
-use spirv_tables::{Decorated, Demands};
+use spirv_tables::Decorated;
 use spirv_types::{
-    ImageShape, ImageUse, Reading, Shape, TypeHandle, Types, image_class, image_inner, span_of,
+    ImageShape, ImageUse, Shape, TypeHandle, Types, image_class, image_inner, span_of,
 };
 use spirv_words::{Failure, Feature, FunctionParts, Instruction, Malformed};
 
 /// What is built of the functions of a module.
-#[derive(Drop)]
-pub struct Lowered<T: Types, W: Writing> {
-    /// The module that was read.
-    pub reading: Reading,
-    /// What is known of what it declares, with what its functions need besides.
-    pub declared: Declared,
+pub struct Lowered<K: Knowledge, T: Types, W: Writing> {
+    /// What is known of the module, with what its functions require besides.
+    pub known: K,
     /// Its types.
     pub built: T,
     /// Its functions as they are written, callees first.
@@ -33,18 +30,17 @@ pub struct Lowered<T: Types, W: Writing> {
 }
 
 /// Builds the functions of a module, if nothing was wrong so far; they are of no use where the body keeps something that was wrong.
-pub fn lower_functions<T: Types, W: Writing>(
-    reading: Reading,
-    declared: Declared,
+pub fn lower_functions<K: Knowledge, T: Types, W: Writing>(
+    known: K,
     built: T,
     body: W,
     failed: &mut Failure,
-) -> Lowered<T, W> {
-    let names = Names::new(reading.alloc, reading.listing.bound(), failed);
+) -> Lowered<K, T, W> {
+    let alloc = known.reading().alloc;
+    let names = Names::new(alloc, known.reading().listing.bound(), failed);
     let mut lowering = Lowering {
-        alloc: reading.alloc,
-        reading,
-        declared,
+        alloc,
+        known,
         built,
         body,
         names,
@@ -60,32 +56,32 @@ pub fn lower_functions<T: Types, W: Writing>(
     lowering.finish()
 }
 
-impl<T: Types, W: Writing> Lowered<T, W> {
-    /// What the module needs of a validator, its types and its functions.
-    pub fn into_parts(self) -> (Demands, T, W) {
-        (self.declared.demands, self.built, self.body)
-    }
-}
-
-impl<T: Types, W: Writing> Lowering<T, W> {
+impl<K: Knowledge, T: Types, W: Writing> Lowering<K, T, W> {
     // What was built.
-    fn finish(self) -> Lowered<T, W> {
+    fn finish(self) -> Lowered<K, T, W> {
+        let Lowering {
+            alloc: _,
+            known,
+            built,
+            body,
+            names,
+            scope: _,
+        } = self;
         Lowered {
-            reading: self.reading,
-            declared: self.declared,
-            built: self.built,
-            body: self.body,
-            special: self.names.finish(),
+            known,
+            built,
+            body,
+            special: names.finish(),
         }
     }
 
     // Builds all functions.
     fn lower_all(&mut self) {
-        for place in 0..self.reading.flow.functions.len() {
+        for place in 0..self.known.flow().functions.len() {
             if self.has_failed() {
                 break;
             }
-            let flow = &self.reading.flow;
+            let flow = self.known.flow();
             let Some(steps) = flow.functions.get(place).copied() else {
                 break;
             };
@@ -98,7 +94,7 @@ impl<T: Types, W: Writing> Lowering<T, W> {
     // Builds one function.
     fn lower_function(&mut self, parts: &FunctionParts, steps: &FunctionSteps) {
         self.names.begin();
-        let start = self.reading.listing.at(parts.start);
+        let start = self.known.reading().listing.at(parts.start);
         let name = self.name_of(start.id);
         let result = match self.shape(start.ty) {
             Shape::Void => None,
@@ -117,7 +113,7 @@ impl<T: Types, W: Writing> Lowering<T, W> {
     fn take_parameters(&mut self, parts: &FunctionParts) -> Vec<FunctionArgument> {
         let mut arguments = Vec::new(self.alloc);
         for place in parts.start.saturating_add(1)..parts.end {
-            let parameter = self.reading.listing.at(place);
+            let parameter = self.known.reading().listing.at(place);
             if parameter.opcode == ops::LABEL {
                 break;
             }
@@ -183,12 +179,8 @@ impl<T: Types, W: Writing> Lowering<T, W> {
     // A parameter that is an array of resources: the variable that every call passes for it, which is no argument here.
     fn take_resources(&mut self, operation: &Instruction) {
         let id = operation.id;
-        let Some(variable) = self
-            .reading
-            .flow
-            .uses
-            .always_passed(&self.reading.listing, id)
-        else {
+        let reading = self.known.reading();
+        let Some(variable) = reading.uses.always_passed(&reading.listing, id) else {
             self.fail(operation.unsupported_by(Feature::ImageArrayArgument));
             return;
         };
@@ -204,7 +196,7 @@ impl<T: Types, W: Writing> Lowering<T, W> {
         ty: u32,
     ) {
         let id = operation.id;
-        let used = self.reading.flow.uses.of(id);
+        let used = self.known.reading().uses.of(id);
         let shape = self.shape(ty);
         if used.compared && used.sampled && !matches!(shape, Shape::Image(_)) {
             self.fail(operation.unsupported_by(Feature::MixedComparison));
@@ -249,7 +241,7 @@ impl<T: Types, W: Writing> Lowering<T, W> {
             } else {
                 0
             };
-            let said = Decorated::of(&self.reading.listing, id, None);
+            let said = Decorated::of(&self.known.reading().listing, id, None);
             access = StorageAccess(said.access().0 | atomic);
         }
         let span = span_of(operation);
@@ -275,13 +267,13 @@ impl<T: Types, W: Writing> Lowering<T, W> {
         beside: bool,
     ) -> u32 {
         let id = operation.id;
-        let comparison = self.reading.flow.uses.of(id).compared;
+        let comparison = self.known.reading().uses.of(id).compared;
         let span = span_of(operation);
         let inner = TypeInner::Sampler { comparison };
         let made = self.built.insert(IrType { name: None, inner }, span);
         let built = type_in(&mut self.body, made);
         let name = if beside {
-            let name = sampler_name(self.alloc, &self.reading.listing, id);
+            let name = sampler_name(self.alloc, &self.known.reading().listing, id);
             read_in(&mut self.body, name.map(Some))
         } else {
             self.name_of(id)

@@ -3,22 +3,19 @@
 use crate::writing::Writing;
 use ir_items::Expression;
 use spirv_constants::{Known, Made, named};
-use spirv_declarations::Declared;
+use spirv_declarations::Knowledge;
 use spirv_expressions::{Builder, Emits, Value, keep, refuse};
 use spirv_flow::is_chain;
 use spirv_operations::{Names, Slot};
-use spirv_types::{Reading, Types, span_of};
+use spirv_types::{Types, span_of};
 use spirv_words::{Feature, Instruction, Malformed, SpirvError, Unsupported};
 use std::alloc::Global;
 
 /// What functions are built with, one after the other.
-#[derive(Drop)]
-pub struct Lowering<T: Types, W: Writing> {
+pub struct Lowering<K: Knowledge, T: Types, W: Writing> {
     pub(crate) alloc: Global,
-    /// The module that is read.
-    pub reading: Reading,
-    /// What is known of what it declares.
-    pub declared: Declared,
+    /// What is known of the module.
+    pub known: K,
     /// Its types.
     pub built: T,
     /// The function that is built.
@@ -40,12 +37,12 @@ fn parts_of(made: &Made) -> Option<(u32, u32)> {
 // How deep composites of specialization constants may nest.
 const MAX_DEPTH: u32 = 32;
 
-impl<T: Types, W: Writing> Lowering<T, W> {
+impl<K: Knowledge, T: Types, W: Writing> Lowering<K, T, W> {
     /// Whether what is in a scope is so here.
     pub(crate) fn reaches(&self, scope: Option<u32>) -> bool {
         match scope {
             None => true,
-            Some(scope) => self.reading.flow.steps.scopes.reaches(scope, self.scope),
+            Some(scope) => self.known.flow().steps.scopes.reaches(scope, self.scope),
         }
     }
 
@@ -117,8 +114,8 @@ impl<T: Types, W: Writing> Lowering<T, W> {
             if self.has_failed() {
                 break;
             }
-            let part = self.declared.constants.part(first, place);
-            let known = self.declared.constants.of_part(part);
+            let part = self.known.declared().constants.part(first, place);
+            let known = self.known.declared().constants.of_part(part);
             match self.constant_value(part, known, operation, depth) {
                 Some(value) => keep(&mut self.body, &mut components, value),
                 None => self.body.fail(operation.malformed(Malformed::NoConstant)),
@@ -136,7 +133,7 @@ impl<T: Types, W: Writing> Lowering<T, W> {
             local,
         } = self.names.slot(id)
         else {
-            let known = self.declared.constants.of(id);
+            let known = self.known.declared().constants.of(id);
             return self.constant_value(id, known, operation, MAX_DEPTH);
         };
         if self.reaches(scope) {
@@ -153,7 +150,7 @@ impl<T: Types, W: Writing> Lowering<T, W> {
 
     /// What is wrong with an id that is no value and no pointer here.
     pub(crate) fn missing(&self, id: u32, operation: &Instruction) -> SpirvError {
-        match self.reading.listing.definition(id) {
+        match self.known.reading().listing.definition(id) {
             None => operation.malformed(Malformed::Undefined),
             Some(made) if is_chain(made.opcode) => operation.malformed(Malformed::NoPointer),
             Some(made) => operation.unsupported_as(Unsupported::ValueOf(made.opcode)),

@@ -5,6 +5,7 @@ use crate::writing::{Writing, made_in, type_in};
 use ir_arena::span::Span;
 use ir_kinds::{PredeclaredType, Scalar, ScalarKind, VectorSize};
 use ir_types::{IrType, StructMember, TypeInner};
+use spirv_declarations::Knowledge;
 use spirv_expressions::{Builder, Emits, keep};
 use spirv_types::{TypeHandle, Types};
 use std::alloc::{AllocError, Global};
@@ -75,7 +76,7 @@ fn name_of(alloc: Global, of: PredeclaredType) -> Result<String, AllocError> {
     }
 }
 
-impl<T: Types, W: Writing> Lowering<T, W> {
+impl<K: Knowledge, T: Types, W: Writing> Lowering<K, T, W> {
     /// The struct that an expression gives, which is built once.
     pub fn special_type(&mut self, of: PredeclaredType) -> TypeHandle {
         if let Some(handle) = self.names.special(of) {

@@ -10,7 +10,7 @@ use spirv_words::{Failure, Listing, SpirvError};
 use std::alloc::{AllocError, Global};
 
 /// What functions are written with, one after the other. What is wrong first is kept, and after that nothing is written.
-pub trait Writing: Emits + Drop {
+pub trait Writing: Emits {
     /// What was wrong first.
     fn failure(&self) -> Option<SpirvError>;
 

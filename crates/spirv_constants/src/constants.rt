@@ -12,7 +12,7 @@ use spirv_words::{Failure, Instruction, Listing, Malformed, SpirvError, Unsuppor
 use std::alloc::Global;
 
 /// Where the constants of a module are built, and the expressions that they are made of.
-pub trait Constants: Drop {
+pub trait Constants {
     /// A constant.
     fn constant(
         &mut self,
@@ -42,7 +42,6 @@ pub trait Constants: Drop {
 
 /// The constants of a module: those that are built, and what each id of one is. What is wrong first is kept: after that every
 /// declaration fails.
-#[derive(Drop)]
 pub struct ConstantTable<C: Constants> {
     /// Those that are built.
     pub built: C,
@@ -72,7 +71,12 @@ impl<C: Constants> ConstantTable<C> {
 
     /// What each id is, and those that are built.
     pub fn finish(self) -> (KnownConstants, C) {
-        (self.known, self.built)
+        let ConstantTable {
+            built,
+            known,
+            failed: _,
+        } = self;
+        (known, built)
     }
 
     /// An expression of the module.

@@ -11,7 +11,6 @@ use spirv_types::{Reading, TypeTable, Types};
 use spirv_words::{Failure, Instruction, Listing, SpirvError};
 
 /// What is known of what a module declares, wherever it is built.
-#[derive(Drop)]
 pub struct Declared {
     /// What each id of a type is.
     pub types: TypeTable,
@@ -23,8 +22,19 @@ pub struct Declared {
     pub demands: Demands,
 }
 
+// Written out, so that it is freed in a call of this crate wherever it is let go.
+impl Drop for Declared {
+    fn drop(self) {
+        let Declared {
+            types: _types,
+            constants: _constants,
+            variables: _variables,
+            demands: _demands,
+        } = self;
+    }
+}
+
 // Declarations on their way, with what they are built in.
-#[derive(Drop)]
 pub(crate) struct Declarations<T: Types, C: Constants, V: Variables> {
     pub types: TypeTable,
     pub built: T,
@@ -88,7 +98,7 @@ impl<T: Types, C: Constants, V: Variables> Declarations<T, C, V> {
                 failed.take(taken, ());
             }
         }
-        let uses = &reading.flow.uses;
+        let uses = &reading.uses;
         if uses.numbered {
             self.demands.ask(Capabilities::SUBGROUP);
             self.add_hidden(SUBGROUP_NUMBERS, failed);

@@ -4,6 +4,7 @@
 
 mod declarations;
 mod interface;
+mod knowledge;
 mod modes;
 mod upgrades;
 mod variables;
@@ -11,6 +12,7 @@ mod varyings;
 
 pub use declarations::{Declared, declare};
 pub use interface::{Located, common_kind, located_type, members_of};
+pub use knowledge::{Knowledge, ReadModule};
 pub use modes::{Modes, decorated_size, modes_of, stage_of};
 pub use variables::{GlobalHandle, KnownVariables, Variable, Variables, Varying, sampler_name};
 pub use varyings::scalar_kind;

@@ -17,8 +17,7 @@ pub(crate) fn upgraded<T: Types>(
     failed: &mut Failure,
 ) -> TypeHandle {
     let span = span_of(instruction);
-    let (Some(part), Some(depth)) = (reading.flow.uses.atomics.part(place), depth.checked_sub(1))
-    else {
+    let (Some(part), Some(depth)) = (reading.uses.atomics.part(place), depth.checked_sub(1)) else {
         failed.fail(instruction.unsupported_by(Feature::DeepAtomic));
         return handle;
     };
@@ -65,7 +64,7 @@ fn upgrade<T: Types>(
     depth: u32,
     failed: &mut Failure,
 ) {
-    let first = reading.flow.uses.atomics.first(place);
+    let first = reading.uses.atomics.first(place);
     match inner {
         TypeInner::Array { base, .. } | TypeInner::BindingArray { base, .. } => match first {
             Some(inside) => {
@@ -83,10 +82,10 @@ fn upgrade<T: Types>(
 // The elements that are the part inside of the one at this place, if they are: of an array in an array of resources, which are
 // built as one.
 fn elements_in(reading: &Reading, place: u32) -> Option<u32> {
-    let Some(inside) = reading.flow.uses.atomics.first(place) else {
+    let Some(inside) = reading.uses.atomics.first(place) else {
         return None;
     };
-    match reading.flow.uses.atomics.part(inside) {
+    match reading.uses.atomics.part(inside) {
         Some(PathPart { member: None, .. }) => Some(inside),
         _ => None,
     }
@@ -103,7 +102,7 @@ fn upgrade_members<T: Types>(
     depth: u32,
     failed: &mut Failure,
 ) {
-    let paths = &reading.flow.uses.atomics;
+    let paths = &reading.uses.atomics;
     let mut at = first;
     for _ in 0..MAX_PARTS {
         let Some(inside) = at else {

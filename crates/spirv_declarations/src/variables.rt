@@ -59,7 +59,7 @@ pub struct Variable {
 }
 
 /// Where the global variables of a module are built.
-pub trait Variables: Drop {
+pub trait Variables {
     /// A variable.
     fn add(&mut self, variable: GlobalVariable, span: Span) -> Result<GlobalHandle, SpirvError>;
 }
@@ -257,7 +257,7 @@ impl Draft {
             ty,
             shape: types.shape(ty),
             said: Decorated::of(&reading.listing, instruction.id, None),
-            used: reading.flow.uses.of(instruction.id),
+            used: reading.uses.of(instruction.id),
         }
     }
 
@@ -433,7 +433,7 @@ fn plain_of<T: Types>(
         variable.ty = insert(built, inner, span_of(instruction), failed);
     }
     let whole = variable.ty;
-    match reading.flow.uses.atomics.of(instruction.id) {
+    match reading.uses.atomics.of(instruction.id) {
         // members of structs have other places than in the paths
         Some(_) if types.splits() => {
             failed.fail(instruction.unsupported_by(Feature::AtomicOfNoNumber));

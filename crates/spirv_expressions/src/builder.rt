@@ -5,7 +5,7 @@ use ir_arena::span::Span;
 use ir_kinds::{BinaryOperator, ImageClass, Literal, Scalar, ScalarKind, VectorSize};
 use ir_types::{Expression, key};
 use spirv_types::{ImageShape, MatrixShape, MemberShape, Shape, Stored, TypeHandle};
-use spirv_words::{Feature, Instruction, Malformed, SpirvError};
+use spirv_words::{Instruction, Malformed, SpirvError};
 use std::alloc::Global;
 
 /// The handle of an expression of the function that is built.

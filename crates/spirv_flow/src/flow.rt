@@ -7,15 +7,12 @@ use spirv_steps::{Blocks, FunctionSteps, Steps, steps_of};
 use spirv_words::{Failure, Listing, SpirvError};
 use std::alloc::Global;
 
-/// What is known of a module's functions before they are translated.
-#[derive(Drop)]
+/// What a module's functions do, as it is known before they are translated.
 pub struct Flow {
     /// Their blocks.
     pub blocks: Blocks,
     /// Their order.
     pub order: Order,
-    /// What variables and arguments are used for.
-    pub uses: Uses,
     /// What they do, with the scopes of blocks.
     pub steps: Steps,
     /// The steps of each function, callees first.
@@ -24,8 +21,21 @@ pub struct Flow {
     pub kept: Kept,
 }
 
-/// What is known of a module's functions.
-pub fn flow_of(alloc: Global, listing: &Listing) -> Result<Flow, SpirvError> {
+// Written out, so that its lists are freed in a call of this crate wherever it is let go.
+impl Drop for Flow {
+    fn drop(self) {
+        let Flow {
+            blocks: _blocks,
+            order: _order,
+            steps: _steps,
+            functions: _functions,
+            kept: _kept,
+        } = self;
+    }
+}
+
+/// What variables and arguments of a module are used for, and what its functions do.
+pub fn flow_of(alloc: Global, listing: &Listing) -> Result<(Uses, Flow), SpirvError> {
     let mut failed = Failure::NONE;
     let blocks = Blocks::of_module(alloc, listing, &mut failed);
     let order = Order::of_module(alloc, listing, &blocks, &mut failed);
@@ -38,12 +48,12 @@ pub fn flow_of(alloc: Global, listing: &Listing) -> Result<Flow, SpirvError> {
         &mut failed,
     );
     let kept = Kept::of_module(alloc, listing, &blocks, &steps.scopes, &mut failed);
-    failed.answer(Flow {
+    let flow = Flow {
         blocks,
         order,
-        uses,
         steps,
         functions,
         kept,
-    })
+    };
+    failed.answer((uses, flow))
 }

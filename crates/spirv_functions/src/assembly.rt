@@ -10,7 +10,6 @@ use spirv_flow::{BreakIf, Case, CaseBody, Choice, FunctionSteps, Step};
 use spirv_images::selector_of;
 use spirv_numbers::ops;
 use spirv_operations::{FunctionBuilder, made_name, phi_local};
-use spirv_types::span_of;
 use spirv_words::{Feature, Instruction, Malformed, SpirvError};
 use std::alloc::Global;
 use std::collections::BTreeMap;
@@ -80,16 +79,15 @@ pub fn assemble<L: FunctionBuilder>(
 
 // The end of a block.
 fn end_of<L: FunctionBuilder>(lowering: &L, block: u32) -> Instruction {
-    let reading = lowering.reading();
-    match reading.flow.blocks.get(block) {
-        Some(block) => reading.listing.at(block.end),
+    match lowering.flow().blocks.get(block) {
+        Some(block) => lowering.reading().listing.at(block.end),
         None => Instruction::NONE,
     }
 }
 
 // The case at this place.
 fn case_at<L: FunctionBuilder>(lowering: &mut L, place: u32) -> Case {
-    match lowering.reading().flow.steps.cases.get(place as usize) {
+    match lowering.flow().steps.cases.get(place as usize) {
         Some(case) => *case,
         None => {
             lowering.fail(unbalanced());
@@ -106,14 +104,7 @@ impl Assembly {
     // Takes a step. Answers the next one.
     fn take<L: FunctionBuilder>(&mut self, lowering: &mut L, at: u32) -> u32 {
         let next = at.saturating_add(1);
-        let Some(step) = lowering
-            .reading()
-            .flow
-            .steps
-            .steps
-            .get(at as usize)
-            .copied()
-        else {
+        let Some(step) = lowering.flow().steps.steps.get(at as usize).copied() else {
             return next;
         };
         match step {
@@ -393,7 +384,7 @@ fn push<L: FunctionBuilder>(lowering: &mut L, statement: Statement) {
 
 // The instructions of a block, and what goes from it into others. Answers the operand of its end.
 fn lower_block<L: FunctionBuilder>(lowering: &mut L, number: u32) -> Option<Value> {
-    let flow = &lowering.reading().flow;
+    let flow = lowering.flow();
     let scope = flow.steps.scopes.of_block(number).unwrap_or(0);
     let Some(block) = flow.blocks.get(number) else {
         lowering.fail(unbalanced());
@@ -416,8 +407,8 @@ fn lower_block<L: FunctionBuilder>(lowering: &mut L, number: u32) -> Option<Valu
         _ => None,
     };
     lowering.flush();
-    for place in 0..lowering.reading().flow.kept.from_block(number).len() {
-        let incoming = lowering.reading().flow.kept.incoming_at(number, place);
+    for place in 0..lowering.flow().kept.from_block(number).len() {
+        let incoming = lowering.flow().kept.incoming_at(number, place);
         if let Some(incoming) = incoming {
             store_incoming(lowering, &end, incoming.phi, incoming.value);
         }

@@ -6,6 +6,7 @@ use ir_flags::{Capabilities, SubgroupOperationSet};
 use ir_kinds::{ImageClass, ImageDimension, PredeclaredType, Scalar, ScalarKind};
 use ir_types::Expression;
 use spirv_expressions::{Builder, Value, no_value};
+use spirv_flow::Flow;
 use spirv_types::{ImageShape, ImageUse, Reading, Stored, TypeHandle};
 use spirv_words::Instruction;
 
@@ -122,6 +123,9 @@ pub const NO_IMAGE: ImageUse = ImageUse {
 pub trait FunctionBuilder: Builder {
     /// The module that is read.
     fn reading(&self) -> &Reading;
+
+    /// What its functions do.
+    fn flow(&self) -> &Flow;
 
     /// The name of an id, if it has one.
     fn name_of(&mut self, id: u32) -> Option<String>;

@@ -23,8 +23,7 @@ pub fn call_function<L: FunctionBuilder>(lowering: &mut L, operation: &Instructi
     }
     let callee = need(lowering, operation, 0);
     let place = lowering
-        .reading()
-        .flow
+        .flow()
         .order
         .place_of(callee)
         .and_then(NonMaxU32::new);

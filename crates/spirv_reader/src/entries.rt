@@ -14,7 +14,7 @@ use spirv_declarations::{
     Declared, KnownVariables, decorated_size, members_of, modes_of, scalar_kind, stage_of,
 };
 use spirv_expressions::{Emits, Value, Words, keep};
-use spirv_flow::{FRAGMENT_PLACE, SUBGROUP_NUMBERS};
+use spirv_flow::{FRAGMENT_PLACE, Order, SUBGROUP_NUMBERS};
 use spirv_numbers::numbers;
 use spirv_tables::with_default;
 use spirv_types::{Reading, TypeHandle, Types, span_of};
@@ -30,6 +30,7 @@ pub(crate) struct Entry {
     pub instruction: Instruction,
     pub stage: ShaderStage,
     pub span: Span,
+    decorated: Option<[u32; 3]>,
 }
 
 // Where something is that an entry point gives.
@@ -58,6 +59,7 @@ const PIECES_A_VARIABLE: usize = 16;
 /// All entry points in order, until something is wrong.
 pub fn lower_entries<T: Types>(
     reading: &Reading,
+    order: &Order,
     declared: &mut Declared,
     built: &mut T,
     failed: &mut Failure,
@@ -76,8 +78,9 @@ pub fn lower_entries<T: Types>(
             instruction,
             stage: stage_of(listing, &instruction, failed),
             span: span_of(&instruction),
+            decorated,
         };
-        let made = entry.lower(reading, declared, built, decorated, &mut budget, failed);
+        let made = entry.lower(listing, order, declared, built, &mut budget, failed);
         failed.push(&mut entries, made);
     }
     if entries.is_empty() {
@@ -90,14 +93,13 @@ impl Entry {
     // The whole entry point.
     fn lower<T: Types>(
         &self,
-        reading: &Reading,
+        listing: &Listing,
+        order: &Order,
         declared: &mut Declared,
         built: &mut T,
-        decorated: Option<[u32; 3]>,
         budget: &mut Budget,
         failed: &mut Failure,
     ) -> EntryPoint {
-        let listing = &reading.listing;
         let id = failed.take(listing.need(&self.instruction, 1), 0);
         let words = listing.operands_from(&self.instruction, 2);
         let modes = modes_of(listing, declared, id, failed);
@@ -105,7 +107,7 @@ impl Entry {
         let (name, taken) = failed.take(read, (String::new(self.alloc), 0));
         let function = self.wrap(
             listing,
-            self.callee(reading, id, failed),
+            self.callee(order, id, failed),
             words.get(taken..).unwrap_or(&[]),
             &declared.variables,
             built,
@@ -118,7 +120,7 @@ impl Entry {
             stage: self.stage,
             early_depth_test: modes.early,
             // the decorated constant counts before the mode
-            workgroup_size: match (self.stage, decorated) {
+            workgroup_size: match (self.stage, self.decorated) {
                 (ShaderStage::Compute, Some(size)) => size,
                 _ => modes.size,
             },
@@ -129,8 +131,8 @@ impl Entry {
     }
 
     // The function with this id, among those that are built.
-    fn callee(&self, reading: &Reading, id: u32, failed: &mut Failure) -> Handle<key::Function> {
-        match reading.flow.order.place_of(id).and_then(NonMaxU32::new) {
+    fn callee(&self, order: &Order, id: u32, failed: &mut Failure) -> Handle<key::Function> {
+        match order.place_of(id).and_then(NonMaxU32::new) {
             Some(place) => Handle::new(place),
             None => {
                 failed.fail(self.instruction.malformed(Malformed::NoFunction));

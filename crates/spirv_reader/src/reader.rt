@@ -11,9 +11,9 @@ use ir_flags::{Settings, ShaderStages, SubgroupOperationSet, ValidationFlags};
 use ir_items::{EntryPoint, Module, SpecialTypes};
 use ir_sets::keyed::KeyedState;
 use ir_sets::unique_arena::UniqueArena;
-use spirv_bodies::{Budget, Special, lower_functions};
-use spirv_declarations::{Declared, declare};
-use spirv_flow::flow_of;
+use spirv_bodies::{Budget, Lowered, Special, lower_functions};
+use spirv_declarations::{ReadModule, declare};
+use spirv_flow::{Flow, flow_of};
 use spirv_tables::Demands;
 use spirv_types::Reading;
 use spirv_words::{Failure, SpirvError, list};
@@ -26,13 +26,13 @@ pub fn read_spirv(alloc: Global, bytes: &[u8]) -> Result<Document, SpirvError>
     ensures { IfOk result (λ d. MakesSixChecks d.settings.flags) }
 {
     let listing = list(alloc, bytes)?;
-    let flow = flow_of(alloc, &listing)?;
-    let reading = Reading::of(alloc, listing, flow)?;
-    read_module(reading, KeyedState::of_bytes(bytes))
+    let (uses, flow) = flow_of(alloc, &listing)?;
+    let reading = Reading::of(alloc, listing, uses)?;
+    read_module(reading, flow, KeyedState::of_bytes(bytes))
 }
 
 // The same of a module whose words are sorted out.
-fn read_module(reading: Reading, key: KeyedState) -> Result<Document, SpirvError>
+fn read_module(reading: Reading, flow: Flow, key: KeyedState) -> Result<Document, SpirvError>
     ensures { IfOk result (λ d. MakesSixChecks d.settings.flags) }
 {
     let alloc = reading.alloc;
@@ -57,7 +57,12 @@ fn read_module(reading: Reading, key: KeyedState) -> Result<Document, SpirvError
         &mut failed,
     );
     let body = Body::new(alloc, Budget::of_functions(words));
-    let read = read_functions(reading, declared, types, body, &mut failed);
+    let module = ReadModule {
+        reading,
+        flow,
+        declared,
+    };
+    let read = read_functions(module, types, body, &mut failed);
     let document = document_of(alloc, read, constants, variables);
     failed.answer(document)
 }
@@ -84,26 +89,25 @@ fn special_of(alloc: Global, all: &[Special], failed: &mut Failure) -> SpecialTy
 }
 
 // What a module declares, its functions, the structs that their expressions give, and its entry points.
-fn read_functions(
-    reading: Reading,
-    declared: Declared,
-    types: BuiltTypes,
-    body: Body,
-    failed: &mut Failure,
-) -> Read {
-    let alloc = reading.alloc;
-    let mut lowered = lower_functions(reading, declared, types, body, failed);
-    let special = special_of(alloc, &lowered.special, failed);
+fn read_functions(module: ReadModule, types: BuiltTypes, body: Body, failed: &mut Failure) -> Read {
+    let alloc = module.reading.alloc;
+    let Lowered {
+        mut known,
+        mut built,
+        body,
+        special,
+    } = lower_functions(module, types, body, failed);
+    let special = special_of(alloc, &special, failed);
     let entries = lower_entries(
-        &lowered.reading,
-        &mut lowered.declared,
-        &mut lowered.built,
+        &known.reading,
+        &known.flow.order,
+        &mut known.declared,
+        &mut built,
         failed,
     );
-    let (demands, types, body) = lowered.into_parts();
     Read {
-        demands,
-        types,
+        demands: known.declared.demands,
+        types: built,
         body,
         special,
         entries,

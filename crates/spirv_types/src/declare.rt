@@ -6,7 +6,7 @@ use ir_arena::handle::Handle;
 use ir_flags::{Capabilities, StorageAccess};
 use ir_kinds::{AddressSpace, ImageClass, ImageDimension, Scalar, StorageFormat};
 use ir_types::{ArraySize, TypeInner};
-use spirv_flow::{DIM_SUBPASS_DATA, Flow, Use};
+use spirv_flow::{DIM_SUBPASS_DATA, Use, Uses};
 use spirv_numbers::{numbers, ops};
 use spirv_tables::{
     Decorated, Demands, Layout, Scan, dimension, image_format, is_norm16, matrix_layout,
@@ -16,26 +16,37 @@ use spirv_words::{Failure, Feature, Instruction, Listing, Malformed, SpirvError,
 use std::alloc::Global;
 
 /// What the declarations of a module are read with.
-#[derive(Drop)]
 pub struct Reading {
     /// The allocator.
     pub alloc: Global,
     /// The module.
     pub listing: Listing,
-    /// What its functions do, and what its variables are used for.
-    pub flow: Flow,
+    /// What its variables and arguments are used for.
+    pub uses: Uses,
     /// What was found of its types before.
     pub scan: Scan,
 }
 
+// Written out, so that it is freed in a call of this crate wherever it is let go.
+impl Drop for Reading {
+    fn drop(self) {
+        let Reading {
+            alloc: _alloc,
+            listing: _listing,
+            uses: _uses,
+            scan: _scan,
+        } = self;
+    }
+}
+
 impl Reading {
-    /// A module of whose functions this is known.
-    pub fn of(alloc: Global, listing: Listing, flow: Flow) -> Result<Reading, SpirvError> {
+    /// A module whose variables and arguments are used for this.
+    pub fn of(alloc: Global, listing: Listing, uses: Uses) -> Result<Reading, SpirvError> {
         match Scan::of_module(alloc, &listing) {
             Ok(scan) => Ok(Reading {
                 alloc,
                 listing,
-                flow,
+                uses,
                 scan,
             }),
             Err(error) => Err(error),

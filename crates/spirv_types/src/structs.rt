@@ -481,7 +481,7 @@ fn member_binding(
     demands: &mut Demands,
 ) -> Option<Binding> {
     if let Some(number) = said.built_in {
-        if reading.scan.is_output(id) && !reading.flow.uses.touches(number) {
+        if reading.scan.is_output(id) && !reading.uses.touches(number) {
             return None;
         }
     }

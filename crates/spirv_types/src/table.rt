@@ -10,7 +10,7 @@ use spirv_words::{Failure, Instruction, Malformed, SpirvError};
 use std::alloc::Global;
 
 /// Where the types of a module are built.
-pub trait Types: Drop {
+pub trait Types {
     /// The type that is this one.
     fn insert(&mut self, ty: IrType, span: Span) -> Result<TypeHandle, SpirvError>;
 

@@ -67,7 +67,6 @@ impl Instruction {
 }
 
 /// A module whose words are sorted out. Ids index its tables, so that each is below [`Listing::bound`].
-#[derive(Drop)]
 pub struct Listing {
     /// The words, the header included.
     pub words: Vec<u32>,
@@ -85,6 +84,22 @@ pub struct Listing {
     decorations: Groups,
     // for each id the instructions that say how it is executed, of an entry point's function
     modes: Groups,
+}
+
+// Written out, so that its lists are freed in a call of this crate wherever it is let go.
+impl Drop for Listing {
+    fn drop(self) {
+        let Listing {
+            words: _words,
+            instructions: _instructions,
+            parts: _parts,
+            defined: _defined,
+            slots: _slots,
+            names: _names,
+            decorations: _decorations,
+            modes: _modes,
+        } = self;
+    }
 }
 
 /// The module that the bytes are.
