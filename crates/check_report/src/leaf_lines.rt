@@ -134,22 +134,12 @@ fn write_inner(
             write_leaf(inner, u64::from(scalar.width), path, start, text)
         }
         TypeInner::Vector { size, scalar } => {
-            write_leaf(
-                inner,
-                vector_alignment(size, scalar.width),
-                path,
-                start,
-                text,
-            )
+            let whole = vector_alignment(size, scalar.width);
+            write_leaf(inner, whole, path, start, text)
         }
         TypeInner::Matrix { rows, scalar, .. } => {
-            write_leaf(
-                inner,
-                vector_alignment(rows, scalar.width),
-                path,
-                start,
-                text,
-            )
+            let column = vector_alignment(rows, scalar.width);
+            write_leaf(inner, column, path, start, text)
         }
         TypeInner::Array { base, size, stride } => {
             write_elements(

@@ -99,14 +99,11 @@ fn check_plain<C: StatementContext>(context: &C, statement: &Statement) -> Resul
         (IsStatementFault (C.seen context.now) (statement_view statement.now)) }
 {
     match statement {
+        Statement::Block(_) | Statement::Break | Statement::Continue | Statement::Kill => Ok(()),
         Statement::Emit(range) => check_emit(context, *range),
-        Statement::Block(_) => Ok(()),
         Statement::If { condition, .. } => check_condition(context, *condition),
         Statement::Loop { break_if, .. } => check_break_if(context, break_if),
-        Statement::Break => Ok(()),
-        Statement::Continue => Ok(()),
         Statement::Return { value } => check_return(context, *value),
-        Statement::Kill => Ok(()),
         Statement::ControlBarrier(barrier) => check_barrier(context, *barrier),
         Statement::MemoryBarrier(barrier) => check_barrier(context, *barrier),
         Statement::Store { pointer, value } => check_store(context, *pointer, *value),

@@ -39,7 +39,7 @@ fn typing(
     ensures { IfOk result (λ o. form_answer (context_view context.now).types o
         ≡ rule_given (context_view context.now) (expression_view expression.now) given.now) }
 {
-    let types = context.types;
+    let (types, special) = (context.types, context.special_types);
     let of = given_form(types, given.first);
     match *expression {
         Expression::Literal(value) => Ok(Ok(literal_type(value))),
@@ -76,13 +76,9 @@ fn typing(
         | Expression::WorkGroupUniformLoadResult { ty }
         | Expression::SubgroupOperationResult { ty } => Ok(Ok(TypeResolution::Handle(ty))),
         Expression::ArrayLength(_) => Ok(Ok(array_length_type())),
-        Expression::RayQueryVertexPositions { .. } => {
-            Ok(special_type(context.special_types.ray_vertex_return))
-        }
+        Expression::RayQueryVertexPositions { .. } => Ok(special_type(special.ray_vertex_return)),
         Expression::RayQueryProceedResult => Ok(Ok(proceed_type())),
-        Expression::RayQueryGetIntersection { .. } => {
-            Ok(special_type(context.special_types.ray_intersection))
-        }
+        Expression::RayQueryGetIntersection { .. } => Ok(special_type(special.ray_intersection)),
         Expression::SubgroupBallotResult => Ok(Ok(ballot_type())),
         Expression::CooperativeLoad {
             columns,
