@@ -1,5 +1,5 @@
 #!/usr/bin/env python3
-"""Times the program explain on modules of SPIR-V that nest, repeat or refer as no compiler would.
+"""Times the program on modules of SPIR-V that nest, repeat or refer as no compiler would.
 
 spirv_hostile.py PROGRAM [SIZE [KIND..]]: each kind, or these, at SIZE (2000), twice and four times that: words, processor seconds
 and memory. A kind of which a word takes half as much again where there are twice as many is reported.

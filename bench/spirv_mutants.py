@@ -1,5 +1,5 @@
 #!/usr/bin/env python3
-"""Tries the program explain on modules of SPIR-V that are wrong.
+"""Tries the program on modules of SPIR-V that are wrong.
 
 spirv_mutants.py PROGRAM FOLDER [COUNT] [SEED]: COUNT (1000) times a module of the FOLDER (*.spv) with bits flipped, words
 changed, cut out, repeated or exchanged, judged or explained. Any status but 0, 1 and 3, any line of another form, and any run of

@@ -1,5 +1,5 @@
 #!/usr/bin/env python3
-"""Times the program explain on modules of SPIR-V beside spirv-val, in turns.
+"""Times the program on modules of SPIR-V beside spirv-val, in turns.
 
 spirv_speed.py PROGRAM FOLDER [LARGEST] [RUNS]: the LARGEST (10) modules of the FOLDER (*.spv) that are read, and chains of 500 to
 4000 functions of which each calls the one before it, and forks of which each calls the two before it. The least processor seconds

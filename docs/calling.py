@@ -14,7 +14,7 @@ CRATES = TOP / "crates"
 # a page: its crate, what it is for, the callers as what each is and (file, first line), the crates whose calls it quotes
 PAGES = [
     ("check_ports", "Readers and writers with a mark that failed calls leave.",
-     [("A caller", "checker/src/main.rt", "fn main(")], ["check_ports"]),
+     [("A caller", "checker/src/main.rt", "fn judge(")], ["check_ports"]),
     ("shader_ir", "The representation of a shader module: arenas, types, expressions, blocks, items, and calls over them.",
      [("A caller", "test_items/src/returns.rt", None)], ["ir_flags", "ir_kinds", "ir_arena", "ir_sets", "ir_faults", "ir_types",
                                         "ir_blocks", "ir_items", "ir_proc"]),
@@ -26,7 +26,7 @@ PAGES = [
      [("A caller", "test_items/src/modules.rt", "pub fn document_of(")], ["document_forms", "document_reader"]),
     ("shader_check", "The check of a module that is built by calls, and of a document from a reader to a writer.",
      [("A caller that builds a module", "test_cases/src/built.rt", None),
-      ("A caller that has a document", "checker/src/main.rt", "fn main(")], ["judgement", "shader_check"]),
+      ("A caller that has a document", "checker/src/main.rt", "fn judge(")], ["judgement", "shader_check"]),
 ]
 
 

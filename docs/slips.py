@@ -1,7 +1,7 @@
 #!/usr/bin/env python3
 """Writes REASONS.md: what ./shader-check --explain writes for typical slips of a front end's author: docs/slips.py PROGRAM
 
-PROGRAM is the built program, crates/explain/out/explain. Each slip is made at one place of a shader of examples/. With --check it
+PROGRAM is the built program, crates/checker/out/checker. Each slip is made at one place of a shader of examples/. With --check it
 writes nothing, says whether the page is as it would be written, and ends with status 1 where it is not.
 """
 import json
@@ -93,7 +93,7 @@ def page(program):
     for example, words, way, *put in SLIPS:
         text = made(example, way, put)
         found = json.loads(answer(program, text, "--json"))
-        line = answer(program, text).replace("|", "\\|")
+        line = answer(program, text, "--explain").replace("|", "\\|")
         step = found.get("step", "accepted")
         rows.setdefault(step, []).append(f"| {words} | `{line}` |")
     order = ["document", "handles", "layout", "type", "typing", "expression", "constant", "override", "global", "function", "entry", "accepted"]

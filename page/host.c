@@ -1,4 +1,4 @@
-/* What the program `explain` takes from its host, where the host is a page: a heap, one document to read, and room for what it
+/* What the program `checker` takes from its host, where the host is a page: a heap, one document to read, and room for what it
  * writes. `room` takes a document's length and answers where its bytes go, `judge` runs the program over them with `--json` and answers
  * its status, and `text` with `text_length` is what it wrote. */
 

@@ -1,7 +1,7 @@
 #!/usr/bin/env python3
 """Tries explain on the documents of data/ that are not of the form because of one slip: try_explain.py PROGRAM [FILE..]
 
-PROGRAM is the built program, crates/explain/out/explain. The files are those that data/files.json names, where none is
+PROGRAM is the built program, crates/checker/out/checker. The files are those that data/files.json names, where none is
 named here. The place that is told holds the slip where two things are so: what stands there is not what is wanted
 there, and with something else at that place alone the whole is a document. What is put there are the examples and the
 words of docs/FORMAT.md and a few simple values, and the names of parts on that page lead to the place. Bytes that are
@@ -48,7 +48,7 @@ def path_of(place):
 
 
 def explained(program, text):
-    return subprocess.run([program], input=text.encode(), capture_output=True).stdout.decode()
+    return subprocess.run([program, "--explain"], input=text.encode(), capture_output=True).stdout.decode()
 
 
 def is_wanted(wanted, value):

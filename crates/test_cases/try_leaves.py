@@ -1,8 +1,8 @@
 #!/usr/bin/env python3
 """Tries --leaves on small documents, worked out by hand: try_leaves.py PROGRAM, or try_leaves.py --documents FOLDER
 
-PROGRAM is the built program, crates/explain/out/explain. With --documents the documents and their answers are written into
-the folder instead, for `rt try --cases FOLDER -- --leaves` in crates/explain. Each document that is answered otherwise is
+PROGRAM is the built program, crates/checker/out/checker. With --documents the documents and their answers are written into
+the folder instead, for `rt try --cases FOLDER -- --leaves` in crates/checker. Each document that is answered otherwise is
 told, and then the status is 1.
 """
 import json

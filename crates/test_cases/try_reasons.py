@@ -1,7 +1,7 @@
 #!/usr/bin/env python3
 """Tries explain on documents that are refused because of one slip: try_reasons.py PROGRAM [FILE..]
 
-PROGRAM is the built program, crates/explain/out/explain. The files are those that data/files.json names and the `*.jsonl` that
+PROGRAM is the built program, crates/checker/out/checker. The files are those that data/files.json names and the `*.jsonl` that
 are named. A document has one slip where another one that is accepted differs from it at one place alone, and by any other way
 of choosing the pair the place is the same or lies around it. To these come slips that are made here: in each accepted document
 some places are changed by chance, from a seed, so that it is refused.
@@ -11,8 +11,8 @@ part names by a handle; or where the text names what was changed (a capability t
 taken away). Bytes that are no JSON have no path, and are not counted. Each kind is counted, and each document of which none is so
 is printed with --list. The status is 1 where the share of those that it holds is below 97 in 100.
 
-With --write every third document of the corpora that is refused by one slip goes to crates/explain/stdin, a line each: the steps to
-the slip, a tab, the document. `explain --measure` counts by them in `rt ci` how many paths lead to the slip, or to what names it.
+With --write every third document of the corpora that is refused by one slip goes to crates/checker/stdin, a line each: the steps to
+the slip, a tab, the document. `checker --measure` counts by them in `rt ci` how many paths lead to the slip, or to what names it.
 """
 import collections
 import concurrent.futures
@@ -24,7 +24,7 @@ import sys
 from pathlib import Path
 
 DATA = Path(__file__).resolve().parent / "data"
-LINES = DATA.parent.parent / "explain/stdin"
+LINES = DATA.parent.parent / "checker/stdin"
 EACH = 3
 LEAST = 97
 MADE = 3

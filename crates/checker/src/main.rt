@@ -1,15 +1,282 @@
-// Judges the document on standard input.
+// Judges the document on standard input. With `--explain` it prints why it is refused, and where, in one line, with `--names` with the
+// error by its name after it, or with `--json` all of it as one JSON object; with `--leaves` what lies inside the buffers of an
+// accepted one, too. With `--spirv` the module of SPIR-V there, in the same forms, and with `--document` the document that it says.
+// With `--measure` how often the path that is reported leads to a slip that is known.
 #![tactic(auto)]
 
-use shader_check::{Sink, Source, check_document, outcome};
+mod measure;
+
+use check_explanation::{
+    Explanation, MAX_TAKEN, Requested, SpirvAnswer, SpirvError, SpirvVerdict, Traced, check_spirv,
+    document_text, explain, explain_spirv, refusal_json,
+};
+use check_ports::{Sink, Source, TakeError};
+use measure::Measured;
+use shader_check::{check_document, outcome};
+use std::alloc::AllocError;
+use std::env::{Env, FillError};
 use std::io;
 use std::process::ExitCode;
+use std::str::from_utf8;
 
-fn main(rt: HostRuntime) -> ExitCode {
+// In which form.
+#[derive(Clone, Copy)]
+enum Form {
+    Verdict,
+    Line,
+    LineWithNames,
+    Leaves,
+    Object,
+    Document,
+    Measure,
+}
+
+// What the arguments say.
+#[derive(Clone, Copy)]
+struct Arguments {
+    form: Form,
+    is_spirv: bool,
+}
+
+fn fault(rt: &HostRuntime, message: &str) -> ExitCode {
+    let _ = eprintln!(rt; "fault: {message}");
+    ExitCode::from(2)
+}
+
+// The form of this name.
+fn form_of(word: &str) -> Option<Form> {
+    match word {
+        "--explain" => Some(Form::Line),
+        "--names" => Some(Form::LineWithNames),
+        "--leaves" => Some(Form::Leaves),
+        "--json" => Some(Form::Object),
+        "--verdict" => Some(Form::Verdict),
+        "--document" => Some(Form::Document),
+        "--measure" => Some(Form::Measure),
+        _ => None,
+    }
+}
+
+// Takes what an argument says, and returns whether it says something.
+fn take_word(wanted: &mut Arguments, word: &str) -> bool {
+    if word == "--spirv" {
+        wanted.is_spirv = true;
+        return true;
+    }
+    match form_of(word) {
+        Some(found) => {
+            wanted.form = found;
+            true
+        }
+        None => false,
+    }
+}
+
+// The longest argument, in bytes.
+const MAX_WORD: usize = 16;
+
+// What the arguments say, the last of them that names a form; nothing where one of them says nothing. It takes no memory.
+fn read_arguments(rt: &HostRuntime) -> Option<Arguments> {
+    let mut wanted = Arguments {
+        form: Form::Verdict,
+        is_spirv: false,
+    };
+    for place in 1..usize::MAX {
+        let mut buffer = [0; MAX_WORD];
+        let length = match rt.arg(place, &mut buffer) {
+            Ok(length) => length,
+            Err(FillError::NotPresent) => break,
+            Err(FillError::TooLong) => return None,
+        };
+        let word = from_utf8(buffer.get(..length).unwrap_or(&[])).unwrap_or("");
+        if !take_word(&mut wanted, word) {
+            return None;
+        }
+    }
+    Some(wanted)
+}
+
+// What is to be known of an accepted document for this form.
+fn requested_by(form: Form) -> Requested {
+    match form {
+        Form::Line | Form::LineWithNames | Form::Measure => Requested::Nothing,
+        Form::Leaves => Requested::Leaves,
+        Form::Verdict | Form::Object | Form::Document => Requested::Report,
+    }
+}
+
+// Ends with this status, if all was written.
+fn ended(rt: &HostRuntime, written: io::Result<()>, status: u8) -> ExitCode {
+    match written {
+        Ok(()) => ExitCode::from(status),
+        Err(_) => fault(rt, "write"),
+    }
+}
+
+// Prints a text, unless there was no memory for it.
+fn print_text(
+    rt: &HostRuntime,
+    text: Result<String, AllocError>,
+    end: &str,
+    status: u8,
+) -> ExitCode {
+    match text {
+        Ok(text) => {
+            let written = print!(rt; "{text}{end}");
+            drop(text);
+            ended(rt, written, status)
+        }
+        Err(_) => fault(rt, "memory"),
+    }
+}
+
+// Prints the line, with the error by its name after it.
+fn print_names(rt: &HostRuntime, traced: &Traced) -> io::Result<()> {
+    match traced.explanation.error_name() {
+        Some(error) => println!(rt; "{traced} ({error})"),
+        None => println!(rt; "{traced}"),
+    }
+}
+
+fn status(explanation: &Explanation) -> u8 {
+    match explanation {
+        Explanation::Accepted { .. } => 0,
+        Explanation::NoDocument(..) | Explanation::Refused(..) => 1,
+    }
+}
+
+// Prints what is found.
+fn print_explanation(rt: &HostRuntime, form: Form, traced: &Traced) -> ExitCode {
+    let status = status(&traced.explanation);
+    match form {
+        Form::Line => ended(rt, println!(rt; "{traced}"), status),
+        Form::LineWithNames => ended(rt, print_names(rt, traced), status),
+        Form::Object => print_text(rt, traced.json(rt.alloc()), "\n", status),
+        Form::Verdict | Form::Leaves | Form::Document | Form::Measure => {
+            print_text(rt, traced.explanation.listing(rt.alloc()), "", status)
+        }
+    }
+}
+
+// The same of an explanation that is not needed after that. It is freed by a call, which is cheaper to prove than on the way out.
+fn print_traced(rt: &HostRuntime, form: Form, traced: Traced) -> ExitCode {
+    let code = print_explanation(rt, form, &traced);
+    drop(traced);
+    code
+}
+
+// The status of what a module of SPIR-V is found to be.
+fn spirv_status(answer: &SpirvAnswer) -> u8 {
+    match answer.verdict {
+        SpirvVerdict::Accepted => 0,
+        SpirvVerdict::Refused => 1,
+        SpirvVerdict::Unread => 3,
+    }
+}
+
+// Prints why no module was read.
+fn print_unread(rt: &HostRuntime, form: Form, error: &SpirvError) -> ExitCode {
+    match error {
+        SpirvError::Memory => fault(rt, "memory"),
+        SpirvError::Malformed { .. } | SpirvError::Unsupported { .. } => match form {
+            Form::Object => print_text(rt, refusal_json(rt.alloc(), error), "\n", 3),
+            Form::Verdict
+            | Form::Line
+            | Form::LineWithNames
+            | Form::Leaves
+            | Form::Document
+            | Form::Measure => ended(rt, println!(rt; "{error}"), 3),
+        },
+    }
+}
+
+// Prints what the module of SPIR-V is found to be.
+fn print_spirv(rt: &HostRuntime, form: Form, bytes: &[u8]) -> ExitCode {
+    match form {
+        Form::Verdict => match check_spirv(rt.alloc(), bytes) {
+            Ok(answer) => {
+                let status = spirv_status(&answer);
+                print_text(rt, Ok(answer.text), "", status)
+            }
+            Err(_) => fault(rt, "memory"),
+        },
+        Form::Document => match document_text(rt.alloc(), bytes) {
+            Ok(text) => print_text(rt, Ok(text), "\n", 0),
+            Err(error) => print_unread(rt, form, &error),
+        },
+        Form::Line | Form::LineWithNames | Form::Leaves | Form::Object | Form::Measure =>
+            match explain_spirv(rt.alloc(), requested_by(form), bytes) {
+                Ok(traced) => print_traced(rt, form, traced),
+                Err(error) => print_unread(rt, form, &error),
+            },
+    }
+}
+
+// Prints what the document is found to be.
+fn print_document(rt: &HostRuntime, form: Form, bytes: &[u8]) -> ExitCode {
+    match explain(rt.alloc(), requested_by(form), bytes) {
+        Ok(explanation) => {
+            let origin = None;
+            print_traced(
+                rt,
+                form,
+                Traced {
+                    explanation,
+                    origin,
+                },
+            )
+        }
+        Err(_) => fault(rt, "memory"),
+    }
+}
+
+// Prints how often the path leads to the slip.
+fn print_measured(rt: &HostRuntime, bytes: &[u8]) -> ExitCode {
+    let mut measured = Measured::new();
+    match measured.read_all(rt.alloc(), from_utf8(bytes).unwrap_or("")) {
+        Ok(()) => ended(rt, println!(rt; "{measured}"), 0),
+        Err(_) => fault(rt, "memory"),
+    }
+}
+
+// Prints what the arguments want of these bytes.
+fn print_all(rt: &HostRuntime, wanted: Arguments, bytes: &[u8]) -> ExitCode {
+    if let Form::Measure = wanted.form {
+        print_measured(rt, bytes)
+    } else if wanted.is_spirv {
+        print_spirv(rt, wanted.form, bytes)
+    } else {
+        print_document(rt, wanted.form, bytes)
+    }
+}
+
+// Judges the document on standard input: the call of the theorem.
+fn judge(rt: &HostRuntime) -> ExitCode {
     let mut source = Source::new(rt.reader());
-    let mut sink = Sink::new(io::writer(&rt));
+    let mut sink = Sink::new(io::writer(rt));
     let answer = check_document(rt.alloc(), &mut source, &mut sink);
     let (status, message) = outcome(&answer);
     let _ = eprint!(rt; "{message}");
     ExitCode::from(status)
+}
+
+fn main(rt: HostRuntime) -> ExitCode {
+    let Some(wanted) = read_arguments(&rt) else {
+        return fault(
+            &rt,
+            "an argument is no form (see shader-check --help), and not --spirv",
+        );
+    };
+    if let (Form::Verdict, false) = (wanted.form, wanted.is_spirv) {
+        return judge(&rt);
+    }
+    let mut source = Source::new(rt.reader());
+    let bytes = match source.take_all(rt.alloc(), MAX_TAKEN) {
+        Ok(bytes) => bytes,
+        Err(TakeError::Memory) => return fault(&rt, "memory"),
+        Err(TakeError::Read) => return fault(&rt, "read"),
+    };
+    let code = print_all(&rt, wanted, &bytes);
+    drop(bytes);
+    code
 }
