@@ -1,7 +1,7 @@
 // What instructions do with the function that is built.
 
 use crate::lowering::Lowering;
-use crate::writing::{Writing, read_in, type_in};
+use crate::writing::{Writing, fail_in, read_in, type_in};
 use ir_arena::span::Span;
 use ir_flags::{Capabilities, SubgroupOperationSet};
 use ir_items::{Block, Expression, LocalVariable, Statement};
@@ -10,12 +10,13 @@ use spirv_constants::Made;
 use spirv_declarations::Knowledge;
 use spirv_expressions::{Builder, Emits, ImageValue, Value, keep, no_type, no_value, refuse};
 use spirv_flow::Flow;
+use spirv_images::RayTypes;
 use spirv_operations::{FunctionBuilder, NO_IMAGE, Pointer, PointerStep, Slot, no_pointer};
 use spirv_types::{
     MatrixShape, MemberShape, Reading, Shape, Stored, TypeHandle, Types, packed_line, span_of,
     stored_matrix, vector_type,
 };
-use spirv_words::{Feature, Instruction, Malformed, SpirvError};
+use spirv_words::{Failure, Feature, Instruction, Malformed, SpirvError};
 use std::alloc::Global;
 
 // How many steps a pointer may have from its variable (universal limit of the standard).
@@ -451,12 +452,25 @@ impl<K: Knowledge, T: Types, W: Writing> FunctionBuilder for Lowering<K, T, W> {
         self.names.named(id)
     }
 
+    fn is_named(&self, id: u32) -> bool {
+        self.names.is_named(id)
+    }
+
     fn set_named(&mut self, id: u32, value: Value) {
         self.names.set_named(id, value);
     }
 
     fn predeclared(&mut self, of: PredeclaredType) -> TypeHandle {
         self.special_type(of)
+    }
+
+    fn rays(&mut self) -> RayTypes {
+        if self.rays.descriptor.is_none() {
+            let mut failed = Failure::NONE;
+            self.rays = RayTypes::of(self.alloc, &mut self.built, &mut failed);
+            fail_in(&mut self.body, &failed);
+        }
+        self.rays
     }
 
     fn require_operations(&mut self, operations: SubgroupOperationSet) {

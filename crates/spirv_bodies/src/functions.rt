@@ -9,6 +9,7 @@ use spirv_declarations::{Knowledge, sampler_name};
 use spirv_expressions::{Builder, Emits, Value, keep};
 use spirv_flow::{FunctionSteps, Use};
 use spirv_functions::assemble;
+use spirv_images::RayTypes;
 use spirv_numbers::{numbers, ops};
 use spirv_operations::{FunctionBuilder, Names, Slot, Special, root};
 use spirv_tables::Decorated;
@@ -27,6 +28,8 @@ pub struct Lowered<K: Knowledge, T: Types, W: Writing> {
     pub body: W,
     /// The structs that their expressions give.
     pub special: Vec<Special>,
+    /// The types of rays.
+    pub rays: RayTypes,
 }
 
 /// Builds the functions of a module, if nothing was wrong so far; they are of no use where the body keeps something that was wrong.
@@ -44,6 +47,7 @@ pub fn lower_functions<K: Knowledge, T: Types, W: Writing>(
         built,
         body,
         names,
+        rays: RayTypes::NONE,
         scope: 0,
     };
     if let Some(error) = failed.first {
@@ -65,6 +69,7 @@ impl<K: Knowledge, T: Types, W: Writing> Lowering<K, T, W> {
             built,
             body,
             names,
+            rays,
             scope: _,
         } = self;
         Lowered {
@@ -72,6 +77,7 @@ impl<K: Knowledge, T: Types, W: Writing> Lowering<K, T, W> {
             built,
             body,
             special: names.finish(),
+            rays,
         }
     }
 
@@ -188,7 +194,7 @@ impl<K: Knowledge, T: Types, W: Writing> Lowering<K, T, W> {
         self.names.set(id, slot);
     }
 
-    // A parameter that is an image, a sampler, or both.
+    // A parameter that is an image, a sampler, or both, or an acceleration structure.
     fn take_handle(
         &mut self,
         operation: &Instruction,
@@ -206,6 +212,12 @@ impl<K: Knowledge, T: Types, W: Writing> Lowering<K, T, W> {
                 Slot::Pointer(self.take_image(operation, arguments, ty, &image, used))
             }
             Shape::Sampler => Slot::Pointer(self.take_sampler(operation, arguments, ty, false)),
+            Shape::AccelerationStructure => {
+                let built = self.built(ty, operation);
+                let name = self.name_of(id);
+                let value = self.add_argument(operation, arguments, name, built);
+                Slot::Pointer(self.add_pointer(root(value, ty)))
+            }
             Shape::SampledImage(of) => match self.shape(of) {
                 Shape::Image(image) => Slot::Pair {
                     image: self.take_image(operation, arguments, ty, &image, used),

@@ -6,6 +6,7 @@ use spirv_constants::{Known, Made, named};
 use spirv_declarations::Knowledge;
 use spirv_expressions::{Builder, Emits, Value, keep, refuse};
 use spirv_flow::is_chain;
+use spirv_images::RayTypes;
 use spirv_operations::{Names, Slot};
 use spirv_types::{Types, span_of};
 use spirv_words::{Feature, Instruction, Malformed, SpirvError, Unsupported};
@@ -22,6 +23,8 @@ pub struct Lowering<K: Knowledge, T: Types, W: Writing> {
     pub body: W,
     /// What its ids are, and its pointers.
     pub names: Names,
+    /// The types of rays, once they are built.
+    pub rays: RayTypes,
     // the scope that is built
     pub(crate) scope: u32,
 }

@@ -126,7 +126,9 @@ impl<T: Types, C: Constants, V: Variables> Declarations<T, C, V> {
                 }
             }
             ops::TYPE_STRUCT => types.declare_struct(built, reading, instruction, demands),
-            ops::TYPE_VOID..=ops::TYPE_FUNCTION => {
+            ops::TYPE_VOID..=ops::TYPE_FUNCTION
+            | ops::TYPE_RAY_QUERY
+            | ops::TYPE_ACCELERATION_STRUCTURE => {
                 types.declare(built, reading, instruction, demands)
             }
             ops::SPEC_CONSTANT_OP => constants.declare_operation(reading, types, instruction),

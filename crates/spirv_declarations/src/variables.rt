@@ -322,6 +322,10 @@ impl<T: Types, C: Constants, V: Variables> Declarations<T, C, V> {
         let built = &mut self.built;
         let demands = &mut self.demands;
         let draft = Draft::of(reading, types, instruction, &mut failed);
+        // a local of the function that names it
+        if matches!(draft.shape, Shape::RayQuery) {
+            return failed.answer(());
+        }
         let variable = match draft.class {
             numbers::CLASS_UNIFORM_CONSTANT => {
                 handle_of(types, built, demands, &draft, &mut failed)
@@ -371,7 +375,7 @@ impl<T: Types, C: Constants, V: Variables> Declarations<T, C, V> {
     }
 }
 
-// An image, a sampler, or both.
+// An image, a sampler, or both, or an acceleration structure.
 fn handle_of<T: Types>(
     types: &TypeTable,
     built: &mut T,
@@ -387,6 +391,9 @@ fn handle_of<T: Types>(
             dim: shape.dim,
             arrayed: shape.arrayed,
             class,
+        },
+        None if resource.structure => TypeInner::AccelerationStructure {
+            vertex_return: demands.fetches_positions(),
         },
         None => TypeInner::Sampler { comparison },
     };
@@ -489,12 +496,14 @@ fn memory_of(
     (variable, size)
 }
 
-// What a variable is that is an image, a sampler or both, or an array of those.
+// What a variable is that is an image, a sampler or both, an acceleration structure, or an array of those.
 #[derive(Clone, Copy)]
 struct Resource {
     image: Option<ImageUse>,
     // whether it is an image with a sampler
     combined: bool,
+    // whether it is an acceleration structure
+    structure: bool,
     // how many there are, of an array
     size: Option<ArraySize>,
 }
@@ -525,23 +534,19 @@ fn resource_of(
         Shape::Image(shape) => Some(draft.image_use(shape)),
         _ => None,
     };
+    let structure = matches!(shape, Shape::AccelerationStructure);
     if size.is_some() {
-        let is_stored = matches!(
-            shape,
-            Shape::Image(ImageShape {
-                format: Some(_),
-                ..
-            })
-        );
-        demands.ask(if is_stored {
-            Capabilities::STORAGE_TEXTURE_BINDING_ARRAY
-        } else {
-            Capabilities::TEXTURE_AND_SAMPLER_BINDING_ARRAY
+        demands.ask(match image {
+            Some(used) if used.shape.format.is_some() =>
+                Capabilities::STORAGE_TEXTURE_BINDING_ARRAY,
+            _ if structure => Capabilities::ACCELERATION_STRUCTURE_BINDING_ARRAY,
+            _ => Capabilities::TEXTURE_AND_SAMPLER_BINDING_ARRAY,
         });
     }
     Resource {
         image,
         combined,
+        structure,
         size,
     }
 }

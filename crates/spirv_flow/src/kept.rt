@@ -188,12 +188,15 @@ fn keep(known: &mut [Known], scopes: &Scopes, scope: u32, id: u32) {
     }
 }
 
-// Whether the instruction gives an image or a sampler that lies where its first operand points.
+// Whether the instruction gives an image, a sampler or an acceleration structure that lies where its first operand points.
 fn gives_handle(listing: &Listing, made: &Instruction) -> bool {
     let ty = listing.defined(made.ty).opcode;
     let is_handle = matches!(
         ty,
-        ops::TYPE_IMAGE | ops::TYPE_SAMPLER | ops::TYPE_SAMPLED_IMAGE
+        ops::TYPE_IMAGE
+            | ops::TYPE_SAMPLER
+            | ops::TYPE_SAMPLED_IMAGE
+            | ops::TYPE_ACCELERATION_STRUCTURE
     );
     is_handle && matches!(made.opcode, ops::LOAD | ops::IMAGE)
 }

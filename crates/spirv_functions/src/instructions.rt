@@ -2,6 +2,7 @@
 
 use crate::extended::extended;
 use crate::groups::{barrier, group, is_group};
+use crate::rays::ray_query;
 use ir_types::Expression;
 use spirv_expressions::{Value, arithmetic, composite, conversion};
 use spirv_flow::is_atomic;
@@ -25,6 +26,9 @@ pub fn lower<L: FunctionBuilder>(lowering: &mut L, operation: &Instruction) {
         ops::CONTROL_BARRIER | ops::MEMORY_BARRIER => barrier(lowering, operation),
         opcode if is_atomic(opcode) => atomic(lowering, operation),
         opcode if is_group(opcode) => group(lowering, operation),
+        ops::RAY_QUERY_INITIALIZE..=ops::RAY_QUERY_GET_INTERSECTION_TYPE
+        | ops::RAY_QUERY_GET_TRIANGLE_VERTEX_POSITIONS
+        | 6016..=6032 => ray_query(lowering, operation),
         _ => {
             if memory(lowering, operation) {
                 return;

@@ -7,5 +7,6 @@ mod clusters;
 mod extended;
 mod groups;
 mod instructions;
+mod rays;
 
 pub use assembly::assemble;

@@ -107,12 +107,22 @@ const OPCODES: &str = "\
     5280 ReorderThreadWithHintNV 5281 TypeHitObjectNV 5283 ImageSampleFootprintNV 5294 EmitMeshTasksEXT \
     5295 SetMeshOutputsEXT 5296 GroupNonUniformPartitionNV 5299 WritePackedPrimitiveIndices4x8NV \
     5334 ReportIntersectionNV 5335 IgnoreIntersectionNV 5336 TerminateRayNV 5337 TraceNV 5338 TraceMotionNV \
-    5339 TraceRayMotionNV 5341 TypeAccelerationStructureNV 5344 ExecuteCallableNV 5358 TypeCooperativeMatrixNV \
+    5339 TraceRayMotionNV 5340 RayQueryGetIntersectionTriangleVertexPositionsKHR \
+    5341 TypeAccelerationStructureKHR 5344 ExecuteCallableNV 5358 TypeCooperativeMatrixNV \
     5359 CooperativeMatrixLoadNV 5360 CooperativeMatrixStoreNV 5361 CooperativeMatrixMulAddNV \
     5362 CooperativeMatrixLengthNV 5364 BeginInvocationInterlockEXT 5365 EndInvocationInterlockEXT \
     5380 DemoteToHelperInvocation 5381 IsHelperInvocationEXT 5391 ConvertUToImageNV 5392 ConvertUToSamplerNV \
     5393 ConvertImageToUNV 5394 ConvertSamplerToUNV 5395 ConvertUToSampledImageNV 5396 ConvertSampledImageToUNV \
-    5397 SamplerImageAddressingModeNV";
+    5397 SamplerImageAddressingModeNV 6016 RayQueryGetRayTMinKHR 6017 RayQueryGetRayFlagsKHR \
+    6018 RayQueryGetIntersectionTKHR 6019 RayQueryGetIntersectionInstanceCustomIndexKHR \
+    6020 RayQueryGetIntersectionInstanceIdKHR \
+    6021 RayQueryGetIntersectionInstanceShaderBindingTableRecordOffsetKHR \
+    6022 RayQueryGetIntersectionGeometryIndexKHR 6023 RayQueryGetIntersectionPrimitiveIndexKHR \
+    6024 RayQueryGetIntersectionBarycentricsKHR 6025 RayQueryGetIntersectionFrontFaceKHR \
+    6026 RayQueryGetIntersectionCandidateAABBOpaqueKHR 6027 RayQueryGetIntersectionObjectRayDirectionKHR \
+    6028 RayQueryGetIntersectionObjectRayOriginKHR 6029 RayQueryGetWorldRayDirectionKHR \
+    6030 RayQueryGetWorldRayOriginKHR 6031 RayQueryGetIntersectionObjectToWorldKHR \
+    6032 RayQueryGetIntersectionWorldToObjectKHR";
 
 // Execution models (section 3.3).
 const MODELS: &str = "\

@@ -13,7 +13,7 @@ pub enum Results {
 
 // The opcodes that have a result with a type: those of the standard itself, then those of extensions, by the first and the
 // last of each range.
-const TYPED: [(u16, u16); 36] = [
+const TYPED: [(u16, u16); 38] = [
     (1, 1),
     (12, 12),
     (41, 55),
@@ -47,9 +47,11 @@ const TYPED: [(u16, u16); 36] = [
     (5283, 5283),
     (5296, 5296),
     (5334, 5334),
+    (5340, 5340),
     (5359, 5359),
     (5361, 5362),
     (5381, 5396),
+    (6016, 6032),
 ];
 
 // Those that have a result without one.

@@ -487,3 +487,22 @@ pub const GROUP_NON_UNIFORM_LOGICAL_XOR: u16 = 364;
 pub const GROUP_NON_UNIFORM_QUAD_BROADCAST: u16 = 365;
 
 pub const GROUP_NON_UNIFORM_QUAD_SWAP: u16 = 366;
+
+// Of the extensions ray_query and ray_tracing_position_fetch.
+pub const TYPE_RAY_QUERY: u16 = 4472;
+
+pub const RAY_QUERY_INITIALIZE: u16 = 4473;
+
+pub const RAY_QUERY_TERMINATE: u16 = 4474;
+
+pub const RAY_QUERY_GENERATE_INTERSECTION: u16 = 4475;
+
+pub const RAY_QUERY_CONFIRM_INTERSECTION: u16 = 4476;
+
+pub const RAY_QUERY_PROCEED: u16 = 4477;
+
+pub const RAY_QUERY_GET_INTERSECTION_TYPE: u16 = 4479;
+
+pub const RAY_QUERY_GET_TRIANGLE_VERTEX_POSITIONS: u16 = 5340;
+
+pub const TYPE_ACCELERATION_STRUCTURE: u16 = 5341;

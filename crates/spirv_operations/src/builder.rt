@@ -7,6 +7,7 @@ use ir_kinds::{ImageClass, ImageDimension, PredeclaredType, Scalar, ScalarKind};
 use ir_types::Expression;
 use spirv_expressions::{Builder, Value, no_value};
 use spirv_flow::Flow;
+use spirv_images::RayTypes;
 use spirv_types::{ImageShape, ImageUse, Reading, Stored, TypeHandle};
 use spirv_words::Instruction;
 
@@ -181,11 +182,17 @@ pub trait FunctionBuilder: Builder {
     /// The expression that an id was named as before in the function that is built.
     fn named_before(&self, id: u32) -> Option<Value>;
 
+    /// Whether an id was named in some function.
+    fn is_named(&self, id: u32) -> bool;
+
     /// An id is named as this expression in the function that is built.
     fn set_named(&mut self, id: u32, value: Value);
 
     /// The struct that an expression gives, which is built once.
     fn predeclared(&mut self, of: PredeclaredType) -> TypeHandle;
+
+    /// The types of rays, which are built once.
+    fn rays(&mut self) -> RayTypes;
 
     /// The module uses this.
     fn require(&mut self, capability: Capabilities);

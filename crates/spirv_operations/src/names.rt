@@ -70,6 +70,14 @@ impl Names {
         in_function(&self.named, id, self.function)
     }
 
+    /// Whether an id was named in some function.
+    pub fn is_named(&self, id: u32) -> bool {
+        match self.named.get(id as usize) {
+            Some(named) => named.is_some(),
+            None => false,
+        }
+    }
+
     /// An id is named as this expression in the function that is built.
     pub fn set_named(&mut self, id: u32, value: Value) {
         if let Some(place) = self.named.get_mut(id as usize) {

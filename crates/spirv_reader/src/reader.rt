@@ -63,8 +63,7 @@ fn read_module(reading: Reading, flow: Flow, key: KeyedState) -> Result<Document
         declared,
     };
     let read = read_functions(module, types, body, &mut failed);
-    let document = document_of(alloc, read, constants, variables);
-    failed.answer(document)
+    failed.answer(document_of(alloc, read, constants, variables))
 }
 
 // What was read of a module beside its constants and variables.
@@ -90,14 +89,17 @@ fn special_of(alloc: Global, all: &[Special], failed: &mut Failure) -> SpecialTy
 
 // What a module declares, its functions, the structs that their expressions give, and its entry points.
 fn read_functions(module: ReadModule, types: BuiltTypes, body: Body, failed: &mut Failure) -> Read {
-    let alloc = module.reading.alloc;
     let Lowered {
         mut known,
         mut built,
         body,
         special,
+        rays,
     } = lower_functions(module, types, body, failed);
-    let special = special_of(alloc, &special, failed);
+    let mut special = special_of(known.reading.alloc, &special, failed);
+    special.ray_desc = rays.descriptor;
+    special.ray_intersection = rays.intersection;
+    special.ray_vertex_return = rays.vertices;
     let entries = lower_entries(
         &known.reading,
         &known.flow.order,
@@ -118,11 +120,9 @@ fn read_functions(module: ReadModule, types: BuiltTypes, body: Body, failed: &mu
 fn settings_of(demands: &Demands) -> Settings
     ensures { MakesSixChecks result.flags }
 {
-    let stages = if demands.operations == SubgroupOperationSet(0) {
-        0
-    } else {
-        ShaderStages::VERTEX.0 | ShaderStages::FRAGMENT.0 | ShaderStages::COMPUTE.0
-    };
+    let all = ShaderStages::VERTEX.0 | ShaderStages::FRAGMENT.0 | ShaderStages::COMPUTE.0;
+    let has_any = demands.operations != SubgroupOperationSet(0);
+    let stages = if has_any { all } else { 0 };
     Settings {
         flags: ValidationFlags::default(),
         capabilities: demands.capabilities,

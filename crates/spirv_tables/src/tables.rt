@@ -200,7 +200,7 @@ pub fn dimension(number: u32) -> Option<ImageDimension> {
 }
 
 // What the capabilities of SPIR-V are in the IR.
-static CAPABILITIES: [(u32, Capabilities); 21] = [
+static CAPABILITIES: [(u32, Capabilities); 23] = [
     (numbers::CAPABILITY_FLOAT64, Capabilities::FLOAT64),
     (numbers::CAPABILITY_FLOAT16, Capabilities::SHADER_FLOAT16),
     (numbers::CAPABILITY_INT16, Capabilities::SHADER_INT16),
@@ -254,6 +254,11 @@ static CAPABILITIES: [(u32, Capabilities); 21] = [
     (
         numbers::CAPABILITY_INT64_IMAGE_EXT,
         Capabilities::TEXTURE_INT64_ATOMIC,
+    ),
+    (numbers::CAPABILITY_RAY_QUERY_KHR, Capabilities::RAY_QUERY),
+    (
+        numbers::CAPABILITY_RAY_QUERY_POSITION_FETCH_KHR,
+        Capabilities::RAY_HIT_VERTEX_POSITION,
     ),
     (
         numbers::CAPABILITY_INT64_ATOMICS,
@@ -352,6 +357,11 @@ impl Demands {
     /// This capability as well.
     pub fn ask(&mut self, more: Capabilities) {
         self.capabilities = Capabilities(self.capabilities.0 | more.0);
+    }
+
+    /// Whether the positions of vertices that rays hit are fetched.
+    pub fn fetches_positions(&self) -> bool {
+        self.capabilities.0 & Capabilities::RAY_HIT_VERTEX_POSITION.0 != 0
     }
 
     /// What the capability of SPIR-V with this number says.

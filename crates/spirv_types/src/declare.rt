@@ -69,7 +69,7 @@ impl TypeTable {
             Shape::Pointer { class, to } => {
                 self.pointer(reading, instruction, class, to, &mut failed)
             }
-            _ => inner_of(&shape),
+            _ => inner_of(&shape, demands.fetches_positions()),
         };
         let handle = match (inner, shape) {
             (Some(inner), _) => Some(insert(built, inner, span_of(instruction), &mut failed)),
@@ -94,6 +94,8 @@ impl TypeTable {
             ops::TYPE_VOID => Shape::Void,
             ops::TYPE_FUNCTION => Shape::Function,
             ops::TYPE_SAMPLER => Shape::Sampler,
+            ops::TYPE_ACCELERATION_STRUCTURE => Shape::AccelerationStructure,
+            ops::TYPE_RAY_QUERY => Shape::RayQuery,
             ops::TYPE_BOOL => Shape::Scalar(Scalar::BOOL),
             ops::TYPE_INT | ops::TYPE_FLOAT => {
                 let scalar = scalar_type(listing, instruction);
@@ -280,7 +282,7 @@ impl TypeTable {
     // Whether the elements of an array are resources: images, samplers, blocks that are not between stages, or arrays of those.
     fn is_resource(&self, reading: &Reading, instruction: &Instruction, element: u32) -> bool {
         match self.shape(element) {
-            Shape::Image(_) | Shape::Sampler | Shape::SampledImage(_) => true,
+            shape if shape.is_handle() => true,
             Shape::Array { binding, .. } => binding,
             Shape::Struct { .. } => {
                 let said = Decorated::of(&reading.listing, element, None);
@@ -417,8 +419,8 @@ fn is_norm16_image(shape: &Shape) -> bool {
     }
 }
 
-// What a number, a vector, a matrix, an image or a sampler is made of.
-fn inner_of(shape: &Shape) -> Option<TypeInner> {
+// What a number, a vector, a matrix, an image or a sampler is made of, or what is for rays, with the vertices that they hit or not.
+fn inner_of(shape: &Shape, vertex_return: bool) -> Option<TypeInner> {
     match *shape {
         Shape::Scalar(scalar) => Some(TypeInner::Scalar(scalar)),
         Shape::Vector { size, scalar, .. } => Some(TypeInner::Vector { size, scalar }),
@@ -434,6 +436,8 @@ fn inner_of(shape: &Shape) -> Option<TypeInner> {
         }),
         Shape::Image(image) => Some(image_inner(&image, Use::NONE, StorageAccess(0))),
         Shape::Sampler => Some(TypeInner::Sampler { comparison: false }),
+        Shape::AccelerationStructure => Some(TypeInner::AccelerationStructure { vertex_return }),
+        Shape::RayQuery => Some(TypeInner::RayQuery { vertex_return }),
         _ => None,
     }
 }

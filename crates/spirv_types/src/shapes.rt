@@ -106,6 +106,10 @@ pub enum Shape {
     Sampler,
     /// An image with a sampler, and the type of the image.
     SampledImage(u32),
+    /// What rays are traced through.
+    AccelerationStructure,
+    /// The tracing of a ray.
+    RayQuery,
     /// Elements in a row.
     Array {
         /// The type of one.
@@ -136,11 +140,11 @@ pub enum Shape {
 }
 
 impl Shape {
-    /// Whether it is an image, a sampler or both.
+    /// Whether it is an image, a sampler or both, or an acceleration structure.
     pub fn is_handle(&self) -> bool {
         matches!(
             self,
-            Shape::Image(_) | Shape::Sampler | Shape::SampledImage(_)
+            Shape::Image(_) | Shape::Sampler | Shape::SampledImage(_) | Shape::AccelerationStructure
         )
     }
 

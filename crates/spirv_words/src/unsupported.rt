@@ -141,6 +141,8 @@ pub enum Feature {
     DeepAtomic,
     /// An atomic of what is no number.
     AtomicOfNoNumber,
+    /// A ray query that is no variable of one function.
+    RayQueryVariable,
     /// An id above sixteen times the count of words.
     LargeId,
     /// More than sixteen decorations for each word, by groups.
@@ -150,7 +152,7 @@ pub enum Feature {
 }
 
 // What they are in words, in the order of the variants.
-static TEXTS: [&str; 70] = [
+static TEXTS: [&str; 71] = [
     "more expressions, types, members, atomic parts or names than so many words may make",
     "composites of specialization constants more than 32 deep",
     "a value out of its scope",
@@ -218,6 +220,7 @@ static TEXTS: [&str; 70] = [
     "RowMajor of what is no matrix",
     "an atomic more than 255 steps inside",
     "an atomic of what is no number",
+    "a ray query that is no variable of one function",
     "an id above sixteen times the count of words",
     "more than sixteen decorations for each word, by groups",
     "more than 32 decorations of one id or member, or execution modes of one function",

@@ -1,0 +1,172 @@
+// Ray queries: the structs that they begin with and find, and what is found (the extensions ray_query and
+// ray_tracing_position_fetch).
+
+use ir_arena::handle::Handle;
+use ir_arena::span::Span;
+use ir_kinds::{BinaryOperator, Literal, Scalar, ScalarKind, VectorSize};
+use ir_types::{ArraySize, Expression, IrType, StructMember, TypeInner};
+use spirv_expressions::{Builder, Value, as_kind, binary, part_of};
+use spirv_numbers::ops;
+use spirv_types::{TypeHandle, Types, insert, vector_type};
+use spirv_words::{Failure, Instruction, SpirvError};
+use std::alloc::{AllocError, Global};
+
+/// The types of rays, of a module that has queries of them.
+#[derive(Clone, Copy)]
+pub struct RayTypes {
+    /// What a query begins with.
+    pub descriptor: Option<TypeHandle>,
+    /// What it finds.
+    pub intersection: Option<TypeHandle>,
+    /// The vertices that it hits.
+    pub vertices: Option<TypeHandle>,
+}
+
+// A member: its name, the sizes of its rows and columns, what it is made of, and where it lies.
+type Row = (&'static str, Option<VectorSize>, Scalar, u32);
+
+static DESCRIPTOR: [Row; 6] = [
+    ("flags", None, Scalar::U32, 0),
+    ("cull_mask", None, Scalar::U32, 4),
+    ("tmin", None, Scalar::F32, 8),
+    ("tmax", None, Scalar::F32, 12),
+    ("origin", Some(VectorSize::Tri), Scalar::F32, 16),
+    ("dir", Some(VectorSize::Tri), Scalar::F32, 32),
+];
+
+// Those of four components are four columns of three.
+static INTERSECTION: [Row; 11] = [
+    ("kind", None, Scalar::U32, 0),
+    ("t", None, Scalar::F32, 4),
+    ("instance_custom_data", None, Scalar::U32, 8),
+    ("instance_index", None, Scalar::U32, 12),
+    ("sbt_record_offset", None, Scalar::U32, 16),
+    ("geometry_index", None, Scalar::U32, 20),
+    ("primitive_index", None, Scalar::U32, 24),
+    ("barycentrics", Some(VectorSize::Bi), Scalar::F32, 32),
+    ("front_face", None, Scalar::BOOL, 40),
+    ("object_to_world", Some(VectorSize::Quad), Scalar::F32, 48),
+    ("world_to_object", Some(VectorSize::Quad), Scalar::F32, 112),
+];
+
+impl RayTypes {
+    /// None.
+    pub const NONE: RayTypes = RayTypes {
+        descriptor: None,
+        intersection: None,
+        vertices: None,
+    };
+
+    /// They are built.
+    pub fn of<T: Types>(alloc: Global, built: &mut T, failed: &mut Failure) -> RayTypes {
+        let descriptor = struct_of(alloc, built, "RayDesc", &DESCRIPTOR, 48, failed);
+        let found = struct_of(alloc, built, "RayIntersection", &INTERSECTION, 176, failed);
+        let base = type_of(built, Some(VectorSize::Tri), Scalar::F32, failed);
+        let size = ArraySize::Constant(3);
+        let stride = 16;
+        let corners = TypeInner::Array { base, size, stride };
+        RayTypes {
+            descriptor: Some(descriptor),
+            intersection: Some(found),
+            vertices: Some(insert(built, corners, Span::UNDEFINED, failed)),
+        }
+    }
+}
+
+// The type of a member.
+fn type_of<T: Types>(
+    built: &mut T,
+    size: Option<VectorSize>,
+    scalar: Scalar,
+    failed: &mut Failure,
+) -> TypeHandle {
+    if size != Some(VectorSize::Quad) {
+        return failed.take(vector_type(built, size, scalar), Handle::at(0));
+    }
+    let matrix = TypeInner::Matrix {
+        columns: VectorSize::Quad,
+        rows: VectorSize::Tri,
+        scalar,
+    };
+    insert(built, matrix, Span::UNDEFINED, failed)
+}
+
+// A name, if there is memory for it.
+fn named(name: Result<String, AllocError>, failed: &mut Failure) -> Option<String> {
+    match name {
+        Ok(name) => Some(name),
+        Err(_) => {
+            failed.fail(SpirvError::Memory);
+            None
+        }
+    }
+}
+
+// A struct of these members.
+fn struct_of<T: Types>(
+    alloc: Global,
+    built: &mut T,
+    name: &str,
+    rows: &[Row],
+    span: u32,
+    failed: &mut Failure,
+) -> TypeHandle {
+    let mut members = Vec::new(alloc);
+    for row in rows {
+        let member = StructMember {
+            name: named(String::from_str(alloc, row.0), failed),
+            ty: type_of(built, row.1, row.2, failed),
+            binding: None,
+            offset: row.3,
+        };
+        failed.push(&mut members, member);
+    }
+    let inner = TypeInner::Struct { members, span };
+    let name = named(String::from_str(alloc, name), failed);
+    let made = built.insert(IrType { name, inner }, Span::UNDEFINED);
+    failed.take(made, Handle::at(0))
+}
+
+// The member of an intersection that an instruction reads.
+fn member_of(opcode: u16) -> Option<u32> {
+    match opcode {
+        ops::RAY_QUERY_GET_INTERSECTION_TYPE => Some(0),
+        6018..=6025 => Some(u32::from(opcode).saturating_sub(6017)),
+        6031 => Some(9),
+        6032 => Some(10),
+        _ => None,
+    }
+}
+
+/// What an instruction reads of a query, if it does: of the candidate, for which its second operand is 0, or of what is committed (1).
+pub fn found<B: Builder>(builder: &mut B, operation: &Instruction, query: Value) -> Option<Value> {
+    let id = builder.given(operation, 1)?;
+    let committed = match builder.constant(id) {
+        Some(0) => false,
+        Some(1) => true,
+        _ => return None,
+    };
+    if operation.opcode == ops::RAY_QUERY_GET_TRIANGLE_VERTEX_POSITIONS {
+        let vertices = Expression::RayQueryVertexPositions { query, committed };
+        return Some(builder.emit(vertices, operation));
+    }
+    let member = member_of(operation.opcode)?;
+    let whole = Expression::RayQueryGetIntersection { query, committed };
+    let whole = builder.emit(whole, operation);
+    let mut value = part_of(builder, operation, whole, member);
+    if member == 0 && !committed {
+        // a triangle is 1 and a box 3, where SPIR-V has 0 and 1
+        let one = builder.literal(Literal::U32(1), operation);
+        value = binary(builder, operation, BinaryOperator::ShiftRight, value, one);
+    }
+    if builder.shape(operation.ty).kind() == Some(ScalarKind::Sint) {
+        value = as_kind(
+            builder,
+            operation,
+            value,
+            ScalarKind::Uint,
+            ScalarKind::Sint,
+        );
+    }
+    Some(value)
+}
