@@ -6,7 +6,7 @@
 
 The documents are examples and data of the tests, and those of the files `*.json` and `*.jsonl` of the folder, of at most so many
 bytes (3000), each changed at a few places: bytes, words and numbers, parts left out, doubled, exchanged, nested or taken from another document. Each is given
-to the program and to a second build of it by the other compiler (`rt ci` leaves both in crates/checker/out), many documents to
+to the program (`rt ci` leaves it in crates/checker/out) and to a second build of it (`./build-unproved` makes one), many documents to
 a process (`serve.c`). A find is
 
 - a document that ends a build by a signal, or takes it longer than two seconds of processor time;
@@ -386,7 +386,7 @@ def arguments():
     words.add_argument("seconds", type=float)
     words.add_argument("--seeds", action="append", default=[])
     words.add_argument("--program", default=str(BUILT / "checker"))
-    words.add_argument("--second", default=str(BUILT / "checker.by-rattle"))
+    words.add_argument("--second", default=str(BUILT / "checker-unproved"))
     words.add_argument("--reader", default=str(TOP / "crates/test_calls/out/test_calls"))
     words.add_argument("--finds", default=str(Path(tempfile.gettempdir()) / "fuzz-finds"))
     words.add_argument("--seed", type=int, default=0)
