@@ -11,6 +11,11 @@ use spirv_numbers::ops;
 use spirv_operations::{FunctionBuilder, atomic, call_function, memory, phi_local, store_texel};
 use spirv_words::Instruction;
 
+// The first and the last of what is read of a ray query.
+const GET_RAY_T_MIN: u16 = 6016;
+
+const GET_WORLD_TO_OBJECT: u16 = 6032;
+
 /// Does what an instruction does.
 pub fn lower<L: FunctionBuilder>(lowering: &mut L, operation: &Instruction) {
     match operation.opcode {
@@ -28,7 +33,7 @@ pub fn lower<L: FunctionBuilder>(lowering: &mut L, operation: &Instruction) {
         opcode if is_group(opcode) => group(lowering, operation),
         ops::RAY_QUERY_INITIALIZE..=ops::RAY_QUERY_GET_INTERSECTION_TYPE
         | ops::RAY_QUERY_GET_TRIANGLE_VERTEX_POSITIONS
-        | 6016..=6032 => ray_query(lowering, operation),
+        | GET_RAY_T_MIN..=GET_WORLD_TO_OBJECT => ray_query(lowering, operation),
         _ => {
             if memory(lowering, operation) {
                 return;

@@ -22,7 +22,7 @@ pub struct RayTypes {
     pub vertices: Option<TypeHandle>,
 }
 
-// A member: its name, the sizes of its rows and columns, what it is made of, and where it lies.
+// A member: its name, how many components it has, of what kind, and where it lies, in bytes.
 type Row = (&'static str, Option<VectorSize>, Scalar, u32);
 
 static DESCRIPTOR: [Row; 6] = [
@@ -34,7 +34,7 @@ static DESCRIPTOR: [Row; 6] = [
     ("dir", Some(VectorSize::Tri), Scalar::F32, 32),
 ];
 
-// Those of four components are four columns of three.
+// Those of four components are matrices of four columns with three each.
 static INTERSECTION: [Row; 11] = [
     ("kind", None, Scalar::U32, 0),
     ("t", None, Scalar::F32, 4),
@@ -127,13 +127,23 @@ fn struct_of<T: Types>(
     failed.take(made, Handle::at(0))
 }
 
+// Instructions that read a member of an intersection: those from the distance to whether the front is hit follow each other as
+// the members do.
+const GET_T: u16 = 6018;
+
+const GET_FRONT_FACE: u16 = 6025;
+
+const GET_OBJECT_TO_WORLD: u16 = 6031;
+
+const GET_WORLD_TO_OBJECT: u16 = 6032;
+
 // The member of an intersection that an instruction reads.
 fn member_of(opcode: u16) -> Option<u32> {
     match opcode {
         ops::RAY_QUERY_GET_INTERSECTION_TYPE => Some(0),
-        6018..=6025 => Some(u32::from(opcode).saturating_sub(6017)),
-        6031 => Some(9),
-        6032 => Some(10),
+        GET_T..=GET_FRONT_FACE => Some(u32::from(opcode.saturating_sub(GET_T)).saturating_add(1)),
+        GET_OBJECT_TO_WORLD => Some(9),
+        GET_WORLD_TO_OBJECT => Some(10),
         _ => None,
     }
 }
