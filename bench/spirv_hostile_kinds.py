@@ -1062,6 +1062,86 @@ def logical_copies(n):
     return end(m)
 
 
+def mesh_stage(m, outputs):
+    """A mesh stage's beginning, which lists these outputs: answers the id of its function."""
+    main = m.id()
+    m.op(17, 5283)
+    m.op(14, 0, 1)
+    m.op(15, 5365, main, *text("main"), *outputs)
+    m.op(16, main, 17, 1, 1, 1)
+    m.op(16, main, 26, 64)
+    m.op(16, main, 5270, 64)
+    m.op(16, main, 5298)
+    return main
+
+
+def mesh_body(m, main, void, function, word):
+    few = m.typed(43, word, 3)
+    begin(m, main, void, function)
+    m.op(5295, few, few)
+    return end(m)
+
+
+def mesh_outputs(n):
+    """A mesh stage with n outputs, each of which is listed twice and named."""
+    m = Module()
+    n = min(n, 30000)
+    outputs = [m.id() for _ in range(n)]
+    main = mesh_stage(m, outputs + outputs)
+    for k, output in enumerate(outputs):
+        m.op(5, output, *text("o%d" % k))
+        m.op(71, output, 30, k)
+    void, function, word, truth = types(m)
+    real = m.plain(22, 32)
+    many = m.plain(28, real, m.typed(43, word, 64))
+    pointer = m.plain(32, 3, many)
+    for output in outputs:
+        m.op(59, pointer, output, 3)
+    return mesh_body(m, main, void, function, word)
+
+
+def mesh_blocks(n):
+    """A mesh stage with n outputs of one block of n members with a name of n words."""
+    m = Module()
+    n = min(n, 60000)
+    outputs, whole = [m.id() for _ in range(n)], m.id()
+    main = mesh_stage(m, outputs)
+    m.op(6, whole, 0, *text("x" * (4 * min(n, 60000))))
+    m.op(71, whole, 2)
+    for output in outputs:
+        m.op(71, output, 30, 0)
+    void, function, word, truth = types(m)
+    real = m.plain(22, 32)
+    m.op(30, whole, *[real] * n)
+    many = m.plain(28, whole, m.typed(43, word, 64))
+    pointer = m.plain(32, 3, many)
+    for output in outputs:
+        m.op(59, pointer, output, 3)
+    return mesh_body(m, main, void, function, word)
+
+
+def mesh_chains(n):
+    """A mesh stage that stores into a member of a block of n members by each of n chains."""
+    m = Module()
+    n = min(n, 60000)
+    output, whole = m.id(), m.id()
+    main = mesh_stage(m, [output])
+    m.op(71, whole, 2)
+    m.op(71, output, 30, 0)
+    void, function, word, truth = types(m)
+    real = m.plain(22, 32)
+    m.op(30, whole, *[real] * n)
+    many = m.plain(28, whole, m.typed(43, word, 64))
+    pointer, to = m.plain(32, 3, many), m.plain(32, 3, real)
+    m.op(59, pointer, output, 3)
+    zero, last = m.typed(43, word, 0), m.typed(43, word, n - 1)
+    value = m.typed(43, real, 0)
+    begin(m, main, void, function)
+    for _ in range(n):
+        m.op(62, m.typed(65, to, output, zero, last), value)
+    return end(m)
+
+
 KINDS = [
     nested_ifs,
     long_switch,
@@ -1114,4 +1194,7 @@ KINDS = [
     touched_decorations,
     loaded_blocks,
     logical_copies,
+    mesh_outputs,
+    mesh_blocks,
+    mesh_chains,
 ]

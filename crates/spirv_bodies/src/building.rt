@@ -11,10 +11,12 @@ use spirv_declarations::Knowledge;
 use spirv_expressions::{Builder, Emits, ImageValue, Value, keep, no_type, no_value, refuse};
 use spirv_flow::Flow;
 use spirv_images::RayTypes;
-use spirv_operations::{FunctionBuilder, NO_IMAGE, Pointer, PointerStep, Slot, no_pointer};
+use spirv_operations::{
+    FunctionBuilder, MeshPlace, NO_IMAGE, Pointer, PointerStep, Slot, no_pointer,
+};
 use spirv_types::{
-    MatrixShape, MemberShape, Reading, Shape, Stored, TypeHandle, Types, packed_line, span_of,
-    stored_matrix, vector_type,
+    MatrixShape, MemberShape, MeshMember, Reading, Shape, Stored, TypeHandle, Types, packed_line,
+    span_of, stored_matrix, vector_type,
 };
 use spirv_words::{Failure, Feature, Instruction, Malformed, SpirvError};
 use std::alloc::Global;
@@ -303,8 +305,12 @@ impl<K: Knowledge, T: Types, W: Writing> FunctionBuilder for Lowering<K, T, W> {
             } else {
                 None
             },
+            mesh: MeshPlace::Plain,
         };
         let image = self.add_pointer(pointer);
+        if let Some(part) = variable.mesh {
+            return Slot::Pointer(self.given_in(image, pointer, part, operation));
+        }
         let Some(sampler) = variable.sampler else {
             return Slot::Pointer(image);
         };
@@ -414,6 +420,10 @@ impl<K: Knowledge, T: Types, W: Writing> FunctionBuilder for Lowering<K, T, W> {
                 None => refuse(&mut self.body, operation.malformed(Malformed::NoValue)),
             },
         }
+    }
+
+    fn mesh_member(&self, place: u32) -> Option<MeshMember> {
+        self.known.declared().variables.mesh_member(place)
     }
 
     fn scope(&self) -> u32 {

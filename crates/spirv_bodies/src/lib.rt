@@ -2,7 +2,6 @@
 //! any tables and with whatever writes functions, so that all tables of a module are looked at in few places.
 #![tactic(auto)]
 
-mod budget;
 mod building;
 mod functions;
 mod lowering;
@@ -10,7 +9,6 @@ mod predeclared;
 mod subgroups;
 mod writing;
 
-pub use budget::{Budget, expression_size, type_size};
 pub use functions::{Lowered, lower_functions};
 pub use spirv_operations::Special;
 pub use subgroups::Subgroups;

@@ -3,11 +3,11 @@
 use crate::writing::Writing;
 use ir_items::Expression;
 use spirv_constants::{Known, Made, named};
-use spirv_declarations::Knowledge;
+use spirv_declarations::{Knowledge, MeshPart};
 use spirv_expressions::{Builder, Emits, Value, keep, refuse};
 use spirv_flow::is_chain;
 use spirv_images::RayTypes;
-use spirv_operations::{Names, Slot};
+use spirv_operations::{FunctionBuilder, MeshPlace, Names, Pointer, PointerStep, Slot};
 use spirv_types::{Types, span_of};
 use spirv_words::{Feature, Instruction, Malformed, SpirvError, Unsupported};
 use std::alloc::Global;
@@ -149,6 +149,25 @@ impl<K: Knowledge, T: Types, W: Writing> Lowering<K, T, W> {
                 operation.unsupported_by(Feature::ValueOutOfScope),
             )),
         }
+    }
+
+    // The pointer to what a mesh stage gives by a variable, in the variable at this place that holds all of it: its vertices, or
+    // after them its primitives.
+    pub(crate) fn given_in(
+        &mut self,
+        place: u32,
+        outputs: Pointer,
+        part: MeshPart,
+        operation: &Instruction,
+    ) -> u32 {
+        let step = PointerStep::Index(u32::from(part.of_primitive));
+        let mut given = outputs;
+        given.base = Some(place);
+        given.step = step;
+        given.value = self.step(outputs.value, step, operation);
+        given.scope = Some(self.scope);
+        given.mesh = MeshPlace::Members(part.first);
+        self.add_pointer(given)
     }
 
     /// What is wrong with an id that is no value and no pointer here.

@@ -3,55 +3,15 @@
 use crate::lowering::Lowering;
 use crate::writing::{Writing, made_in, type_in};
 use ir_arena::span::Span;
-use ir_kinds::{PredeclaredType, Scalar, ScalarKind, VectorSize};
+use ir_kinds::{PredeclaredType, ScalarKind};
 use ir_types::{IrType, StructMember, TypeInner};
 use spirv_declarations::Knowledge;
 use spirv_expressions::{Builder, Emits, keep};
+use spirv_images::{Pair, pair_of};
 use spirv_types::{TypeHandle, Types};
 use std::alloc::{AllocError, Global};
 
-// A struct of two members, of which none is longer than the offset of the second.
-#[derive(Clone, Copy)]
-struct Pair {
-    names: [&'static str; 2],
-    types: [(Option<VectorSize>, Scalar); 2],
-    offset: u32,
-}
-
-// What a float is split into: a fraction and what this is, whose widest part has scalars of so many bytes.
-fn split(
-    size: Option<VectorSize>,
-    scalar: Scalar,
-    name: &'static str,
-    second: Scalar,
-    widest: u8,
-) -> Pair {
-    Pair {
-        names: ["fract", name],
-        types: [(size, scalar), (size, second)],
-        offset: size.map_or(1, u32::from).saturating_mul(u32::from(widest)),
-    }
-}
-
-// The struct that an expression gives.
-fn pair_of(of: PredeclaredType) -> Pair {
-    match of {
-        PredeclaredType::AtomicCompareExchangeWeakResult(scalar) => Pair {
-            names: ["old_value", "exchanged"],
-            types: [(None, scalar), (None, Scalar::BOOL)],
-            offset: u32::from(scalar.width),
-        },
-        PredeclaredType::ModfResult { size, scalar } => {
-            split(size, scalar, "whole", scalar, scalar.width)
-        }
-        // an exponent has four bytes, also of a float that has two
-        PredeclaredType::FrexpResult { size, scalar } => {
-            split(size, scalar, "exp", Scalar::I32, scalar.width.max(4))
-        }
-    }
-}
-
-// Its name.
+// The name of the struct that an expression gives.
 fn name_of(alloc: Global, of: PredeclaredType) -> Result<String, AllocError> {
     let (function, size, scalar) = match of {
         PredeclaredType::ModfResult { size, scalar } => ("modf", size, scalar),

@@ -1,9 +1,9 @@
 // What functions are written with.
 
-use crate::budget::words_of;
 use ir_arena::span::Span;
 use ir_items::{Block, FunctionArgument, FunctionResult, LocalVariable, Statement};
 use ir_types::clone_name;
+use spirv_declarations::words_of;
 use spirv_expressions::{Emits, Value, no_type};
 use spirv_types::TypeHandle;
 use spirv_words::{Failure, Listing, SpirvError};

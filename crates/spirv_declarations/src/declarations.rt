@@ -2,9 +2,10 @@
 
 use crate::variables::{Bindings, KnownVariables, Variables};
 use ir_flags::Capabilities;
+use ir_kinds::VectorSize;
 use ir_types::ArraySize;
 use spirv_constants::{ConstantTable, Constants, KnownConstants};
-use spirv_flow::{FRAGMENT_PLACE, SUBGROUP_NUMBERS, is_debug};
+use spirv_flow::{FRAGMENT_PLACE, MESH_TASKS, SUBGROUP_NUMBERS, is_debug};
 use spirv_numbers::ops;
 use spirv_tables::Demands;
 use spirv_types::{Reading, TypeTable, Types};
@@ -101,10 +102,13 @@ impl<T: Types, C: Constants, V: Variables> Declarations<T, C, V> {
         let uses = &reading.uses;
         if uses.numbered {
             self.demands.ask(Capabilities::SUBGROUP);
-            self.add_hidden(SUBGROUP_NUMBERS, failed);
+            self.add_hidden(SUBGROUP_NUMBERS, VectorSize::Bi, failed);
         }
         if uses.placed {
-            self.add_hidden(FRAGMENT_PLACE, failed);
+            self.add_hidden(FRAGMENT_PLACE, VectorSize::Bi, failed);
+        }
+        if reading.scan.has_tasks {
+            self.add_hidden(MESH_TASKS, VectorSize::Tri, failed);
         }
     }
 

@@ -2,17 +2,17 @@
 //! over whatever these are built in, so that a module's arenas are looked at in one place.
 #![tactic(auto)]
 
+mod budget;
 mod declarations;
-mod interface;
 mod knowledge;
-mod modes;
 mod upgrades;
 mod variables;
 mod varyings;
 
+pub use budget::{Budget, expression_size, type_size, words_of};
 pub use declarations::{Declared, declare};
-pub use interface::{Located, common_kind, located_type, members_of};
 pub use knowledge::{Knowledge, ReadModule};
-pub use modes::{Modes, decorated_size, modes_of, stage_of};
-pub use variables::{GlobalHandle, KnownVariables, Variable, Variables, Varying, sampler_name};
-pub use varyings::scalar_kind;
+pub use variables::{
+    GlobalHandle, KnownVariables, MeshPart, Variable, Variables, Varying, sampler_name,
+};
+pub use varyings::{between, locations_of, scalar_kind};

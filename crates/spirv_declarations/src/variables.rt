@@ -10,9 +10,9 @@ use ir_items::GlobalVariable;
 use ir_kinds::{AddressSpace, Binding, ResourceBinding, Scalar, VectorSize};
 use ir_types::{ArraySize, TypeInner, key};
 use spirv_constants::{Constants, ExpressionHandle};
-use spirv_flow::Use;
+use spirv_flow::{MESH_OUTPUTS, Use};
 use spirv_numbers::{numbers, ops};
-use spirv_tables::{Decorated, Demands, SubgroupMask};
+use spirv_tables::{Decorated, Demands, MeshMember, SubgroupMask};
 use spirv_types::{
     ImageShape, ImageUse, Reading, Resources, Shape, TypeHandle, TypeTable, Types, image_class,
     insert, space_of, span_of, vector_type,
@@ -56,6 +56,17 @@ pub struct Variable {
     pub image: Option<ImageUse>,
     /// What goes between stages by it.
     pub varying: Option<Varying>,
+    /// What a mesh stage gives by it.
+    pub mesh: Option<MeshPart>,
+}
+
+/// What a mesh stage gives by a variable.
+#[derive(Clone, Copy)]
+pub struct MeshPart {
+    /// Whether it is of each primitive, and not of each vertex.
+    pub of_primitive: bool,
+    /// The place of its first member among those of all such variables.
+    pub first: u32,
 }
 
 /// Where the global variables of a module are built.
@@ -73,6 +84,8 @@ pub struct KnownVariables {
     places: Vec<u32>,
     // those that no id of the module is
     hidden: Vec<Variable>,
+    // of what a mesh stage gives the members of vertices and primitives that its variables are
+    members: Vec<MeshMember>,
 }
 
 impl KnownVariables {
@@ -95,6 +108,7 @@ impl KnownVariables {
             all: Vec::new(alloc),
             places: failed.table(alloc, 0u32, bound),
             hidden: Vec::new(alloc),
+            members: Vec::new(alloc),
         }
     }
 
@@ -117,12 +131,83 @@ impl KnownVariables {
             sampler,
             image: built.image,
             varying: built.varying,
+            mesh: None,
         };
         failed.push(&mut self.all, variable);
+        self.set_last(id);
+    }
+
+    // An id is of the last variable.
+    fn set_last(&mut self, id: u32) {
         let place = u32::try_from(self.all.len()).unwrap_or(u32::MAX);
         if let Some(at) = self.places.get_mut(id as usize) {
             *at = place;
         }
+    }
+
+    // A variable that no id of the module is.
+    fn hide(&mut self, id: u32, handle: GlobalHandle, built: TypeHandle, failed: &mut Failure) {
+        let variable = Variable {
+            id,
+            handle,
+            ty: 0,
+            built,
+            class: numbers::CLASS_PRIVATE,
+            sampler: None,
+            image: None,
+            varying: None,
+            mesh: None,
+        };
+        failed.push(&mut self.hidden, variable);
+    }
+
+    /// How many members of vertices and primitives variables are.
+    pub fn next_member(&self) -> u32 {
+        u32::try_from(self.members.len()).unwrap_or(u32::MAX)
+    }
+
+    /// The member of a vertex or a primitive at this place among all that variables are.
+    pub fn mesh_member(&self, place: u32) -> Option<MeshMember> {
+        self.members.get(place as usize).copied()
+    }
+
+    /// A member more.
+    pub fn add_member(&mut self, member: MeshMember, failed: &mut Failure) {
+        failed.push(&mut self.members, member);
+    }
+
+    /// A variable of this type by which a mesh stage gives this.
+    pub fn add_output(
+        &mut self,
+        id: u32,
+        ty: u32,
+        built: TypeHandle,
+        part: MeshPart,
+        failed: &mut Failure,
+    ) {
+        let variable = Variable {
+            id,
+            handle: Handle::at(0),
+            ty,
+            built,
+            class: numbers::CLASS_OUTPUT,
+            sampler: None,
+            image: None,
+            varying: None,
+            mesh: Some(part),
+        };
+        failed.push(&mut self.all, variable);
+        self.set_last(id);
+    }
+
+    /// All that a mesh stage gives is in this variable, of this type.
+    pub fn place_outputs(&mut self, handle: GlobalHandle, built: TypeHandle, failed: &mut Failure) {
+        for variable in &mut self.all {
+            if variable.mesh.is_some() {
+                variable.handle = handle;
+            }
+        }
+        self.hide(MESH_OUTPUTS, handle, built, failed);
     }
 }
 
@@ -292,23 +377,14 @@ impl Draft {
 }
 
 impl<T: Types, C: Constants, V: Variables> Declarations<T, C, V> {
-    // What entry points say to functions: a variable of two words that no id of the module is.
-    pub(crate) fn add_hidden(&mut self, id: u32, failed: &mut Failure) {
-        let words = vector_type(&mut self.built, Some(VectorSize::Bi), Scalar::U32);
+    // What entry points say to functions, or functions to them: a variable of so many words that no id of the module is.
+    pub(crate) fn add_hidden(&mut self, id: u32, size: VectorSize, failed: &mut Failure) {
+        let words = vector_type(&mut self.built, Some(size), Scalar::U32);
         let ty = failed.take(words, Handle::at(0));
         let hidden = Built::of(ty, AddressSpace::Private).global(None, None);
         let added = self.built_variables.add(hidden, Span::UNDEFINED);
-        let variable = Variable {
-            id,
-            handle: failed.take(added, Handle::at(0)),
-            ty: 0,
-            built: ty,
-            class: numbers::CLASS_PRIVATE,
-            sampler: None,
-            image: None,
-            varying: None,
-        };
-        failed.push(&mut self.variables.hidden, variable);
+        let handle = failed.take(added, Handle::at(0));
+        self.variables.hide(id, handle, ty, failed);
     }
 
     // A variable as it is declared.
@@ -322,8 +398,11 @@ impl<T: Types, C: Constants, V: Variables> Declarations<T, C, V> {
         let built = &mut self.built;
         let demands = &mut self.demands;
         let draft = Draft::of(reading, types, instruction, &mut failed);
-        // a local of the function that names it
-        if matches!(draft.shape, Shape::RayQuery) {
+        let of_mesh = reading.scan.is_of_mesh(instruction.id);
+        // a local of the function that names it, or what a mesh stage gives
+        if matches!(draft.shape, Shape::RayQuery)
+            || of_mesh && draft.class == numbers::CLASS_OUTPUT
+        {
             return failed.answer(());
         }
         let variable = match draft.class {

@@ -21,7 +21,7 @@ pub(crate) fn varying_of<T: Types>(
     draft: &Draft,
     failed: &mut Failure,
 ) -> Built {
-    let said = bound_as(demands, draft, failed);
+    let said = bound_as(reading, demands, draft, failed);
     let plain = failed.take(types.need(draft.ty, &draft.instruction), Handle::at(0));
     let is_input = draft.class == numbers::CLASS_INPUT;
     let is_block = matches!(draft.shape, Shape::Struct { .. });
@@ -51,7 +51,12 @@ pub(crate) fn varying_of<T: Types>(
 }
 
 // What binds it. A mask of a subgroup's invocations, an input of four words, is computed of the number of this one.
-fn bound_as(demands: &mut Demands, draft: &Draft, failed: &mut Failure) -> Option<Binding> {
+fn bound_as(
+    reading: &Reading,
+    demands: &mut Demands,
+    draft: &Draft,
+    failed: &mut Failure,
+) -> Option<Binding> {
     let is_words = matches!(
         draft.shape,
         Shape::Vector {
@@ -67,11 +72,18 @@ fn bound_as(demands: &mut Demands, draft: &Draft, failed: &mut Failure) -> Optio
         demands.ask(Capabilities::SUBGROUP);
         return Some(Binding::BuiltIn(BuiltIn::SubgroupInvocationId));
     }
-    if let Some(number) = draft.said.foreign_built_in() {
+    let mut said = draft.said;
+    if said.built_in == Some(numbers::BUILT_IN_INSTANCE_ID)
+        && reading.scan.is_of_hit(draft.instruction.id)
+    {
+        // of what a ray hits there is no first instance
+        said.built_in = Some(numbers::BUILT_IN_INSTANCE_INDEX);
+    }
+    if let Some(number) = said.foreign_built_in() {
         let what = Unsupported::BuiltIn(number);
         failed.fail(draft.instruction.unsupported_as(what));
     }
-    draft.said.bound(demands)
+    said.bound(demands)
 }
 
 // What the type is made of that it is taken as, where that is another one: of a signed built-in without its sign, of a mask a
@@ -203,7 +215,7 @@ fn bind_members<T: Types>(
     let mut location = draft.said.location;
     let mut place = 0u32;
     for member in members {
-        let mut said = between(reading, draft, place);
+        let mut said = between(reading, &draft.said, draft.ty, place);
         if said.built_in.is_none() {
             let Some(here) = said.location.or(location) else {
                 let feature = Feature::BlockWithoutLocations;
@@ -222,18 +234,19 @@ fn bind_members<T: Types>(
     }
 }
 
-// What is said of a member of such a block, or of the variable.
-fn between(reading: &Reading, draft: &Draft, place: u32) -> Decorated {
-    let mut said = Decorated::of(&reading.listing, draft.ty, Some(place));
-    said.flat |= draft.said.flat;
-    said.linear |= draft.said.linear;
-    said.centroid |= draft.said.centroid;
-    said.sample |= draft.said.sample;
+/// What is said of a member of a block between stages, or of its variable.
+pub fn between(reading: &Reading, variable: &Decorated, block: u32, place: u32) -> Decorated {
+    let mut said = Decorated::of(&reading.listing, block, Some(place));
+    said.flat |= variable.flat;
+    said.linear |= variable.linear;
+    said.centroid |= variable.centroid;
+    said.sample |= variable.sample;
+    said.per_primitive |= variable.per_primitive;
     said
 }
 
-// How many locations a member takes.
-fn locations_of(types: &TypeTable, block: u32, place: u32) -> u32 {
+/// How many locations a member of a block takes.
+pub fn locations_of(types: &TypeTable, block: u32, place: u32) -> u32 {
     let ty = match types.member(block, place) {
         Some(member) => member.ty,
         None => 0,

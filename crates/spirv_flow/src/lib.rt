@@ -18,4 +18,7 @@ pub use spirv_steps::{
     Block, Blocks, BreakIf, Case, CaseBody, Choice, FunctionBlocks, FunctionSteps, Scopes, Step,
     Steps,
 };
-pub use uses::{DIM_SUBPASS_DATA, FRAGMENT_PLACE, SUBGROUP_NUMBERS, Use, Uses, is_atomic};
+pub use uses::{
+    DIM_SUBPASS_DATA, FRAGMENT_PLACE, MESH_OUTPUTS, MESH_TASKS, SUBGROUP_NUMBERS, Use, Uses,
+    is_atomic,
+};

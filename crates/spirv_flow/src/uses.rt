@@ -36,6 +36,8 @@ struct Known {
     used: Use,
     // of a parameter the variable or argument that every call passes for it; 0 for none, or where they differ `DIFFERENT`
     passed: u32,
+    // it is a function that launches mesh workgroups
+    emits: bool,
 }
 
 impl Known {
@@ -44,6 +46,7 @@ impl Known {
         root: 0,
         used: Use::NONE,
         passed: 0,
+        emits: false,
     };
 }
 
@@ -61,7 +64,7 @@ struct Passed {
 #[derive(Drop)]
 pub struct Uses {
     known: Vec<Known>,
-    // the built-ins below 64 that an access chain touches in a block
+    // the built-ins that an access chain touches in a block, each as the bit of its number modulo 64
     touched: u64,
     /// What is changed atomically.
     pub atomics: Paths,
@@ -82,6 +85,12 @@ pub const SUBGROUP_NUMBERS: u32 = 0;
 
 /// The id of the variable of the fragment's place, which no id of a module is: each is below the bound, which is a word.
 pub const FRAGMENT_PLACE: u32 = u32::MAX;
+
+/// The id of the variable of how many mesh workgroups a task stage launches, which no table of a module has a place for.
+pub const MESH_TASKS: u32 = u32::MAX - 1;
+
+/// The id of the variable of what a mesh stage gives, which no table of a module has a place for.
+pub const MESH_OUTPUTS: u32 = u32::MAX - 2;
 
 /// The dimension of attachments (section 3.8).
 pub const DIM_SUBPASS_DATA: u32 = 6;
@@ -213,8 +222,18 @@ impl Uses {
             if let Some(function) = blocks.functions.get(*number as usize) {
                 for place in function.parts.start..function.parts.end {
                     self.take(listing, place, calls, failed);
+                    if listing.at(place).opcode == ops::EMIT_MESH_TASKS_EXT {
+                        self.set_emits(listing.at(function.parts.start).id);
+                    }
                 }
             }
+        }
+    }
+
+    // A function launches mesh workgroups.
+    fn set_emits(&mut self, function: u32) {
+        if let Some(known) = self.known.get_mut(function as usize) {
+            known.emits = true;
         }
     }
 
@@ -281,7 +300,7 @@ impl Uses {
 
     /// Whether a member of a block with this built-in may be touched.
     pub fn touches(&self, built_in: u32) -> bool {
-        built_in >= 64 || self.touched & (1u64 << (built_in % 64)) != 0
+        self.touched & (1u64 << (built_in % 64)) != 0
     }
 
     // What one instruction does.
@@ -324,9 +343,8 @@ impl Uses {
             ty = part.ty;
             if part.member.is_some() {
                 for place in listing.decorations(part.from, part.member) {
-                    match built_in(listing, &listing.at(*place)) {
-                        Some(number) if number < 64 => self.touched |= 1u64 << number,
-                        _ => {}
+                    if let Some(number) = built_in(listing, &listing.at(*place)) {
+                        self.touched |= 1u64 << (number % 64);
                     }
                 }
             }
@@ -375,6 +393,10 @@ impl Uses {
     ) {
         let call = listing.at(place);
         let callee = need(listing, &call, 0, failed);
+        if self.known(callee).emits {
+            // it would end the caller, too
+            failed.fail(call.unsupported_by(Feature::EmitInCallee));
+        }
         let mut at = listing.place_of(callee).unwrap_or(u32::MAX);
         for argument in listing.operands_from(&call, 1) {
             at = at.saturating_add(1);

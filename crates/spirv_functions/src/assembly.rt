@@ -1,6 +1,7 @@
 // Steps become blocks of statements.
 
 use crate::instructions::lower;
+use crate::mesh::emit_tasks;
 use ir_arena::span::Span;
 use ir_blocks::{Block, Statement, SwitchCase};
 use ir_kinds::{Literal, Scalar, SwitchValue, UnaryOperator};
@@ -403,6 +404,10 @@ fn lower_block<L: FunctionBuilder>(lowering: &mut L, number: u32) -> Option<Valu
         ops::BRANCH_CONDITIONAL | ops::SWITCH | ops::RETURN_VALUE => {
             let id = need(lowering, &end, 0);
             Some(lowering.value(id, &end))
+        }
+        ops::EMIT_MESH_TASKS_EXT => {
+            emit_tasks(lowering, &end);
+            None
         }
         _ => None,
     };

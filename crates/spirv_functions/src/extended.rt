@@ -1,10 +1,9 @@
 // Instructions of extended sets.
 
 use ir_flags::Capabilities;
-use ir_kinds::{MathFunction, ScalarKind};
-use spirv_expressions::{Value, as_kind, call, math, need, result_scalar, signed};
+use spirv_expressions::{Value, math, need};
 use spirv_flow::is_debug;
-use spirv_images::cast;
+use spirv_images::{cast, trinary};
 use spirv_operations::{FunctionBuilder, split};
 use spirv_words::{Feature, Instruction, starts_text};
 
@@ -52,50 +51,4 @@ fn function<L: FunctionBuilder>(
         Some(value) => Some(value),
         None => Some(math(lowering, operation, number)),
     }
-}
-
-// The least, the greatest or the middle one of three numbers: those of each kind follow each other as floats, unsigned and
-// signed.
-fn trinary<L: FunctionBuilder>(
-    lowering: &mut L,
-    operation: &Instruction,
-    number: u32,
-) -> Option<Value> {
-    let kind = match number.checked_rem(3) {
-        Some(1) => ScalarKind::Float,
-        Some(2) => ScalarKind::Uint,
-        _ => ScalarKind::Sint,
-    };
-    let x = signed(lowering, operation, 2, kind);
-    let y = signed(lowering, operation, 3, kind);
-    let z = signed(lowering, operation, 4, kind);
-    let value = match number {
-        1..=3 => {
-            let least = of_two(lowering, operation, MathFunction::Min, x, y);
-            of_two(lowering, operation, MathFunction::Min, least, z)
-        }
-        4..=6 => {
-            let most = of_two(lowering, operation, MathFunction::Max, x, y);
-            of_two(lowering, operation, MathFunction::Max, most, z)
-        }
-        7..=9 => {
-            let least = of_two(lowering, operation, MathFunction::Min, x, y);
-            let most = of_two(lowering, operation, MathFunction::Max, x, y);
-            let rest = of_two(lowering, operation, MathFunction::Min, most, z);
-            of_two(lowering, operation, MathFunction::Max, least, rest)
-        }
-        _ => return None,
-    };
-    let to = result_scalar(lowering, operation).kind;
-    Some(as_kind(lowering, operation, value, kind, to))
-}
-
-fn of_two<L: FunctionBuilder>(
-    lowering: &mut L,
-    operation: &Instruction,
-    fun: MathFunction,
-    left: Value,
-    right: Value,
-) -> Value {
-    call(lowering, operation, fun, left, [Some(right), None, None])
 }

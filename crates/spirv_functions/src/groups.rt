@@ -14,6 +14,7 @@ use spirv_expressions::{
 };
 use spirv_numbers::ops;
 use spirv_operations::FunctionBuilder;
+use spirv_tables::collective_of;
 use spirv_types::TypeHandle;
 use spirv_words::{Feature, Instruction};
 
@@ -23,11 +24,13 @@ const WORKGROUP: i64 = 2;
 const SUBGROUP: i64 = 3;
 
 // Which memory a barrier orders (section 3.25), and what that is in the IR.
-static MEMORY: [(i64, Barrier); 4] = [
+static MEMORY: [(i64, Barrier); 5] = [
     (0x40, Barrier::STORAGE),
     (0x80, Barrier::SUB_GROUP),
     (0x100, Barrier::WORK_GROUP),
     (0x800, Barrier::TEXTURE),
+    // outputs, which lie in the memory of the workgroup
+    (0x1000, Barrier::WORK_GROUP),
 ];
 
 /// Waits for other invocations, or for memory.
@@ -62,75 +65,6 @@ pub fn barrier<L: FunctionBuilder>(lowering: &mut L, operation: &Instruction) {
     };
     lowering.add(barrier, operation);
 }
-
-// Operations over a subgroup, with the sign that their argument gets.
-static COLLECTIVES: [(u16, SubgroupOperation, Option<ScalarKind>); 24] = [
-    (ops::GROUP_NON_UNIFORM_I_ADD, SubgroupOperation::Add, None),
-    (ops::GROUP_NON_UNIFORM_F_ADD, SubgroupOperation::Add, None),
-    (ops::GROUP_NON_UNIFORM_I_MUL, SubgroupOperation::Mul, None),
-    (ops::GROUP_NON_UNIFORM_F_MUL, SubgroupOperation::Mul, None),
-    (
-        ops::GROUP_NON_UNIFORM_S_MIN,
-        SubgroupOperation::Min,
-        Some(ScalarKind::Sint),
-    ),
-    (
-        ops::GROUP_NON_UNIFORM_U_MIN,
-        SubgroupOperation::Min,
-        Some(ScalarKind::Uint),
-    ),
-    (ops::GROUP_NON_UNIFORM_F_MIN, SubgroupOperation::Min, None),
-    (
-        ops::GROUP_NON_UNIFORM_S_MAX,
-        SubgroupOperation::Max,
-        Some(ScalarKind::Sint),
-    ),
-    (
-        ops::GROUP_NON_UNIFORM_U_MAX,
-        SubgroupOperation::Max,
-        Some(ScalarKind::Uint),
-    ),
-    (ops::GROUP_NON_UNIFORM_F_MAX, SubgroupOperation::Max, None),
-    (
-        ops::GROUP_NON_UNIFORM_BITWISE_AND,
-        SubgroupOperation::And,
-        None,
-    ),
-    (
-        ops::GROUP_NON_UNIFORM_BITWISE_OR,
-        SubgroupOperation::Or,
-        None,
-    ),
-    (
-        ops::GROUP_NON_UNIFORM_BITWISE_XOR,
-        SubgroupOperation::Xor,
-        None,
-    ),
-    (
-        ops::GROUP_NON_UNIFORM_LOGICAL_AND,
-        SubgroupOperation::And,
-        None,
-    ),
-    (
-        ops::GROUP_NON_UNIFORM_LOGICAL_OR,
-        SubgroupOperation::Or,
-        None,
-    ),
-    (
-        ops::GROUP_NON_UNIFORM_LOGICAL_XOR,
-        SubgroupOperation::Xor,
-        None,
-    ),
-    // of the extension shader_ballot by AMD
-    (5000, SubgroupOperation::Add, None),
-    (5001, SubgroupOperation::Add, None),
-    (5002, SubgroupOperation::Min, None),
-    (5003, SubgroupOperation::Min, Some(ScalarKind::Uint)),
-    (5004, SubgroupOperation::Min, Some(ScalarKind::Sint)),
-    (5005, SubgroupOperation::Max, None),
-    (5006, SubgroupOperation::Max, Some(ScalarKind::Uint)),
-    (5007, SubgroupOperation::Max, Some(ScalarKind::Sint)),
-];
 
 // Opcodes of operations that have no scope among their operands (the extensions shader_ballot and subgroup_vote), and two that
 // are made of others.
@@ -181,13 +115,10 @@ pub fn group<L: FunctionBuilder>(lowering: &mut L, operation: &Instruction) {
         lowering.fail(operation.unsupported_by(Feature::GroupScope));
         return;
     }
-    let opcode = operation.opcode;
-    for row in &COLLECTIVES {
-        if row.0 == opcode {
-            return collective(lowering, operation, row.1, row.2);
-        }
+    if let Some((op, sign)) = collective_of(operation.opcode) {
+        return collective(lowering, operation, op, sign);
     }
-    match opcode {
+    match operation.opcode {
         ELECT => elect(lowering, operation),
         ALL_EQUAL => all_equal(lowering, operation, 1),
         ops::GROUP_NON_UNIFORM_ALL => vote(lowering, operation, SubgroupOperation::All, 1),

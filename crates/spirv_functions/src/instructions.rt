@@ -2,7 +2,8 @@
 
 use crate::extended::extended;
 use crate::groups::{barrier, group, is_group};
-use crate::rays::ray_query;
+use crate::mesh::set_outputs;
+use crate::rays::{ray_query, trace_ray};
 use ir_types::Expression;
 use spirv_expressions::{Value, arithmetic, composite, conversion};
 use spirv_flow::is_atomic;
@@ -29,6 +30,8 @@ pub fn lower<L: FunctionBuilder>(lowering: &mut L, operation: &Instruction) {
         ops::EXT_INST => extended(lowering, operation),
         ops::IMAGE_WRITE => store_texel(lowering, operation),
         ops::CONTROL_BARRIER | ops::MEMORY_BARRIER => barrier(lowering, operation),
+        ops::SET_MESH_OUTPUTS_EXT => set_outputs(lowering, operation),
+        ops::TRACE_RAY_KHR => trace_ray(lowering, operation),
         opcode if is_atomic(opcode) => atomic(lowering, operation),
         opcode if is_group(opcode) => group(lowering, operation),
         ops::RAY_QUERY_INITIALIZE..=ops::RAY_QUERY_GET_INTERSECTION_TYPE

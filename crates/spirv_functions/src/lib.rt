@@ -7,6 +7,7 @@ mod clusters;
 mod extended;
 mod groups;
 mod instructions;
+mod mesh;
 mod rays;
 
 pub use assembly::assemble;

@@ -1,21 +1,28 @@
-// Ray queries (the extensions ray_query and ray_tracing_position_fetch).
+// Rays (the extensions ray_query, ray_tracing_position_fetch and ray_tracing).
 
-use ir_blocks::{RayQueryFunction, Statement};
+use ir_blocks::{RayPipelineFunction, RayQueryFunction, Statement};
 use ir_kinds::ScalarKind;
 use ir_types::Expression;
 use spirv_expressions::{Value, compose, keep, need, no_type, operand, refuse, signed};
 use spirv_images::found;
 use spirv_numbers::{numbers, ops};
 use spirv_operations::FunctionBuilder;
-use spirv_types::{Shape, TypeHandle, span_of};
+use spirv_types::{Shape, span_of};
 use spirv_words::{Feature, Instruction};
 
 /// Does what an instruction does with a ray query.
 pub fn ray_query<L: FunctionBuilder>(lowering: &mut L, operation: &Instruction) {
     let query = query_of(lowering, operation);
-    let rays = lowering.rays();
+    // the types that queries give are to be there
+    let _ = lowering.rays();
     let fun = match operation.opcode {
-        ops::RAY_QUERY_INITIALIZE => initialize(lowering, operation, rays.descriptor),
+        ops::RAY_QUERY_INITIALIZE => {
+            let (acceleration_structure, descriptor) = ray_of(lowering, operation, 1, 4);
+            RayQueryFunction::Initialize {
+                acceleration_structure,
+                descriptor,
+            }
+        }
         ops::RAY_QUERY_TERMINATE => RayQueryFunction::Terminate,
         ops::RAY_QUERY_GENERATE_INTERSECTION => {
             let hit_t = operand(lowering, operation, 1);
@@ -66,27 +73,47 @@ fn query_of<L: FunctionBuilder>(lowering: &mut L, operation: &Instruction) -> Va
     }
 }
 
-// Begins a query along a ray: its flags and its mask, its ends, its origin and its direction.
-fn initialize<L: FunctionBuilder>(
+// What a ray is traced in, the operand at this place, and the ray: after that its flags and its mask, at another place its origin,
+// where hits begin to count, its direction and where they cease to.
+fn ray_of<L: FunctionBuilder>(
     lowering: &mut L,
     operation: &Instruction,
-    descriptor: Option<TypeHandle>,
-) -> RayQueryFunction {
-    let structure = need(lowering, operation, 1);
-    let place = lowering.pointer(structure, operation);
-    let acceleration_structure = lowering.way(place, operation);
+    structure: usize,
+    origin: usize,
+) -> (Value, Value) {
+    let descriptor = lowering.rays().descriptor;
+    let id = need(lowering, operation, structure);
+    let place = lowering.pointer(id, operation);
+    let traced_in = lowering.way(place, operation);
     let mut components = Vec::new(lowering.alloc());
-    for place in [2usize, 3] {
+    for after in [1usize, 2] {
+        let place = structure.saturating_add(after);
         let word = signed(lowering, operation, place, ScalarKind::Uint);
         keep(lowering, &mut components, word);
     }
-    for place in [5usize, 7, 4, 6] {
-        let value = operand(lowering, operation, place);
+    for after in [1usize, 3, 0, 2] {
+        let value = operand(lowering, operation, origin.saturating_add(after));
         keep(lowering, &mut components, value);
     }
     let ty = descriptor.unwrap_or(no_type());
-    RayQueryFunction::Initialize {
-        acceleration_structure,
-        descriptor: compose(lowering, operation, ty, components),
+    (traced_in, compose(lowering, operation, ty, components))
+}
+
+/// Traces a ray, in the one way that the IR has: to the first shaders of those that a host binds.
+pub fn trace_ray<L: FunctionBuilder>(lowering: &mut L, operation: &Instruction) {
+    for place in [3usize, 4, 5] {
+        let id = need(lowering, operation, place);
+        if lowering.constant(id) != Some(0) {
+            lowering.fail(operation.unsupported_by(Feature::ShaderBindingTable));
+        }
     }
+    let (acceleration_structure, descriptor) = ray_of(lowering, operation, 0, 6);
+    let payload = need(lowering, operation, 10);
+    let place = lowering.pointer(payload, operation);
+    let trace = RayPipelineFunction::TraceRay {
+        acceleration_structure,
+        descriptor,
+        payload: lowering.way(place, operation),
+    };
+    lowering.add(Statement::RayPipelineFunction(trace), operation);
 }

@@ -1,17 +1,22 @@
-//! Images of SPIR-V in the IR: samples, texels and questions; what ray queries find; and conversions between scalars of two widths,
-//! those of selectors among them; whatever function they are built in.
+//! Expressions of SPIR-V in the IR of which there are many: samples, texels and questions of images; what ray queries find;
+//! conversions between scalars of two widths, those of selectors among them; functions of three numbers; whatever function they
+//! are built in. And the structs that some expressions give.
 #![tactic(auto)]
 
+mod extremes;
 mod images;
 mod masks;
+mod pairs;
 mod places;
 mod rays;
 mod selectors;
 mod widths;
 
+pub use extremes::trinary;
 pub use images::image_operation;
 pub use masks::{ImageOperands, image_operands};
-pub use places::{Coordinates, read_coordinates, widened};
+pub use pairs::{Pair, pair_of};
+pub use places::{Coordinates, count_resources, read_coordinates, widened};
 pub use rays::{RayTypes, found};
 pub use selectors::selector_of;
 pub use widths::{cast, wide};

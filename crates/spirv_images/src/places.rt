@@ -1,11 +1,12 @@
 // Where an image is sampled or a texel lies.
 
 use ir_kinds::{BinaryOperator, ImageDimension, Scalar, ScalarKind};
+use ir_types::ArraySize;
 use spirv_expressions::{
     Builder, ImageValue, Value, binary, component_count, compose, convert, keep, operand,
     operand_scalar, operand_shape, part_of, parts_from, refuse, scalar_of, splat,
 };
-use spirv_types::vector_size;
+use spirv_types::{Shape, vector_size};
 use spirv_words::{Feature, Instruction, Malformed};
 
 /// Where an image is sampled or a texel lies.
@@ -129,3 +130,26 @@ pub fn widened<B: Builder>(builder: &mut B, operation: &Instruction, place: usiz
     let ty = builder.vector(vector_size(4), scalar);
     compose(builder, operation, ty, components)
 }
+
+/// How many resources an array has, in which there may be others.
+pub fn count_resources<B: Builder>(builder: &B, ty: u32) -> Option<u32> {
+    let mut at = ty;
+    let mut count = None;
+    for _ in 0..MAX_DEPTH {
+        match builder.shape(at) {
+            Shape::Array {
+                element,
+                size: ArraySize::Constant(size),
+                binding: true,
+            } => {
+                count = Some(count.unwrap_or(1u32).checked_mul(size)?);
+                at = element;
+            }
+            _ => return count,
+        }
+    }
+    None
+}
+
+// How deep arrays may nest (universal limit of the standard).
+const MAX_DEPTH: usize = 255;

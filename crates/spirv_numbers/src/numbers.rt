@@ -51,6 +51,8 @@ pub const DECORATION_OFFSET: u32 = 35;
 
 pub const DECORATION_XFB_BUFFER: u32 = 36;
 
+pub const DECORATION_PER_PRIMITIVE_EXT: u32 = 5271;
+
 // Storage classes (section 3.7).
 pub const CLASS_UNIFORM_CONSTANT: u32 = 0;
 
@@ -72,6 +74,12 @@ pub const CLASS_IMAGE: u32 = 11;
 
 pub const CLASS_STORAGE_BUFFER: u32 = 12;
 
+pub const CLASS_RAY_PAYLOAD_KHR: u32 = 5338;
+
+pub const CLASS_INCOMING_RAY_PAYLOAD_KHR: u32 = 5342;
+
+pub const CLASS_TASK_PAYLOAD_WORKGROUP_EXT: u32 = 5402;
+
 // Execution models (section 3.3).
 pub const MODEL_VERTEX: u32 = 0;
 
@@ -79,12 +87,34 @@ pub const MODEL_FRAGMENT: u32 = 4;
 
 pub const MODEL_GL_COMPUTE: u32 = 5;
 
+pub const MODEL_RAY_GENERATION_KHR: u32 = 5313;
+
+pub const MODEL_ANY_HIT_KHR: u32 = 5315;
+
+pub const MODEL_CLOSEST_HIT_KHR: u32 = 5316;
+
+pub const MODEL_MISS_KHR: u32 = 5317;
+
+pub const MODEL_TASK_EXT: u32 = 5364;
+
+pub const MODEL_MESH_EXT: u32 = 5365;
+
 // Execution modes (section 3.6).
 pub const MODE_EARLY_FRAGMENT_TESTS: u32 = 9;
 
 pub const MODE_LOCAL_SIZE: u32 = 17;
 
+pub const MODE_OUTPUT_VERTICES: u32 = 26;
+
+pub const MODE_OUTPUT_POINTS: u32 = 27;
+
 pub const MODE_LOCAL_SIZE_ID: u32 = 38;
+
+pub const MODE_OUTPUT_LINES_EXT: u32 = 5269;
+
+pub const MODE_OUTPUT_PRIMITIVES_EXT: u32 = 5270;
+
+pub const MODE_OUTPUT_TRIANGLES_EXT: u32 = 5298;
 
 // Dimensions of images (section 3.8).
 pub const DIM_1_D: u32 = 0;
@@ -103,6 +133,8 @@ pub const BUILT_IN_POINT_SIZE: u32 = 1;
 pub const BUILT_IN_CLIP_DISTANCE: u32 = 3;
 
 pub const BUILT_IN_CULL_DISTANCE: u32 = 4;
+
+pub const BUILT_IN_INSTANCE_ID: u32 = 6;
 
 pub const BUILT_IN_PRIMITIVE_ID: u32 = 7;
 
@@ -153,6 +185,40 @@ pub const BUILT_IN_VIEW_INDEX: u32 = 4440;
 pub const BUILT_IN_BARY_COORD_KHR: u32 = 5286;
 
 pub const BUILT_IN_BARY_COORD_NO_PERSP_KHR: u32 = 5287;
+
+pub const BUILT_IN_PRIMITIVE_POINT_INDICES_EXT: u32 = 5294;
+
+pub const BUILT_IN_PRIMITIVE_LINE_INDICES_EXT: u32 = 5295;
+
+pub const BUILT_IN_PRIMITIVE_TRIANGLE_INDICES_EXT: u32 = 5296;
+
+pub const BUILT_IN_CULL_PRIMITIVE_EXT: u32 = 5299;
+
+pub const BUILT_IN_LAUNCH_ID_KHR: u32 = 5319;
+
+pub const BUILT_IN_LAUNCH_SIZE_KHR: u32 = 5320;
+
+pub const BUILT_IN_WORLD_RAY_ORIGIN_KHR: u32 = 5321;
+
+pub const BUILT_IN_WORLD_RAY_DIRECTION_KHR: u32 = 5322;
+
+pub const BUILT_IN_OBJECT_RAY_ORIGIN_KHR: u32 = 5323;
+
+pub const BUILT_IN_OBJECT_RAY_DIRECTION_KHR: u32 = 5324;
+
+pub const BUILT_IN_RAY_TMIN_KHR: u32 = 5325;
+
+pub const BUILT_IN_RAY_TMAX_KHR: u32 = 5326;
+
+pub const BUILT_IN_INSTANCE_CUSTOM_INDEX_KHR: u32 = 5327;
+
+pub const BUILT_IN_OBJECT_TO_WORLD_KHR: u32 = 5330;
+
+pub const BUILT_IN_WORLD_TO_OBJECT_KHR: u32 = 5331;
+
+pub const BUILT_IN_HIT_KIND_KHR: u32 = 5333;
+
+pub const BUILT_IN_RAY_GEOMETRY_INDEX_KHR: u32 = 5352;
 
 // Capabilities (section 3.31).
 pub const CAPABILITY_GEOMETRY: u32 = 2;
@@ -211,9 +277,15 @@ pub const CAPABILITY_MULTI_VIEW: u32 = 4439;
 
 pub const CAPABILITY_RAY_QUERY_KHR: u32 = 4472;
 
+pub const CAPABILITY_RAY_TRACING_KHR: u32 = 4479;
+
 pub const CAPABILITY_INT64_IMAGE_EXT: u32 = 5016;
 
+pub const CAPABILITY_MESH_SHADING_EXT: u32 = 5283;
+
 pub const CAPABILITY_FRAGMENT_BARYCENTRIC_KHR: u32 = 5284;
+
+pub const CAPABILITY_RAY_TRACING_NV: u32 = 5340;
 
 pub const CAPABILITY_RAY_QUERY_POSITION_FETCH_KHR: u32 = 5391;
 

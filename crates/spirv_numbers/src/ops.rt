@@ -506,3 +506,15 @@ pub const RAY_QUERY_GET_INTERSECTION_TYPE: u16 = 4479;
 pub const RAY_QUERY_GET_TRIANGLE_VERTEX_POSITIONS: u16 = 5340;
 
 pub const TYPE_ACCELERATION_STRUCTURE: u16 = 5341;
+
+// Of the extension ray_tracing.
+pub const TRACE_RAY_KHR: u16 = 4445;
+
+pub const IGNORE_INTERSECTION_KHR: u16 = 4448;
+
+pub const TERMINATE_RAY_KHR: u16 = 4449;
+
+// Of the extension mesh_shader.
+pub const EMIT_MESH_TASKS_EXT: u16 = 5294;
+
+pub const SET_MESH_OUTPUTS_EXT: u16 = 5295;

@@ -8,7 +8,7 @@ use ir_types::Expression;
 use spirv_expressions::{Builder, Value, no_value};
 use spirv_flow::Flow;
 use spirv_images::RayTypes;
-use spirv_types::{ImageShape, ImageUse, Reading, Stored, TypeHandle};
+use spirv_types::{ImageShape, ImageUse, MeshMember, Reading, Stored, TypeHandle};
 use spirv_words::Instruction;
 
 /// What an id is in the function that is built.
@@ -54,6 +54,17 @@ pub enum PointerStep {
     Dynamic(u32),
 }
 
+/// What a pointer is of what a mesh stage gives.
+#[derive(Clone, Copy)]
+pub enum MeshPlace {
+    /// Nothing of it, or what it points to is there as it is.
+    Plain,
+    /// What is given by a variable, of all vertices or primitives or of one: the place of its first member among those of all.
+    Members(u32),
+    /// A member that is signed in SPIR-V alone.
+    Unsigned,
+}
+
 /// A pointer, an image or a sampler.
 #[derive(Clone, Copy)]
 pub struct Pointer {
@@ -79,6 +90,8 @@ pub struct Pointer {
     pub resources: Option<u32>,
     /// The type that was built for it in place of its own.
     pub rebuilt: Option<TypeHandle>,
+    /// What it is of what a mesh stage gives.
+    pub mesh: MeshPlace,
 }
 
 /// A pointer that is always there, to a value of this type.
@@ -95,6 +108,7 @@ pub fn root(value: Value, ty: u32) -> Pointer {
         split: None,
         resources: None,
         rebuilt: None,
+        mesh: MeshPlace::Plain,
     }
 }
 
@@ -166,6 +180,9 @@ pub trait FunctionBuilder: Builder {
         step: PointerStep,
         operation: &Instruction,
     ) -> Value;
+
+    /// The member of a vertex or a primitive at this place among all that a mesh stage gives.
+    fn mesh_member(&self, place: u32) -> Option<MeshMember>;
 
     /// The scope that is built.
     fn scope(&self) -> u32;

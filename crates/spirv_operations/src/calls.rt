@@ -1,6 +1,6 @@
 // Calls of functions.
 
-use crate::builder::{FunctionBuilder, Slot};
+use crate::builder::{FunctionBuilder, MeshPlace, Slot};
 use ir_arena::handle::{Handle, NonMaxU32};
 use ir_blocks::Statement;
 use ir_types::Expression;
@@ -99,6 +99,9 @@ fn pointer<L: FunctionBuilder>(lowering: &mut L, place: u32, operation: &Instruc
             lowering,
             operation.unsupported_by(Feature::ImageArrayArgument),
         );
+    }
+    if !matches!(pointer.mesh, MeshPlace::Plain) {
+        return refuse(lowering, operation.unsupported_by(Feature::MeshWhole));
     }
     if pointer.column.is_some() || !pointer.stored.is_plain() && is_matrix {
         let instruction = operation;

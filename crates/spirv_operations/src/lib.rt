@@ -11,7 +11,9 @@ mod splits;
 mod storage;
 
 pub use atomics::{atomic, store_texel};
-pub use builder::{FunctionBuilder, NO_IMAGE, Pointer, PointerStep, Slot, no_pointer, root};
+pub use builder::{
+    FunctionBuilder, MeshPlace, NO_IMAGE, Pointer, PointerStep, Slot, no_pointer, root,
+};
 pub use calls::call_function;
 pub use names::{Names, Special};
 pub use splits::split;

@@ -1,14 +1,15 @@
 // Pointers: a variable and steps from it.
 
-use crate::builder::{FunctionBuilder, Pointer, PointerStep, Slot};
+use crate::builder::{FunctionBuilder, MeshPlace, Pointer, PointerStep, Slot};
 use ir_blocks::Statement;
-use ir_kinds::{MathFunction, Scalar, VectorSize};
-use ir_types::{ArraySize, Expression};
+use ir_kinds::{MathFunction, Scalar, ScalarKind, VectorSize};
+use ir_types::Expression;
 use spirv_expressions::{
     Value, call, component_count, compose, keep, need, no_value, packed_line, part_of, plain_line,
     plain_matrix, relaid_matrix,
 };
-use spirv_types::{MatrixShape, MemberShape, Shape, Stored, TypeHandle};
+use spirv_images::count_resources;
+use spirv_types::{MatrixShape, MemberShape, MeshMember, Shape, Stored, TypeHandle};
 use spirv_words::{Feature, Instruction, Malformed, Unsupported};
 
 // The pointer that is a step on, to this part.
@@ -35,31 +36,86 @@ fn go_on<L: FunctionBuilder>(
         split: None,
         resources: None,
         rebuilt: None,
+        mesh: match from.mesh {
+            MeshPlace::Unsigned => MeshPlace::Unsigned,
+            MeshPlace::Plain | MeshPlace::Members(_) => MeshPlace::Plain,
+        },
     })
 }
 
-// How many resources an array has, in which there may be others.
-fn count_resources<L: FunctionBuilder>(lowering: &L, ty: u32) -> Option<u32> {
-    let mut at = ty;
-    let mut count = None;
-    for _ in 0..MAX_DEPTH {
-        match lowering.shape(at) {
-            Shape::Array {
-                element,
-                size: ArraySize::Constant(size),
-                binding: true,
-            } => {
-                count = Some(count.unwrap_or(1u32).checked_mul(size)?);
-                at = element;
-            }
-            _ => return count,
-        }
+// The pointer to a part of what a mesh stage gives by a variable whose first member this is: to the member of a vertex or a
+// primitive, or, of a block, to that as the block.
+fn follow_given<L: FunctionBuilder>(
+    lowering: &mut L,
+    place: u32,
+    first: u32,
+    step: PointerStep,
+    part: MemberShape,
+    operation: &Instruction,
+) -> u32 {
+    let ty = lowering.pointer_at(place, operation).ty;
+    if let (Shape::Struct { .. }, PointerStep::Index(index)) = (lowering.shape(ty), step) {
+        let member = first.saturating_add(index);
+        return go_to_member(lowering, place, member, part, operation);
     }
-    None
+    let element = go_on(lowering, place, step, part, operation);
+    if matches!(lowering.shape(part.ty), Shape::Struct { .. }) {
+        let mut block = lowering.pointer_at(element, operation);
+        block.mesh = MeshPlace::Members(first);
+        return lowering.add_pointer(block);
+    }
+    go_to_member(lowering, element, first, part, operation)
 }
 
-// How deep arrays may nest (universal limit of the standard).
-const MAX_DEPTH: usize = 255;
+// The pointer to the member of a vertex or a primitive at this place among all that a mesh stage gives.
+fn go_to_member<L: FunctionBuilder>(
+    lowering: &mut L,
+    from: u32,
+    member: u32,
+    part: MemberShape,
+    operation: &Instruction,
+) -> u32 {
+    let given = lowering.mesh_member(member).unwrap_or(MeshMember::NONE);
+    let Some(index) = given.index else {
+        lowering.fail(operation.unsupported_by(Feature::MeshWhole));
+        return from;
+    };
+    let place = go_on(lowering, from, PointerStep::Index(index), part, operation);
+    if !given.unsigned {
+        return place;
+    }
+    let mut unsigned = lowering.pointer_at(place, operation);
+    unsigned.mesh = MeshPlace::Unsigned;
+    lowering.add_pointer(unsigned)
+}
+
+// The value of a number that is signed in SPIR-V alone, as one of this kind.
+fn as_given<L: FunctionBuilder>(
+    lowering: &mut L,
+    pointer: &Pointer,
+    expr: Value,
+    kind: ScalarKind,
+    operation: &Instruction,
+) -> Value {
+    match pointer.mesh {
+        MeshPlace::Plain => expr,
+        MeshPlace::Unsigned => {
+            let convert = None;
+            lowering.emit(
+                Expression::As {
+                    expr,
+                    kind,
+                    convert,
+                },
+                operation,
+            )
+        }
+        MeshPlace::Members(_) => {
+            lowering.fail(operation.unsupported_by(Feature::MeshWhole));
+            expr
+        }
+    }
+}
 
 // The step that an index of an access chain is.
 fn index_step<L: FunctionBuilder>(
@@ -101,6 +157,9 @@ fn follow<L: FunctionBuilder>(
         lowering.fail(operation.malformed(Malformed::Index));
         return place;
     };
+    if let MeshPlace::Members(first) = from.mesh {
+        return follow_given(lowering, place, first, step, part, operation);
+    }
     if let Some(near) = stay(lowering, place, &from, step, &part) {
         return lowering.add_pointer(near);
     }
@@ -241,6 +300,7 @@ pub fn load<L: FunctionBuilder>(lowering: &mut L, place: u32, operation: &Instru
         return load_split(lowering, pointer, &from, operation);
     }
     let value = lowering.emit(Expression::Load { pointer }, operation);
+    let value = as_given(lowering, &from, value, ScalarKind::Sint, operation);
     if let Some(count) = rebuilt_parts(lowering, &from) {
         let ty = lowering.built(from.ty, operation);
         return compose_again(lowering, value, ty, count, operation);
@@ -361,7 +421,7 @@ fn stored_value<L: FunctionBuilder>(
     value: Value,
     operation: &Instruction,
 ) -> Value {
-    let mut value = value;
+    let mut value = as_given(lowering, to, value, ScalarKind::Uint, operation);
     if let (Some(ty), Some(count)) = (to.rebuilt, rebuilt_parts(lowering, to)) {
         value = compose_again(lowering, value, ty, count, operation);
     }

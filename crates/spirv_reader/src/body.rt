@@ -6,7 +6,8 @@ use ir_arena::span::Span;
 use ir_items::{
     Block, Expression, Function, FunctionArgument, FunctionResult, LocalVariable, Statement, key,
 };
-use spirv_bodies::{Budget, Writing, expression_size};
+use spirv_bodies::Writing;
+use spirv_declarations::{Budget, expression_size};
 use spirv_expressions::{Emits, Value, no_value};
 use spirv_words::SpirvError;
 use std::alloc::Global;

@@ -1,20 +1,21 @@
 // Entry points: functions that take and give what goes between stages, and call those of SPIR-V.
 
 use crate::body::Body;
-use crate::located::{MAX_PIECES, Piece, Port, Whole, pieces_of, ports_of};
 use ir_arena::handle::{Handle, NonMaxU32};
 use ir_arena::span::Span;
 use ir_items::{
-    EntryPoint, Expression, Function, FunctionArgument, FunctionResult, IrType, Statement,
-    StructMember, TypeInner, key,
+    EntryPoint, Expression, Function, FunctionArgument, FunctionResult, IrType, MeshStageInfo,
+    Statement, StructMember, TypeInner, key,
 };
-use ir_kinds::{Binding, ScalarKind, ShaderStage};
-use spirv_bodies::{Budget, Subgroups, Writing, clone_in, copy_name, fail_in, made_in, type_in};
-use spirv_declarations::{
-    Declared, KnownVariables, decorated_size, members_of, modes_of, scalar_kind, stage_of,
-};
+use ir_kinds::{Binding, BuiltIn, ScalarKind, ShaderStage};
+use spirv_bodies::{Subgroups, Writing, clone_in, copy_name, fail_in, made_in, type_in};
+use spirv_declarations::{Budget, Declared, GlobalHandle, KnownVariables, scalar_kind};
 use spirv_expressions::{Emits, Value, Words, keep};
-use spirv_flow::{FRAGMENT_PLACE, Order, SUBGROUP_NUMBERS};
+use spirv_flow::{FRAGMENT_PLACE, MESH_TASKS, Order, SUBGROUP_NUMBERS};
+use spirv_interface::{
+    MAX_PIECES, Modes, Piece, Port, Whole, decorated_size, members_of, modes_of, pieces_of,
+    ports_of, stage_of,
+};
 use spirv_numbers::numbers;
 use spirv_tables::with_default;
 use spirv_types::{Reading, TypeHandle, Types, span_of};
@@ -31,6 +32,7 @@ pub(crate) struct Entry {
     pub stage: ShaderStage,
     pub span: Span,
     decorated: Option<[u32; 3]>,
+    mesh: Option<MeshStageInfo>,
 }
 
 // Where something is that an entry point gives.
@@ -61,6 +63,7 @@ pub fn lower_entries<T: Types>(
     reading: &Reading,
     order: &Order,
     declared: &mut Declared,
+    mesh: &Option<MeshStageInfo>,
     built: &mut T,
     failed: &mut Failure,
 ) -> Vec<EntryPoint> {
@@ -79,6 +82,7 @@ pub fn lower_entries<T: Types>(
             stage: stage_of(listing, &instruction, failed),
             span: span_of(&instruction),
             decorated,
+            mesh: *mesh,
         };
         let made = entry.lower(listing, order, declared, built, &mut budget, failed);
         failed.push(&mut entries, made);
@@ -105,10 +109,11 @@ impl Entry {
         let modes = modes_of(listing, declared, id, failed);
         let read = read_text(self.alloc, words, self.instruction.start);
         let (name, taken) = failed.take(read, (String::new(self.alloc), 0));
+        let interface = words.get(taken..).unwrap_or(&[]);
         let function = self.wrap(
             listing,
             self.callee(order, id, failed),
-            words.get(taken..).unwrap_or(&[]),
+            interface,
             &declared.variables,
             built,
             name.as_str(),
@@ -119,14 +124,21 @@ impl Entry {
             name,
             stage: self.stage,
             early_depth_test: modes.early,
-            // the decorated constant counts before the mode
-            workgroup_size: match (self.stage, self.decorated) {
-                (ShaderStage::Compute, Some(size)) => size,
-                _ => modes.size,
+            workgroup_size: self.size(&modes),
+            mesh_info: match self.stage {
+                ShaderStage::Mesh => self.mesh,
+                _ => None,
             },
-            mesh_info: None,
-            task_payload: None,
+            task_payload: payload_of(&declared.variables, interface),
             function,
+        }
+    }
+
+    // How many invocations a workgroup has: a constant that is decorated counts before the mode.
+    fn size(&self, modes: &Modes) -> [u32; 3] {
+        match self.decorated {
+            Some(size) if self.stage.compute_like() => size,
+            _ => modes.size,
         }
     }
 
@@ -329,6 +341,15 @@ impl Entry {
         );
         let mut given = Vec::new(self.alloc);
         let mut members = Vec::new(self.alloc);
+        if let (ShaderStage::Task, Some(tasks)) = (self.stage, variables.of(MESH_TASKS)) {
+            let pointer = body.place(Expression::GlobalVariable(tasks.handle), self.span);
+            let count = Given {
+                from: From::Pointer(pointer),
+                ty: tasks.built,
+                binding: Some(Binding::BuiltIn(BuiltIn::MeshTaskSize)),
+            };
+            keep(body, &mut given, count);
+        }
         for port in &ports {
             if body.failure().is_some() {
                 break;
@@ -450,6 +471,19 @@ impl Entry {
         body.statement(Statement::Return { value: Some(value) }, self.span);
         Some(result)
     }
+}
+
+// What a task stage hands on to mesh stages, and they are handed on, of the variables of an interface.
+fn payload_of(variables: &KnownVariables, interface: &[u32]) -> Option<GlobalHandle> {
+    for id in interface {
+        match variables.of(*id) {
+            Some(variable) if variable.class == numbers::CLASS_TASK_PAYLOAD_WORKGROUP_EXT => {
+                return Some(variable.handle);
+            }
+            _ => {}
+        }
+    }
+    None
 }
 
 // A member of the struct that is given.

@@ -4,7 +4,6 @@
 mod body;
 mod building;
 mod entries;
-mod located;
 mod reader;
 mod shared;
 

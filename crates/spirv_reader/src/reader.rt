@@ -7,13 +7,14 @@ use crate::building::{BuiltConstants, BuiltTypes, BuiltVariables};
 use crate::entries::lower_entries;
 use document_reader::Document;
 use ir_arena::arena::Arena;
-use ir_flags::{Settings, ShaderStages, SubgroupOperationSet, ValidationFlags};
-use ir_items::{EntryPoint, Module, SpecialTypes};
+use ir_flags::{Capabilities, Settings, ShaderStages, SubgroupOperationSet, ValidationFlags};
+use ir_items::{EntryPoint, MeshStageInfo, Module, SpecialTypes};
 use ir_sets::keyed::KeyedState;
 use ir_sets::unique_arena::UniqueArena;
-use spirv_bodies::{Budget, Lowered, Special, lower_functions};
-use spirv_declarations::{ReadModule, declare};
+use spirv_bodies::{Lowered, Special, lower_functions};
+use spirv_declarations::{Budget, ReadModule, declare};
 use spirv_flow::{Flow, flow_of};
+use spirv_interface::declare_mesh;
 use spirv_tables::Demands;
 use spirv_types::Reading;
 use spirv_words::{Failure, SpirvError, list};
@@ -39,7 +40,7 @@ fn read_module(reading: Reading, flow: Flow, key: KeyedState) -> Result<Document
     let words = reading.listing.words.len();
     let budget = Budget::of_rest(words);
     let mut failed = Failure::NONE;
-    let (declared, types, constants, variables) = declare(
+    let (mut declared, mut types, constants, mut variables) = declare(
         &reading,
         BuiltTypes {
             arena: UniqueArena::with_hasher(alloc, key),
@@ -56,13 +57,20 @@ fn read_module(reading: Reading, flow: Flow, key: KeyedState) -> Result<Document
         },
         &mut failed,
     );
+    let mesh = declare_mesh(
+        &reading,
+        &mut declared,
+        &mut types,
+        &mut variables,
+        &mut failed,
+    );
     let body = Body::new(alloc, Budget::of_functions(words));
     let module = ReadModule {
         reading,
         flow,
         declared,
     };
-    let read = read_functions(module, types, body, &mut failed);
+    let read = read_functions(module, types, body, mesh, &mut failed);
     failed.answer(document_of(alloc, read, constants, variables))
 }
 
@@ -88,7 +96,13 @@ fn special_of(alloc: Global, all: &[Special], failed: &mut Failure) -> SpecialTy
 }
 
 // What a module declares, its functions, the structs that their expressions give, and its entry points.
-fn read_functions(module: ReadModule, types: BuiltTypes, body: Body, failed: &mut Failure) -> Read {
+fn read_functions(
+    module: ReadModule,
+    types: BuiltTypes,
+    body: Body,
+    mesh: Option<MeshStageInfo>,
+    failed: &mut Failure,
+) -> Read {
     let Lowered {
         mut known,
         mut built,
@@ -104,6 +118,7 @@ fn read_functions(module: ReadModule, types: BuiltTypes, body: Body, failed: &mu
         &known.reading,
         &known.flow.order,
         &mut known.declared,
+        &mesh,
         &mut built,
         failed,
     );
@@ -120,7 +135,14 @@ fn read_functions(module: ReadModule, types: BuiltTypes, body: Body, failed: &mu
 fn settings_of(demands: &Demands) -> Settings
     ensures { MakesSixChecks result.flags }
 {
-    let all = ShaderStages::VERTEX.0 | ShaderStages::FRAGMENT.0 | ShaderStages::COMPUTE.0;
+    let mut all = ShaderStages::VERTEX.0 | ShaderStages::FRAGMENT.0 | ShaderStages::COMPUTE.0;
+    if demands.capabilities.0 & Capabilities::MESH_SHADER.0 != 0 {
+        all |= ShaderStages::TASK.0 | ShaderStages::MESH.0;
+    }
+    if demands.capabilities.0 & Capabilities::RAY_TRACING_PIPELINE.0 != 0 {
+        all |= ShaderStages::RAY_GENERATION.0 | ShaderStages::ANY_HIT.0;
+        all |= ShaderStages::CLOSEST_HIT.0 | ShaderStages::MISS.0;
+    }
     let has_any = demands.operations != SubgroupOperationSet(0);
     let stages = if has_any { all } else { 0 };
     Settings {

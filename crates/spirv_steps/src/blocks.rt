@@ -52,7 +52,7 @@ pub struct Blocks {
 }
 
 // What ends a block.
-static ENDS: [u16; 8] = [
+static ENDS: [u16; 11] = [
     ops::BRANCH,
     ops::BRANCH_CONDITIONAL,
     ops::SWITCH,
@@ -61,6 +61,9 @@ static ENDS: [u16; 8] = [
     ops::RETURN_VALUE,
     ops::UNREACHABLE,
     ops::TERMINATE_INVOCATION,
+    ops::EMIT_MESH_TASKS_EXT,
+    ops::IGNORE_INTERSECTION_KHR,
+    ops::TERMINATE_RAY_KHR,
 ];
 
 impl Blocks {

@@ -344,9 +344,12 @@ impl Walk {
             ops::BRANCH => return Some(self.target(listing, &end, 0)),
             ops::BRANCH_CONDITIONAL => return self.conditional(listing, number, &end, selected),
             ops::SWITCH => return self.begin_switch(listing, number, &end, selected),
-            ops::RETURN | ops::RETURN_VALUE => self.add(Step::Return(number)),
+            ops::RETURN | ops::RETURN_VALUE | ops::EMIT_MESH_TASKS_EXT => {
+                self.add(Step::Return(number));
+            }
             ops::KILL | ops::TERMINATE_INVOCATION => self.add(Step::Kill),
-            _ => {}
+            ops::UNREACHABLE => {}
+            _ => self.failed.fail(end.unsupported()),
         }
         None
     }

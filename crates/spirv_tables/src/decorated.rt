@@ -43,6 +43,8 @@ pub struct Decorated {
     pub centroid: bool,
     /// It is found at each sample.
     pub sample: bool,
+    /// It belongs to a primitive.
+    pub per_primitive: bool,
     /// It is computed alike everywhere.
     pub invariant: bool,
     /// It is coherent.
@@ -75,6 +77,7 @@ impl Decorated {
         linear: false,
         centroid: false,
         sample: false,
+        per_primitive: false,
         invariant: false,
         coherent: false,
         volatile: false,
@@ -133,6 +136,7 @@ impl Decorated {
             numbers::DECORATION_NO_PERSPECTIVE => self.linear = true,
             numbers::DECORATION_CENTROID => self.centroid = true,
             numbers::DECORATION_SAMPLE => self.sample = true,
+            numbers::DECORATION_PER_PRIMITIVE_EXT => self.per_primitive = true,
             numbers::DECORATION_INVARIANT => self.invariant = true,
             numbers::DECORATION_COHERENT => self.coherent = true,
             numbers::DECORATION_VOLATILE => self.volatile = true,
@@ -174,7 +178,7 @@ impl Decorated {
             interpolation: self.interpolation(),
             sampling: self.sampling(),
             blend_src: self.index,
-            per_primitive: false,
+            per_primitive: self.per_primitive,
         })
     }
 

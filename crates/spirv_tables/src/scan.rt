@@ -2,7 +2,7 @@
 
 use spirv_flow::pointee;
 use spirv_numbers::{numbers, ops};
-use spirv_words::{Failure, Instruction, Listing, Malformed, SpirvError, Unsupported};
+use spirv_words::{Failure, Instruction, Listing, Malformed, SpirvError, Unsupported, text_length};
 use std::alloc::Global;
 
 // What is known of an id.
@@ -10,12 +10,18 @@ use std::alloc::Global;
 struct Known {
     // an input or an output is of this type
     between: bool,
-    // a variable that is an output is of this type
+    // a variable that is an output is of this type, or of an array of it
     output: bool,
     // it is a block in a storage buffer, or an array of those, as older modules say it
     buffer_block: bool,
     // a fragment stage has it in its interface
     fragment: bool,
+    // a stage of what a ray hits has it in its interface
+    hit: bool,
+    // a mesh stage has it in its interface
+    mesh: bool,
+    // a stage that is no mesh stage has it in its interface
+    other: bool,
 }
 
 // Nothing is known.
@@ -24,12 +30,17 @@ const NOTHING: Known = Known {
     output: false,
     buffer_block: false,
     fragment: false,
+    hit: false,
+    mesh: false,
+    other: false,
 };
 
 /// What has to be known of types before they are declared.
 #[derive(Drop)]
 pub struct Scan {
     known: Vec<Known>,
+    /// Whether there is a task stage.
+    pub has_tasks: bool,
 }
 
 impl Scan {
@@ -39,6 +50,7 @@ impl Scan {
         refuse_decorations(listing, &mut failed);
         let mut scan = Scan {
             known: failed.table(alloc, NOTHING, listing.bound()),
+            has_tasks: false,
         };
         for place in &listing.parts.entry_points {
             scan.take_entry(listing.operands(&listing.at(*place)));
@@ -56,15 +68,37 @@ impl Scan {
         }
     }
 
-    // The interface of an entry point; the words of its name do no harm.
+    // The interface of an entry point, after its stage, its function and its name.
     fn take_entry(&mut self, operands: &[u32]) {
-        if operands.first() == Some(&numbers::MODEL_FRAGMENT) {
-            for id in operands {
-                if let Some(known) = self.known.get_mut(*id as usize) {
-                    known.fragment = true;
-                }
+        let model = operands.first().copied().unwrap_or(u32::MAX);
+        self.has_tasks |= model == numbers::MODEL_TASK_EXT;
+        let rest = operands.get(2..).unwrap_or(&[]);
+        for id in rest.get(text_length(rest)..).unwrap_or(&[]) {
+            if let Some(known) = self.known.get_mut(*id as usize) {
+                known.fragment |= model == numbers::MODEL_FRAGMENT;
+                known.hit |= matches!(
+                    model,
+                    numbers::MODEL_ANY_HIT_KHR | numbers::MODEL_CLOSEST_HIT_KHR
+                );
+                known.mesh |= model == numbers::MODEL_MESH_EXT;
+                known.other |= model != numbers::MODEL_MESH_EXT;
             }
         }
+    }
+
+    /// Whether a stage of what a ray hits has the variable in its interface.
+    pub fn is_of_hit(&self, id: u32) -> bool {
+        self.at(id).hit
+    }
+
+    /// Whether a mesh stage has the variable in its interface.
+    pub fn is_of_mesh(&self, id: u32) -> bool {
+        self.at(id).mesh
+    }
+
+    /// Whether a stage that is no mesh stage has the variable in its interface.
+    pub fn is_of_other(&self, id: u32) -> bool {
+        self.at(id).other
     }
 
     /// Whether a fragment stage has the variable in its interface.
@@ -77,7 +111,7 @@ impl Scan {
         self.at(id).between
     }
 
-    /// Whether a variable that is an output is of this type.
+    /// Whether a variable that is an output is of this type, or of an array of it.
     pub fn is_output(&self, id: u32) -> bool {
         self.at(id).output
     }
@@ -100,8 +134,10 @@ impl Scan {
             }
             ops::VARIABLE if first == numbers::CLASS_OUTPUT => {
                 let to = pointee(listing, instruction.ty).unwrap_or(0);
-                if let Some(known) = self.known.get_mut(to as usize) {
-                    known.output = true;
+                self.set_output(to);
+                let ty = listing.defined(to);
+                if ty.opcode == ops::TYPE_ARRAY {
+                    self.set_output(listing.operand(&ty, 0).unwrap_or(0));
                 }
             }
             ops::TYPE_STRUCT => {
@@ -112,6 +148,12 @@ impl Scan {
                 self.set_buffer_block(instruction.id, self.is_buffer_block(first));
             }
             _ => {}
+        }
+    }
+
+    fn set_output(&mut self, id: u32) {
+        if let Some(known) = self.known.get_mut(id as usize) {
+            known.output = true;
         }
     }
 

@@ -5,7 +5,7 @@ use ir_kinds::{BuiltIn, ImageDimension, StorageFormat};
 use spirv_numbers::numbers;
 
 // The built-ins that are written in one way.
-static BUILT_INS: [(u32, BuiltIn); 27] = [
+static BUILT_INS: [(u32, BuiltIn); 44] = [
     (numbers::BUILT_IN_POINT_SIZE, BuiltIn::PointSize),
     (numbers::BUILT_IN_CLIP_DISTANCE, BuiltIn::ClipDistances),
     (numbers::BUILT_IN_CULL_DISTANCE, BuiltIn::CullDistance),
@@ -50,6 +50,59 @@ static BUILT_INS: [(u32, BuiltIn); 27] = [
     (
         numbers::BUILT_IN_BARY_COORD_NO_PERSP_KHR,
         BuiltIn::Barycentric { perspective: false },
+    ),
+    (
+        numbers::BUILT_IN_PRIMITIVE_POINT_INDICES_EXT,
+        BuiltIn::PointIndex,
+    ),
+    (
+        numbers::BUILT_IN_PRIMITIVE_LINE_INDICES_EXT,
+        BuiltIn::LineIndices,
+    ),
+    (
+        numbers::BUILT_IN_PRIMITIVE_TRIANGLE_INDICES_EXT,
+        BuiltIn::TriangleIndices,
+    ),
+    (numbers::BUILT_IN_CULL_PRIMITIVE_EXT, BuiltIn::CullPrimitive),
+    (numbers::BUILT_IN_LAUNCH_ID_KHR, BuiltIn::RayInvocationId),
+    (
+        numbers::BUILT_IN_LAUNCH_SIZE_KHR,
+        BuiltIn::NumRayInvocations,
+    ),
+    (
+        numbers::BUILT_IN_WORLD_RAY_ORIGIN_KHR,
+        BuiltIn::WorldRayOrigin,
+    ),
+    (
+        numbers::BUILT_IN_WORLD_RAY_DIRECTION_KHR,
+        BuiltIn::WorldRayDirection,
+    ),
+    (
+        numbers::BUILT_IN_OBJECT_RAY_ORIGIN_KHR,
+        BuiltIn::ObjectRayOrigin,
+    ),
+    (
+        numbers::BUILT_IN_OBJECT_RAY_DIRECTION_KHR,
+        BuiltIn::ObjectRayDirection,
+    ),
+    (numbers::BUILT_IN_RAY_TMIN_KHR, BuiltIn::RayTmin),
+    (numbers::BUILT_IN_RAY_TMAX_KHR, BuiltIn::RayTCurrentMax),
+    (
+        numbers::BUILT_IN_INSTANCE_CUSTOM_INDEX_KHR,
+        BuiltIn::InstanceCustomData,
+    ),
+    (
+        numbers::BUILT_IN_OBJECT_TO_WORLD_KHR,
+        BuiltIn::ObjectToWorld,
+    ),
+    (
+        numbers::BUILT_IN_WORLD_TO_OBJECT_KHR,
+        BuiltIn::WorldToObject,
+    ),
+    (numbers::BUILT_IN_HIT_KIND_KHR, BuiltIn::HitKind),
+    (
+        numbers::BUILT_IN_RAY_GEOMETRY_INDEX_KHR,
+        BuiltIn::GeometryIndex,
     ),
 ];
 
@@ -101,7 +154,7 @@ pub fn find<T: Copy>(table: &[(u32, T)], number: u32) -> Option<T> {
     None
 }
 
-/// Whether a built-in that is given is unsigned in the IR, and may be signed in SPIR-V.
+/// Whether a built-in is unsigned in the IR, and may be signed in SPIR-V.
 pub fn is_unsigned(built_in: BuiltIn) -> bool {
     matches!(
         built_in,
@@ -123,6 +176,14 @@ pub fn is_unsigned(built_in: BuiltIn) -> bool {
             | BuiltIn::SubgroupId
             | BuiltIn::SubgroupSize
             | BuiltIn::SubgroupInvocationId
+            | BuiltIn::PointIndex
+            | BuiltIn::LineIndices
+            | BuiltIn::TriangleIndices
+            | BuiltIn::RayInvocationId
+            | BuiltIn::NumRayInvocations
+            | BuiltIn::InstanceCustomData
+            | BuiltIn::GeometryIndex
+            | BuiltIn::HitKind
     )
 }
 
@@ -200,7 +261,7 @@ pub fn dimension(number: u32) -> Option<ImageDimension> {
 }
 
 // What the capabilities of SPIR-V are in the IR.
-static CAPABILITIES: [(u32, Capabilities); 23] = [
+static CAPABILITIES: [(u32, Capabilities); 26] = [
     (numbers::CAPABILITY_FLOAT64, Capabilities::FLOAT64),
     (numbers::CAPABILITY_FLOAT16, Capabilities::SHADER_FLOAT16),
     (numbers::CAPABILITY_INT16, Capabilities::SHADER_INT16),
@@ -255,7 +316,19 @@ static CAPABILITIES: [(u32, Capabilities); 23] = [
         numbers::CAPABILITY_INT64_IMAGE_EXT,
         Capabilities::TEXTURE_INT64_ATOMIC,
     ),
+    (
+        numbers::CAPABILITY_MESH_SHADING_EXT,
+        Capabilities::MESH_SHADER,
+    ),
     (numbers::CAPABILITY_RAY_QUERY_KHR, Capabilities::RAY_QUERY),
+    (
+        numbers::CAPABILITY_RAY_TRACING_KHR,
+        Capabilities::RAY_TRACING_PIPELINE,
+    ),
+    (
+        numbers::CAPABILITY_RAY_TRACING_NV,
+        Capabilities::RAY_TRACING_PIPELINE,
+    ),
     (
         numbers::CAPABILITY_RAY_QUERY_POSITION_FETCH_KHR,
         Capabilities::RAY_HIT_VERTEX_POSITION,
@@ -275,7 +348,11 @@ static CAPABILITIES: [(u32, Capabilities); 23] = [
 ];
 
 // Those that name a second one.
-static MORE_CAPABILITIES: [(u32, Capabilities); 7] = [
+static MORE_CAPABILITIES: [(u32, Capabilities); 8] = [
+    (
+        numbers::CAPABILITY_MESH_SHADING_EXT,
+        Capabilities::PRIMITIVE_INDEX,
+    ),
     (
         numbers::CAPABILITY_INT64_ATOMICS,
         Capabilities::SHADER_INT64_ATOMIC_MIN_MAX,

@@ -474,6 +474,9 @@ pub fn space_of(reading: &Reading, class: u32, to: u32) -> Option<AddressSpace> 
             Some(AddressSpace::Private)
         }
         numbers::CLASS_WORKGROUP => Some(AddressSpace::WorkGroup),
+        numbers::CLASS_TASK_PAYLOAD_WORKGROUP_EXT => Some(AddressSpace::TaskPayload),
+        numbers::CLASS_RAY_PAYLOAD_KHR => Some(AddressSpace::RayPayload),
+        numbers::CLASS_INCOMING_RAY_PAYLOAD_KHR => Some(AddressSpace::IncomingRayPayload),
         numbers::CLASS_FUNCTION => Some(AddressSpace::Function),
         numbers::CLASS_PUSH_CONSTANT => Some(AddressSpace::Immediate),
         numbers::CLASS_UNIFORM_CONSTANT => Some(AddressSpace::Handle),

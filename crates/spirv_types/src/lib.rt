@@ -11,6 +11,6 @@ pub use shapes::{
     ImageShape, ImageUse, MatrixShape, MemberMemory, MemberShape, Shape, Stored, TypeHandle,
     span_of,
 };
-pub use spirv_tables::{Layout, vector_size};
+pub use spirv_tables::{Layout, MeshMember, vector_size};
 pub use structs::{packed_line, stored_matrix};
 pub use table::{TypeTable, Types, insert, numbered, vector_type};

@@ -13,5 +13,5 @@ pub use listing::{Instruction, Listing, as_word, list, number_at, set_number};
 pub use parts::{FunctionParts, Parts};
 pub use pieces::{HEADER, Piece, cut};
 pub use spirv_numbers::{Groups, MAX_LEN};
-pub use text::{read_text, starts_text};
+pub use text::{read_text, starts_text, text_length};
 pub use unsupported::{Feature, Unsupported};

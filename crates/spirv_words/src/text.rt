@@ -20,6 +20,18 @@ pub fn read_text(alloc: Global, words: &[u32], word: u32) -> Result<(String, usi
     Err(SpirvError::malformed(Malformed::Text, word))
 }
 
+/// How many words the text takes that the words begin with; all of them where it does not end.
+pub fn text_length(words: &[u32]) -> usize {
+    for (taken, each) in words.iter().enumerate() {
+        for byte in each.to_le_bytes() {
+            if byte == 0 {
+                return taken.saturating_add(1);
+            }
+        }
+    }
+    words.len()
+}
+
 /// Whether the words begin with this text, and no more than that where `whole`.
 pub fn starts_text(words: &[u32], text: &str, whole: bool) -> bool {
     let mut at = 0;

@@ -149,10 +149,24 @@ pub enum Feature {
     LargeGroups,
     /// More than 32 decorations of one id or member, or execution modes of one function.
     ManyDecorations,
+    /// More than one mesh stage.
+    MeshStages,
+    /// A mesh stage that says no topology, or not how much it gives at most.
+    MeshCounts,
+    /// An output of a mesh stage that is no array, or that begins as something.
+    MeshArray,
+    /// An output of a mesh stage and of another stage.
+    MeshShared,
+    /// A whole output of a mesh stage.
+    MeshWhole,
+    /// OpEmitMeshTasksEXT in a function that is called.
+    EmitInCallee,
+    /// OpTraceRayKHR with an offset, a stride or a miss index that is not the constant 0.
+    ShaderBindingTable,
 }
 
 // What they are in words, in the order of the variants.
-static TEXTS: [&str; 71] = [
+static TEXTS: [&str; 78] = [
     "more expressions, types, members, atomic parts or names than so many words may make",
     "composites of specialization constants more than 32 deep",
     "a value out of its scope",
@@ -224,6 +238,13 @@ static TEXTS: [&str; 71] = [
     "an id above sixteen times the count of words",
     "more than sixteen decorations for each word, by groups",
     "more than 32 decorations of one id or member, or execution modes of one function",
+    "more than one mesh stage",
+    "a mesh stage that says no topology, or not how much it gives at most",
+    "an output of a mesh stage that is no array, or that begins as something",
+    "an output of a mesh stage and of another stage",
+    "a whole output of a mesh stage",
+    "OpEmitMeshTasksEXT in a function that is called",
+    "OpTraceRayKHR with an offset, a stride or a miss index that is not the constant 0",
 ];
 
 impl Feature {

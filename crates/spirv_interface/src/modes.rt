@@ -1,8 +1,8 @@
 // How entry points are executed (sections 3.3 and 3.6).
 
-use crate::declarations::Declared;
 use ir_flags::Capabilities;
 use ir_kinds::{EarlyDepthTest, ShaderStage};
+use spirv_declarations::Declared;
 use spirv_numbers::{numbers, ops};
 use spirv_tables::Decorated;
 use spirv_words::{Failure, Feature, Instruction, Listing, Unsupported};
@@ -22,6 +22,12 @@ pub fn stage_of(listing: &Listing, entry: &Instruction, failed: &mut Failure) ->
         numbers::MODEL_VERTEX => ShaderStage::Vertex,
         numbers::MODEL_FRAGMENT => ShaderStage::Fragment,
         numbers::MODEL_GL_COMPUTE => ShaderStage::Compute,
+        numbers::MODEL_RAY_GENERATION_KHR => ShaderStage::RayGeneration,
+        numbers::MODEL_ANY_HIT_KHR => ShaderStage::AnyHit,
+        numbers::MODEL_CLOSEST_HIT_KHR => ShaderStage::ClosestHit,
+        numbers::MODEL_MISS_KHR => ShaderStage::Miss,
+        numbers::MODEL_TASK_EXT => ShaderStage::Task,
+        numbers::MODEL_MESH_EXT => ShaderStage::Mesh,
         model => {
             failed.fail(entry.unsupported_as(Unsupported::Stage(model)));
             ShaderStage::Compute

@@ -1,12 +1,10 @@
 // The variables that an entry point takes and gives, and the locations that they share, each with some of the components.
 
+use crate::varyings::{Located, common_kind, located_type};
 use ir_kinds::{
     Binding, Interpolation, Sampling, Scalar, ScalarKind, SwizzleComponent, VectorSize,
 };
-use spirv_declarations::{
-    GlobalHandle, KnownVariables, Located, Variable, Varying, common_kind, located_type,
-    scalar_kind,
-};
+use spirv_declarations::{GlobalHandle, KnownVariables, Variable, Varying, scalar_kind};
 use spirv_numbers::numbers;
 use spirv_types::Types;
 use spirv_words::{Failure, Listing, SpirvError, Unsupported};
