@@ -245,6 +245,11 @@ impl Output {
         if reading.scan.is_of_other(id) {
             failed.fail(instruction.unsupported_by(Feature::MeshShared));
         }
+        let said = Decorated::of(&reading.listing, id, None);
+        if said.component.is_some() {
+            let what = Unsupported::Decoration(numbers::DECORATION_COMPONENT);
+            failed.fail(instruction.unsupported_as(what));
+        }
         let begins = reading.listing.operand(instruction, 1).is_some();
         let ty = match declared.types.shape(pointee_of(declared, instruction)) {
             Shape::Array { element, .. } if !begins => element,
@@ -255,7 +260,7 @@ impl Output {
         };
         Output {
             instruction: *instruction,
-            said: Decorated::of(&reading.listing, id, None),
+            said,
             ty,
             shape: declared.types.shape(ty),
         }
