@@ -1142,6 +1142,27 @@ def mesh_chains(n):
     return end(m)
 
 
+def past_the_last_component(n):
+    """n outputs that are to begin after the last component of a location."""
+    m = Module()
+    main = m.id()
+    n = min(n, 60000)
+    outputs = [m.id() for _ in range(n)]
+    m.op(17, 1)
+    m.op(14, 0, 1)
+    m.op(15, 4, main, *text("main"), *outputs)
+    m.op(16, main, 7)
+    for k, output in enumerate(outputs):
+        m.op(71, output, 30, k)
+        m.op(71, output, 31, 0xFFFFFFFF)
+    void, function, word, truth = types(m)
+    pointer = m.plain(32, 3, m.plain(22, 32))
+    for output in outputs:
+        m.op(59, pointer, output, 3)
+    begin(m, main, void, function)
+    return end(m)
+
+
 KINDS = [
     nested_ifs,
     long_switch,
@@ -1197,4 +1218,5 @@ KINDS = [
     mesh_outputs,
     mesh_blocks,
     mesh_chains,
+    past_the_last_component,
 ]

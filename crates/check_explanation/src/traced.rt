@@ -69,7 +69,10 @@ fn with_origin(
             explanation,
             origin,
         }),
-        Err(error) => Err(error),
+        Err(error) => {
+            drop(explanation);
+            Err(error)
+        }
     }
 }
 

@@ -154,13 +154,14 @@ impl Port {
             Some(blend) => blend.saturating_add(1),
             None => 0,
         };
+        let component = self.varying.component.unwrap_or(0);
         // a number of 64 bits has two components
-        if located.scalar.width == 8 || blend > MAX_BLEND {
+        if located.scalar.width == 8 || blend > MAX_BLEND || component > MAX_COMPONENT {
             return None;
         }
         Some(Piece {
             place: Place { location, blend },
-            component: self.varying.component.unwrap_or(0),
+            component,
             size: located.size,
             scalar: located.scalar,
             interpolation,
@@ -228,6 +229,9 @@ pub fn pieces_of(alloc: Global, ports: &[Port], most: usize, failed: &mut Failur
 
 // The last source of a blend, and one.
 const MAX_BLEND: u32 = 3;
+
+// The last component of a location.
+const MAX_COMPONENT: u32 = 3;
 
 /// How many parts of locations an entry point may take or give that shares some.
 pub const MAX_PIECES: u64 = 65536;
