@@ -14,6 +14,8 @@ import subprocess
 import sys
 
 FORMS = ["--verdict", "--verdict", "--names", "--json", "--leaves", "--document"]
+# what a word is changed to, beside ids
+NUMBERS = [0, 1, 2, 0xFFFF, 0xFFFFF, 1 << 30, 0x7FFFFFFF, 1 << 31, 0xFFFFFFFE, 0xFFFFFFFF]
 UNREAD = re.compile(rb"(unsupported|malformed): .+ at word [0-9]+\n")
 
 
@@ -28,7 +30,7 @@ def mutate(random_, words):
         elif kind == 1:
             words[at] = words[other]
         elif kind == 2:
-            words[at] = random_.choice([0, 1, 2, 0xFFFF, 0xFFFFFFFF, words[3], random_.randrange(1, max(2, words[3]))])
+            words[at] = random_.choice([*NUMBERS, words[3], random_.randrange(1, max(2, words[3]))])
         elif kind == 3:
             del words[at : at + random_.randrange(1, 6)]
         elif kind == 4:
