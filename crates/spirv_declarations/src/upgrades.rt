@@ -16,6 +16,10 @@ pub(crate) fn upgraded<T: Types>(
     depth: u32,
     failed: &mut Failure,
 ) -> TypeHandle {
+    // what is copied after that would be of no use, and more than what may be made
+    if failed.first.is_some() {
+        return handle;
+    }
     let span = span_of(instruction);
     let (Some(part), Some(depth)) = (reading.uses.atomics.part(place), depth.checked_sub(1)) else {
         failed.fail(instruction.unsupported_by(Feature::DeepAtomic));
