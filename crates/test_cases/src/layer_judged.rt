@@ -10,7 +10,6 @@ use crate::layer_made::lower_for;
 use function_interface::Lower;
 use function_tiny_lower::{TinyInfo, TinyLower};
 use ir_faults::refusal::Refusal;
-use ir_faults::with_span::WithSpan;
 use ir_flags::{Capabilities, ShaderStages, ValidationFlags};
 use ir_items::{Function, Module};
 use module_handles::{filter_parents_precede, handles_in_range, operands_precede};
@@ -59,18 +58,10 @@ fn judge(
     match validator.validate_function(function, module, kept, false) {
         Ok(info) => Ok(Some(info)),
         Err(Refusal::Memory(error)) => Err(error),
-        Err(Refusal::Fault(fault)) => tell_fault(told, fault),
-    }
-}
-
-// Tells why nothing is kept.
-fn tell_fault(
-    told: &mut String,
-    fault: WithSpan<FunctionError>,
-) -> Result<Option<TinyInfo>, AllocError> {
-    match freeing(told.push_str(word_of(fault.as_inner())), fault) {
-        Ok(()) => Ok(None),
-        Err(error) => Err(error),
+        Err(Refusal::Fault(fault)) => {
+            let done = told.push_str(word_of(fault.as_inner()));
+            completed(freeing(done, fault), None)
+        }
     }
 }
 
