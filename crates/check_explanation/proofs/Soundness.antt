@@ -7,8 +7,8 @@ use Rattle.document_reader.specs.judged.Plain.{PlainDocument}
 use Rattle.judgement.specs.judged.Text.{text_of}
 use Rattle.judgement.specs.declared.finding.Finding.{Finding}
 use Rattle.judgement.specs.declared.finding.Finding.TheVariants.{Accepted, RefusedDocument, RefusedHandles, Refused}
-use Rattle.judgement_runs.proofs.Sound.{accepted_is_sound}
-use Rattle.judgement_runs.specs.judged.Sound.{AreChecked}
+use Rattle.judgement_laws.proofs.Sound.{accepted_is_sound}
+use Rattle.judgement_laws.specs.judged.Sound.{AreChecked}
 use Rattle.judgement.specs.judged.Reports.{IsReport}
 use Rattle.shader_check.proofs.Once.{prepared_once}
 use Rattle.shader_check.specs.judged.Theorem.{JudgedDocument, IsReportedOf}

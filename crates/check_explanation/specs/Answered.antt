@@ -8,7 +8,7 @@ use Rattle.judgement.specs.judged.Steps.{IsFinding, IsPrepared}
 use Rattle.judgement.specs.judged.Text.{text_of}
 use Rattle.judgement.specs.declared.finding.Finding.{Finding}
 use Rattle.judgement.specs.declared.finding.Finding.TheVariants as findings
-use Rattle.judgement_runs.specs.judged.Sound.{AreChecked, ModuleIsSound}
+use Rattle.judgement_laws.specs.judged.Sound.{AreChecked, ModuleIsSound}
 use Rattle.shader_check.specs.found.Judgements.{IsJudgementOf}
 use Rattle.shader_check.specs.judged.Theorem.{JudgedDocument}
 use Rattle.shader_check.specs.declared.reported.Judgement.{Judgement}

@@ -1,6 +1,6 @@
 -- The uses and the pairs of an entry point's function, with uses noted of its own variables.
 use Rattle.std.proofs.Common.{◌≡◌, ◌⊎◌, ◌||◌, inl, inr, ℕ, Bool, true, false, true≢false, Option, Some, refl, sym, ap, ◌∙◌}
-use Rattle.spec_analysis.specs.declared.sampling.GlobalOrArgument.TheVariants.{Global}
+use Rattle.spec_expressions.specs.declared.sampling.GlobalOrArgument.TheVariants.{Global}
 use Rattle.ir_items.specs.judged.Plain.{PlainEntry}
 use Rattle.check_report.specs.Laws.{NotedIsReported}
 use Rattle.spec_interface.specs.judged.Uses.{OwnUse}

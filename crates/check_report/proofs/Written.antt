@@ -3,9 +3,9 @@ use Rattle.std.proofs.Common.{◌≡◌, ◌≤◌, ◌+◌, ◌⊎◌, inl, inr
 use Rattle.std.specs.List.{cons_option}
 use Rattle.std.specs.Prelude.{◌↔◌}
 use Rattle.std.proofs.lemmas.List.{append_assoc, append-nil, drop_all, flat_map_more}
-use Rattle.spec_analysis.specs.judged.Pairs.{SamplingPair}
-use Rattle.spec_analysis.specs.declared.sampling.GlobalOrArgument.{GlobalOrArgument}
-use Rattle.spec_analysis.specs.declared.sampling.GlobalOrArgument.TheVariants.{Argument, Global}
+use Rattle.spec_expressions.specs.judged.Pairs.{SamplingPair}
+use Rattle.spec_expressions.specs.declared.sampling.GlobalOrArgument.{GlobalOrArgument}
+use Rattle.spec_expressions.specs.declared.sampling.GlobalOrArgument.TheVariants.{Argument, Global}
 use Rattle.typing_infos.specs.declared.function_info.FunctionInfo.{FunctionInfo}
 use Rattle.ir_items.specs.judged.Plain.{PlainEntry, PlainModule}
 use Rattle.check_report.specs.Reported.{numbers_in, numbers_of, IsEntryInfo, Tells, AreLinesOf, AreEntryLines}

@@ -1,12 +1,12 @@
 -- When what is kept of an entry point is what the report reads.
 use Rattle.std.specs.Prelude.{◌≡◌, ◌<◌, ◌↔◌, ℕ, length}
-use Rattle.spec_analysis.specs.judged.Pairs.{SamplingPair}
+use Rattle.spec_expressions.specs.judged.Pairs.{SamplingPair}
 use Rattle.typing_infos.specs.declared.function_info.FunctionInfo.{FunctionInfo}
 use Rattle.ir_items.specs.judged.Plain.{PlainEntry, PlainModule}
 use Rattle.check_report.specs.Reported.{IsEntryInfo}
 use Rattle.typing_rules.specs.judged.Laws.{IsAmong}
-use Rattle.spec_analysis.specs.judged.Chains.{HasUse, HasPair}
-use Rattle.spec_analysis.specs.judged.Summaries.{HasUseBit}
+use Rattle.spec_expressions.specs.judged.Chains.{HasUse, HasPair}
+use Rattle.spec_expressions.specs.judged.Summaries.{HasUseBit}
 use Rattle.spec_interface.specs.judged.Uses.{EntryUses}
 
 -- It has the uses of global variables that the entry point makes, over all chains of calls of its function and by its payload and

@@ -10,7 +10,7 @@ use crate::pairs::write_samples;
 use ir_arena::handle::Handle;
 use ir_items::{EntryPoint, Module};
 use ir_types::key;
-use spec_analysis::GlobalUse;
+use spec_expressions::GlobalUse;
 use std::alloc::{AllocError, Global};
 use typing_infos::{FunctionInfo, ModuleInfo};
 

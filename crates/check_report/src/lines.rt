@@ -6,7 +6,7 @@ ghost use Rattle.judgement.specs.judged.Lines.{buffer_line, head_line, own_line,
 use bitflags::Flags;
 use ir_arena::handle::Handle;
 use ir_types::key;
-use spec_analysis::GlobalUse;
+use spec_expressions::GlobalUse;
 use std::alloc::AllocError;
 
 /// That of a buffer, by its number, its size and its alignment in bytes.

@@ -22,7 +22,7 @@ use Rattle.ir_kinds.specs.declared.spaces.AddressSpace.{AddressSpace}
 use Rattle.ir_kinds.specs.declared.spaces.AddressSpace.TheVariants.{RayPayload, IncomingRayPayload, TaskPayload}
 use Rattle.ir_kinds.specs.declared.stages.ShaderStage.{ShaderStage}
 use Rattle.ir_types.specs.judged.Plain.{PlainType}
-use Rattle.spec_analysis.specs.judged.Summaries.{HasUseBit}
+use Rattle.spec_expressions.specs.judged.Summaries.{HasUseBit}
 use Rattle.spec_interface.specs.judged.Entries.{ConnectionsOK}
 use Rattle.spec_interface.specs.judged.Members.{members_at}
 use Rattle.spec_interface.specs.judged.Meshes.{MeshOK}

@@ -8,8 +8,8 @@ use Rattle.ir_flags.specs.declared.settings.Capabilities.{Capabilities}
 use Rattle.ir_flags.specs.declared.settings.ValidationFlags.{ValidationFlags}
 use Rattle.ir_items.specs.judged.Plain.{PlainEntry, PlainModule}
 use Rattle.ir_items.specs.declared.entries.MeshStageInfo.{MeshStageInfo}
-use Rattle.spec_analysis.specs.judged.Summaries.{HasUseBit}
-use Rattle.spec_analysis.specs.declared.global_use.GlobalUse.{GlobalUse}
+use Rattle.spec_expressions.specs.judged.Summaries.{HasUseBit}
+use Rattle.spec_expressions.specs.declared.global_use.GlobalUse.{GlobalUse}
 use Rattle.spec_interface.specs.judged.Entries.{ConnectionsOK}
 use Rattle.spec_interface.specs.judged.Meshes.{ImpliesMeshInfo}
 use Rattle.spec_interface.specs.judged.Payloads.{PayloadOK}

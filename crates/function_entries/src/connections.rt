@@ -5,7 +5,7 @@ ghost use Rattle.function_entry_checks.specs.Faults.{IsRefusedFor};
 ghost use Rattle.function_entries.specs.ConnectionFaults.{IsConnectionFault};
 ghost use Rattle.function_entries.specs.Contexts.{AreSharedIn, IsKnown, entry_in, module_in};
 ghost use Rattle.ir_items.specs.declared.entries.MeshStageInfo.{MeshStageInfo};
-ghost use Rattle.spec_analysis.specs.judged.Summaries.{HasUseBit};
+ghost use Rattle.spec_expressions.specs.judged.Summaries.{HasUseBit};
 ghost use Rattle.spec_interface.specs.judged.Entries.{ConnectionsOK};
 ghost use Rattle.spec_interface.specs.judged.Varyings.{HasBlendSources, result_varyings};
 
@@ -15,7 +15,7 @@ use crate::outputs::check_mesh;
 use crate::varyings::{check_arguments, check_result};
 use function_entry_checks::{EntryPointError, check_variables};
 use ir_faults::refusal::Refusal;
-use spec_analysis::GlobalUse;
+use spec_expressions::GlobalUse;
 use std::alloc::Global;
 
 /// Whether what connects an entry point with other stages and with hosts is as it may be, where its global variables are used in

@@ -7,8 +7,8 @@ ghost use Rattle.function_varying_checks.specs.View.{IsReported, context_view};
 use function_varying_checks::VaryingContext;
 use ir_flags::{Capabilities, ValidationFlags};
 use ir_items::{EntryPoint, Module};
-use module_type_infos::TypeInfo;
 use spec_interface::Direction;
+use typing_layout::TypeInfo;
 
 /// What the rules of entry points may look at.
 #[derive(Clone, Copy)]

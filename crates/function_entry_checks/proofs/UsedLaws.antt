@@ -4,7 +4,7 @@ use Rattle.std.specs.Prelude.{◌↔◌, IsTrue, MatchOption, option_and_then, s
 use Rattle.std.specs.Int.{bit_at}
 use Rattle.std.proofs.lemmas.Bool.{cases_eq}
 use Rattle.std.proofs.lemmas.Option.{slice_get_within, unwrap_or-slice_get}
-use Rattle.spec_analysis.specs.declared.global_use.GlobalUse.{GlobalUse}
+use Rattle.spec_expressions.specs.declared.global_use.GlobalUse.{GlobalUse}
 use Rattle.function_entry_checks.proofs.Bits.{all_within, no_bit, some_bit, within_all}
 use Rattle.function_entry_checks.specs.Faults.{IsVariableFault, of_uses, SharesBinding, UsesTwoImmediates}
 use Rattle.function_entry_checks.specs.declared.error.EntryPointError.TheVariants as error
@@ -14,7 +14,7 @@ use Rattle.ir_items.specs.judged.Plain.{PlainEntry, PlainModule}
 use Rattle.ir_kinds.specs.declared.bindings.ResourceBinding.{ResourceBinding}
 use Rattle.ir_kinds.specs.declared.spaces.AddressSpace.{AddressSpace}
 use Rattle.ir_kinds.specs.declared.spaces.AddressSpace.TheVariants.{Immediate, TaskPayload}
-use Rattle.spec_analysis.specs.judged.Summaries.{HasUseBit, no_use}
+use Rattle.spec_expressions.specs.judged.Summaries.{HasUseBit, no_use}
 use Rattle.spec_interface.specs.judged.Payloads.{binding_at, space_at}
 use Rattle.spec_interface.specs.judged.Uses.{allowed_uses, is_reached}
 use Rattle.spec_interface.specs.judged.Variables.{BindingsApart, EachOK, IsUsed, OneImmediate, OwnPayloadOK, VariableOK, counted_inner}

@@ -1,7 +1,7 @@
 -- What is wrong with an entry point, by the rooms of its rules.
 use Rattle.std.specs.Prelude.{◌≡◌, ◌≢◌, ◌<◌, ◌↔◌, ℕ, List, All, Bool, true, false, Some, None, IsSome, is_some, slice_get}
 use Rattle.std.specs.Int.{bit_at}
-use Rattle.spec_analysis.specs.declared.global_use.GlobalUse.{GlobalUse}
+use Rattle.spec_expressions.specs.declared.global_use.GlobalUse.{GlobalUse}
 use Rattle.function_entry_checks.specs.declared.error.EntryPointError.{EntryPointError}
 use Rattle.function_entry_checks.specs.declared.error.EntryPointError.TheVariants as error
 use Rattle.ir_faults.specs.Faults.{error_of}

@@ -5,7 +5,7 @@ ghost use Rattle.function_entry_checks.specs.Bindings.{IsSeen};
 ghost use Rattle.function_entry_checks.specs.Faults.{IsBindingFault, IsRefusedFor};
 ghost use Rattle.ir_items.specs.found.View.{module_view};
 ghost use Rattle.ir_kinds.specs.declared.bindings.ResourceBinding.{ResourceBinding};
-ghost use Rattle.spec_analysis.specs.judged.Summaries.{HasUseBit};
+ghost use Rattle.spec_expressions.specs.judged.Summaries.{HasUseBit};
 ghost use Rattle.spec_interface.specs.judged.Payloads.{binding_at};
 ghost use Rattle.spec_interface.specs.judged.Variables.{BindingsApart, IsUsed};
 
@@ -16,7 +16,7 @@ use ir_faults::with_span::WithSpan;
 use ir_items::Module;
 use ir_kinds::ResourceBinding;
 use ir_types::key;
-use spec_analysis::GlobalUse;
+use spec_expressions::GlobalUse;
 use spec_interface::{binding_at, use_at};
 use std::alloc::{AllocError, Global};
 use std::collections::BTreeSet;

@@ -5,7 +5,7 @@ use ir_arena::handle::Handle;
 use ir_flags::Capabilities;
 use ir_kinds::ShaderStage;
 use ir_types::key;
-use spec_analysis::GlobalUse;
+use spec_expressions::GlobalUse;
 use thiserror::Error;
 use typing_errors::FunctionError;
 

@@ -6,7 +6,7 @@ ghost use Rattle.function_entry_checks.specs.Faults.{IsFaultOfOne, IsImmediateFa
 ghost use Rattle.ir_items.specs.found.GlobalView.{global_view};
 ghost use Rattle.ir_items.specs.found.View.{entry_view, module_view};
 ghost use Rattle.ir_kinds.specs.declared.spaces.AddressSpace.TheVariants.{Immediate, TaskPayload};
-ghost use Rattle.spec_analysis.specs.judged.Summaries.{HasUseBit};
+ghost use Rattle.spec_expressions.specs.judged.Summaries.{HasUseBit};
 ghost use Rattle.spec_interface.specs.judged.Payloads.{space_at};
 ghost use Rattle.spec_interface.specs.judged.Uses.{is_reached};
 ghost use Rattle.spec_interface.specs.judged.Variables.{EachOK, IsUsed, OneImmediate, OwnPayloadOK, VariableOK, VariablesOK};
@@ -23,7 +23,7 @@ use ir_flags::ValidationFlags;
 use ir_items::{EntryPoint, GlobalVariable, Module};
 use ir_kinds::{AddressSpace, ShaderStage};
 use ir_types::key;
-use spec_analysis::GlobalUse;
+use spec_expressions::GlobalUse;
 use spec_interface::{
     allowed_uses, inner_at, is_immediate, is_run_for_rays, is_task_payload, space_at, traces_rays,
     use_at,

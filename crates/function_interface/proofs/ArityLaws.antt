@@ -1,9 +1,9 @@
 -- Calls that pass another number of arguments, where the functions called are there.
 use Rattle.std.proofs.Common.{◌≡◌, length, Some, None, refl, sym, ap, ◌∙◌}
-use Rattle.spec_analysis.proofs.Members.{get-within}
+use Rattle.spec_expressions.proofs.Members.{get-within}
 use Rattle.ir_items.specs.judged.Plain.{PlainFunction, PlainModule}
-use Rattle.spec_handles.specs.Conditions.{HandlesInRange}
-use Rattle.spec_handles.specs.References.{done, statement_calls}
+use Rattle.spec_expressions.specs.Conditions.{HandlesInRange}
+use Rattle.spec_expressions.specs.References.{done, statement_calls}
 use Rattle.module_handles.specs.Tests.{PassesWrongCount, count_of}
 use Rattle.module_handles.specs.declared.arities.ArityFault.{ArityFault}
 

@@ -8,7 +8,7 @@ use Rattle.ir_faults.specs.declared.refusal.Refusal.TheVariants as refusal
 use Rattle.ir_flags.specs.declared.settings.Capabilities.{Capabilities}
 use Rattle.ir_flags.specs.declared.settings.ValidationFlags.{ValidationFlags}
 use Rattle.ir_flags.specs.declared.stages.ShaderStages.{ShaderStages}
-use Rattle.spec_analysis.specs.judged.Summaries.{Summary, IsJoined}
+use Rattle.spec_expressions.specs.judged.Summaries.{Summary, IsJoined}
 use Rattle.spec_statements.specs.judged.ExpressionStages.{all_stages}
 use Rattle.spec_statements.specs.judged.Functions.{Reading, AreFormsBy}
 use Rattle.typing_forms.specs.judged.Forms.{NoStructValue}
@@ -19,7 +19,7 @@ use Rattle.typing_errors.specs.Answers.{form_given}
 use Rattle.function_interface.specs.Arities.{IsArityFault}
 use Rattle.function_interface.specs.Question.{Question}
 use Rattle.ir_items.specs.judged.Plain.{PlainFunction, PlainModule}
-use Rattle.spec_handles.specs.Conditions.{AritiesMatch}
+use Rattle.spec_expressions.specs.Conditions.{AritiesMatch}
 
 -- What a lower layer says is wrong with a function: which faults its analysis finds, and which it finds at an expression.
 pub record Faults : Type 1 where

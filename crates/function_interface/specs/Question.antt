@@ -2,7 +2,7 @@
 use Rattle.std.specs.Prelude.{List}
 use Rattle.ir_flags.specs.declared.stages.ShaderStages.{ShaderStages}
 use Rattle.ir_items.specs.judged.Plain.{PlainFunction, PlainModule}
-use Rattle.spec_analysis.specs.judged.Summaries.{Summary}
+use Rattle.spec_expressions.specs.judged.Summaries.{Summary}
 
 -- A function of a module, where this is kept of the functions before it: their summaries, and the stages that may run them.
 pub record Question : Type 0 where

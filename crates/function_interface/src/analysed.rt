@@ -5,7 +5,7 @@ ghost use Rattle.function_interface.specs.Analysis.{IsFaultBefore, IsKept, IsRef
 ghost use Rattle.function_interface.specs.Question.{question};
 ghost use Rattle.ir_items.specs.found.View.{function_view, module_view};
 ghost use Rattle.ir_proc.specs.found.Filters.{ParentsPrecede};
-ghost use Rattle.spec_handles.specs.Conditions.{AritiesMatch, HandlesInRange, OperandsPrecede};
+ghost use Rattle.spec_expressions.specs.Conditions.{AritiesMatch, HandlesInRange, OperandsPrecede};
 
 use crate::arities::check_arities;
 use crate::lower::Lower;

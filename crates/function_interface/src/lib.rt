@@ -1,23 +1,34 @@
 //! What the rules of functions require of the layers below them: `Lower`; and its analysis, before which the arity of
 //! calls is checked.
 //!
-//! Whether what denotes the answers of a function's statements is answered, and which stages may run the statements of its
-//! body.
+//! Whether a function may have its variables, what it is given and what it answers; whether what denotes the answers of its
+//! statements is answered, and which stages may run the statements of its body.
 #![tactic(auto)]
 
 mod analysed;
 mod answered;
+mod arguments;
 mod arities;
 mod callees;
+mod flags;
+mod interface;
+mod item_names;
+pub mod laws;
+mod locals;
 mod lower;
+mod results;
 mod statements;
 mod walk;
 
 pub use analysed::analyse_function;
 pub use answered::check_answered;
+pub use arguments::check_arguments;
 pub use arities::check_arities;
 pub use callees::NotedStages;
+pub use interface::check_interface;
+pub use locals::{check_local, check_locals};
 pub use lower::Lower;
 pub use module_context::{CalleeStages, ListedStages};
+pub use results::check_result;
 pub use statements::statement_stages;
 pub use walk::stages_of;

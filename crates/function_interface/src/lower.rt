@@ -14,11 +14,11 @@ ghost use Rattle.ir_items.specs.judged.GlobalPlain.{PlainGlobal};
 ghost use Rattle.ir_items.specs.judged.Plain.{PlainModule};
 ghost use Rattle.ir_items.specs.found.View.{function_view, module_view};
 ghost use Rattle.ir_proc.specs.found.Filters.{ParentsPrecede};
-ghost use Rattle.spec_analysis.specs.judged.Summaries.{AgreeOnCallees, HasUseBit, Summary};
-ghost use Rattle.spec_handles.specs.Conditions.{HandlesInRange, OperandsPrecede};
+ghost use Rattle.spec_expressions.specs.judged.Summaries.{AgreeOnCallees, HasUseBit, Summary};
+ghost use Rattle.spec_expressions.specs.Conditions.{HandlesInRange, OperandsPrecede};
 ghost use Rattle.spec_statements.specs.judged.Functions.{Reading};
 ghost use Rattle.function_statement_checks.specs.View.{context_view, IsKnown};
-ghost use Rattle.module_type_infos.specs.declared.info.TypeInfo.{TypeInfo};
+ghost use Rattle.typing_layout.specs.declared.info.TypeInfo.{TypeInfo};
 ghost use Rattle.typing_forms.specs.declared.form.Form.{Form};
 ghost use Rattle.typing_forms.specs.declared.resolution.TypeResolution.{TypeResolution};
 ghost use Rattle.typing_errors.specs.Answers.{form_given};
@@ -29,11 +29,11 @@ use ir_faults::refusal::Refusal;
 use ir_flags::{ShaderStages, ValidationFlags};
 use ir_items::{Function, Module};
 use ir_types::key;
-use module_type_infos::TypeInfo;
-use spec_analysis::{GlobalUse, SamplingPair};
+use spec_expressions::{GlobalUse, SamplingPair};
 use std::alloc::Global;
 use typing_errors::{ExpressionError, FunctionError};
 use typing_forms::TypeResolution;
+use typing_layout::TypeInfo;
 
 /// What types the expressions of a module's functions, analyses its functions, and reports on its types. The rules of functions
 /// depend on it and on nothing that it does: over any such layer they are the same, read with what the layer says.

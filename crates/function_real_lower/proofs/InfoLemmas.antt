@@ -3,17 +3,17 @@ use Rattle.std.proofs.Common.{◌≡◌, ℕ, zero, suc, ◌+◌, ◌<◌, Optio
 use Rattle.std.specs.Prelude.{slice_index_or}
 use Rattle.std.proofs.lemmas.Option.{slice_get_within, slice_get-get_or}
 use Rattle.typing_uniformity.specs.Facts.{AreUniformities}
-use Rattle.spec_analysis.specs.declared.expression_info.ExpressionInfo.{ExpressionInfo}
-use Rattle.spec_analysis.specs.declared.uniformity.Uniformity.{Uniformity}
+use Rattle.spec_expressions.specs.declared.expression_info.ExpressionInfo.{ExpressionInfo}
+use Rattle.spec_expressions.specs.declared.uniformity.Uniformity.{Uniformity}
 use Rattle.typing_summaries.specs.Tallied.{IsTally}
 use Rattle.typing_summaries.specs.Tallies.{Tallied}
 use Rattle.ir_items.specs.judged.Plain.{PlainFunction, PlainModule}
-use Rattle.spec_analysis.specs.judged.Summaries.{Summary}
-use Rattle.spec_analysis.specs.judged.Values.{AreStarts}
+use Rattle.spec_expressions.specs.judged.Summaries.{Summary}
+use Rattle.spec_expressions.specs.judged.Values.{AreStarts}
 use Rattle.spec_expressions.specs.judged.Context.{inside}
 use Rattle.function_real_lower.specs.Infos.{IsExpressionInfo, AreExpressionInfos}
 use Rattle.function_real_lower.specs.Kept.{unknown, info_at, infos_from}
-use Rattle.typing_expressions.specs.Types.{AreTypes}
+use Rattle.typing_infos.specs.Types.{AreTypes}
 use Rattle.typing_forms.specs.declared.resolution.TypeResolution.{TypeResolution}
 
 some_is : {X : Type 0} {a b : X} → Some a ≡ Some b → a ≡ b

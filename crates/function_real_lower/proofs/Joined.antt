@@ -2,17 +2,17 @@
 use Rattle.std.proofs.Common.{ℕ, List, Option, Some, None, sym, ◌∙◌, subst, inl, inr, length, ◌<◌}
 use Rattle.typing_infos.specs.Infos.{summary_of}
 use Rattle.typing_infos.specs.declared.function_info.FunctionInfo.{FunctionInfo}
-use Rattle.spec_analysis.specs.judged.Faults.{FunctionFault}
+use Rattle.spec_expressions.specs.judged.Faults.{FunctionFault}
 use Rattle.typing_errors.specs.declared.error.FunctionError.{FunctionError}
 use Rattle.ir_faults.specs.Faults.{error_of}
 use Rattle.ir_faults.specs.declared.refusal.Refusal.{Refusal}
 use Rattle.ir_faults.specs.declared.refusal.Refusal.TheVariants as refusal
 use Rattle.ir_flags.specs.declared.settings.ValidationFlags.{ValidationFlags}
 use Rattle.ir_items.specs.judged.Plain.{PlainFunction, PlainModule}
-use Rattle.spec_analysis.proofs.Members.{get-within}
-use Rattle.spec_analysis.proofs.SummaryLaws.{joined_by_callees}
-use Rattle.spec_analysis.specs.judged.Summaries.{Summary, CallsOne, IsFormFault, AgreeOnCallees}
-use Rattle.spec_analysis.specs.judged.Uniformity.{Required}
+use Rattle.spec_expressions.proofs.Members.{get-within}
+use Rattle.spec_expressions.proofs.SummaryLaws.{joined_by_callees}
+use Rattle.spec_expressions.specs.judged.Summaries.{Summary, CallsOne, IsFormFault, AgreeOnCallees}
+use Rattle.spec_expressions.specs.judged.Uniformity.{Required}
 use Rattle.spec_expressions.specs.judged.Context.{inside}
 use Rattle.spec_expressions.specs.declared.faults.TypingFault.{TypingFault}
 use Rattle.std.proofs.lemmas.Option.{slice_get_within}

@@ -2,7 +2,7 @@
 use Rattle.std.proofs.Common.{◌≡◌, ℕ, List, Option, Some, None, Result, Ok, Err, IfOk, IfErr, map, option_map, length, slice_get, refl, sym, ap, subst, ◌∙◌}
 use Rattle.std.proofs.lemmas.List.{length-map}
 use Rattle.std.proofs.lemmas.Option.{slice_get-map}
-use Rattle.spec_analysis.specs.declared.expression_info.ExpressionInfo.{ExpressionInfo}
+use Rattle.spec_expressions.specs.declared.expression_info.ExpressionInfo.{ExpressionInfo}
 use Rattle.typing_infos.specs.Infos.{summary_of}
 use Rattle.typing_infos.specs.declared.function_info.FunctionInfo.{FunctionInfo}
 use Rattle.typing_errors.specs.declared.error.FunctionError.{FunctionError}
@@ -17,11 +17,11 @@ use Rattle.ir_types.specs.judged.Plain.{plain, struct}
 use Rattle.module_handles.proofs.OrderedTypes.{order_gives_types}
 use Rattle.function_real_lower.specs.Made.{types_of}
 use Rattle.function_real_lower.specs.Readings.{reading_of, faults_of}
-use Rattle.spec_analysis.specs.judged.Summaries.{Summary}
+use Rattle.spec_expressions.specs.judged.Summaries.{Summary}
 use Rattle.spec_statements.specs.judged.ExpressionStages.{all_stages}
 use Rattle.spec_expressions.specs.judged.Typing.{HasType}
-use Rattle.spec_handles.specs.Conditions.{HandlesInRange}
-use Rattle.spec_handles.specs.InOrder.{HandlesOK}
+use Rattle.spec_expressions.specs.Conditions.{HandlesInRange}
+use Rattle.spec_expressions.specs.InOrder.{HandlesOK}
 use Rattle.function_real_lower.specs.Infos.{AreExpressionInfos}
 use Rattle.typing_forms.specs.judged.Forms.{NoStructValue, form_of}
 use Rattle.typing_forms.specs.judged.Resolutions.{PlainResolution, by_handle, by_value, resolution_view}

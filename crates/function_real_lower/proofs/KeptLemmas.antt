@@ -4,10 +4,10 @@ use Rattle.std.specs.List.{flat_map}
 use Rattle.bitflags.specs.Sets.{known_bits}
 use Rattle.ir_flags.specs.Words.{shader_stages}
 use Rattle.ir_items.specs.judged.Plain.{PlainFunction, PlainModule}
-use Rattle.spec_analysis.specs.judged.Summaries.{Summary, IsJoined}
+use Rattle.spec_expressions.specs.judged.Summaries.{Summary, IsJoined}
 use Rattle.typing_infos.specs.Infos.{summary_of, key_of}
 use Rattle.typing_infos.specs.declared.function_info.FunctionInfo.{FunctionInfo}
-use Rattle.typing_sampling.specs.Listed.{listed}
+use Rattle.typing_summaries.specs.Listed.{listed}
 use Rattle.typing_summaries.specs.Tallied.{summary_in}
 use Rattle.typing_summaries.specs.Tallies.{tallied}
 use Rattle.function_real_lower.specs.Infos.{IsFunctionInfo}

@@ -3,11 +3,11 @@ use Rattle.std.specs.Prelude.{Bool}
 use Rattle.ir_flags.specs.declared.settings.Capabilities.{Capabilities}
 use Rattle.ir_items.specs.judged.Plain.{PlainModule}
 use Rattle.typing_infos.specs.declared.info.ModuleInfo.{ModuleInfo}
-use Rattle.module_types.specs.Validated.{AreAccepted}
+use Rattle.module_context.specs.AcceptedTypes.{AreAccepted}
 use Rattle.function_real_lower.specs.Made.{IsMadeOf}
 use Rattle.spec_expressions.specs.judged.Context.{outside}
-use Rattle.spec_handles.specs.InOrder.{HandlesOK}
-use Rattle.typing_expressions.specs.Types.{AreTypes}
+use Rattle.spec_expressions.specs.InOrder.{HandlesOK}
+use Rattle.typing_infos.specs.Types.{AreTypes}
 
 pub made_of : (capabilities : Capabilities) (resolved : Bool) (m : PlainModule) (info : ModuleInfo) → HandlesOK m → AreAccepted capabilities resolved m.types info.types.items
     → AreTypes (outside m) m.global_expressions info.const_expression_types.items → IsMadeOf m info

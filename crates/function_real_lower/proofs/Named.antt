@@ -4,12 +4,12 @@ use Rattle.ir_types.specs.judged.ExpressionPlain.{PlainExpression, compose, plai
 use Rattle.ir_types.specs.declared.expressions.Expression.TheVariants as x
 use Rattle.ir_items.specs.judged.Plain.{PlainFunction, PlainModule}
 use Rattle.spec_expressions.specs.judged.Context.{inside}
-use Rattle.spec_handles.specs.Conditions.{HandlesInRange}
-use Rattle.spec_handles.specs.Expressions.{expression_item}
-use Rattle.spec_handles.specs.References.{item, computed, expression_names, ItemExists}
-use Rattle.spec_handles.specs.declared.target.Target.{Target}
-use Rattle.spec_handles.specs.declared.target.Target.TheVariants as target
-use Rattle.typing_expressions.specs.Types.{ItemsNamed}
+use Rattle.spec_expressions.specs.Conditions.{HandlesInRange}
+use Rattle.spec_expressions.specs.Expressions.{expression_item}
+use Rattle.spec_expressions.specs.References.{item, computed, expression_names, ItemExists}
+use Rattle.spec_expressions.specs.declared.target.Target.{Target}
+use Rattle.spec_expressions.specs.declared.target.Target.TheVariants as target
+use Rattle.typing_infos.specs.Types.{ItemsNamed}
 
 module _ (m : PlainModule) (f : PlainFunction) (within : HandlesInRange m f) where
   there : (e : ℕ) (y : PlainExpression) (t : Target) → slice_get f.expressions e ≡ Some y → expression_item y ≡ Some t → ItemExists m f t

@@ -7,12 +7,12 @@ use Rattle.ir_items.specs.found.GlobalView.{values_of, global_view}
 use Rattle.ir_items.specs.found.View.{function_view, module_view}
 use Rattle.ir_items.specs.declared.functions.Function.{Function}
 use Rattle.ir_items.specs.declared.module.Module.{Module}
-use Rattle.spec_analysis.specs.judged.Values.{AreStarts}
-use Rattle.spec_analysis.specs.judged.Summaries.{Summary}
+use Rattle.spec_expressions.specs.judged.Values.{AreStarts}
+use Rattle.spec_expressions.specs.judged.Summaries.{Summary}
 use Rattle.typing_summaries.specs.Tallies.{Tallied, whole_tally}
 use Rattle.typing_summaries.specs.Tallied.{IsTally}
 use Rattle.typing_summaries.proofs.TallyLaws.{tally_is}
-use Rattle.typing_expressions.proofs.TypeLemmas.{length_views}
+use Rattle.typing_infos.proofs.TypeLemmas.{length_views}
 
 pub whole_is : (f : Function) (globals : List (Option ℕ)) (summaries : List Summary) (n : ℕ) (t : Tallied) → AreStarts (function_view f).expressions globals
     → t ≡ whole_tally (record { expressions = map expression_view (values_of f.expressions); globals = globals; summaries = summaries }) (length f.expressions) n (block_view f.body)

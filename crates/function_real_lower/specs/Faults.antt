@@ -1,11 +1,11 @@
 -- Why a function has no summary.
 use Rattle.std.specs.Prelude.{List}
 use Rattle.ir_items.specs.judged.Plain.{PlainFunction, PlainModule}
-use Rattle.spec_analysis.specs.judged.Summaries.{Summary, IsFormFault}
+use Rattle.spec_expressions.specs.judged.Summaries.{Summary, IsFormFault}
 use Rattle.spec_expressions.specs.judged.Context.{inside}
 use Rattle.function_real_lower.specs.declared.summary.SummaryError.{SummaryError}
 use Rattle.function_real_lower.specs.declared.summary.SummaryError.TheVariants.{Memory, Untyped, WrongForm}
-use Rattle.typing_expressions.specs.Types.{IsUntypedFirst}
+use Rattle.typing_infos.specs.Types.{IsUntypedFirst}
 
 -- the refusal is that memory ran out, or a fault of the function that stands
 abbrev pub IsSummaryFault : PlainModule → PlainFunction → List Summary → SummaryError → Type 0

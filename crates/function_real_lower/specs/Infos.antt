@@ -5,12 +5,12 @@ use Rattle.bitflags.specs.Sets.{known_bits}
 use Rattle.ir_flags.specs.Words.{shader_stages}
 use Rattle.ir_items.specs.judged.Plain.{PlainFunction, PlainModule}
 use Rattle.typing_uniformity.specs.Facts.{IsUniformity}
-use Rattle.spec_analysis.specs.declared.expression_info.ExpressionInfo.{ExpressionInfo}
+use Rattle.spec_expressions.specs.declared.expression_info.ExpressionInfo.{ExpressionInfo}
 use Rattle.typing_infos.specs.Infos.{summary_of, key_of}
 use Rattle.typing_infos.specs.declared.function_info.FunctionInfo.{FunctionInfo}
-use Rattle.spec_analysis.specs.judged.Effects.{effects_of, places_of}
-use Rattle.spec_analysis.specs.judged.Summaries.{Summary, IsJoined}
-use Rattle.spec_analysis.specs.judged.Values.{StartsAt}
+use Rattle.spec_expressions.specs.judged.Effects.{effects_of, places_of}
+use Rattle.spec_expressions.specs.judged.Summaries.{Summary, IsJoined}
+use Rattle.spec_expressions.specs.judged.Values.{StartsAt}
 use Rattle.spec_expressions.specs.judged.Typing.{HasType}
 use Rattle.typing_errors.specs.Answers.{form_given}
 

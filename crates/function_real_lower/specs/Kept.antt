@@ -1,8 +1,8 @@
 -- What is put together of each expression.
 use Rattle.std.specs.Prelude.{ℕ, ◌+◌, List, [], ◌∷◌, Option, None, slice_index_or}
-use Rattle.spec_analysis.specs.declared.expression_info.ExpressionInfo.{ExpressionInfo}
-use Rattle.spec_analysis.specs.declared.uniformity.Uniformity.{Uniformity}
-use Rattle.spec_analysis.specs.judged.Values.{known_at}
+use Rattle.spec_expressions.specs.declared.expression_info.ExpressionInfo.{ExpressionInfo}
+use Rattle.spec_expressions.specs.declared.uniformity.Uniformity.{Uniformity}
+use Rattle.spec_expressions.specs.judged.Values.{known_at}
 use Rattle.typing_forms.specs.declared.resolution.TypeResolution.{TypeResolution}
 
 -- what is known of no expression

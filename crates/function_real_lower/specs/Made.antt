@@ -1,13 +1,13 @@
 -- What is kept of a module is that of this one, whose handles are in order.
 use Rattle.std.specs.Prelude.{List, map}
-use Rattle.spec_analysis.specs.declared.expression_info.ExpressionInfo.{ExpressionInfo}
+use Rattle.spec_expressions.specs.declared.expression_info.ExpressionInfo.{ExpressionInfo}
 use Rattle.typing_infos.specs.declared.function_info.FunctionInfo.{FunctionInfo}
 use Rattle.function_interface.specs.Reported.{AreReported}
 use Rattle.ir_items.specs.judged.Plain.{PlainModule}
 use Rattle.typing_infos.specs.declared.info.ModuleInfo.{ModuleInfo}
 use Rattle.spec_expressions.specs.judged.Context.{outside}
-use Rattle.spec_handles.specs.InOrder.{HandlesOK}
-use Rattle.typing_expressions.specs.Types.{AreTypes}
+use Rattle.spec_expressions.specs.InOrder.{HandlesOK}
+use Rattle.typing_infos.specs.Types.{AreTypes}
 use Rattle.typing_forms.specs.declared.resolution.TypeResolution.{TypeResolution}
 
 -- the handles of the module are in order; it reports of all types of the module, and has the types of all its global expressions

@@ -1,8 +1,8 @@
 -- What is answered of a function: what is kept of it, or a fault.
 use Rattle.std.specs.Prelude.{◌≡◌, ℕ, List, [], Result, Ok, Err}
-use Rattle.spec_analysis.specs.declared.uniformity.UniformityRequirements.{UniformityRequirements}
+use Rattle.spec_expressions.specs.declared.uniformity.UniformityRequirements.{UniformityRequirements}
 use Rattle.typing_infos.specs.declared.function_info.FunctionInfo.{FunctionInfo}
-use Rattle.spec_analysis.specs.judged.Faults.{FunctionFault}
+use Rattle.spec_expressions.specs.judged.Faults.{FunctionFault}
 use Rattle.typing_errors.specs.declared.expressions.ExpressionError.TheVariants.{Typing, ExpectedGlobalOrArgument}
 use Rattle.typing_errors.specs.declared.error.FunctionError.{FunctionError}
 use Rattle.typing_errors.specs.declared.error.FunctionError.TheVariants.{Expression, NonUniformControlFlow}
@@ -12,7 +12,7 @@ use Rattle.ir_faults.specs.declared.refusal.Refusal.{Refusal}
 use Rattle.ir_faults.specs.declared.refusal.Refusal.TheVariants as refusal
 use Rattle.ir_flags.specs.declared.settings.ValidationFlags.{ValidationFlags}
 use Rattle.ir_items.specs.judged.Plain.{PlainFunction, PlainModule}
-use Rattle.spec_analysis.specs.judged.Summaries.{Summary, IsFormFault}
+use Rattle.spec_expressions.specs.judged.Summaries.{Summary, IsFormFault}
 use Rattle.spec_expressions.specs.judged.Context.{inside}
 use Rattle.function_real_lower.specs.Infos.{IsFunctionInfo}
 use Rattle.typing_errors.specs.Answers.{fault_of, ReportsFault}

@@ -4,11 +4,11 @@ use Rattle.ir_items.specs.judged.Plain.{PlainFunction, PlainModule}
 use Rattle.typing_uniformity.specs.Facts.{AreUniformities}
 use Rattle.typing_summaries.specs.Tallied.{IsTally}
 use Rattle.typing_summaries.specs.Tallies.{tallied}
-use Rattle.spec_analysis.specs.judged.Summaries.{Summary, IsFormFault}
-use Rattle.spec_analysis.specs.judged.Values.{AreStarts}
+use Rattle.spec_expressions.specs.judged.Summaries.{Summary, IsFormFault}
+use Rattle.spec_expressions.specs.judged.Values.{AreStarts}
 use Rattle.spec_expressions.specs.judged.Context.{inside}
 use Rattle.function_real_lower.specs.declared.summary.Summarized.{Summarized}
-use Rattle.typing_expressions.specs.Types.{AreTypes}
+use Rattle.typing_infos.specs.Types.{AreTypes}
 
 -- It is found of the function, which calls others of which these summaries are kept, and no operand is of a wrong form.
 pub record IsSummarized (m : PlainModule) (f : PlainFunction) (summaries : List Summary) (s : Summarized) : Type 0 where

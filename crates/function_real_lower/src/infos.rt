@@ -1,12 +1,12 @@
 //! What is kept of a function, put together.
 
 ghost use Rattle.std.specs.Prelude.{◌≡◌, IfOk, slice_index_or};
-ghost use Rattle.spec_analysis.specs.judged.Values.{known_at};
+ghost use Rattle.spec_expressions.specs.judged.Values.{known_at};
 ghost use Rattle.function_real_lower.specs.Kept.{unknown, infos_from};
 
 use ir_arena::handle::Handle;
 use ir_types::key;
-use spec_analysis::{ExpressionInfo, Uniformity, UniformityRequirements};
+use spec_expressions::{ExpressionInfo, Uniformity, UniformityRequirements};
 use std::alloc::{AllocError, Global};
 use typing_forms::TypeResolution;
 

@@ -16,12 +16,12 @@ use ir_kinds::Severity;
 use ir_types::key;
 use module_context::CheckContext;
 use module_expressions::{expression_stages, validate_expression};
-use module_type_infos::TypeInfo;
-use spec_analysis::{GlobalUse, SamplingPair};
+use spec_expressions::{GlobalUse, SamplingPair};
 use std::alloc::{AllocError, Global};
 use typing_errors::{ExpressionError, FunctionError};
 use typing_forms::TypeResolution;
 use typing_infos::{FunctionInfo, ModuleInfo};
+use typing_layout::TypeInfo;
 use typing_uniformity::severities_of;
 
 /// What is kept of a module, and with it the typing of its expressions, the analysis of its functions and the checks of their

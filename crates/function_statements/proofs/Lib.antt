@@ -1,3 +1,6 @@
+pub mod OperationRefuted
+pub mod PayloadLemmas
 mod Places
 pub mod Refuted
+pub mod SubgroupRefuted
 pub mod SwitchRefuted

@@ -6,8 +6,8 @@ use Rattle.spec_statements.specs.judged.BlockContext.{BlockContext}
 use Rattle.spec_statements.specs.judged.Statements.{StatementOK, OperationOK}
 use Rattle.function_statement_checks.proofs.Refuted.{faults_refute_lem as by_statement}
 use Rattle.function_atomic_checks.proofs.Refuted.{faults_refute_lem as by_atomic}
-use Rattle.function_operation_checks.proofs.Refuted.{faults_refute_lem as by_ray}
-use Rattle.function_operation_checks.proofs.SubgroupRefuted.{faults_refute_lem as by_subgroup}
+use Rattle.function_statements.proofs.OperationRefuted.{faults_refute_lem as by_ray}
+use Rattle.function_statements.proofs.SubgroupRefuted.{faults_refute_lem as by_subgroup}
 use Rattle.function_statements.proofs.SwitchRefuted.{faults_refute_lem as by_switch}
 use Rattle.function_statements.specs.Faults.{IsOperationFault, IsStatementFault}
 use Rattle.function_statements.specs.Laws.{FaultsRefute}

@@ -9,8 +9,8 @@ use Rattle.ir_faults.specs.declared.refusal.Refusal.TheVariants as refusal
 use Rattle.function_atomic_checks.specs.Atomics.{IsAtomicFault}
 use Rattle.function_atomic_checks.specs.StorageImages.{IsImageStoreFault, IsImageAtomicFault}
 use Rattle.function_atomic_checks.specs.UniformLoads.{IsUniformLoadFault}
-use Rattle.function_operation_checks.specs.RayPipelines.{IsRayPipelineFault}
-use Rattle.function_operation_checks.specs.RayQueries.{IsRayQueryFault}
+use Rattle.function_statements.specs.RayPipelines.{IsRayPipelineFault}
+use Rattle.function_statements.specs.RayQueries.{IsRayQueryFault}
 use Rattle.spec_statements.specs.judged.BlockContext.{BlockContext}
 use Rattle.function_statement_checks.specs.Barriers.{IsBarrierFault}
 use Rattle.function_statement_checks.specs.Calls.{IsCallFault}
@@ -21,7 +21,7 @@ use Rattle.function_statement_checks.specs.Returns.{IsReturnFault}
 use Rattle.function_statement_checks.specs.Stores.{IsStoreFault}
 use Rattle.function_statements.specs.declared.error.StatementError.{StatementError}
 use Rattle.function_statements.specs.declared.error.StatementError.TheVariants.{Memory, Fault}
-use Rattle.function_operation_checks.specs.Subgroups.{IsBallotFault, IsCollectiveFault, IsGatherFault}
+use Rattle.function_statements.specs.Subgroups.{IsBallotFault, IsCollectiveFault, IsGatherFault}
 use Rattle.function_statements.specs.Switches.{IsSwitchFault}
 
 abbrev pub IsOperationFault : BlockContext → PlainOperation → FunctionError → Type 0

@@ -1,5 +1,11 @@
-pub mod Faults
 pub mod Bodies
+pub mod Faults
 pub mod Laws
-pub mod Switches
+pub mod OperationLaws
+pub mod Payloads
+pub mod RayPipelines
+pub mod RayQueries
+pub mod SubgroupLaws
+pub mod Subgroups
 pub mod SwitchLaws
+pub mod Switches

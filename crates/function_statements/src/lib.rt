@@ -1,16 +1,28 @@
-//! Whether each statement of a body, at any depth, meets its rule, and switches among them. The rules of other kinds stand in
-//! `function_statement_checks`, `function_operation_checks` and `function_atomic_checks`.
+//! Whether each statement of a body, at any depth, meets its rule: switches among them, and statements that operate on subgroups
+//! (ballots, collective operations and gathers) or follow rays (ray queries, and rays that a pipeline traces, with the types of
+//! their payloads). The rules of other kinds stand in `function_statement_checks` and `function_atomic_checks`.
 #![tactic(auto)]
 
 mod answers;
 mod body;
 mod error;
 pub mod laws;
+pub mod operation_laws;
+mod payloads;
+mod ray_pipelines;
+mod ray_queries;
+mod rays;
 mod rules;
 mod statement;
+pub mod subgroup_laws;
+mod subgroups;
 pub mod switch_laws;
 mod switches;
 
 pub use answers::next_answers;
 pub use body::validate_statements;
+pub use payloads::payload_of;
+pub use ray_pipelines::check_ray_pipeline;
+pub use ray_queries::check_ray_query;
+pub use subgroups::{check_ballot, check_collective, check_gather};
 pub use switches::check_switch;

@@ -13,13 +13,12 @@ ghost use Rattle.function_statements.specs.Bodies.{Meets, MeetsPlainly, TakesNoM
 ghost use Rattle.function_statements.specs.Faults.{IfFault, IsStatementFault};
 ghost use Rattle.function_statements.specs.Switches.{IsSwitchFault};
 
-use crate::check_switch;
 use crate::error::StatementError;
+use crate::{
+    check_ballot, check_collective, check_gather, check_ray_pipeline, check_ray_query, check_switch,
+};
 use function_atomic_checks::{
     check_atomic, check_image_atomic, check_image_store, check_uniform_load,
-};
-use function_operation_checks::{
-    check_ballot, check_collective, check_gather, check_ray_pipeline, check_ray_query,
 };
 use function_statement_checks::{
     StatementContext, check_barrier, check_call, check_condition, check_cooperative_store,

@@ -15,7 +15,7 @@ use Rattle.ir_faults.specs.declared.refusal.Refusal.TheVariants as refusal
 use Rattle.ir_types.specs.judged.ExpressionPlain.{PlainExpression, plain}
 use Rattle.ir_types.specs.declared.expressions.Expression.TheVariants.{RayQueryProceedResult, SubgroupBallotResult}
 use Rattle.ir_items.specs.judged.Plain.{PlainFunction}
-use Rattle.spec_handles.specs.Expressions.{expression_operands}
+use Rattle.spec_expressions.specs.Expressions.{expression_operands}
 use Rattle.spec_statements.specs.judged.Strict.{InStrictScope, Needs}
 
 -- an operand is used where it is not in strict scope, by another statement than a call

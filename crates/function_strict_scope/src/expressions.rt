@@ -3,14 +3,14 @@
 ghost use Rattle.std.specs.Prelude.{◌≡◌, ◌++◌, OnOk, slice_get};
 ghost use Rattle.ir_types.specs.judged.ExpressionPlain.{expression_view};
 ghost use Rattle.ir_items.specs.found.View.{function_view};
-ghost use Rattle.spec_handles.specs.Expressions.{expression_operands};
-ghost use Rattle.spec_handles.specs.Operands.{these, handles_of};
+ghost use Rattle.spec_expressions.specs.Expressions.{expression_operands};
+ghost use Rattle.spec_expressions.specs.Operands.{these, handles_of};
 ghost use Rattle.function_strict_scope.specs.Tables.{operands_given};
 
 use ir_arena::handle::Handle;
 use ir_items::{Expression, Function, key};
 use ir_references::{OperandUser, with_operands};
-use spec_handles::{Scoping, Slot};
+use spec_expressions::{Scoping, Slot};
 use std::alloc::AllocError;
 
 // Adds these to a list.
@@ -44,7 +44,7 @@ struct Adder;
 
 impl OperandUser<Vec<Handle<key::Expression>>, Result<(), AllocError>> for Adder {
     ghost use Rattle.std.specs.Prelude.{◌≡◌, ◌++◌, OnOk};
-    ghost use Rattle.spec_handles.specs.Operands.{handles_of};
+    ghost use Rattle.spec_expressions.specs.Operands.{handles_of};
 
     ghost does = { λ adder before after added operands. OnOk added (after.items ≡ before.items ++ handles_of operands) };
 

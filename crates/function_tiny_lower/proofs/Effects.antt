@@ -8,8 +8,8 @@ use Rattle.ir_types.specs.judged.ExpressionPlain.{PlainExpression, plain}
 use Rattle.ir_types.specs.declared.expressions.Expression.TheVariants as x
 use Rattle.ir_references.specs.First.{first_in, first_at, first_in_cases}
 use Rattle.typing_rules.specs.judged.Laws.{IsAmong}
-use Rattle.spec_analysis.specs.judged.Effects.{Effect, takes, samples, sampling_at, expression_effects, expressions_effects, leaving_effects, statement_effects, effects_in, effects_inside, effects_in_cases}
-use Rattle.spec_analysis.specs.judged.Operands.{Operand, expression_operands, statement_operands}
+use Rattle.spec_expressions.specs.judged.Effects.{Effect, takes, samples, sampling_at, expression_effects, expressions_effects, leaving_effects, statement_effects, effects_in, effects_inside, effects_in_cases}
+use Rattle.spec_expressions.specs.judged.Operands.{Operand, expression_operands, statement_operands}
 
 -- ---- a test of members
 

@@ -3,7 +3,7 @@ use Rattle.std.proofs.Common.{◌≡◌, ◌+◌, ◌⊎◌, ◌||◌, ℕ, zero
 use Rattle.std.proofs.lemmas.List.Folds.{list_any-append}
 use Rattle.std.specs.List.{list_any}
 use Rattle.std.specs.Option.{is_some}
-use Rattle.spec_analysis.specs.declared.global_use.GlobalUse.{GlobalUse}
+use Rattle.spec_expressions.specs.declared.global_use.GlobalUse.{GlobalUse}
 use Rattle.ir_blocks.specs.judged.Plain.{PlainStatement, emit, block, if_, switch, loop, break, continue, return, kill, operation, call, PlainBlock}
 use Rattle.ir_types.specs.judged.ExpressionPlain.{PlainExpression, plain}
 use Rattle.ir_types.specs.declared.expressions.Expression.TheVariants as x
@@ -11,11 +11,11 @@ use Rattle.ir_items.specs.judged.Plain.{PlainFunction, PlainModule}
 use Rattle.ir_references.proofs.FirstLaws.{place_found}
 use Rattle.ir_references.specs.First.{first_in}
 use Rattle.typing_rules.specs.judged.Laws.{IsAmong}
-use Rattle.spec_analysis.proofs.Members.{among-cases}
-use Rattle.spec_analysis.specs.judged.Chains.{Discards}
-use Rattle.spec_analysis.specs.judged.Effects.{Effect, takes, samples, runs, discards, sampling_at, expression_effects, expressions_effects, leaving_effects, effects_in, effects_of}
-use Rattle.spec_analysis.specs.judged.Operands.{Operand, expression_operands}
-use Rattle.spec_analysis.specs.judged.Summaries.{Summary, CallsOne, IsJoined}
+use Rattle.spec_expressions.proofs.Members.{among-cases}
+use Rattle.spec_expressions.specs.judged.Chains.{Discards}
+use Rattle.spec_expressions.specs.judged.Effects.{Effect, takes, samples, runs, discards, sampling_at, expression_effects, expressions_effects, leaving_effects, effects_in, effects_of}
+use Rattle.spec_expressions.specs.judged.Operands.{Operand, expression_operands}
+use Rattle.spec_expressions.specs.judged.Summaries.{Summary, CallsOne, IsJoined}
 use Rattle.function_tiny_lower.proofs.Effects.{any_among, among_any, none_in_expressions, found_in}
 use Rattle.function_tiny_lower.proofs.Typed.{typed_somewhere}
 use Rattle.function_tiny_lower.specs.Ends.{summary_of, may_end, ends_in}

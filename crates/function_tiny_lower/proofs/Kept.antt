@@ -1,15 +1,15 @@
 -- What is kept of a function is what is required of a layer.
 use Rattle.std.proofs.Common.{◌≡◌, ℕ, zero, suc, Bool, List, [], ◌∷◌, Some, false, map, length, slice_get, refl, sym, ap, subst, ◌∙◌}
 use Rattle.std.specs.Option.{is_some}
-use Rattle.spec_analysis.specs.declared.global_use.GlobalUse.{GlobalUse}
+use Rattle.spec_expressions.specs.declared.global_use.GlobalUse.{GlobalUse}
 use Rattle.function_interface.specs.Analysis.{IsKept}
 use Rattle.function_interface.specs.Question.{question}
 use Rattle.ir_flags.specs.declared.settings.ValidationFlags.{ValidationFlags}
 use Rattle.ir_flags.specs.declared.stages.ShaderStages.{ShaderStages}
 use Rattle.ir_items.specs.judged.Plain.{PlainFunction, PlainModule}
 use Rattle.ir_references.specs.First.{first_in}
-use Rattle.spec_analysis.proofs.SummaryLaws.{joined_by_callees}
-use Rattle.spec_analysis.specs.judged.Summaries.{Summary, AgreeOnCallees}
+use Rattle.spec_expressions.proofs.SummaryLaws.{joined_by_callees}
+use Rattle.spec_expressions.specs.judged.Summaries.{Summary, AgreeOnCallees}
 use Rattle.spec_statements.specs.judged.ExpressionStages.{all_stages}
 use Rattle.function_tiny_lower.proofs.Joined.{joined_of}
 use Rattle.function_tiny_lower.proofs.Typed.{none_untyped, many_told, has_form}

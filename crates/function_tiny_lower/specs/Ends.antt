@@ -2,7 +2,7 @@
 use Rattle.std.specs.Prelude.{List, [], Option, Some, None, Bool, false, if◌then◌else◌, slice_get}
 use Rattle.ir_blocks.specs.judged.Plain.{PlainStatement, emit, block, if_, switch, loop, break, continue, return, kill, operation, call}
 use Rattle.ir_flags.specs.declared.stages.ShaderStages.{ShaderStages}
-use Rattle.spec_analysis.specs.judged.Summaries.{Summary}
+use Rattle.spec_expressions.specs.judged.Summaries.{Summary}
 use Rattle.function_tiny_lower.specs.declared.tiny.TinyInfo.{TinyInfo}
 
 -- of global variables there are the uses that are noted, and no image is sampled

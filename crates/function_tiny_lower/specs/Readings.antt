@@ -17,7 +17,7 @@ use Rattle.function_tiny_lower.specs.Operations.{fits}
 use Rattle.function_tiny_lower.specs.Typing.{HasForm, IsUntyped}
 use Rattle.function_tiny_lower.specs.declared.known.Known.{Known}
 use Rattle.function_tiny_lower.specs.declared.known.Known.TheVariants as known
-use Rattle.module_type_infos.specs.declared.info.TypeInfo.{TypeInfo}
+use Rattle.typing_layout.specs.declared.info.TypeInfo.{TypeInfo}
 use Rattle.typing_forms.specs.declared.form.Form.{Form}
 use Rattle.typing_forms.specs.declared.resolution.TypeResolution.{TypeResolution}
 use Rattle.typing_errors.specs.Answers.{form_given}

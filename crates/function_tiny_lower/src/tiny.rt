@@ -15,11 +15,11 @@ use ir_faults::refusal::Refusal;
 use ir_flags::{ShaderStages, ValidationFlags};
 use ir_items::{Function, Module};
 use ir_types::key;
-use module_type_infos::TypeInfo;
-use spec_analysis::{GlobalUse, SamplingPair};
+use spec_expressions::{GlobalUse, SamplingPair};
 use std::alloc::Global;
 use typing_errors::{ExpressionError, FunctionError};
 use typing_forms::TypeResolution;
+use typing_layout::TypeInfo;
 
 /// What is kept of a function: the types of its expressions, whether it may end the fragment, and what is noted of it. Of uses
 /// there are those that are noted alone: the function itself has none.

@@ -5,7 +5,7 @@ ghost use Rattle.typing_infos.specs.Infos.{with_uses};
 
 use ir_arena::handle::Handle;
 use ir_types::key;
-use spec_analysis::GlobalUse;
+use spec_expressions::GlobalUse;
 use typing_infos::mark_at;
 
 /// Further uses of global variables. Where there is no such variable, nothing changes.

@@ -3,10 +3,10 @@ use Rattle.std.proofs.Common.{◌≡◌, ◌<◌, ℕ, Option, Some, None, IfSom
 use Rattle.module_globals.specs.There.{IsPlaced}
 use Rattle.ir_items.specs.judged.GlobalPlain.{PlainGlobal}
 use Rattle.ir_items.specs.judged.Plain.{PlainModule}
-use Rattle.spec_handles.specs.InOrder.{HandlesOK}
-use Rattle.spec_handles.specs.Modules as part
-use Rattle.spec_handles.specs.References.{item, operand}
-use Rattle.spec_handles.specs.declared.target.Target.TheVariants as target
+use Rattle.spec_expressions.specs.InOrder.{HandlesOK}
+use Rattle.spec_expressions.specs.Modules as part
+use Rattle.spec_expressions.specs.References.{item, operand}
+use Rattle.spec_expressions.specs.declared.target.Target.TheVariants as target
 
 module _ (m : PlainModule) (ok : HandlesOK m) (handle : ℕ) (v : PlainGlobal) (at : slice_get m.globals handle ≡ Some v) where
   pub value_there : (e : ℕ) → v.init ≡ Some e → e < length m.global_expressions

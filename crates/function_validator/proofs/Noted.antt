@@ -1,7 +1,7 @@
 -- Uses of variables that are noted, one after the other.
 use Rattle.std.proofs.Common.{◌≡◌, ◌⊎◌, ◌↔◌, inl, inr, ◌||◌, ℕ, Bool, true, false, List, [], ◌∷◌, ◌++◌, Option, Some, None, take, slice_get, refl, sym, ap, subst, suc, zero, ◌+◌, ◌∙◌, arith}
 use Rattle.std.specs.Int.{bit_at}
-use Rattle.spec_analysis.specs.declared.global_use.GlobalUse.{GlobalUse}
+use Rattle.spec_expressions.specs.declared.global_use.GlobalUse.{GlobalUse}
 use Rattle.typing_infos.specs.Infos.{NotesUse}
 
 -- ---- one of them

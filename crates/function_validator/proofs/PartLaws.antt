@@ -5,7 +5,7 @@ use Rattle.typing_errors.specs.declared.error.FunctionError.{FunctionError}
 use Rattle.function_interface.specs.Analysis.{Faults, IsRefusedFor, IsFaultBefore, in_arity as with_arity, in_analysis as with_analysis}
 use Rattle.function_interface.proofs.RefusedAs.{refused_as}
 use Rattle.ir_items.specs.judged.Plain.{PlainFunction, PlainModule}
-use Rattle.function_interface_checks.specs.Refusals.{IsRefusal}
+use Rattle.function_interface.specs.Refusals.{IsRefusal}
 use Rattle.ir_faults.specs.Faults.{error_of}
 use Rattle.ir_faults.specs.declared.refusal.Refusal.{Refusal}
 use Rattle.ir_faults.specs.declared.refusal.Refusal.TheVariants as refusal

@@ -7,16 +7,16 @@ use Rattle.typing_errors.specs.declared.error.FunctionError.TheVariants as error
 use Rattle.typing_errors.specs.declared.calls.CallError.{CallError}
 use Rattle.typing_errors.specs.declared.calls.CallError.TheVariants as call_error
 use Rattle.function_interface.specs.Analysis.{Faults}
-use Rattle.function_interface_checks.proofs.InterfaceRefuted.{faults_refute_lem as by_interface}
+use Rattle.function_interface.proofs.InterfaceRefuted.{faults_refute_lem as by_interface}
 use Rattle.ir_flags.specs.Sets.{Has}
 use Rattle.ir_flags.specs.declared.settings.Capabilities.{Capabilities}
 use Rattle.ir_flags.specs.declared.settings.TheConstants.ValidationFlags.{EXPRESSIONS}
 use Rattle.ir_flags.specs.declared.settings.ValidationFlags.{ValidationFlags}
 use Rattle.ir_flags.specs.declared.settings.Settings.{Settings}
 use Rattle.ir_items.specs.judged.Plain.{PlainFunction, PlainModule}
-use Rattle.function_operation_checks.proofs.Refuted.{faults_refute_lem as by_ray}
+use Rattle.function_statements.proofs.OperationRefuted.{faults_refute_lem as by_ray}
 use Rattle.function_body_checks.proofs.Refuted.{faults_refute_lem as by_scope}
-use Rattle.spec_handles.specs.Conditions.{AritiesMatch}
+use Rattle.spec_expressions.specs.Conditions.{AritiesMatch}
 use Rattle.spec_statements.specs.judged.BlockContext.{BlockContext}
 use Rattle.spec_statements.specs.judged.Functions.{Reading, AreFormsBy, BodyOK, FunctionOK, block_context}
 use Rattle.spec_statements.specs.judged.Interfaces.{InterfaceOK}

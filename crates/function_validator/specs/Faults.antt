@@ -6,7 +6,7 @@ use Rattle.typing_errors.specs.declared.error.FunctionError.{FunctionError}
 use Rattle.typing_errors.specs.declared.error.FunctionError.TheVariants as error
 use Rattle.function_interface.specs.Analysis.{Faults}
 use Rattle.function_interface.specs.Arities.{IsArityFault}
-use Rattle.function_interface_checks.specs.Interfaces.{IsInterfaceFault}
+use Rattle.function_interface.specs.Interfaces.{IsInterfaceFault}
 use Rattle.ir_blocks.specs.judged.Control.{ControlOK}
 use Rattle.ir_blocks.specs.judged.Places.{Place, OccursAt}
 use Rattle.ir_blocks.specs.judged.Plain.{PlainStatement}
@@ -14,9 +14,9 @@ use Rattle.ir_flags.specs.Sets.{Has}
 use Rattle.ir_flags.specs.declared.settings.TheConstants.ValidationFlags.{EXPRESSIONS, BLOCKS, STRICT_SCOPE}
 use Rattle.ir_flags.specs.declared.settings.Settings.{Settings}
 use Rattle.ir_items.specs.judged.Plain.{PlainFunction, PlainModule}
-use Rattle.function_operation_checks.specs.Payloads.{IsPayloadsFault}
+use Rattle.function_statements.specs.Payloads.{IsPayloadsFault}
 use Rattle.function_body_checks.specs.Faults.{IsScopeFault}
-use Rattle.spec_handles.specs.Conditions.{AritiesMatch}
+use Rattle.spec_expressions.specs.Conditions.{AritiesMatch}
 use Rattle.spec_statements.specs.found.Answered.{EachOnce}
 use Rattle.spec_statements.specs.judged.BlockContext.{BlockContext}
 use Rattle.spec_statements.specs.judged.Functions.{Reading, AreFormsBy, block_context}

@@ -9,7 +9,7 @@ use Rattle.ir_flags.specs.Sets.{Has}
 use Rattle.ir_flags.specs.declared.settings.TheConstants.ValidationFlags.{EXPRESSIONS, BLOCKS, STRICT_SCOPE}
 use Rattle.ir_flags.specs.declared.stages.ShaderStages.{ShaderStages}
 use Rattle.ir_flags.specs.declared.settings.Settings.{Settings}
-use Rattle.function_operation_checks.specs.Payloads.{AreOfOneType}
+use Rattle.function_statements.specs.Payloads.{AreOfOneType}
 use Rattle.spec_statements.specs.judged.ExpressionStages.{all_stages}
 use Rattle.spec_statements.specs.found.Answered.{EachOnce}
 use Rattle.spec_statements.specs.judged.BlockContext.{BlockContext}

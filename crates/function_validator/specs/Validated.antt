@@ -1,13 +1,13 @@
 -- What is kept of an entry point that is accepted, over what a lower layer says.
 use Rattle.std.specs.Prelude.{◌≡◌, ◌<◌, ◌↔◌, ℕ, Bool, IsTrue, List, Option, length}
-use Rattle.spec_analysis.specs.judged.Pairs.{SamplingPair}
+use Rattle.spec_expressions.specs.judged.Pairs.{SamplingPair}
 use Rattle.ir_flags.specs.Sets.{Has}
 use Rattle.ir_flags.specs.declared.stages.ShaderStages.{ShaderStages}
 use Rattle.ir_flags.specs.declared.settings.Settings.{Settings}
 use Rattle.ir_items.specs.judged.Plain.{PlainEntry, PlainModule}
 use Rattle.typing_rules.specs.judged.Laws.{IsAmong}
-use Rattle.spec_analysis.specs.judged.Chains.{HasUse, HasPair, MayKill}
-use Rattle.spec_analysis.specs.judged.Summaries.{Summary, HasUseBit}
+use Rattle.spec_expressions.specs.judged.Chains.{HasUse, HasPair, MayKill}
+use Rattle.spec_expressions.specs.judged.Summaries.{Summary, HasUseBit}
 use Rattle.spec_interface.specs.judged.Entries.{EntryOK}
 use Rattle.spec_interface.specs.judged.Uses.{EntryUses}
 use Rattle.spec_statements.specs.judged.ExpressionStages.{all_stages}

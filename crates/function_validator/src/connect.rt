@@ -7,7 +7,7 @@ ghost use Rattle.function_validator.specs.EntryFaults.{IsUnconnected};
 ghost use Rattle.function_validator.specs.Validated.{AddsOwnUses, ReportsSame};
 ghost use Rattle.ir_items.specs.found.View.{entry_view, module_view};
 ghost use Rattle.ir_items.specs.declared.entries.MeshStageInfo.{MeshStageInfo};
-ghost use Rattle.spec_analysis.specs.judged.Summaries.{HasUseBit};
+ghost use Rattle.spec_expressions.specs.judged.Summaries.{HasUseBit};
 ghost use Rattle.spec_interface.specs.judged.Entries.{ConnectionsOK};
 ghost use Rattle.spec_interface.specs.judged.Uses.{EntryUses, mesh_output};
 ghost use Rattle.spec_interface.specs.judged.Varyings.{HasBlendSources, result_varyings};

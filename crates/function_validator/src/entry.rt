@@ -10,9 +10,9 @@ ghost use Rattle.ir_flags.specs.Sets.{Has};
 ghost use Rattle.ir_items.specs.found.View.{entry_view, module_view};
 ghost use Rattle.ir_items.specs.declared.entries.MeshStageInfo.{MeshStageInfo};
 ghost use Rattle.ir_proc.specs.found.Filters.{ParentsPrecede};
-ghost use Rattle.spec_analysis.specs.judged.Chains.{HasUse};
-ghost use Rattle.spec_analysis.specs.judged.Summaries.{CalleesKnown};
-ghost use Rattle.spec_handles.specs.Conditions.{HandlesInRange, OperandsPrecede};
+ghost use Rattle.spec_expressions.specs.judged.Chains.{HasUse};
+ghost use Rattle.spec_expressions.specs.judged.Summaries.{CalleesKnown};
+ghost use Rattle.spec_expressions.specs.Conditions.{HandlesInRange, OperandsPrecede};
 ghost use Rattle.spec_interface.specs.judged.Contexts.{stage_set};
 ghost use Rattle.function_statement_checks.specs.Descriptors.{AreDescriptors};
 

@@ -7,7 +7,7 @@ ghost use Rattle.module_globals.specs.Initializers.{IsInitializer, IsTypedBy};
 ghost use Rattle.ir_items.specs.found.GlobalView.{global_view};
 ghost use Rattle.ir_items.specs.found.View.{module_view};
 ghost use Rattle.spec_interface.specs.judged.Globals.{VariableBy};
-ghost use Rattle.spec_handles.specs.InOrder.{HandlesOK};
+ghost use Rattle.spec_expressions.specs.InOrder.{HandlesOK};
 
 use function_interface::Lower;
 use ir_faults::refusal::Refusal;

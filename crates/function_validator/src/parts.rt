@@ -10,7 +10,7 @@ ghost use Rattle.ir_flags.specs.declared.settings.TheConstants.ValidationFlags.{
 ghost use Rattle.ir_blocks.specs.judged.Places.{Place};
 ghost use Rattle.spec_statements.specs.judged.Results.{AnswersBy};
 ghost use Rattle.ir_proc.specs.judged.Bases.{BasesPrecede};
-ghost use Rattle.spec_handles.specs.Conditions.{AritiesMatch};
+ghost use Rattle.spec_expressions.specs.Conditions.{AritiesMatch};
 ghost use Rattle.function_statement_checks.specs.View.{context_view, IsKnown};
 
 use crate::answers::check_answers;
@@ -19,8 +19,7 @@ use crate::callees::KeptStages;
 use crate::expressions::check_expressions;
 use bitflags::Flags;
 use function_body_checks::ExpressionList;
-use function_interface::{Lower, stages_of};
-use function_interface_checks::check_interface;
+use function_interface::{Lower, check_interface, stages_of};
 use function_statement_checks::BlockContext;
 use ir_arena::handle::Handle;
 use ir_faults::refusal::Refusal;

@@ -3,7 +3,7 @@
 ghost use Rattle.std.specs.Prelude.{◌≡◌, ◌<◌, ◌≤◌, ◌↔◌, ◌⊎◌, ℕ, IfOk, IfSome, Some, length};
 ghost use Rattle.std.specs.Int.{bit_at};
 ghost use Rattle.ir_items.specs.found.View.{entry_view};
-ghost use Rattle.spec_analysis.specs.judged.Summaries.{HasUseBit};
+ghost use Rattle.spec_expressions.specs.judged.Summaries.{HasUseBit};
 ghost use Rattle.spec_interface.specs.judged.Uses.{OwnUse, mesh_output, own_payload_use};
 
 use function_interface::Lower;
@@ -11,7 +11,7 @@ use ir_arena::handle::Handle;
 use ir_items::EntryPoint;
 use ir_kinds::ShaderStage;
 use ir_types::key;
-use spec_analysis::GlobalUse;
+use spec_expressions::GlobalUse;
 use std::alloc::{AllocError, Global};
 
 // How an entry point uses its payload.

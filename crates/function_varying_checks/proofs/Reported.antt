@@ -6,7 +6,7 @@ use Rattle.typing_layout.specs.judged.Flags.{HasFlag, IoShareable}
 use Rattle.typing_layout.specs.judged.Tree.{no_type}
 use Rattle.typing_layout.specs.judged.View.{type_tree, tree_along, tree_found}
 use Rattle.module_type_checks.specs.Known.{AreInfos}
-use Rattle.module_type_infos.specs.declared.info.TypeInfo.{TypeInfo}
+use Rattle.typing_layout.specs.declared.info.TypeInfo.{TypeInfo}
 
 past : {A : Type 0} (xs : List A) (h : ℕ) → length xs ≤ h → slice_get xs h ≡ None
 past [] h le = refl

@@ -5,8 +5,8 @@ use ir_flags::{Capabilities, ValidationFlags};
 use ir_kinds::ShaderStage;
 use ir_sets::unique_arena::UniqueArena;
 use ir_types::{IrType, key};
-use module_type_infos::TypeInfo;
 use spec_interface::Direction;
+use typing_layout::TypeInfo;
 
 /// What the rules of varyings may look at (naga's `VaryingContext`, without what changes).
 #[derive(Clone, Copy)]

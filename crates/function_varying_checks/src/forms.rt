@@ -12,8 +12,8 @@ use bitflags::Flags;
 use ir_arena::handle::Handle;
 use ir_kinds::ScalarKind;
 use ir_types::{ArraySize, key};
-use module_type_infos::TypeFlags;
 use typing_forms::Form;
+use typing_layout::TypeFlags;
 
 /// The elements of an array, and how many there are; `None` of anything else.
 pub(crate) fn array_of(form: &Form) -> Option<(Handle<key::IrType>, ArraySize)>

@@ -13,15 +13,15 @@ use Rattle.ir_items.specs.declared.filters.DiagnosticFilterNode.{DiagnosticFilte
 use Rattle.ir_items.specs.judged.Plain.{PlainFunction, PlainModule}
 use Rattle.ir_items.specs.declared.functions.FunctionResult.{FunctionResult}
 use Rattle.ir_proc.specs.found.Filters.{ParentsPrecede}
-use Rattle.spec_handles.specs.Conditions.{HandlesInRange, OperandsPrecede, CalleesPrecede}
-use Rattle.spec_handles.specs.Expressions.{expression_operands, expression_item}
-use Rattle.spec_handles.specs.InOrder.{named_at}
-use Rattle.spec_handles.specs.References.{Site, Named, item, operand, range, Names, argument_type, answer_type, local_type, local_value, filter_leaf, expression_names, expression_reads, statement_reads, statement_answers, statement_emits, statement_calls, ItemExists, IsThere}
-use Rattle.spec_handles.specs.Statements.{statement_operands, statement_result, Emitted, statement_range, statement_callee}
-use Rattle.spec_handles.specs.declared.item.ItemKind.{ItemKind}
-use Rattle.spec_handles.specs.declared.item.ItemKind.TheVariants as kind
-use Rattle.spec_handles.specs.declared.target.Target.{Target}
-use Rattle.spec_handles.specs.declared.target.Target.TheVariants as target
+use Rattle.spec_expressions.specs.Conditions.{HandlesInRange, OperandsPrecede, CalleesPrecede}
+use Rattle.spec_expressions.specs.Expressions.{expression_operands, expression_item}
+use Rattle.spec_expressions.specs.InOrder.{named_at}
+use Rattle.spec_expressions.specs.References.{Site, Named, item, operand, range, Names, argument_type, answer_type, local_type, local_value, filter_leaf, expression_names, expression_reads, statement_reads, statement_answers, statement_emits, statement_calls, ItemExists, IsThere}
+use Rattle.spec_expressions.specs.Statements.{statement_operands, statement_result, Emitted, statement_range, statement_callee}
+use Rattle.spec_expressions.specs.declared.item.ItemKind.{ItemKind}
+use Rattle.spec_expressions.specs.declared.item.ItemKind.TheVariants as kind
+use Rattle.spec_expressions.specs.declared.target.Target.{Target}
+use Rattle.spec_expressions.specs.declared.target.Target.TheVariants as target
 use Rattle.ir_references.specs.First.{first_past, first_of, first_in}
 use Rattle.ir_references.specs.Faults.{bounds_of, missing, item_missing, absent, range_out, expression_missing, answer_missing, statement_missing, argument_missing, local_missing, signature_missing, function_missing, operand_forward, callee_forward, function_of, expression_forward, statement_forward, callees_forward, parent_forward, IsMissingFault, IsForwardOperand, IsForwardCallee, IsForwardParent}
 use Rattle.ir_references.specs.declared.fault.HandleFault.{HandleFault}

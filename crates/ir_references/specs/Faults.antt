@@ -1,4 +1,4 @@
--- What is wrong with the handles of a function, found step by step; `spec_handles` says what is required of them.
+-- What is wrong with the handles of a function, found step by step; `spec_expressions` says what is required of them.
 use Rattle.std.specs.Prelude.{◌≡◌, ℕ, ◌<◌, List, length, ◌&&◌, Contains, slice_get, nat_lt, nat_le, if◌then◌else◌, Option, Some, None, option_map, option_and_then}
 use Rattle.std.specs.Option.{option_or}
 use Rattle.ir_blocks.specs.judged.Plain.{PlainStatement}
@@ -10,14 +10,14 @@ use Rattle.ir_references.specs.First.{first_past, first_of, first_in}
 use Rattle.ir_references.specs.declared.bounds.Bounds.{Bounds}
 use Rattle.ir_references.specs.declared.fault.HandleFault.{HandleFault}
 use Rattle.ir_references.specs.declared.fault.HandleFault.TheVariants as fault
-use Rattle.spec_handles.specs.Expressions.{expression_operands, expression_item}
-use Rattle.spec_handles.specs.InOrder.{named_at}
-use Rattle.spec_handles.specs.References.{Site, Named, item, range, Names, IsThere}
-use Rattle.spec_handles.specs.Statements.{statement_operands, statement_result, Emitted, statement_range, statement_callee}
-use Rattle.spec_handles.specs.declared.item.ItemKind.{ItemKind}
-use Rattle.spec_handles.specs.declared.item.ItemKind.TheVariants as kind
-use Rattle.spec_handles.specs.declared.target.Target.{Target}
-use Rattle.spec_handles.specs.declared.target.Target.TheVariants as target
+use Rattle.spec_expressions.specs.Expressions.{expression_operands, expression_item}
+use Rattle.spec_expressions.specs.InOrder.{named_at}
+use Rattle.spec_expressions.specs.References.{Site, Named, item, range, Names, IsThere}
+use Rattle.spec_expressions.specs.Statements.{statement_operands, statement_result, Emitted, statement_range, statement_callee}
+use Rattle.spec_expressions.specs.declared.item.ItemKind.{ItemKind}
+use Rattle.spec_expressions.specs.declared.item.ItemKind.TheVariants as kind
+use Rattle.spec_expressions.specs.declared.target.Target.{Target}
+use Rattle.spec_expressions.specs.declared.target.Target.TheVariants as target
 
 -- ---- what isn't there
 

@@ -2,13 +2,13 @@
 
 ghost use Rattle.std.specs.Prelude.{◌≡◌, option_and_then, option_map};
 ghost use Rattle.ir_items.specs.found.View.{function_view, module_view};
-ghost use Rattle.spec_handles.specs.declared.item.ItemKind.TheVariants as kind;
+ghost use Rattle.spec_expressions.specs.declared.item.ItemKind.TheVariants as kind;
 ghost use Rattle.ir_references.specs.Faults.{bounds_of, outside_functions, missing, item_missing, absent};
 
 use crate::fault::HandleFault;
 use ir_arena::handle::Handle;
 use ir_items::{Function, Module, key};
-use spec_handles::{ItemKind, Target};
+use spec_expressions::{ItemKind, Target};
 
 /// How many items there are of each kind.
 #[derive(Clone, Copy)]

@@ -2,10 +2,10 @@
 
 ghost use Rattle.std.specs.Prelude.{◌≡◌};
 ghost use Rattle.ir_types.specs.judged.ExpressionPlain.{expression_view};
-ghost use Rattle.spec_handles.specs.Expressions.{expression_item};
+ghost use Rattle.spec_expressions.specs.Expressions.{expression_item};
 
 use ir_types::Expression;
-use spec_handles::Target;
+use spec_expressions::Target;
 
 /// What an expression names beside its operands, if it names anything.
 pub fn item_of(expression: &Expression) -> Option<Target>

@@ -1,6 +1,6 @@
 //! What is wrong with a handle.
 
-use spec_handles::ItemKind;
+use spec_expressions::ItemKind;
 
 /// What is wrong with a handle, or with a range of handles. Places are counted from 0.
 #[derive(Clone, Copy)]

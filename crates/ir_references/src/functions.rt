@@ -8,8 +8,8 @@ ghost use Rattle.ir_items.specs.found.GlobalView.{values_of};
 ghost use Rattle.ir_items.specs.found.View.{argument_view, local_view, function_view, module_view};
 ghost use Rattle.ir_references.specs.Faults.{missing, range_out, expression_missing, statement_missing, argument_missing, local_missing, signature_missing, function_missing, IsMissingFault};
 ghost use Rattle.ir_references.specs.First.{first_of, emitted_view};
-ghost use Rattle.spec_handles.specs.Conditions.{HandlesInRange};
-ghost use Rattle.spec_handles.specs.declared.item.ItemKind.TheVariants as kind;
+ghost use Rattle.spec_expressions.specs.Conditions.{HandlesInRange};
+ghost use Rattle.spec_expressions.specs.declared.item.ItemKind.TheVariants as kind;
 
 use crate::bounds::{Bounds, absent};
 use crate::expressions::item_of;
@@ -24,7 +24,7 @@ use ir_items::{
     DiagnosticFilterNode, Expression, Function, FunctionArgument, FunctionResult, LocalVariable,
     Module, Statement, key,
 };
-use spec_handles::Target;
+use spec_expressions::Target;
 
 /// The fault of what an expression names, if it is not there.
 pub fn expression_missing(expression: &Expression, bounds: &Bounds) -> Option<HandleFault>

@@ -1,6 +1,6 @@
 //! What expressions and statements name, found: items, operands, ranges and callees; the
 //! first of what is looked for in the statements of a body; whether each statement of a body meets a rule; and what is wrong with the handles of a function.
-//! `spec_handles` has what each kind names, and what is required of it.
+//! `spec_expressions` has what each kind names, and what is required of it.
 #![tactic(auto)]
 
 mod bounds;

@@ -4,15 +4,15 @@ ghost use Rattle.std.specs.Prelude.{◌≡◌};
 ghost use Rattle.ir_types.specs.judged.ExpressionPlain.{expression_view};
 ghost use Rattle.ir_blocks.specs.found.View.{statement_view};
 ghost use Rattle.ir_references.specs.First.{first_past};
-ghost use Rattle.spec_handles.specs.Expressions.{expression_operands};
-ghost use Rattle.spec_handles.specs.Operands.{these, handles_of};
-ghost use Rattle.spec_handles.specs.Statements.{statement_operands};
+ghost use Rattle.spec_expressions.specs.Expressions.{expression_operands};
+ghost use Rattle.spec_expressions.specs.Operands.{these, handles_of};
+ghost use Rattle.spec_expressions.specs.Statements.{statement_operands};
 
 use crate::operands::{OperandUser, with_operands, with_statement_operands};
 use ir_arena::handle::Handle;
 use ir_items::Statement;
 use ir_types::{Expression, key};
-use spec_handles::{Scoping, Slot};
+use spec_expressions::{Scoping, Slot};
 
 // The first of these that does not come before the end.
 fn first_past(handles: &[Handle<key::Expression>], end: usize) -> Option<Handle<key::Expression>>
@@ -49,7 +49,7 @@ struct Past {
 impl OperandUser<(), Option<Handle<key::Expression>>> for Past {
     ghost use Rattle.std.specs.Prelude.{◌≡◌};
     ghost use Rattle.ir_references.specs.First.{first_past};
-    ghost use Rattle.spec_handles.specs.Operands.{handles_of};
+    ghost use Rattle.spec_expressions.specs.Operands.{handles_of};
 
     ghost does = { λ past before after found operands. found ≡ first_past past.end (handles_of operands) };
 

@@ -9,7 +9,7 @@ ghost use Rattle.ir_items.specs.found.View.{function_view};
 ghost use Rattle.ir_references.specs.Faults.{operand_forward, callee_forward, function_of, expression_forward, callees_forward, parent_forward, IsForwardOperand, IsForwardCallee, IsForwardParent};
 ghost use Rattle.ir_references.specs.First.{first_of};
 ghost use Rattle.ir_proc.specs.found.Filters.{ParentsPrecede};
-ghost use Rattle.spec_handles.specs.Conditions.{OperandsPrecede, CalleesPrecede};
+ghost use Rattle.spec_expressions.specs.Conditions.{OperandsPrecede, CalleesPrecede};
 
 use crate::expressions::item_of;
 use crate::fault::HandleFault;
@@ -19,7 +19,7 @@ use crate::walk::{StatementLook, first_in};
 use ir_arena::arena::Arena;
 use ir_arena::handle::Handle;
 use ir_items::{DiagnosticFilterNode, Expression, Function, Statement, key};
-use spec_handles::{ItemKind, Target};
+use spec_expressions::{ItemKind, Target};
 
 // The fault of an operand that does not come before the expression at a place, if there is one.
 fn operand_forward(expression: &Expression, index: usize) -> Option<HandleFault>

@@ -4,19 +4,19 @@ use Rattle.std.proofs.lemmas.Bool.{cases_lt}
 use Rattle.std.proofs.lemmas.Nat.Bits.{bit_at_above}
 use Rattle.std.specs.Int.{bit_at}
 use Rattle.std.specs.List.{cons_option}
-use Rattle.spec_analysis.specs.declared.global_use.TheConstants.GlobalUse.{QUERY}
+use Rattle.spec_expressions.specs.declared.global_use.TheConstants.GlobalUse.{QUERY}
 use Rattle.ir_blocks.specs.judged.Plain.{PlainStatement, emit, block, if_, switch, loop, break, continue, return, kill, operation, call, PlainBlock, stop, next, PlainCases, no_case, case}
 use Rattle.ir_types.specs.judged.ExpressionPlain.{PlainExpression, plain}
 use Rattle.ir_types.specs.declared.expressions.Expression.TheVariants as x
 use Rattle.ir_items.specs.judged.Plain.{PlainFunction, PlainModule}
 use Rattle.typing_rules.specs.judged.Laws.{IsAmong}
-use Rattle.spec_analysis.specs.judged.Chains.{end_of, UsesDirectly, HasUse}
-use Rattle.spec_analysis.specs.judged.Effects.{Effect, takes, samples, runs, discards, sampling_at, expression_effects, expressions_effects, leaving_effects, statement_effects, effects_in, effects_inside, effects_in_cases, effects_of}
-use Rattle.spec_analysis.specs.judged.Operands.{Operand, bits_of, operand, operands_in, expression_operands, statement_operands}
-use Rattle.spec_handles.specs.Operands.{Operands, these, each_of, of_expression, of_statement}
-use Rattle.spec_handles.specs.declared.operand.Slot.{Slot}
-use Rattle.spec_handles.specs.declared.operand.Usage.{Usage}
-use Rattle.spec_handles.specs.declared.operand.Usage.TheVariants.{Base, Read, Write, ReadWrite, Query, Atomic}
+use Rattle.spec_expressions.specs.judged.Chains.{end_of, UsesDirectly, HasUse}
+use Rattle.spec_expressions.specs.judged.Effects.{Effect, takes, samples, runs, discards, sampling_at, expression_effects, expressions_effects, leaving_effects, statement_effects, effects_in, effects_inside, effects_in_cases, effects_of}
+use Rattle.spec_expressions.specs.judged.Operands.{Operand, bits_of, operand, operands_in, expression_operands, statement_operands}
+use Rattle.spec_expressions.specs.Operands.{Operands, these, each_of, of_expression, of_statement}
+use Rattle.spec_expressions.specs.declared.operand.Slot.{Slot}
+use Rattle.spec_expressions.specs.declared.operand.Usage.{Usage}
+use Rattle.spec_expressions.specs.declared.operand.Usage.TheVariants.{Base, Read, Write, ReadWrite, Query, Atomic}
 
 -- ---- operands
 

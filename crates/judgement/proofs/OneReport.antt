@@ -1,9 +1,9 @@
 -- A module has one report at most.
 use Rattle.std.proofs.Common.{◌≡◌, ◌<◌, ◌+◌, ℕ, zero, suc, false, List, [], ◌∷◌, ◌++◌, length, slice_get, Some, refl, sym, ap, subst, ◌∙◌, arith}
 use Rattle.std.specs.Prelude.{slice_index_or, flat_map}
-use Rattle.spec_analysis.specs.declared.global_use.GlobalUse.{GlobalUse}
+use Rattle.spec_expressions.specs.declared.global_use.GlobalUse.{GlobalUse}
 use Rattle.ir_items.specs.judged.Plain.{PlainEntry, PlainModule}
-use Rattle.spec_analysis.specs.judged.Summaries.{no_use}
+use Rattle.spec_expressions.specs.judged.Summaries.{no_use}
 use Rattle.judgement.specs.judged.Lines.{each_from, buffers, is_own, global_line, entry_lines}
 use Rattle.judgement.specs.judged.Reports.{AreUses, ArePairs}
 use Rattle.judgement.specs.found.ReportLaws.{OneEntryReport, OneReport}

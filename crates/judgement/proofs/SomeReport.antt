@@ -1,20 +1,20 @@
 -- There is a report on each module whose handles are in order.
 use Rattle.std.proofs.Common.{◌≡◌, ◌<◌, ◌≤◌, inl, inr, ℕ, zero, suc, ◌+◌, List, [], ◌∷◌, ◌++◌, length, Option, Some, None, slice_get, refl, sym, ap, subst, ◌∙◌, arith}
 use Rattle.std.specs.Prelude.{◌↔◌, flat_map, slice_index_or}
-use Rattle.spec_analysis.specs.judged.Pairs.{SamplingPair}
-use Rattle.spec_analysis.specs.declared.global_use.GlobalUse.{GlobalUse}
-use Rattle.spec_analysis.specs.declared.sampling.GlobalOrArgument.{GlobalOrArgument}
-use Rattle.spec_analysis.specs.declared.sampling.GlobalOrArgument.TheVariants.{Global, Argument}
+use Rattle.spec_expressions.specs.judged.Pairs.{SamplingPair}
+use Rattle.spec_expressions.specs.declared.global_use.GlobalUse.{GlobalUse}
+use Rattle.spec_expressions.specs.declared.sampling.GlobalOrArgument.{GlobalOrArgument}
+use Rattle.spec_expressions.specs.declared.sampling.GlobalOrArgument.TheVariants.{Global, Argument}
 use Rattle.ir_types.specs.judged.ExpressionPlain.{PlainExpression, plain}
 use Rattle.ir_types.specs.declared.expressions.Expression.TheVariants as x
 use Rattle.ir_items.specs.judged.Plain.{PlainEntry, PlainFunction, PlainModule}
 use Rattle.typing_rules.specs.judged.Laws.{IsAmong}
-use Rattle.spec_analysis.specs.judged.Chains.{base_denotes, denotes, place, Step, IsChain, end_of, bound, argument_means, seen_through, HasUse, HasPair}
-use Rattle.spec_analysis.specs.judged.Summaries.{no_use}
-use Rattle.spec_handles.specs.Conditions.{HandlesInRange}
-use Rattle.spec_handles.specs.InOrder.{HandlesOK}
-use Rattle.spec_handles.specs.References.{computed, item, expression_names}
-use Rattle.spec_handles.specs.declared.target.Target.TheVariants as target
+use Rattle.spec_expressions.specs.judged.Chains.{base_denotes, denotes, place, Step, IsChain, end_of, bound, argument_means, seen_through, HasUse, HasPair}
+use Rattle.spec_expressions.specs.judged.Summaries.{no_use}
+use Rattle.spec_expressions.specs.Conditions.{HandlesInRange}
+use Rattle.spec_expressions.specs.InOrder.{HandlesOK}
+use Rattle.spec_expressions.specs.References.{computed, item, expression_names}
+use Rattle.spec_expressions.specs.declared.target.Target.TheVariants as target
 use Rattle.judgement.proofs.Numbers.{HasBits, some_number, HasItems, some_list}
 use Rattle.judgement.proofs.Classical.{Holds, surely, then}
 use Rattle.judgement.proofs.FourKinds.{use_kind}

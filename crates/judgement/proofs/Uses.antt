@@ -6,7 +6,7 @@ use Rattle.std.proofs.lemmas.Bool.{cases_eq}
 use Rattle.std.proofs.lemmas.Nat.Bits.{same_from_bits, bit_at-lt}
 use Rattle.judgement.specs.judged.Lines.{is_own, is_used, use_words, global_line}
 use Rattle.ir_items.specs.judged.Plain.{PlainEntry}
-use Rattle.spec_analysis.specs.declared.global_use.GlobalUse.{GlobalUse}
+use Rattle.spec_expressions.specs.declared.global_use.GlobalUse.{GlobalUse}
 
 abbrev pub SameBits : GlobalUse → GlobalUse → Type 0
 SameBits u v = (k : ℕ) → (bit_at u.0 k ≡ 1) ↔ (bit_at v.0 k ≡ 1)

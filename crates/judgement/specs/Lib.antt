@@ -1,2 +1,5 @@
-pub mod judged
+pub mod Laws
+pub mod Leaves
+pub mod Sound
 pub mod found
+pub mod judged

@@ -3,10 +3,10 @@
 //! The functions do nothing: their contracts are the examples.
 
 ghost use Rattle.std.specs.Prelude.{◌≡◌, false, true, codes};
-ghost use Rattle.spec_analysis.specs.declared.global_use.TheConstants.GlobalUse.{READ, WRITE, QUERY, ATOMIC};
+ghost use Rattle.spec_expressions.specs.declared.global_use.TheConstants.GlobalUse.{READ, WRITE, QUERY, ATOMIC};
 ghost use Rattle.ir_flags.specs.declared.memory.TheConstants.StorageAccess.{LOAD};
 ghost use Rattle.ir_kinds.specs.declared.spaces.AddressSpace.TheVariants.{Uniform, Storage, Handle, WorkGroup};
-ghost use Rattle.spec_analysis.specs.judged.Summaries.{no_use};
+ghost use Rattle.spec_expressions.specs.judged.Summaries.{no_use};
 ghost use Rattle.judgement.specs.judged.Lines.{is_buffer, is_used, use_words};
 
 /// What a host fills with bytes.

@@ -9,13 +9,13 @@ use Rattle.ir_flags.specs.declared.settings.TheConstants.ValidationFlags.{BINDIN
 use Rattle.ir_flags.specs.declared.settings.Settings.{Settings}
 use Rattle.ir_items.specs.judged.Plain.{PlainEntry, PlainFunction, PlainModule}
 use Rattle.ir_kinds.specs.declared.bindings.ResourceBinding.{ResourceBinding}
-use Rattle.spec_analysis.specs.judged.Chains.{Step, IsChain, end_of}
-use Rattle.spec_analysis.specs.judged.Effects.{runs, effects_of}
-use Rattle.spec_analysis.specs.judged.Summaries.{no_use}
+use Rattle.spec_expressions.specs.judged.Chains.{Step, IsChain, end_of}
+use Rattle.spec_expressions.specs.judged.Effects.{runs, effects_of}
+use Rattle.spec_expressions.specs.judged.Summaries.{no_use}
 use Rattle.spec_interface.specs.judged.Modules.{EntriesOK}
 use Rattle.spec_interface.specs.judged.Payloads.{binding_at}
 use Rattle.spec_statements.specs.judged.ModuleFunctions.{FunctionsOK}
-use Rattle.spec_handles.specs.InOrder.{HandlesOK}
+use Rattle.spec_expressions.specs.InOrder.{HandlesOK}
 use Rattle.judgement.specs.judged.Lines.{is_own, is_used}
 use Rattle.judgement.specs.judged.Reports.{IsEntryReport}
 use Rattle.spec_statements.specs.judged.Results.{answer_of}

@@ -1,25 +1,15 @@
-//! What is known of every module that is accepted, by the definitions alone.
+//! What is known of every module that is accepted, by the definitions alone: its chains of calls end, its bindings differ
+//! ([`accepted_laws`]); every run of its entry points is good, and the lines of the report tell what it names and samples
+//! ([`run_laws`]); and where none of its functions has a result, it makes no difference whether missing returns are put in
+//! ([`return_laws`]). What the definitions say of small examples, worked out by hand and computed by the prover:
+//! [`rule_examples`], [`statement_examples`], [`run_examples`].
 //!
-//! The functions do nothing: their contracts are the laws.
+//! The functions do nothing: their contracts are the laws and the examples.
 #![tactic(auto)]
 
-ghost use Rattle.judgement_laws.specs.Laws.{CallsFall, BindingsDiffer, AnsweredByOne};
-
-/// Each chain of calls that begins at a function or an entry point of a module whose handles are in order runs functions of
-/// strictly falling index. So there is no cycle of calls, and a chain has at most as many calls as the module has functions.
-pub fn calls_fall()
-    ensures { CallsFall }
-{}
-
-/// Where entry points are accepted and bindings are checked, the global variables whose lines a report has for an entry point,
-/// beside its payload and its mesh output, have bindings that differ, as far as they have any.
-pub fn bindings_differ()
-    ensures { BindingsDiffer }
-{}
-
-/// Where functions are accepted, and bodies and expressions are checked, each expression that denotes the result of a call is the
-/// result of one call statement, of that function, and each that denotes the result of an atomic operation is that of one
-/// statement.
-pub fn answered_by_one()
-    ensures { AnsweredByOne }
-{}
+pub mod accepted_laws;
+pub mod return_laws;
+pub mod rule_examples;
+pub mod run_examples;
+pub mod run_laws;
+pub mod statement_examples;

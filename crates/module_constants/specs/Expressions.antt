@@ -13,7 +13,7 @@ use Rattle.spec_expressions.specs.judged.GlobalExpressions.{of_literal, of_compo
 use Rattle.spec_expressions.specs.judged.Context.{Context, outside}
 use Rattle.spec_expressions.specs.judged.Typing.{HasTypeAmong}
 use Rattle.module_type_checks.specs.Widths.{IsLiteralFault}
-use Rattle.module_type_infos.specs.declared.error.LiteralError.{LiteralError}
+use Rattle.typing_layout.specs.declared.type_error.LiteralError.{LiteralError}
 use Rattle.typing_forms.specs.declared.form.Form.{Form}
 use Rattle.typing_layout.specs.judged.Constness.{IsOfKind}
 use Rattle.typing_layout.specs.declared.constness.ExpressionKind.{ExpressionKind}

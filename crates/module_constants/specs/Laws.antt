@@ -20,7 +20,7 @@ use Rattle.spec_expressions.specs.judged.ConstantLiterals.{LiteralOK}
 use Rattle.spec_expressions.specs.judged.Overrides.{OverrideOK}
 use Rattle.spec_expressions.specs.judged.Context.{Context}
 use Rattle.module_type_checks.specs.Widths.{IsLiteralFault}
-use Rattle.module_type_infos.specs.declared.error.LiteralError.{LiteralError}
+use Rattle.typing_layout.specs.declared.type_error.LiteralError.{LiteralError}
 use Rattle.typing_forms.specs.declared.form.Form.{Form}
 
 abbrev pub LiteralRefuted : Type 0

@@ -6,17 +6,16 @@ ghost use Rattle.ir_types.specs.judged.Plain.{PlainType};
 ghost use Rattle.typing_layout.specs.judged.Flags.{HasFlag, Constructible};
 ghost use Rattle.typing_layout.specs.judged.Tree.{Tree};
 ghost use Rattle.typing_layout.specs.judged.View.{type_tree};
-ghost use Rattle.module_type_infos.specs.Infos.{HasInfo};
+ghost use Rattle.typing_layout.specs.Infos.{HasInfo};
 
 use bitflags::Flags;
 use ir_arena::handle::Handle;
 use ir_flags::Capabilities;
 use ir_items::Module;
 use ir_types::key;
-use module_type_infos::{TypeFlags, TypeInfo};
 use typing_forms::laws::form_equality;
 use typing_forms::{Form, form_of_type};
-use typing_layout::{ExpressionKind, ExpressionKindTracker};
+use typing_layout::{ExpressionKind, ExpressionKindTracker, TypeFlags, TypeInfo};
 
 /// What the rules of global expressions, constants and overrides may look at.
 #[derive(Clone, Copy)]

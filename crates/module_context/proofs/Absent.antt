@@ -4,7 +4,7 @@ use Rattle.std.proofs.lemmas.Option.{slice_get-get_or}
 use Rattle.ir_types.specs.judged.Plain.{PlainType}
 use Rattle.typing_layout.specs.judged.Flags.{TypeFlag, bit, HasFlag, Data, Sized, Constructible}
 use Rattle.module_type_checks.specs.Known.{AreInfos}
-use Rattle.module_type_infos.specs.declared.info.TypeInfo.{TypeInfo}
+use Rattle.typing_layout.specs.declared.info.TypeInfo.{TypeInfo}
 use Rattle.typing_layout.specs.judged.Tree.{no_type}
 use Rattle.typing_layout.specs.judged.View.{type_tree, tree_along, tree_found}
 

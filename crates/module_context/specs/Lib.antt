@@ -1,2 +1,3 @@
+pub mod AcceptedTypes
 pub mod Refused
 pub mod OperandView

@@ -20,9 +20,8 @@ use ir_flags::{Capabilities, ShaderStages};
 use ir_kinds::Literal;
 use ir_sets::unique_arena::UniqueArena;
 use ir_types::{Expression, IrType, TypeInner, key};
-use module_type_infos::{TypeFlags, TypeInfo};
 use typing_forms::{Form, inner_of};
-use typing_layout::ExpressionKindTracker;
+use typing_layout::{ExpressionKindTracker, TypeFlags, TypeInfo};
 
 /// What the checks of an expression may look at.
 #[derive(Clone, Copy)]

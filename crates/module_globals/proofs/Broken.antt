@@ -9,11 +9,11 @@ use Rattle.typing_layout.specs.judged.Parts.{Part, Everywhere, EverywhereIn, Som
 use Rattle.typing_layout.specs.judged.Layout.{alignment}
 use Rattle.typing_layout.specs.judged.Tree.{Tree, scalar, vector, matrix, cooperative_matrix, atomic, pointer, value_pointer, array, struct, image, sampler, acceleration_structure, ray_query, binding_array, Members, no_members, member}
 use Rattle.typing_layout.specs.judged.View.{type_tree}
-use Rattle.module_type_infos.specs.BufferFaults.{BreaksStorage, BreaksUniform, IsBroken, IsUnfit, IsBadStride, IsBadSpan, IsBadOffset, IsNearAfter}
-use Rattle.module_type_infos.specs.declared.error.Disalignment.{Disalignment}
-use Rattle.module_type_infos.specs.declared.error.Disalignment.TheVariants as fault
-use Rattle.module_type_infos.specs.declared.error.ImmediateError.{ImmediateError}
-use Rattle.module_type_infos.specs.declared.error.ImmediateError.TheVariants as immediate
+use Rattle.typing_layout.specs.BufferFaults.{BreaksStorage, BreaksUniform, IsBroken, IsUnfit, IsBadStride, IsBadSpan, IsBadOffset, IsNearAfter}
+use Rattle.typing_layout.specs.declared.type_error.Disalignment.{Disalignment}
+use Rattle.typing_layout.specs.declared.type_error.Disalignment.TheVariants as fault
+use Rattle.typing_layout.specs.declared.type_error.ImmediateError.{ImmediateError}
+use Rattle.typing_layout.specs.declared.type_error.ImmediateError.TheVariants as immediate
 use Rattle.ir_kinds.specs.declared.scalars.Scalar.{Scalar}
 
 -- what holds everywhere keeps away what can stand beside it nowhere

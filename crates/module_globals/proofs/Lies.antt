@@ -18,11 +18,11 @@ use Rattle.typing_layout.specs.judged.Buffers.{IsStorage, IsUniform, uniform_ali
 use Rattle.typing_layout.specs.judged.Immediates.{FitsImmediates}
 use Rattle.spec_interface.specs.judged.Spaces.{LiesIn, counted, is_storage}
 use Rattle.typing_layout.specs.judged.Layout.{alignment}
-use Rattle.module_type_infos.specs.BufferFaults.{BreaksStorage, BreaksUniform, IsBroken, IsUnfit}
-use Rattle.module_type_infos.specs.Infos.{HasInfo}
-use Rattle.module_type_infos.specs.declared.error.Disalignment.{Disalignment}
-use Rattle.module_type_infos.specs.declared.error.ImmediateError.{ImmediateError}
-use Rattle.module_type_infos.specs.declared.info.TypeInfo.{TypeInfo}
+use Rattle.typing_layout.specs.BufferFaults.{BreaksStorage, BreaksUniform, IsBroken, IsUnfit}
+use Rattle.typing_layout.specs.Infos.{HasInfo}
+use Rattle.typing_layout.specs.declared.type_error.Disalignment.{Disalignment}
+use Rattle.typing_layout.specs.declared.type_error.ImmediateError.{ImmediateError}
+use Rattle.typing_layout.specs.declared.info.TypeInfo.{TypeInfo}
 use Rattle.typing_forms.specs.judged.Sizes.{type_size}
 use Rattle.typing_forms.specs.declared.form.Form.{Form}
 

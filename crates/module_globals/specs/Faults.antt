@@ -22,9 +22,9 @@ use Rattle.spec_interface.specs.judged.Spaces.{array_base, counted, array_capabi
 use Rattle.typing_layout.specs.judged.Layout.{size}
 use Rattle.typing_layout.specs.judged.Tree.{Tree}
 use Rattle.typing_layout.specs.judged.View.{type_tree}
-use Rattle.module_type_infos.specs.BufferFaults.{BreaksStorage, BreaksUniform, IsBroken, IsUnfit}
-use Rattle.module_type_infos.specs.Infos.{AreFlags}
-use Rattle.module_type_infos.specs.declared.error.Disalignment.{Disalignment}
+use Rattle.typing_layout.specs.BufferFaults.{BreaksStorage, BreaksUniform, IsBroken, IsUnfit}
+use Rattle.typing_layout.specs.Infos.{AreFlags}
+use Rattle.typing_layout.specs.declared.type_error.Disalignment.{Disalignment}
 use Rattle.typing_forms.specs.judged.Forms.{form_of_type}
 use Rattle.typing_forms.specs.declared.form.Form.{Form}
 use Rattle.typing_forms.specs.judged.Resolutions.{inner_at}

@@ -2,8 +2,8 @@
 
 use ir_flags::Capabilities;
 use ir_items::Module;
-use module_type_infos::TypeInfo;
 use typing_forms::Form;
+use typing_layout::TypeInfo;
 
 /// What the rules of a global variable may look at.
 #[derive(Clone, Copy)]

@@ -4,8 +4,8 @@ use ir_arena::handle::Handle;
 use ir_flags::Capabilities;
 use ir_kinds::AddressSpace;
 use ir_types::key;
-use module_type_infos::{Disalignment, ImmediateError, TypeFlags};
 use thiserror::Error;
+use typing_layout::{Disalignment, ImmediateError, TypeFlags};
 
 /// Why a global variable is refused (naga's `GlobalVariableError`).
 #[derive(Clone, Copy, Debug, Error)]

@@ -27,9 +27,9 @@ use ir_flags::{Capabilities, MemoryDecorations, StorageAccess, ValidationFlags};
 use ir_items::GlobalVariable;
 use ir_kinds::AddressSpace;
 use ir_types::{TypeInner, key};
-use module_type_infos::LayoutCompatibility;
 use typing_forms::laws::form_equality;
 use typing_forms::{TypeInnerExt, form_of_type};
+use typing_layout::LayoutCompatibility;
 
 // What a type is made of.
 fn inner_of<'a>(context: &VariableContext<'a>, ty: Handle<key::IrType>) -> &'a TypeInner

@@ -9,7 +9,7 @@ use crate::handles::{handle_capability, handles_capability};
 use ir_flags::Capabilities;
 use ir_kinds::AddressSpace;
 use ir_types::TypeInner;
-use module_type_infos::TypeFlags;
+use typing_layout::TypeFlags;
 
 /// What a binding array of this needs in a space; `None` where there is none.
 pub(crate) fn array_capability(space: AddressSpace, base: &TypeInner) -> Option<Capabilities>

@@ -30,15 +30,15 @@ use Rattle.spec_expressions.specs.judged.Results.{result_of}
 use Rattle.spec_expressions.specs.judged.Typing.{HasTypeAmong, has}
 use Rattle.spec_expressions.specs.declared.faults.TypingFault.{TypingFault}
 use Rattle.spec_expressions.specs.declared.faults.TypingFault.TheVariants.{BuiltinArgumentsInvalid, FunctionArgumentNotFound, FunctionReturnsVoid, InvalidAccess, InvalidPointer, MissingSpecialType}
-use Rattle.spec_handles.specs.Conditions.{HandlesInRange}
-use Rattle.spec_handles.specs.Expressions.{expression_item}
-use Rattle.spec_handles.specs.Operands.{given}
-use Rattle.spec_handles.specs.InOrder.{HandlesOK}
-use Rattle.spec_handles.specs.Items.{special_types}
-use Rattle.spec_handles.specs.Modules as part
-use Rattle.spec_handles.specs.References.{ItemExists, item, argument, answer, local, computed, argument_type, answer_type, local_type, expression_names}
-use Rattle.spec_handles.specs.declared.target.Target.{Target}
-use Rattle.spec_handles.specs.declared.target.Target.TheVariants as target
+use Rattle.spec_expressions.specs.Conditions.{HandlesInRange}
+use Rattle.spec_expressions.specs.Expressions.{expression_item}
+use Rattle.spec_expressions.specs.Operands.{given}
+use Rattle.spec_expressions.specs.InOrder.{HandlesOK}
+use Rattle.spec_expressions.specs.Items.{special_types}
+use Rattle.spec_expressions.specs.Modules as part
+use Rattle.spec_expressions.specs.References.{ItemExists, item, argument, answer, local, computed, argument_type, answer_type, local_type, expression_names}
+use Rattle.spec_expressions.specs.declared.target.Target.{Target}
+use Rattle.spec_expressions.specs.declared.target.Target.TheVariants as target
 use Rattle.spec_expressions.specs.judged.Given.{is_key, handle_for, given_type}
 use Rattle.typing_forms.specs.judged.Forms.{form_of, form_of_type}
 use Rattle.typing_forms.specs.judged.Order.{TypesGoBack}

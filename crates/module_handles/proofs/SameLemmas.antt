@@ -3,11 +3,11 @@ use Rattle.std.proofs.Common.{◌≡◌, inl, inr, ℕ, ◌<◌, List, [], ◌�
 use Rattle.std.specs.List.{cons_option}
 use Rattle.std.proofs.lemmas.List.Elements.{All-cons, All-nil, All-head, All-tail}
 use Rattle.typing_rules.specs.judged.Laws.{IsAmong}
-use Rattle.spec_analysis.specs.judged.Operands.{Operand, operand, operands_in, expression_operands as operands_with_uses}
-use Rattle.spec_handles.specs.declared.operand.Usage.TheVariants.{Read}
-use Rattle.spec_handles.specs.Operands.{Operands, these, each_of, of_expression, handles_of as handles_in}
-use Rattle.spec_handles.specs.declared.operand.Slot.{Slot}
-use Rattle.spec_handles.specs.declared.operand.Usage.{Usage}
+use Rattle.spec_expressions.specs.judged.Operands.{Operand, operand, operands_in, expression_operands as operands_with_uses}
+use Rattle.spec_expressions.specs.declared.operand.Usage.TheVariants.{Read}
+use Rattle.spec_expressions.specs.Operands.{Operands, these, each_of, of_expression, handles_of as handles_in}
+use Rattle.spec_expressions.specs.declared.operand.Slot.{Slot}
+use Rattle.spec_expressions.specs.declared.operand.Usage.{Usage}
 use Rattle.module_handles.specs.SameOperands.{handles_of, SameOperands, SameOrder}
 
 -- of one operand, if it is given, before others

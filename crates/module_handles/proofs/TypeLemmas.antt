@@ -25,7 +25,7 @@ use Rattle.module_handles.proofs.PassLemmas.{below_or_same}
 use Rattle.module_handles.specs.Found.{pending_missing, built_forward, named_forward, looked_through}
 use Rattle.module_handles.specs.LookupFound.{forward, counted_forward}
 use Rattle.module_handles.specs.InOrder.{IsFaultIn, NamesBefore, NamesForward, TypeOK, TypesBelow, TypesOK}
-use Rattle.spec_handles.specs.declared.item.ItemKind.TheVariants as kind
+use Rattle.spec_expressions.specs.declared.item.ItemKind.TheVariants as kind
 use Rattle.typing_forms.specs.judged.Order.{named_types}
 use Rattle.typing_forms.specs.judged.Resolutions.{inner_at}
 

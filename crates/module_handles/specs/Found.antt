@@ -1,4 +1,4 @@
--- What is wrong with the handles of a module outside its functions, found step by step; `spec_handles` says what is required of
+-- What is wrong with the handles of a module outside its functions, found step by step; `spec_expressions` says what is required of
 -- them.
 use Rattle.std.specs.Prelude.{ℕ, ◌+◌, List, nat_lt, if◌then◌else◌, Option, Some, None, option_map, option_and_then, slice_get}
 use Rattle.std.specs.Option.{option_or}
@@ -12,12 +12,12 @@ use Rattle.ir_references.specs.declared.fault.HandleFault.{HandleFault}
 use Rattle.ir_references.specs.declared.fault.HandleFault.TheVariants as fault
 use Rattle.ir_types.specs.judged.Plain.{PlainInner}
 use Rattle.module_handles.specs.LookupFound.{type_of, init_of, forward, counted_by, counted_forward}
-use Rattle.spec_handles.specs.Expressions.{expression_item}
-use Rattle.spec_handles.specs.Items.{pending_of, special_types, mesh_types, mesh_expressions, entry_variables}
-use Rattle.spec_handles.specs.declared.item.ItemKind.{ItemKind}
-use Rattle.spec_handles.specs.declared.item.ItemKind.TheVariants as kind
-use Rattle.spec_handles.specs.declared.target.Target.{Target}
-use Rattle.spec_handles.specs.declared.target.Target.TheVariants as target
+use Rattle.spec_expressions.specs.Expressions.{expression_item}
+use Rattle.spec_expressions.specs.Items.{pending_of, special_types, mesh_types, mesh_expressions, entry_variables}
+use Rattle.spec_expressions.specs.declared.item.ItemKind.{ItemKind}
+use Rattle.spec_expressions.specs.declared.item.ItemKind.TheVariants as kind
+use Rattle.spec_expressions.specs.declared.target.Target.{Target}
+use Rattle.spec_expressions.specs.declared.target.Target.TheVariants as target
 use Rattle.typing_forms.specs.judged.Order.{named_types}
 
 -- ---- what isn't there

@@ -1,15 +1,15 @@
--- What the items that are named are of and begin as, and what doesn't come before; `spec_handles` says what is required of them.
+-- What the items that are named are of and begin as, and what doesn't come before; `spec_expressions` says what is required of them.
 use Rattle.std.specs.Prelude.{ℕ, nat_lt, if◌then◌else◌, Option, Some, None, option_map, option_and_then, slice_get}
 use Rattle.ir_items.specs.judged.GlobalPlain.{PlainConstant, PlainOverride}
 use Rattle.ir_items.specs.judged.Plain.{PlainModule}
 use Rattle.ir_references.specs.declared.fault.HandleFault.{HandleFault}
 use Rattle.ir_references.specs.declared.fault.HandleFault.TheVariants as fault
 use Rattle.ir_types.specs.judged.Plain.{PlainInner}
-use Rattle.spec_handles.specs.Items.{pending_of}
-use Rattle.spec_handles.specs.declared.item.ItemKind.{ItemKind}
-use Rattle.spec_handles.specs.declared.item.ItemKind.TheVariants as kind
-use Rattle.spec_handles.specs.declared.target.Target.{Target}
-use Rattle.spec_handles.specs.declared.target.Target.TheVariants as target
+use Rattle.spec_expressions.specs.Items.{pending_of}
+use Rattle.spec_expressions.specs.declared.item.ItemKind.{ItemKind}
+use Rattle.spec_expressions.specs.declared.item.ItemKind.TheVariants as kind
+use Rattle.spec_expressions.specs.declared.target.Target.{Target}
+use Rattle.spec_expressions.specs.declared.target.Target.TheVariants as target
 
 -- the type that an item is, or has
 abbrev pub type_of : PlainModule → Target → Option ℕ

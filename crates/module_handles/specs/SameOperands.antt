@@ -1,10 +1,10 @@
 -- The operands of an expression are the same, with the uses that they make and without.
 use Rattle.std.specs.Prelude.{◌≡◌, ◌↔◌, ℕ, List, map}
 use Rattle.ir_types.specs.judged.ExpressionPlain.{PlainExpression}
-use Rattle.spec_analysis.specs.judged.Operands.{Operand, expression_operands as operands_with_uses}
-use Rattle.spec_analysis.specs.judged.Values.{OperandsPrecede as OperandsWithUsesPrecede}
-use Rattle.spec_handles.specs.Conditions.{OperandsPrecede}
-use Rattle.spec_handles.specs.Expressions.{expression_operands}
+use Rattle.spec_expressions.specs.judged.Operands.{Operand, expression_operands as operands_with_uses}
+use Rattle.spec_expressions.specs.judged.Values.{OperandsPrecede as OperandsWithUsesPrecede}
+use Rattle.spec_expressions.specs.Conditions.{OperandsPrecede}
+use Rattle.spec_expressions.specs.Expressions.{expression_operands}
 
 abbrev pub handles_of : List Operand → List ℕ
 handles_of operands = map (λ (o : Operand). o.handle) operands

@@ -8,9 +8,9 @@ use Rattle.ir_items.specs.found.View.{module_view}
 use Rattle.ir_items.specs.declared.entries.EntryPoint.{EntryPoint}
 use Rattle.ir_items.specs.declared.functions.Function.{Function}
 use Rattle.ir_items.specs.declared.module.Module.{Module}
-use Rattle.spec_analysis.specs.judged.Values.{OperandsPrecede}
+use Rattle.spec_expressions.specs.judged.Values.{OperandsPrecede}
 use Rattle.spec_expressions.specs.judged.Context.{Context, inside, outside, NamesItem}
-use Rattle.spec_handles.specs.InOrder.{HandlesOK}
+use Rattle.spec_expressions.specs.InOrder.{HandlesOK}
 use Rattle.typing_layout.specs.judged.Constness.{OriginsPrecede}
 
 -- the items that expressions name are there, and their operands precede

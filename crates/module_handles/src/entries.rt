@@ -5,15 +5,15 @@ ghost use Rattle.std.specs.Option.{MatchOption, option_or};
 ghost use Rattle.ir_items.specs.found.View.{entry_view, module_view};
 ghost use Rattle.module_handles.specs.Found.{first_missing, entry_missing};
 ghost use Rattle.module_handles.specs.InOrder.{IsFaultIn, EntriesOK};
-ghost use Rattle.spec_handles.specs.Operands.{given};
-ghost use Rattle.spec_handles.specs.Items.{mesh_types, mesh_expressions, mesh_variables, entry_variables};
-ghost use Rattle.spec_handles.specs.declared.item.ItemKind.TheVariants as kind;
+ghost use Rattle.spec_expressions.specs.Operands.{given};
+ghost use Rattle.spec_expressions.specs.Items.{mesh_types, mesh_expressions, mesh_variables, entry_variables};
+ghost use Rattle.spec_expressions.specs.declared.item.ItemKind.TheVariants as kind;
 
 use crate::lists::{ItemCheck, fault_of_items, first_missing};
 use crate::place_of;
 use ir_items::{EntryPoint, MeshStageInfo, Module};
 use ir_references::{Bounds, HandleFault, forward_operand, missing_in_function};
-use spec_handles::ItemKind;
+use spec_expressions::ItemKind;
 
 fn mesh_types_missing(mesh: &Option<MeshStageInfo>, there: usize) -> Option<HandleFault>
     ensures { result ≡ first_missing kind.Type there (mesh_types mesh.now) }

@@ -11,7 +11,7 @@ use crate::lists::{ItemCheck, fault_of_values};
 use crate::{forward, init_named};
 use ir_items::{Expression, Module};
 use ir_references::{Bounds, HandleFault, item_of};
-use spec_handles::ItemKind;
+use spec_expressions::ItemKind;
 
 fn named_missing(expression: &Expression, bounds: &Bounds) -> Option<HandleFault>
     ensures { result ≡ named_missing bounds.now (expression_view expression.now) }

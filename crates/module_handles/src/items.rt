@@ -7,7 +7,7 @@ ghost use Rattle.ir_items.specs.found.View.{module_view};
 ghost use Rattle.ir_references.specs.First.{first_past};
 ghost use Rattle.module_handles.specs.Found.{first_missing, special_missing, leaf_missing, constant_missing, override_missing, variable_missing};
 ghost use Rattle.module_handles.specs.InOrder.{IsFaultIn, ItemsOK};
-ghost use Rattle.spec_handles.specs.declared.item.ItemKind.TheVariants as kind;
+ghost use Rattle.spec_expressions.specs.declared.item.ItemKind.TheVariants as kind;
 
 use crate::lists::{ItemCheck, fault_of_values, first_missing};
 use crate::place_of;
@@ -18,7 +18,7 @@ use ir_items::{
 };
 use ir_kinds::PredeclaredType;
 use ir_references::{Bounds, HandleFault};
-use spec_handles::{ItemKind, Target};
+use spec_expressions::{ItemKind, Target};
 
 // The first of the types of what built-in functions answer that is not there.
 fn predeclared_missing(

@@ -1,6 +1,6 @@
 //! Whether the handles of a module are in order: the first of its checks, after which handles may be followed; what the items
 //! that types and global expressions name are of and begin as; and why handles are refused. The check takes no memory.
-//! `spec_handles` says what is required.
+//! `spec_expressions` says what is required.
 //!
 //! Whether the handles of a function are in order: what the analysis of a function requires of it. The tests take no memory.
 //!

@@ -6,12 +6,12 @@ ghost use Rattle.ir_items.specs.found.GlobalView.{values_of};
 ghost use Rattle.ir_references.specs.First.{first_past};
 ghost use Rattle.module_handles.specs.Found.{first_missing};
 ghost use Rattle.module_handles.specs.Lists.{AllPass, SomeFails};
-ghost use Rattle.spec_handles.specs.Operands.{given};
+ghost use Rattle.spec_expressions.specs.Operands.{given};
 
 use ir_arena::arena::Arena;
 use ir_arena::handle::Handle;
 use ir_references::HandleFault;
-use spec_handles::ItemKind;
+use spec_expressions::ItemKind;
 
 // What is required of the items of a list, each at its place.
 pub(crate) trait ItemCheck<T> {

@@ -5,12 +5,12 @@ ghost use Rattle.ir_types.specs.judged.ExpressionPlain.{expression_view};
 ghost use Rattle.ir_items.specs.found.GlobalView.{constant_view, override_view};
 ghost use Rattle.ir_items.specs.found.View.{module_view};
 ghost use Rattle.module_handles.specs.LookupFound.{type_of, init_of, forward};
-ghost use Rattle.spec_handles.specs.Expressions.{expression_item};
+ghost use Rattle.spec_expressions.specs.Expressions.{expression_item};
 
 use ir_arena::handle::Handle;
 use ir_items::{Constant, Expression, Module, Override, key};
 use ir_references::{HandleFault, item_of};
-use spec_handles::{ItemKind, Target};
+use spec_expressions::{ItemKind, Target};
 
 // The constant at a handle, if it is there.
 #[tactic(auto, using(ir_references::proofs::Entries::entries))]

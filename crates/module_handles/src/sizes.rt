@@ -4,13 +4,13 @@ ghost use Rattle.std.specs.Prelude.{◌≡◌};
 ghost use Rattle.ir_items.specs.found.View.{module_view};
 ghost use Rattle.ir_types.specs.judged.Plain.{inner_view};
 ghost use Rattle.module_handles.specs.LookupFound.{counted_by, counted_forward};
-ghost use Rattle.spec_handles.specs.Items.{pending_in, pending_of};
+ghost use Rattle.spec_expressions.specs.Items.{pending_in, pending_of};
 
 use crate::lookups::{forward, place_of, type_of};
 use ir_arena::handle::Handle;
 use ir_items::{ArraySize, Module, TypeInner, key};
 use ir_references::HandleFault;
-use spec_handles::{ItemKind, Target};
+use spec_expressions::{ItemKind, Target};
 
 // The override that says how many there are.
 fn pending_in(size: ArraySize) -> Option<Handle<key::Override>>

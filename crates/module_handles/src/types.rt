@@ -17,7 +17,7 @@ use crate::{counted_by, counted_forward, forward, init_of, pending_of, type_name
 use ir_arena::handle::Handle;
 use ir_items::{Expression, Module, StructMember, TypeInner, key};
 use ir_references::{Bounds, HandleFault};
-use spec_handles::{ItemKind, Target};
+use spec_expressions::{ItemKind, Target};
 
 // The first of the types of members that does not come before the end.
 fn member_past(members: &[StructMember], end: usize) -> Option<usize>

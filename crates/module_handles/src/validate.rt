@@ -7,8 +7,8 @@ ghost use Rattle.ir_items.specs.judged.Plain.{PlainModule};
 ghost use Rattle.ir_proc.specs.found.Filters.{ParentsPrecede};
 ghost use Rattle.module_handles.specs.Errors.{word_of, IsHandleError};
 ghost use Rattle.module_handles.specs.InOrder.{IsFaultIn};
-ghost use Rattle.spec_handles.specs.Conditions.{OperandsPrecede};
-ghost use Rattle.spec_handles.specs.InOrder.{HandlesOK};
+ghost use Rattle.spec_expressions.specs.Conditions.{OperandsPrecede};
+ghost use Rattle.spec_expressions.specs.InOrder.{HandlesOK};
 
 use crate::entries::fault_of_entries;
 use crate::expressions::fault_of_expressions;
@@ -20,7 +20,7 @@ use ir_arena::handle::{BadHandle, Kind};
 use ir_arena::range::{BadRangeError, Range};
 use ir_items::{Module, key};
 use ir_references::{HandleFault, forward_operand, forward_parent};
-use spec_handles::ItemKind;
+use spec_expressions::ItemKind;
 
 // The word for what an item is.
 fn word(kind: ItemKind) -> &'static str

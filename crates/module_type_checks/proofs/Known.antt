@@ -12,7 +12,7 @@ use Rattle.typing_layout.specs.judged.View.{tree_by}
 use Rattle.module_type_checks.specs.Known.{types_in, tree_in, IsKnown, AreFacts}
 use Rattle.module_type_checks.specs.declared.context.TypeContext.{TypeContext}
 use Rattle.module_type_checks.specs.declared.facts.Facts.{Facts}
-use Rattle.module_type_infos.specs.declared.info.TypeInfo.{TypeInfo}
+use Rattle.typing_layout.specs.declared.info.TypeInfo.{TypeInfo}
 use Rattle.typing_forms.specs.judged.Resolutions.{inner_at}
 use Rattle.typing_layout.specs.found.Held.{IsLayoutOf}
 use Rattle.typing_layout.specs.declared.layout.TypeLayout.{TypeLayout}

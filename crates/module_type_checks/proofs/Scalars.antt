@@ -7,11 +7,11 @@ use Rattle.ir_kinds.specs.declared.scalars.ScalarKind.{ScalarKind}
 use Rattle.ir_kinds.specs.declared.scalars.ScalarKind.TheVariants.{Sint, Uint, Float, AbstractInt, AbstractFloat}
 use Rattle.ir_kinds.specs.declared.scalars.ScalarKind.TheVariants as kind
 use Rattle.typing_layout.specs.judged.Widths.{IsWidthAllowed, IsKindAllowed, IsAtomicInteger, IsAtomicKind}
-use Rattle.module_type_infos.specs.Faults.{IsNoWidth, IsNoScalar, RequiresFor, KindRequires, Lacks, IsWidthFault, IsNoAtomic, LacksAtomic, LacksWideAtomics, IsAtomicFault}
-use Rattle.module_type_infos.specs.declared.error.TypeError.{TypeError}
-use Rattle.module_type_infos.specs.declared.error.TypeError.TheVariants as error
-use Rattle.module_type_infos.specs.declared.error.WidthError.{WidthError}
-use Rattle.module_type_infos.specs.declared.error.WidthError.TheVariants as width
+use Rattle.typing_layout.specs.Faults.{IsNoWidth, IsNoScalar, RequiresFor, KindRequires, Lacks, IsWidthFault, IsNoAtomic, LacksAtomic, LacksWideAtomics, IsAtomicFault}
+use Rattle.typing_layout.specs.declared.type_error.TypeError.{TypeError}
+use Rattle.typing_layout.specs.declared.type_error.TypeError.TheVariants as error
+use Rattle.typing_layout.specs.declared.type_error.WidthError.{WidthError}
+use Rattle.typing_layout.specs.declared.type_error.WidthError.TheVariants as width
 
 pub lacked : (k c d : Capabilities) → Lacks k c → c ≡ d → Has k.0 d.0 → ⊥
 lacked k c d lacks same has = lacks (subst (λ (x : Capabilities). Has k.0 x.0) (sym same) has)

@@ -5,7 +5,7 @@ use Rattle.ir_types.specs.declared.types.StructMember.{StructMember}
 use Rattle.typing_layout.specs.judged.Blends.{source_at, HasSource, LocationOK, BlendOK}
 use Rattle.typing_layout.specs.judged.Flags.{blend_source}
 use Rattle.module_type_checks.specs.Blends.{AreLocated, IsLocationFaultIn, IsSoleBelow, IsSole, IsOnlyType, IsCollision, PairOK, IsPairFault, SourcesOK}
-use Rattle.module_type_infos.specs.BlendFaults.{IsTwice, IsAbsent, IsAlone, IsSource, IsVaryingFault}
+use Rattle.typing_layout.specs.BlendFaults.{IsTwice, IsAbsent, IsAlone, IsSource, IsVaryingFault}
 use Rattle.ir_flags.specs.Sets.{Has}
 use Rattle.ir_flags.specs.declared.settings.TheConstants.Capabilities.{DUAL_SOURCE_BLENDING}
 use Rattle.typing_layout.specs.judged.Blends.{location_of}
@@ -13,8 +13,8 @@ use Rattle.ir_kinds.specs.declared.bindings.Binding.{Binding}
 use Rattle.ir_kinds.specs.declared.bindings.Binding.TheVariants as bound
 use Rattle.module_type_checks.specs.Known.{types_in}
 use Rattle.module_type_checks.specs.declared.context.TypeContext.{TypeContext}
-use Rattle.module_type_infos.specs.declared.error.VaryingError.{VaryingError}
-use Rattle.module_type_infos.specs.declared.error.VaryingError.TheVariants as varying
+use Rattle.typing_layout.specs.declared.type_error.VaryingError.{VaryingError}
+use Rattle.typing_layout.specs.declared.type_error.VaryingError.TheVariants as varying
 use Rattle.ir_types.specs.judged.Plain.{PlainType}
 use Rattle.typing_forms.specs.judged.Resolutions.{inner_at}
 use Rattle.module_type_checks.proofs.Places.{plain_at, many_plain}

@@ -8,10 +8,10 @@ use Rattle.typing_layout.specs.judged.View.{tree_by}
 use Rattle.module_type_checks.specs.Known.{types_in, tree_in}
 use Rattle.module_type_checks.specs.Placed.{parts_in}
 use Rattle.module_type_checks.specs.declared.context.TypeContext.{TypeContext}
-use Rattle.module_type_infos.specs.BlendFaults.{IsBlendFault}
-use Rattle.module_type_infos.specs.Faults.{IsInnerFault}
-use Rattle.module_type_infos.specs.MemberFaults.{IsStructFault}
-use Rattle.module_type_infos.specs.declared.error.TypeError.{TypeError}
+use Rattle.typing_layout.specs.BlendFaults.{IsBlendFault}
+use Rattle.typing_layout.specs.Faults.{IsInnerFault}
+use Rattle.typing_layout.specs.MemberFaults.{IsStructFault}
+use Rattle.typing_layout.specs.declared.type_error.TypeError.{TypeError}
 use Rattle.typing_forms.specs.judged.Resolutions.{inner_at}
 
 abbrev pub IsInnerOK : TypeContext → PlainInner → Type 0

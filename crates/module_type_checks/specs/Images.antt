@@ -1,9 +1,9 @@
 -- Why the vertices of what rays hit are not returned.
 use Rattle.std.specs.Prelude.{Bool}
 use Rattle.ir_flags.specs.declared.settings.Capabilities.{Capabilities}
-use Rattle.module_type_infos.specs.Faults.{LacksVertices}
-use Rattle.module_type_infos.specs.declared.error.TypeError.{TypeError}
-use Rattle.module_type_infos.specs.declared.error.TypeError.TheVariants as error
+use Rattle.typing_layout.specs.Faults.{LacksVertices}
+use Rattle.typing_layout.specs.declared.type_error.TypeError.{TypeError}
+use Rattle.typing_layout.specs.declared.type_error.TypeError.TheVariants as error
 
 abbrev pub IsVerticesFault : Capabilities → (vertex_return : Bool) → TypeError → Type 0
 IsVerticesFault capabilities vertex_return (error.MissingCapability c) = LacksVertices capabilities vertex_return c

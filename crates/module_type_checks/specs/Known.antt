@@ -8,8 +8,8 @@ use Rattle.typing_layout.specs.judged.Tree.{Tree}
 use Rattle.typing_layout.specs.judged.View.{type_tree}
 use Rattle.module_type_checks.specs.declared.context.TypeContext.{TypeContext}
 use Rattle.module_type_checks.specs.declared.facts.Facts.{Facts}
-use Rattle.module_type_infos.specs.Infos.{HasInfo}
-use Rattle.module_type_infos.specs.declared.info.TypeInfo.{TypeInfo}
+use Rattle.typing_layout.specs.Infos.{HasInfo}
+use Rattle.typing_layout.specs.declared.info.TypeInfo.{TypeInfo}
 use Rattle.typing_forms.specs.judged.Order.{TypesGoBack}
 use Rattle.typing_forms.specs.judged.Resolutions.{types_view}
 use Rattle.typing_layout.specs.found.Held.{AreLayouts}

@@ -4,13 +4,13 @@ use Rattle.ir_flags.specs.declared.settings.Capabilities.{Capabilities}
 use Rattle.ir_kinds.specs.judged.Values.{literal_scalar}
 use Rattle.ir_kinds.specs.declared.scalars.Scalar.{Scalar}
 use Rattle.ir_kinds.specs.declared.values.Literal.{Literal}
-use Rattle.module_type_infos.specs.Faults.{IsNoWidth, RequiresFor, Lacks, IsWidthFault, LacksWideAtomics}
-use Rattle.module_type_infos.specs.declared.error.LiteralError.{LiteralError}
-use Rattle.module_type_infos.specs.declared.error.LiteralError.TheVariants as literal_error
-use Rattle.module_type_infos.specs.declared.error.TypeError.{TypeError}
-use Rattle.module_type_infos.specs.declared.error.TypeError.TheVariants as error
-use Rattle.module_type_infos.specs.declared.error.WidthError.{WidthError}
-use Rattle.module_type_infos.specs.declared.error.WidthError.TheVariants as width
+use Rattle.typing_layout.specs.Faults.{IsNoWidth, RequiresFor, Lacks, IsWidthFault, LacksWideAtomics}
+use Rattle.typing_layout.specs.declared.type_error.LiteralError.{LiteralError}
+use Rattle.typing_layout.specs.declared.type_error.LiteralError.TheVariants as literal_error
+use Rattle.typing_layout.specs.declared.type_error.TypeError.{TypeError}
+use Rattle.typing_layout.specs.declared.type_error.TypeError.TheVariants as error
+use Rattle.typing_layout.specs.declared.type_error.WidthError.{WidthError}
+use Rattle.typing_layout.specs.declared.type_error.WidthError.TheVariants as width
 
 -- a number of no width that there is, or without the capability of its width
 abbrev pub IsWideFault : Capabilities → (two eight : Capabilities) → Scalar → WidthError → Type 0

@@ -3,8 +3,7 @@
 use ir_flags::Capabilities;
 use ir_sets::unique_arena::UniqueArena;
 use ir_types::{IrType, key};
-use module_type_infos::TypeInfo;
-use typing_layout::Layouter;
+use typing_layout::{Layouter, TypeInfo};
 
 /// What the rules of a type may look at.
 #[derive(Clone, Copy)]

@@ -15,8 +15,7 @@ use crate::context::TypeContext;
 use ir_arena::handle::Handle;
 use ir_sets::unique_arena::UniqueArena;
 use ir_types::{IrType, TypeInner, key};
-use module_type_infos::TypeInfo;
-use typing_layout::Alignment;
+use typing_layout::{Alignment, TypeInfo};
 
 /// What is known of a type that another one names.
 #[derive(Clone, Copy)]

@@ -3,12 +3,12 @@
 ghost use Rattle.std.specs.Prelude.{MatchResult};
 ghost use Rattle.typing_layout.specs.judged.Images.{ImageOK, VerticesOK, StructureOK, QueryOK};
 ghost use Rattle.module_type_checks.specs.Images.{IsVerticesFault};
-ghost use Rattle.module_type_infos.specs.Faults.{IsImageFault, IsStructureFault, IsQueryFault};
+ghost use Rattle.typing_layout.specs.Faults.{IsImageFault, IsStructureFault, IsQueryFault};
 
 use bitflags::Flags;
 use ir_flags::Capabilities;
 use ir_kinds::{ImageClass, ImageDimension};
-use module_type_infos::TypeError;
+use typing_layout::TypeError;
 
 // Whether there is an image that comes from outside.
 fn check_external(

@@ -7,14 +7,14 @@ ghost use Rattle.typing_layout.specs.judged.Parts.{before};
 ghost use Rattle.typing_layout.specs.judged.Structs.{StructOK};
 ghost use Rattle.module_type_checks.specs.Known.{IsKnown, types_in, tree_in};
 ghost use Rattle.module_type_checks.specs.Placed.{parts_in, IsPlaced, IsBefore, end_after, PlacedOK};
-ghost use Rattle.module_type_infos.specs.MemberFaults.{IsStructFault};
+ghost use Rattle.typing_layout.specs.MemberFaults.{IsStructFault};
 
 use crate::context::TypeContext;
 use crate::facts::{Facts, facts_of};
 use bitflags::Flags;
 use ir_arena::handle::Handle;
 use ir_types::{StructMember, key};
-use module_type_infos::{TypeError, TypeFlags};
+use typing_layout::{TypeError, TypeFlags};
 
 /// A member, and what is known of its type.
 #[derive(Clone, Copy)]

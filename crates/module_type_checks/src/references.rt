@@ -8,14 +8,14 @@ ghost use Rattle.typing_layout.specs.judged.Rules.{IsStorageSpace, PointerOK, Ar
 ghost use Rattle.typing_layout.specs.judged.Tree.{Tree};
 ghost use Rattle.typing_layout.specs.judged.View.{tree_by};
 ghost use Rattle.module_type_checks.specs.Known.{IsKnown, tree_in, types_in};
-ghost use Rattle.module_type_infos.specs.Faults.{IsPointerFault, IsArrayFault, IsBindingArrayFault};
+ghost use Rattle.typing_layout.specs.Faults.{IsPointerFault, IsArrayFault, IsBindingArrayFault};
 
 use crate::{TypeContext, facts_of, type_at};
 use bitflags::Flags;
 use ir_arena::handle::Handle;
 use ir_kinds::{AddressSpace, ImageClass};
 use ir_types::{ArraySize, TypeInner, key};
-use module_type_infos::{TypeError, TypeFlags};
+use typing_layout::{TypeError, TypeFlags};
 
 // Whether values of an earlier type can be stored.
 fn is_data(context: &TypeContext<'_>, ty: Handle<key::IrType>) -> bool

@@ -6,12 +6,12 @@ ghost use Rattle.ir_kinds.specs.judged.Values.{literal_scalar};
 ghost use Rattle.typing_layout.specs.judged.Rules.{CooperativeOK};
 ghost use Rattle.typing_layout.specs.judged.Widths.{ScalarOK, AtomicOK, IsWidthAllowed, IsAtomicInteger};
 ghost use Rattle.module_type_checks.specs.Widths.{IsWideFault, IsLiteralFault, IsAtomicIntegerFault};
-ghost use Rattle.module_type_infos.specs.Faults.{IsWidthFault, IsScalarFault, IsMatrixFault, IsCooperativeFault, IsAtomicFault};
+ghost use Rattle.typing_layout.specs.Faults.{IsWidthFault, IsScalarFault, IsMatrixFault, IsCooperativeFault, IsAtomicFault};
 
 use bitflags::Flags;
 use ir_flags::Capabilities;
 use ir_kinds::{Literal, Scalar, ScalarKind};
-use module_type_infos::{LiteralError, TypeError, WidthError};
+use typing_layout::{LiteralError, TypeError, WidthError};
 
 // Refuses where a capability is missing.
 fn needs_for_width(capabilities: Capabilities, needed: Capabilities) -> Result<(), WidthError>

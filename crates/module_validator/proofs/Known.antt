@@ -4,10 +4,10 @@ use Rattle.module_globals.specs.There.{IsThere}
 use Rattle.ir_items.specs.judged.GlobalPlain.{PlainGlobal}
 use Rattle.ir_items.specs.judged.Plain.{PlainModule}
 use Rattle.module_handles.proofs.Whole.{conditions}
-use Rattle.spec_handles.specs.InOrder.{HandlesOK}
-use Rattle.spec_handles.specs.Modules as part
-use Rattle.spec_handles.specs.References.{item, operand}
-use Rattle.spec_handles.specs.declared.target.Target.TheVariants as target
+use Rattle.spec_expressions.specs.InOrder.{HandlesOK}
+use Rattle.spec_expressions.specs.Modules as part
+use Rattle.spec_expressions.specs.References.{item, operand}
+use Rattle.spec_expressions.specs.declared.target.Target.TheVariants as target
 
 -- what stands at a place of a list
 at_place : {A : Type 0} (xs : List A) (k : ℕ) → k < length xs → (x : A) × (slice_get xs k ≡ Some x)

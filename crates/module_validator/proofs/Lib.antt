@@ -1,6 +1,11 @@
+pub mod Accepted
 pub mod Handles
+pub mod Inside
+mod Known
+pub mod LayoutLaws
+mod OverrideTold
 pub mod Refusals
+pub mod Refuted
 pub mod StepLemmas
 pub mod ValueLemmas
-mod Known
-mod OverrideTold
+pub mod WholeLaws

@@ -15,8 +15,8 @@ use Rattle.module_constants.specs.declared.constants.InvalidConstant.{InvalidCon
 use Rattle.module_constants.specs.declared.expressions.InvalidGlobalExpression.{InvalidGlobalExpression}
 use Rattle.module_handles.specs.Errors.{IsHandleError}
 use Rattle.module_validator.specs.declared.listed_overrides.InvalidOverride.{InvalidOverride}
-use Rattle.module_types.specs.Validated.{IsFirstRefused as IsTypeRefused}
-use Rattle.module_types.specs.declared.validate.InvalidType.{InvalidType}
+use Rattle.module_validator.specs.Validated.{IsFirstRefused as IsTypeRefused}
+use Rattle.module_validator.specs.declared.validate.InvalidType.{InvalidType}
 use Rattle.module_validator.proofs.Handles.{handle_refuted}
 use Rattle.module_validator.proofs.StepLemmas.{not_laid, not_told, not_typed}
 use Rattle.module_validator.specs.Faults.{IsModuleFault, IsReportedAs}
@@ -24,9 +24,9 @@ use Rattle.module_validator.specs.declared.error.ModuleError.TheVariants as erro
 use Rattle.spec_expressions.specs.judged.Context.{outside}
 use Rattle.judgement.specs.judged.ModuleSteps as step
 use Rattle.judgement.specs.judged.ModuleSteps.{IsReached, FailsFirst}
-use Rattle.typing_expressions.specs.Types.{IsFirstUntyped}
-use Rattle.typing_expressions.specs.declared.refusal.TypingRefusal.{TypingRefusal}
-use Rattle.typing_expressions.specs.declared.refusal.TypingRefusal.TheVariants as typing
+use Rattle.typing_infos.specs.Types.{IsFirstUntyped}
+use Rattle.typing_infos.specs.declared.refusal.TypingRefusal.{TypingRefusal}
+use Rattle.typing_infos.specs.declared.refusal.TypingRefusal.TheVariants as typing
 use Rattle.typing_layout.specs.found.Held.{AreLayouts, IsRefused, IsRefusal}
 use Rattle.typing_layout.specs.declared.error.LayoutError.{LayoutError}
 use Rattle.typing_layout.specs.declared.layout.TypeLayout.{TypeLayout}

@@ -2,14 +2,15 @@
 use Rattle.std.proofs.Common.{◌≡◌, ◌<◌, ℕ, Bool, zero, suc, List, [], ◌∷◌, Option, Some, None, length, slice_get, refl, arith}
 use Rattle.ir_flags.specs.declared.settings.Settings.{Settings}
 use Rattle.ir_items.specs.judged.Plain.{PlainModule}
-use Rattle.module_types.specs.Validated.{AreAccepted, IsFirstRefused as IsTypeRefused}
-use Rattle.module_types.specs.declared.validate.InvalidType.{InvalidType}
+use Rattle.module_context.specs.AcceptedTypes.{AreAccepted}
+use Rattle.module_validator.specs.Validated.{IsFirstRefused as IsTypeRefused}
+use Rattle.module_validator.specs.declared.validate.InvalidType.{InvalidType}
 use Rattle.spec_expressions.specs.judged.Context.{outside}
 use Rattle.judgement.specs.judged.ModuleSteps.{layout, type, typing, StepPasses, FailsFirst}
 use Rattle.typing_layout.specs.judged.Layout.{LayoutOK}
 use Rattle.typing_layout.specs.judged.Tree.{Tree}
 use Rattle.typing_layout.specs.judged.View.{type_tree}
-use Rattle.typing_expressions.specs.Types.{AreTypes, IsUntypedFirst}
+use Rattle.typing_infos.specs.Types.{AreTypes, IsUntypedFirst}
 use Rattle.typing_forms.specs.declared.resolution.TypeResolution.{TypeResolution}
 use Rattle.typing_layout.specs.found.Held.{AreLayouts, IsFaultOf, IsRefused}
 use Rattle.typing_layout.specs.declared.error.LayoutError.{LayoutError}
@@ -20,7 +21,7 @@ use Rattle.typing_errors.specs.Answers.{ReportsFault, fault_of, form_given}
 use Rattle.typing_errors.specs.declared.resolve_error.ResolveError.{ResolveError}
 use Rattle.spec_expressions.specs.declared.faults.TypingFault.{TypingFault}
 use Rattle.spec_expressions.specs.judged.Typing.{HasTypeAmong}
-use Rattle.module_type_infos.specs.declared.info.TypeInfo.{TypeInfo}
+use Rattle.typing_layout.specs.declared.info.TypeInfo.{TypeInfo}
 use Rattle.typing_forms.specs.declared.form.Form.{Form}
 
 -- what stands at a place of a list

@@ -14,7 +14,7 @@ use Rattle.module_constants.specs.declared.constants.InvalidConstant.{InvalidCon
 use Rattle.module_constants.specs.declared.context.GlobalContext.{GlobalContext}
 use Rattle.module_constants.specs.declared.expressions.InvalidGlobalExpression.{InvalidGlobalExpression}
 use Rattle.module_validator.specs.declared.listed_overrides.InvalidOverride.{InvalidOverride}
-use Rattle.module_types.specs.Validated.{AreAccepted as AreReported}
+use Rattle.module_context.specs.AcceptedTypes.{AreAccepted as AreReported}
 use Rattle.module_validator.proofs.Handles.{named_are_there}
 use Rattle.module_validator.proofs.Refusals.{by_expression, by_constant, by_override}
 use Rattle.module_validator.specs.Faults.{IsModuleFault}
@@ -24,10 +24,10 @@ use Rattle.spec_expressions.specs.judged.Constants.{ConstantOK}
 use Rattle.spec_expressions.specs.judged.GlobalExpressions.{GlobalExpressionOK}
 use Rattle.spec_expressions.specs.judged.Overrides.{OverrideOK}
 use Rattle.spec_expressions.specs.judged.Context.{outside}
-use Rattle.spec_handles.specs.InOrder.{HandlesOK}
+use Rattle.spec_expressions.specs.InOrder.{HandlesOK}
 use Rattle.judgement.specs.judged.ModuleSteps.{expression, constant, override, item_count, StepPasses, IsReached, FailsFirst}
 use Rattle.spec_expressions.specs.judged.Typing.{HasGlobalType}
-use Rattle.typing_expressions.specs.Types.{AreTypes}
+use Rattle.typing_infos.specs.Types.{AreTypes}
 use Rattle.typing_forms.specs.declared.resolution.TypeResolution.{TypeResolution}
 use Rattle.typing_layout.specs.judged.Constness.{AreKinds}
 use Rattle.typing_errors.specs.Answers.{form_given}

@@ -12,15 +12,15 @@ use Rattle.ir_faults.specs.declared.refusal.Refusal.TheVariants as refusal
 use Rattle.ir_items.specs.judged.Plain.{PlainModule}
 use Rattle.module_constants.specs.declared.expressions.InvalidGlobalExpression.{InvalidGlobalExpression}
 use Rattle.module_handles.specs.Errors.{IsHandleError}
-use Rattle.module_types.specs.Validated.{IsRefusedFor}
+use Rattle.module_validator.specs.Validated.{IsRefusedFor}
 use Rattle.module_validator.specs.declared.error.ModuleError.{ModuleError}
 use Rattle.module_validator.specs.declared.error.ModuleError.TheVariants as error
-use Rattle.spec_handles.specs.InOrder.{HandlesOK}
+use Rattle.spec_expressions.specs.InOrder.{HandlesOK}
 use Rattle.judgement.specs.judged.ModuleSteps as step
 use Rattle.judgement.specs.judged.ModuleSteps.{IsFirstFailing}
 use Rattle.typing_layout.specs.judged.View.{type_tree}
-use Rattle.typing_expressions.specs.declared.refusal.TypingRefusal.{TypingRefusal}
-use Rattle.typing_expressions.specs.declared.refusal.TypingRefusal.TheVariants as typing
+use Rattle.typing_infos.specs.declared.refusal.TypingRefusal.{TypingRefusal}
+use Rattle.typing_infos.specs.declared.refusal.TypingRefusal.TheVariants as typing
 use Rattle.typing_layout.specs.found.Held.{IsFaultOf}
 
 -- a global expression has no type, or all have and it may not stand

@@ -1,6 +1,9 @@
-pub mod Seen
-pub mod Reported
 pub mod Faults
-pub mod Settings
-pub mod Refusals
+pub mod Layouts
 pub mod OverrideRefusals
+pub mod Refusals
+pub mod Reported
+pub mod Seen
+pub mod Settings
+pub mod Validated
+pub mod Whole

@@ -3,9 +3,9 @@ use Rattle.std.specs.Prelude.{◌≡◌, [], Bool, length}
 use Rattle.ir_flags.specs.declared.settings.Settings.{Settings}
 use Rattle.ir_items.specs.judged.Plain.{PlainModule}
 use Rattle.typing_infos.specs.declared.info.ModuleInfo.{ModuleInfo}
-use Rattle.module_types.specs.Validated.{AreAccepted}
+use Rattle.module_context.specs.AcceptedTypes.{AreAccepted}
 use Rattle.spec_expressions.specs.judged.Context.{outside}
-use Rattle.typing_expressions.specs.Types.{AreTypes}
+use Rattle.typing_infos.specs.Types.{AreTypes}
 use Rattle.typing_layout.specs.found.Held.{AreLayouts}
 
 -- The flags and the layout of each type, and the type of each global expression; nothing yet of functions and entry points.

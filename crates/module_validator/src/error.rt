@@ -1,9 +1,8 @@
 //! Why a module is refused.
 
-use crate::InvalidOverride;
+use crate::{InvalidOverride, InvalidType};
 use module_constants::{InvalidConstant, InvalidGlobalExpression};
 use module_handles::InvalidHandleError;
-use module_types::InvalidType;
 use thiserror::Error;
 use typing_layout::LayoutError;
 

@@ -4,11 +4,11 @@ ghost use Rattle.std.specs.Prelude.{IfErr, MatchResult, OnOk};
 ghost use Rattle.ir_items.specs.found.View.{module_view};
 ghost use Rattle.module_constants.specs.Known.{IsKnown, module_in};
 ghost use Rattle.module_validator.specs.Refusals.{IsVariableFault, IsRefusal};
-ghost use Rattle.module_types.specs.Validated.{AreAccepted};
+ghost use Rattle.module_context.specs.AcceptedTypes.{AreAccepted};
 ghost use Rattle.spec_expressions.specs.judged.Context.{outside};
 ghost use Rattle.spec_interface.specs.judged.Globals.{GlobalsOK};
-ghost use Rattle.spec_handles.specs.InOrder.{HandlesOK};
-ghost use Rattle.typing_expressions.specs.Types.{AreTypes};
+ghost use Rattle.spec_expressions.specs.InOrder.{HandlesOK};
+ghost use Rattle.typing_infos.specs.Types.{AreTypes};
 
 use ir_arena::handle::Handle;
 use ir_faults::refusal::Refusal;
@@ -18,11 +18,10 @@ use ir_items::Module;
 use ir_types::key;
 use module_constants::{GlobalContext, forms_given};
 use module_globals::{GlobalVariableError, validate_global_var};
-use module_type_infos::TypeInfo;
 use std::alloc::Global;
 use thiserror::Error;
 use typing_forms::TypeResolution;
-use typing_layout::ExpressionKindTracker;
+use typing_layout::{ExpressionKindTracker, TypeInfo};
 
 /// A global variable that is refused (naga's `ValidationError::GlobalVariable`).
 #[derive(Clone, Copy, Debug, Error)]

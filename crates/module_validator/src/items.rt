@@ -7,13 +7,15 @@ ghost use Rattle.module_context.specs.OperandView.{IsKnown as IsKnownOfExpressio
 ghost use Rattle.module_expressions.specs.Faults.{IsExpressionFault};
 ghost use Rattle.module_constants.specs.Known.{IsKnown as IsKnownOfValues, module_in};
 ghost use Rattle.module_constants.specs.Refusals.{IsExpressionRefused};
-ghost use Rattle.module_types.specs.Validated.{IsAccepted, IsRefusedFor};
+ghost use Rattle.module_context.specs.AcceptedTypes.{IsAccepted};
+ghost use Rattle.module_validator.specs.Validated.{IsRefusedFor};
 ghost use Rattle.module_validator.specs.Seen.{scene_by};
 ghost use Rattle.spec_statements.specs.judged.Expressions.{ExpressionOK};
 ghost use Rattle.spec_statements.specs.judged.ExpressionStages.{IsRunBy};
 ghost use Rattle.spec_expressions.specs.judged.GlobalExpressions.{GlobalExpressionOK};
 ghost use Rattle.module_type_checks.specs.Known.{IsKnown as IsKnownOfTypes, types_in};
 
+use crate::validate_type;
 use crate::validator::ModuleValidator;
 use ir_arena::handle::Handle;
 use ir_flags::ShaderStages;
@@ -22,9 +24,8 @@ use module_constants::{GlobalContext, validate_const_expression};
 use module_context::CheckContext;
 use module_expressions::validate_expression;
 use module_type_checks::TypeContext;
-use module_type_infos::{TypeError, TypeInfo};
-use module_types::validate_type;
 use typing_errors::{ConstExpressionError, ExpressionError};
+use typing_layout::{TypeError, TypeInfo};
 
 impl ModuleValidator {
     /// What is reported of the type at a handle, if a module may have it, from what is reported of the types before it (naga's

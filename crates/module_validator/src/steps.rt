@@ -2,27 +2,26 @@
 
 ghost use Rattle.std.specs.Prelude.{◌≡◌, [], IfOk, IfErr, OnErr, OnOk, length};
 ghost use Rattle.ir_items.specs.found.View.{module_view};
-ghost use Rattle.module_types.specs.Validated.{AreAccepted};
+ghost use Rattle.module_context.specs.AcceptedTypes.{AreAccepted};
 ghost use Rattle.module_validator.specs.Faults.{IsModuleFault, IsRefusal, IsReportedAs, IsOutOfMemory};
 ghost use Rattle.spec_expressions.specs.judged.Context.{outside};
 ghost use Rattle.judgement.specs.judged.ModuleSteps.{IsReached, layout, type, typing, expression};
-ghost use Rattle.typing_expressions.specs.Types.{AreTypes, IsFirstUntyped};
+ghost use Rattle.typing_infos.specs.Types.{AreTypes, IsFirstUntyped};
 ghost use Rattle.typing_layout.specs.found.Held.{AreLayouts};
 
 use crate::error::ModuleError;
+use crate::validate_types;
 use ir_faults::refusal::Refusal;
 use ir_faults::with_span::WithSpan;
 use ir_flags::Settings;
 use ir_items::Module;
 use module_constants::InvalidGlobalExpression;
 use module_handles::validate_module_handles;
-use module_type_infos::TypeInfo;
-use module_types::validate_types;
 use std::alloc::{AllocError, Global};
 use typing_errors::ConstExpressionError;
-use typing_expressions::{TypingRefusal, const_expression_types};
 use typing_forms::TypeResolution;
-use typing_layout::Layouter;
+use typing_infos::{TypingRefusal, const_expression_types};
+use typing_layout::{Layouter, TypeInfo};
 
 /// The refusal of a module for a fault.
 pub(crate) fn refused(

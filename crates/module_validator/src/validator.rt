@@ -7,7 +7,7 @@ ghost use Rattle.module_validator.specs.Reported.{IsInfoOf};
 ghost use Rattle.typing_layout.specs.judged.Widths.{ScalarOK};
 ghost use Rattle.spec_expressions.specs.judged.ConstantLiterals.{LiteralOK};
 ghost use Rattle.judgement.specs.judged.ModuleSteps.{ModuleOK};
-ghost use Rattle.module_type_infos.specs.Faults.{IsWidthFault};
+ghost use Rattle.typing_layout.specs.Faults.{IsWidthFault};
 ghost use Rattle.module_type_checks.specs.Widths.{IsLiteralFault};
 
 use crate::{ModuleError, check_handles, check_values, expression_types, lay_out, type_infos};
@@ -15,11 +15,11 @@ use ir_faults::refusal::Refusal;
 use ir_flags::Settings;
 use ir_items::Module;
 use ir_kinds::{Literal, Scalar};
-use module_types::{LiteralError, WidthError, check_width, validate_literal};
+use module_type_checks::{check_width, validate_literal};
 use std::alloc::Global;
 use std::mem;
 use typing_infos::ModuleInfo;
-use typing_layout::Layouter;
+use typing_layout::{Layouter, LiteralError, WidthError};
 
 /// What judges modules up to their overrides, one after the other (naga's `Validator`, as far as it speaks of what stands
 /// outside functions). It keeps memory from one module to the next, and nothing else.
@@ -51,30 +51,20 @@ impl ModuleValidator {
     }
 
     // Judges a module, where each override has its value or not.
-    fn judge(
-        &mut self,
-        module: &Module,
-        overrides_resolved: bool,
-    ) -> Result<ModuleInfo, Refusal<ModuleError>>
-        ensures accepted { OnOk result (ModuleOK self.old.settings overrides_resolved (module_view «module».now)) }
-        ensures told { IfOk result (IsInfoOf self.old.settings overrides_resolved (module_view «module».now)) }
-        ensures refused { IfErr result (IsRefusal self.old.settings overrides_resolved (module_view «module».now)) }
+    fn judge(&mut self, module: &Module, resolved: bool) -> Result<ModuleInfo, Refusal<ModuleError>>
+        ensures accepted { OnOk result (ModuleOK self.old.settings resolved (module_view «module».now)) }
+        ensures told { IfOk result (IsInfoOf self.old.settings resolved (module_view «module».now)) }
+        ensures refused { IfErr result (IsRefusal self.old.settings resolved (module_view «module».now)) }
         ensures settings { self.new.settings ≡ self.old.settings }
     {
         self.reset();
         let alloc = self.alloc;
         let settings = self.settings;
-        check_handles(alloc, settings, overrides_resolved, module)?;
-        lay_out(
-            alloc,
-            settings,
-            overrides_resolved,
-            module,
-            &mut self.layouter,
-        )?;
-        let infos = type_infos(alloc, settings, overrides_resolved, module, &self.layouter)?;
-        let types = expression_types(alloc, settings, overrides_resolved, module)?;
-        check_values(alloc, settings, overrides_resolved, module, &infos, &types)?;
+        check_handles(alloc, settings, resolved, module)?;
+        lay_out(alloc, settings, resolved, module, &mut self.layouter)?;
+        let infos = type_infos(alloc, settings, resolved, module, &self.layouter)?;
+        let types = expression_types(alloc, settings, resolved, module)?;
+        check_values(alloc, settings, resolved, module, &infos, &types)?;
         let layouter = mem::replace(&mut self.layouter, Layouter::new(alloc));
         Ok(ModuleInfo::of_parts(alloc, infos, layouter, types))
     }

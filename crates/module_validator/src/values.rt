@@ -5,12 +5,12 @@ ghost use Rattle.ir_flags.specs.Sets.{Has};
 ghost use Rattle.ir_flags.specs.declared.settings.TheConstants.ValidationFlags.{CONSTANTS};
 ghost use Rattle.ir_items.specs.found.View.{module_view};
 ghost use Rattle.module_constants.specs.Known.{IsKnown, module_in};
-ghost use Rattle.module_types.specs.Validated.{AreAccepted};
+ghost use Rattle.module_context.specs.AcceptedTypes.{AreAccepted};
 ghost use Rattle.module_validator.specs.Faults.{IsRefusal};
 ghost use Rattle.module_validator.specs.Settings.{AreSettingsOf};
 ghost use Rattle.spec_expressions.specs.judged.Context.{outside};
 ghost use Rattle.judgement.specs.judged.ModuleSteps.{IsReached, ModuleOK, expression, constant, override};
-ghost use Rattle.typing_expressions.specs.Types.{AreTypes};
+ghost use Rattle.typing_infos.specs.Types.{AreTypes};
 
 use crate::error::ModuleError;
 use crate::listed_overrides::validate_overrides;
@@ -22,10 +22,9 @@ use ir_items::Module;
 use module_constants::{
     GlobalContext, forms_given, validate_const_expressions, validate_constants,
 };
-use module_type_infos::TypeInfo;
 use std::alloc::Global;
 use typing_forms::TypeResolution;
-use typing_layout::ExpressionKindTracker;
+use typing_layout::{ExpressionKindTracker, TypeInfo};
 
 // Whether values are required of.
 fn requires_values(flags: ValidationFlags) -> bool

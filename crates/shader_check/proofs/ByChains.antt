@@ -13,8 +13,8 @@ use Rattle.ir_flags.specs.declared.stages.ShaderStages.{ShaderStages}
 use Rattle.ir_flags.specs.declared.settings.Settings.{Settings}
 use Rattle.ir_items.specs.judged.Plain.{PlainFunction, PlainModule}
 use Rattle.function_real_lower.specs.Readings.{reading_of, faults_of}
-use Rattle.spec_analysis.specs.judged.Summaries.{Summary, CalleesKnown}
-use Rattle.spec_analysis.proofs.Members.{get-within}
+use Rattle.spec_expressions.specs.judged.Summaries.{Summary, CalleesKnown}
+use Rattle.spec_expressions.proofs.Members.{get-within}
 use Rattle.spec_expressions.specs.judged.Context.{inside}
 use Rattle.spec_expressions.specs.declared.faults.TypingFault.{TypingFault}
 use Rattle.spec_statements.proofs.FormLaws.{wrong_by_summaries, wrong_by_chains}

@@ -17,13 +17,13 @@ use Rattle.ir_flags.specs.declared.settings.Settings.{Settings}
 use Rattle.ir_items.specs.judged.Plain.{PlainFunction, PlainModule}
 use Rattle.module_handles.proofs.Whole.{order_gives_conditions}
 use Rattle.module_handles.specs.Conditions.{FunctionConditions}
-use Rattle.spec_analysis.proofs.SummaryLaws.{callees_known}
-use Rattle.spec_analysis.specs.judged.Summaries.{Summary, IsSummary, CalleesKnown, AreSummaries, CallsBelow}
+use Rattle.spec_expressions.proofs.SummaryLaws.{callees_known}
+use Rattle.spec_expressions.specs.judged.Summaries.{Summary, IsSummary, CalleesKnown, AreSummaries, CallsBelow}
 use Rattle.spec_statements.specs.judged.ExpressionStages.{all_stages}
 use Rattle.spec_statements.proofs.CallLaws.{calls_precede}
 use Rattle.spec_statements.proofs.HeldLaws.{held_next}
 use Rattle.spec_statements.specs.judged.EarlierPayloads.{IsPayloadBefore}
-use Rattle.spec_handles.specs.InOrder.{HandlesOK}
+use Rattle.spec_expressions.specs.InOrder.{HandlesOK}
 use Rattle.spec_statements.specs.judged.Functions.{Reading, FunctionOK, AllowsStage}
 use Rattle.spec_statements.specs.judged.Payloads.{IsPayloadAfter}
 

@@ -16,14 +16,14 @@ use Rattle.ir_flags.specs.declared.settings.Settings.{Settings}
 use Rattle.ir_items.specs.judged.Plain.{PlainEntry, PlainFunction, PlainModule}
 use Rattle.module_handles.proofs.Whole.{order_gives_conditions}
 use Rattle.function_real_lower.specs.Readings.{reading_of, faults_of}
-use Rattle.spec_analysis.specs.judged.Chains.{HasUse}
-use Rattle.spec_analysis.specs.judged.Summaries.{Summary, AreSummaries, CalleesKnown}
+use Rattle.spec_expressions.specs.judged.Chains.{HasUse}
+use Rattle.spec_expressions.specs.judged.Summaries.{Summary, AreSummaries, CalleesKnown}
 use Rattle.spec_interface.proofs.OneStages.{all_agree, allows_other}
 use Rattle.spec_interface.specs.judged.Entries.{EntryOK}
 use Rattle.spec_interface.specs.judged.EntryNames.{IsConflict}
 use Rattle.spec_interface.specs.judged.Modules.{AreStages, EntryAtOK}
 use Rattle.spec_statements.specs.judged.ModuleFunctions.{reading_over}
-use Rattle.spec_handles.specs.InOrder.{HandlesOK}
+use Rattle.spec_expressions.specs.InOrder.{HandlesOK}
 use Rattle.spec_statements.specs.judged.Functions.{FunctionOK, AllowsStage}
 use Rattle.spec_interface.specs.judged.Contexts.{stage_set}
 

@@ -22,17 +22,17 @@ use Rattle.ir_items.specs.judged.Plain.{PlainEntry, PlainModule}
 use Rattle.ir_items.specs.declared.entries.MeshStageInfo.{MeshStageInfo}
 use Rattle.module_handles.proofs.Whole.{order_gives_conditions}
 use Rattle.module_handles.specs.Conditions.{FunctionConditions}
-use Rattle.spec_analysis.proofs.SummaryLaws.{callees_known}
-use Rattle.spec_analysis.specs.judged.Chains.{HasUse}
-use Rattle.spec_analysis.specs.judged.Summaries.{Summary, AreSummaries, CalleesKnown, CallsBelow}
+use Rattle.spec_expressions.proofs.SummaryLaws.{callees_known}
+use Rattle.spec_expressions.specs.judged.Chains.{HasUse}
+use Rattle.spec_expressions.specs.judged.Summaries.{Summary, AreSummaries, CalleesKnown, CallsBelow}
 use Rattle.spec_interface.specs.judged.EarlierPayloads.{IsPayloadBeforeEntry}
 use Rattle.spec_interface.specs.judged.EntryNames.{IsConflict}
 use Rattle.spec_statements.proofs.CallLaws.{calls_precede}
-use Rattle.spec_handles.specs.InOrder.{HandlesOK}
-use Rattle.spec_handles.specs.Items.{entry_variables, mesh_variables}
-use Rattle.spec_handles.specs.Modules.{entry, entry_variable}
-use Rattle.spec_handles.specs.References.{item}
-use Rattle.spec_handles.specs.declared.target.Target.TheVariants.{GlobalVariable}
+use Rattle.spec_expressions.specs.InOrder.{HandlesOK}
+use Rattle.spec_expressions.specs.Items.{entry_variables, mesh_variables}
+use Rattle.spec_expressions.specs.Modules.{entry, entry_variable}
+use Rattle.spec_expressions.specs.References.{item}
+use Rattle.spec_expressions.specs.declared.target.Target.TheVariants.{GlobalVariable}
 use Rattle.spec_statements.specs.judged.Functions.{Reading}
 
 -- ---- the variables that it names beside its function

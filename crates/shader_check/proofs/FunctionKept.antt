@@ -12,7 +12,7 @@ use Rattle.ir_flags.specs.declared.stages.ShaderStages.{ShaderStages}
 use Rattle.ir_flags.specs.declared.settings.Settings.{Settings}
 use Rattle.ir_items.specs.judged.Plain.{PlainModule}
 use Rattle.function_real_lower.specs.Readings.{reading_of, faults_of}
-use Rattle.spec_analysis.specs.judged.Summaries.{Summary}
+use Rattle.spec_expressions.specs.judged.Summaries.{Summary}
 
 module _ (s : Settings) (m : PlainModule) where
   pub kept : (summaries : List Summary) (stages : List ShaderStages) (held : Option ℕ) → AreJudged reading_of s m (length m.functions) summaries stages held → AreKept s m summaries

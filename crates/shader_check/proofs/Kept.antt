@@ -11,9 +11,9 @@ use Rattle.module_handles.proofs.Whole.{order_gives_conditions}
 use Rattle.typing_infos.specs.declared.info.ModuleInfo.{ModuleInfo}
 use Rattle.check_report.proofs.Noted.{noted_is_reported}
 use Rattle.check_report.specs.Reported.{IsEntryInfo, IsReported}
-use Rattle.spec_handles.specs.Modules as part
-use Rattle.spec_handles.specs.References.{item}
-use Rattle.spec_handles.specs.declared.target.Target.TheVariants as target
+use Rattle.spec_expressions.specs.Modules as part
+use Rattle.spec_expressions.specs.References.{item}
+use Rattle.spec_expressions.specs.declared.target.Target.TheVariants as target
 
 module _ (s : Settings) (m : PlainModule) (info : ModuleInfo) (h : IsValidated s false m info) where
   entry_info : (number : ℕ) (e : PlainEntry) (i : FunctionInfo) → slice_get m.entries number ≡ Some e → slice_get info.entry_points.items number ≡ Some i → IsEntryInfo m e i

@@ -7,8 +7,8 @@ use Rattle.document_reader.proofs.Seam.{one_document_lem}
 use Rattle.judgement.specs.judged.Text.{text_of}
 use Rattle.judgement.specs.declared.finding.Finding.{Finding}
 use Rattle.judgement.specs.declared.finding.Finding.TheVariants.{Accepted, RefusedDocument, RefusedHandles, Refused}
-use Rattle.judgement_runs.proofs.Local.{reports_are_local}
-use Rattle.judgement_runs.proofs.Sound.{accepted_is_sound}
+use Rattle.judgement_laws.proofs.Local.{reports_are_local}
+use Rattle.judgement_laws.proofs.Sound.{accepted_is_sound}
 use Rattle.judgement.specs.judged.Reports.{IsReport}
 use Rattle.shader_check.proofs.Once.{prepared_once}
 use Rattle.shader_check.proofs.Returns.{returns_dont_show_lem}

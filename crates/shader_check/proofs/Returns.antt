@@ -9,9 +9,9 @@ use Rattle.document_reader.proofs.Seam.{one_document_lem}
 use Rattle.judgement.specs.judged.Steps.{IsPrepared}
 use Rattle.judgement.specs.declared.finding.Finding.{Finding}
 use Rattle.judgement.specs.declared.finding.Finding.TheVariants.{Accepted, RefusedDocument, RefusedHandles, Refused}
-use Rattle.judgement_returns.specs.judged.Like.{HasNoResult}
-use Rattle.judgement_returns.specs.found.Laws.{AreJudgedAlike}
-use Rattle.judgement_returns.proofs.Finding.{returns_dont_matter}
+use Rattle.judgement_laws.specs.judged.Like.{HasNoResult}
+use Rattle.judgement_laws.specs.found.Laws.{AreJudgedAlike}
+use Rattle.judgement_laws.proofs.Finding.{returns_dont_matter}
 use Rattle.shader_check.specs.judged.Theorem.{FindsIn, Finds, JudgedDocument, Judged, IsReportOn, IsReportedOf, IsReported, with_returns, ReturnsDontShow}
 
 -- there is a module that is judged, whether returns are put in first or not

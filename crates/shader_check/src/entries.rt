@@ -6,10 +6,10 @@ ghost use Rattle.function_validator.specs.EntryNames.{AreNamesBelow};
 ghost use Rattle.shader_check.specs.found.JudgedEntries.{AreEntriesJudged, IsConflictReported, IsEntryRefusal, IsEntryReportedAt, note_of};
 ghost use Rattle.ir_items.specs.judged.Plain.{PlainEntry};
 ghost use Rattle.ir_items.specs.found.View.{module_view};
-ghost use Rattle.spec_analysis.specs.judged.Summaries.{AreSummaries};
+ghost use Rattle.spec_expressions.specs.judged.Summaries.{AreSummaries};
 ghost use Rattle.spec_interface.specs.judged.EarlierPayloads.{IsPayloadBeforeEntry};
 ghost use Rattle.spec_interface.specs.judged.EntryNames.{IsConflict};
-ghost use Rattle.spec_handles.specs.InOrder.{HandlesOK};
+ghost use Rattle.spec_expressions.specs.InOrder.{HandlesOK};
 ghost use Rattle.function_statement_checks.specs.Descriptors.{AreDescriptors};
 
 use crate::functions::Judged;

@@ -3,7 +3,7 @@
 ghost use Rattle.std.specs.Prelude.{◌≡◌, ◌<◌, ◌+◌, ◌++◌, ◌∷◌, [], MatchResult, length, map};
 ghost use Rattle.shader_check.specs.found.Judged.{AreJudged, IsReportedAt, IsRefusal};
 ghost use Rattle.ir_items.specs.found.View.{module_view};
-ghost use Rattle.spec_handles.specs.InOrder.{HandlesOK};
+ghost use Rattle.spec_expressions.specs.InOrder.{HandlesOK};
 ghost use Rattle.function_statement_checks.specs.Descriptors.{AreDescriptors};
 
 use crate::validator::Validator;

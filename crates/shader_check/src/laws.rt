@@ -1,7 +1,7 @@
 // Laws of the judgement over bytes, and what is required of an accepted module.
 ghost use Rattle.std.specs.Prelude.{◌≡◌, false, length, true};
 ghost use Rattle.ir_items.specs.found.View.{module_view};
-ghost use Rattle.judgement_runs.specs.judged.Sound.{BoundsDepth};
+ghost use Rattle.judgement_laws.specs.judged.Sound.{BoundsDepth};
 ghost use Rattle.shader_check.specs.found.Fresh.{AnswersAreAlike};
 ghost use Rattle.shader_check.specs.judged.Theorem.{AcceptedTextsAreSound, OneText, SomeText, ReturnsDontShow};
 

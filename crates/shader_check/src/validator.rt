@@ -16,12 +16,12 @@ ghost use Rattle.ir_items.specs.found.GlobalView.{global_view};
 ghost use Rattle.ir_items.specs.found.View.{entry_view, function_view, module_view};
 ghost use Rattle.ir_items.specs.declared.entries.MeshStageInfo.{MeshStageInfo};
 ghost use Rattle.ir_proc.specs.found.Filters.{ParentsPrecede};
-ghost use Rattle.spec_analysis.specs.judged.Chains.{HasUse};
-ghost use Rattle.spec_analysis.specs.judged.Summaries.{CalleesKnown, IsJoined, IsSummary};
+ghost use Rattle.spec_expressions.specs.judged.Chains.{HasUse};
+ghost use Rattle.spec_expressions.specs.judged.Summaries.{CalleesKnown, IsJoined, IsSummary};
 ghost use Rattle.spec_interface.specs.judged.Globals.{VariableBy};
 ghost use Rattle.spec_statements.specs.judged.ExpressionStages.{all_stages};
-ghost use Rattle.spec_handles.specs.Conditions.{HandlesInRange, OperandsPrecede};
-ghost use Rattle.spec_handles.specs.InOrder.{HandlesOK};
+ghost use Rattle.spec_expressions.specs.Conditions.{HandlesInRange, OperandsPrecede};
+ghost use Rattle.spec_expressions.specs.InOrder.{HandlesOK};
 ghost use Rattle.spec_statements.specs.judged.Functions.{FunctionOK, AllowsStage};
 ghost use Rattle.spec_statements.specs.judged.Payloads.{IsPayloadAfter};
 

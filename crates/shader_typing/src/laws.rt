@@ -1,6 +1,6 @@
 //! What holds of types, forms, layouts, kinds of expressions and overload sets for all values.
 
-pub use spec_analysis::laws::{by_calls, joined_by_callees, joined_is_summary};
+pub use spec_expressions::call_laws::{by_calls, joined_by_callees, joined_is_summary};
 pub use spec_expressions::laws::{
     equivalent_operands_decide, faulty_has_none, one_type, operands_decide,
 };

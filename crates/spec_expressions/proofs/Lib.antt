@@ -1,4 +1,10 @@
-pub mod TypingLaws
 pub mod Capable
-pub mod Resolved
+pub mod ChainLaws
+pub mod DisruptionLaws
+pub mod EverywhereLaws
+pub mod FoundLaws
 pub mod Keys
+pub mod Members
+pub mod Resolved
+pub mod SummaryLaws
+pub mod TypingLaws

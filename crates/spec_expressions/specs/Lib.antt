@@ -1,2 +1,11 @@
-pub mod judged
+pub mod Conditions
+pub mod Expressions
+pub mod InOrder
+pub mod Items
+pub mod Modules
+pub mod Operands
+pub mod Order
+pub mod References
+pub mod Statements
 pub mod found
+pub mod judged

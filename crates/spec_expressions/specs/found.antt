@@ -1,2 +1,6 @@
-pub mod Laws
+pub mod CallLaws
 pub mod ConstantLaws
+pub mod Everywhere
+pub mod Found
+pub mod Laws
+pub mod Words

@@ -7,11 +7,11 @@ use Rattle.ir_types.specs.judged.ExpressionPlain.{PlainExpression, compose, plai
 use Rattle.ir_types.specs.declared.expressions.Expression.TheVariants.{ImageSample}
 use Rattle.ir_items.specs.judged.Plain.{PlainFunction}
 use Rattle.typing_rules.specs.judged.Laws.{IsAmong}
-use Rattle.spec_analysis.proofs.Members.{among-cases}
-use Rattle.spec_analysis.specs.judged.Effects.{Effect, takes, samples, runs, discards, sampling_at, expression_effects, expressions_effects, leaving_effects, statement_effects, effects_in, effects_inside, effects_in_cases, effects_of}
-use Rattle.spec_analysis.specs.judged.Operands.{Operand, expression_operands, statement_operands}
+use Rattle.spec_expressions.proofs.Members.{among-cases}
+use Rattle.spec_expressions.specs.judged.Effects.{Effect, takes, samples, runs, discards, sampling_at, expression_effects, expressions_effects, leaving_effects, statement_effects, effects_in, effects_inside, effects_in_cases, effects_of}
+use Rattle.spec_expressions.specs.judged.Operands.{Operand, expression_operands, statement_operands}
 use Rattle.spec_statements.specs.found.FunctionLaws.{CallsPrecede}
-use Rattle.spec_handles.specs.References.{done, statement_calls}
+use Rattle.spec_expressions.specs.References.{done, statement_calls}
 
 -- a call of this function with these arguments is in the block
 pub record CallOccurs (b : PlainBlock) (callee : ℕ) (arguments : List ℕ) : Type 0 where

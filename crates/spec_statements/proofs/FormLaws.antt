@@ -1,12 +1,12 @@
 -- Wrong forms by chains of calls are those by summaries of the callees.
 use Rattle.std.proofs.Common.{◌≡◌, ◌⊎◌, inl, inr, ℕ, List, Some, None, sym, ap, subst, ◌∙◌, slice_get}
-use Rattle.spec_analysis.specs.judged.Pairs.{SamplingPair}
+use Rattle.spec_expressions.specs.judged.Pairs.{SamplingPair}
 use Rattle.ir_items.specs.judged.Plain.{PlainFunction, PlainModule}
 use Rattle.typing_rules.specs.judged.Laws.{IsAmong}
-use Rattle.spec_analysis.proofs.Members.{among-get, get-among}
-use Rattle.spec_analysis.specs.judged.Chains.{Step, Calls, HasPair}
-use Rattle.spec_analysis.specs.judged.Effects.{runs, effects_of}
-use Rattle.spec_analysis.specs.judged.Summaries.{Summary, CallsOne, CalleesKnown, IsWrongArgument, IsFormFault}
+use Rattle.spec_expressions.proofs.Members.{among-get, get-among}
+use Rattle.spec_expressions.specs.judged.Chains.{Step, Calls, HasPair}
+use Rattle.spec_expressions.specs.judged.Effects.{runs, effects_of}
+use Rattle.spec_expressions.specs.judged.Summaries.{Summary, CallsOne, CalleesKnown, IsWrongArgument, IsFormFault}
 use Rattle.spec_statements.specs.judged.Analysis.{SamplesWrongForm, PassesWrongForm, HasWrongForm}
 use Rattle.spec_statements.specs.found.FunctionLaws.{FormsByCallees}
 

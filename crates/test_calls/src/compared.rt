@@ -6,9 +6,9 @@ use ir_types::TypeInner;
 use serde_json::Value;
 use std::alloc::{AllocError, Global};
 use test_support::call::{freeing, handle, no_call, text, told};
-use typing_expressions::CompareTypes;
 use typing_forms::laws::form_equality;
 use typing_forms::{TypeResolution, compare_types, form_in, form_of, form_of_type, inner_of};
+use typing_infos::CompareTypes;
 
 // What a resolution leads to, where it is among the types.
 fn see_inner(

@@ -3,7 +3,7 @@
 ghost use Rattle.std.specs.Prelude.{◌≡◌, IsTrue};
 ghost use Rattle.ir_items.specs.found.View.{function_view, module_view};
 ghost use Rattle.ir_proc.specs.found.Filters.{ParentsPrecede};
-ghost use Rattle.spec_handles.specs.Conditions.{HandlesInRange, OperandsPrecede};
+ghost use Rattle.spec_expressions.specs.Conditions.{HandlesInRange, OperandsPrecede};
 ghost use Rattle.function_tiny_lower.specs.Readings.{IsMadeOf};
 
 use crate::layer_made::lower_for;

@@ -12,10 +12,10 @@ use ir_flags::Capabilities;
 use ir_items::Module;
 use ir_sets::unique_arena::UniqueArena;
 use ir_types::{IrType, key};
-use module_types::{TypeInfo, validate_types};
+use module_validator::validate_types;
 use std::alloc::{AllocError, Global};
 use typing_forms::types_go_back;
-use typing_layout::Layouter;
+use typing_layout::{Layouter, TypeInfo};
 
 // What is reported of these types, where a module may have them. The error is out of memory.
 fn infos_of(

@@ -3,12 +3,11 @@ use document_reader::Document;
 use ir_faults::refusal::Refusal;
 use ir_items::Module;
 use module_handles::{InvalidHandleError, validate_module_handles};
-use module_type_infos::TypeError;
-use module_types::InvalidType;
-use module_validator::{ModuleError, ModuleInfo, ModuleValidator};
+use module_validator::{InvalidType, ModuleError, ModuleInfo, ModuleValidator};
 use std::alloc::{AllocError, Global};
 use std::fmt::Debug;
 use test_support::call::freeing;
+use typing_layout::TypeError;
 
 /// Whether each override has to have its value.
 #[derive(Clone, Copy)]

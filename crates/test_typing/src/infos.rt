@@ -8,12 +8,11 @@ use ir_faults::refusal::Refusal;
 use ir_flags::Capabilities;
 use ir_sets::unique_arena::UniqueArena;
 use ir_types::{IrType, key};
-use module_type_infos::{TypeError, TypeInfo};
-use module_types::{InvalidType, validate_types};
+use module_validator::{InvalidType, validate_types};
 use std::alloc::{AllocError, Global};
 use test_support::call::{completed, freeing, push};
 use typing_forms::types_go_back;
-use typing_layout::{LayoutError, Layouter};
+use typing_layout::{LayoutError, Layouter, TypeError, TypeInfo};
 
 /// What is required of the types of a module.
 #[derive(Clone, Copy)]

@@ -2,7 +2,7 @@
 ghost use Rattle.std.specs.Prelude.{IsTrue};
 ghost use Rattle.ir_items.specs.found.View.{function_view, module_view};
 ghost use Rattle.ir_proc.specs.found.Filters.{ParentsPrecede};
-ghost use Rattle.spec_handles.specs.Conditions.{HandlesInRange, OperandsPrecede};
+ghost use Rattle.spec_expressions.specs.Conditions.{HandlesInRange, OperandsPrecede};
 
 use function_real_lower::process_function;
 use ir_faults::refusal::Refusal;
@@ -11,7 +11,7 @@ use ir_items::{Function, Module};
 use module_handles::{
     arities_match, callees_precede, filter_parents_precede, handles_in_range, operands_precede,
 };
-use spec_analysis::{ExpressionInfo, GlobalOrArgument, GlobalUse, SamplingPair};
+use spec_expressions::{ExpressionInfo, GlobalOrArgument, GlobalUse, SamplingPair};
 use std::alloc::{AllocError, Global};
 use test_support::call::{completed, freeing, push};
 use typing_errors::{ExpressionError, FunctionError};

@@ -2,8 +2,8 @@
 
 use crate::ResolveError;
 use crate::compose::ComposeError;
-use module_type_infos::LiteralError;
 use thiserror::Error;
+use typing_layout::LiteralError;
 
 /// Why a global expression is refused (naga's `ConstExpressionError`).
 #[derive(Debug, Drop, Error)]

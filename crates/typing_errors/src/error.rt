@@ -8,7 +8,7 @@ use ir_blocks::AtomicFunction;
 use ir_flags::Capabilities;
 use ir_kinds::{AddressSpace, SwitchValue};
 use ir_types::{TypeInner, key};
-use spec_analysis::UniformityRequirements;
+use spec_expressions::UniformityRequirements;
 use thiserror::Error;
 
 /// Why a function is refused (naga's `FunctionError`). Its text is for people: what is wrong, with the expression at

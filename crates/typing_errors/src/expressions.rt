@@ -6,8 +6,8 @@ use ir_arena::handle::Handle;
 use ir_flags::StorageAccess;
 use ir_kinds::{ImageClass, ImageDimension, StorageFormat};
 use ir_types::key;
-use module_type_infos::LiteralError;
 use thiserror::Error;
+use typing_layout::LiteralError;
 
 /// Why an expression of a function is refused (naga's `ExpressionError`).
 #[derive(Debug, Drop, Error)]

@@ -1,4 +1,5 @@
 pub mod IndexLemmas
 pub mod KeyLemmas
 pub mod MarkLemmas
+pub mod TypeLemmas
 pub mod UseBits

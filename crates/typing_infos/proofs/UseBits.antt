@@ -8,8 +8,8 @@ use Rattle.std.proofs.lemmas.List.{get_or-set_same, get_or-set_other, get_or_pas
 use Rattle.std.proofs.lemmas.List.Elements.{All-head, All-tail}
 use Rattle.std.proofs.lemmas.Nat.Bits.{bit_at_or, bit_at-lt, bit_at-zero}
 use Rattle.typing_rules.specs.judged.Laws.{IsAmong}
-use Rattle.spec_analysis.specs.declared.global_use.GlobalUse.{GlobalUse}
-use Rattle.spec_analysis.specs.judged.Summaries.{no_use, HasUseBit}
+use Rattle.spec_expressions.specs.declared.global_use.GlobalUse.{GlobalUse}
+use Rattle.spec_expressions.specs.judged.Summaries.{no_use, HasUseBit}
 use Rattle.typing_infos.specs.Infos.{joined_use, marked, with_uses, NotesUse, Dominates}
 use Rattle.ir_flags.specs.Sets.{Has}
 

@@ -3,8 +3,8 @@ use Rattle.std.specs.Prelude.{◌≡◌, ℕ, List, [], ◌∷◌, Some, None, O
 use Rattle.std.specs.Int.{bit_at}
 use Rattle.typing_rules.specs.judged.Laws.{IsAmong}
 use Rattle.ir_flags.specs.Sets.{Has}
-use Rattle.spec_analysis.specs.declared.global_use.GlobalUse.{GlobalUse}
-use Rattle.spec_analysis.specs.judged.Summaries.{Summary, no_use}
+use Rattle.spec_expressions.specs.declared.global_use.GlobalUse.{GlobalUse}
+use Rattle.spec_expressions.specs.judged.Summaries.{Summary, no_use}
 pub use Rattle.typing_infos.specs.Keys.{key_of_parts, key_of}
 use Rattle.typing_infos.specs.declared.function_info.FunctionInfo.{FunctionInfo}
 

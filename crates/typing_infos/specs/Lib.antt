@@ -1,4 +1,5 @@
-pub mod Stored
 pub mod Infos
 pub mod Keys
 pub mod Marks
+pub mod Stored
+pub mod Types

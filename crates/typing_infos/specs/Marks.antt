@@ -1,9 +1,9 @@
 -- The arguments among pairs, and pairs of which each is there once.
 use Rattle.std.specs.Prelude.{◌≡◌, ℕ, zero, suc, Bool, true, false, List, [], ◌∷◌, ◌++◌, fold, if◌then◌else◌}
 use Rattle.std.specs.List.{list_any}
-use Rattle.spec_analysis.specs.declared.sampling.GlobalOrArgument.{GlobalOrArgument}
-use Rattle.spec_analysis.specs.declared.sampling.GlobalOrArgument.TheVariants.{Global, Argument}
-use Rattle.spec_analysis.specs.judged.Pairs.{SamplingPair, pair_eq}
+use Rattle.spec_expressions.specs.declared.sampling.GlobalOrArgument.{GlobalOrArgument}
+use Rattle.spec_expressions.specs.declared.sampling.GlobalOrArgument.TheVariants.{Global, Argument}
+use Rattle.spec_expressions.specs.judged.Pairs.{SamplingPair, pair_eq}
 
 -- the pairs with one more, where it is not there
 abbrev pub with_pair : List SamplingPair → SamplingPair → List SamplingPair

@@ -1,7 +1,7 @@
 -- The pairs that are kept, few or many.
 use Rattle.std.specs.Prelude.{List}
-use Rattle.spec_analysis.specs.judged.Pairs.{SamplingPair}
-use Rattle.spec_analysis.specs.declared.sampling.SamplingKey.{SamplingKey}
+use Rattle.spec_expressions.specs.judged.Pairs.{SamplingPair}
+use Rattle.spec_expressions.specs.declared.sampling.SamplingKey.{SamplingKey}
 use Rattle.typing_infos.specs.declared.sampled.StoredPairs.{StoredPairs}
 use Rattle.typing_infos.specs.declared.sampled.StoredPairs.TheVariants as pairs
 use Rattle.typing_infos.specs.declared.sampled.StoredKeys.{StoredKeys}

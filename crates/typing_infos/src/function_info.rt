@@ -4,7 +4,7 @@ ghost use Rattle.std.specs.Prelude.{◌≡◌, ◌<◌, ◌⊎◌, ◌↔◌, �
 ghost use Rattle.bitflags.specs.Sets.{known_bits};
 ghost use Rattle.ir_flags.specs.Words.{shader_stages};
 ghost use Rattle.typing_infos.specs.Infos.{summary_of, NotesUse, Dominates};
-ghost use Rattle.spec_analysis.specs.judged.Summaries.{HasUseBit};
+ghost use Rattle.spec_expressions.specs.judged.Summaries.{HasUseBit};
 
 use crate::sampled::{SampledKeys, SampledPairs};
 use crate::uses::{dominates, mark_all};
@@ -12,7 +12,7 @@ use bitflags::Flags;
 use ir_arena::handle::Handle;
 use ir_flags::ShaderStages;
 use ir_types::key;
-use spec_analysis::{ExpressionInfo, GlobalUse, SamplingPair};
+use spec_expressions::{ExpressionInfo, GlobalUse, SamplingPair};
 use std::ops::Index;
 
 /// What is kept of a function: how it uses each global variable of the module, what it samples, and what is known of its

@@ -5,11 +5,10 @@ ghost use Rattle.std.specs.Prelude.{◌≡◌, ◌<◌, ◌++◌, ◌∷◌, [],
 use crate::FunctionInfo;
 use ir_arena::handle::Handle;
 use ir_types::key;
-use module_type_infos::TypeInfo;
 use std::alloc::{AllocError, Global};
 use std::ops::Index;
 use typing_forms::TypeResolution;
-use typing_layout::{Layouter, TypeLayout};
+use typing_layout::{Layouter, TypeInfo, TypeLayout};
 
 /// What is kept of a module (naga's `ModuleInfo`): what is reported of its types and their layouts, the types of its global
 /// expressions, and what is kept of its functions and of those of its entry points, each in order. Indexed by the handle of a

@@ -3,7 +3,7 @@
 ghost use Rattle.std.specs.Prelude.{◌≡◌, IfOk, OnOk};
 ghost use Rattle.typing_infos.specs.Marks.{marked_at, marked_part, marked_pair, marks_of};
 
-use spec_analysis::{GlobalOrArgument, SamplingPair};
+use spec_expressions::{GlobalOrArgument, SamplingPair};
 use std::alloc::{AllocError, Global};
 
 // Marks a place, up to which all are there then. The error is out of memory.

@@ -2,13 +2,13 @@
 
 ghost use Rattle.std.specs.Prelude.{◌≡◌, ◌↔◌, ◌++◌, ◌∷◌, [], IfOk, IfSome, IsTrue, OnErr, OnOk, if◌then◌else◌, length};
 ghost use Rattle.std.specs.List.{flat_map, list_any};
-ghost use Rattle.spec_analysis.specs.judged.Pairs.{pair_eq};
+ghost use Rattle.spec_expressions.specs.judged.Pairs.{pair_eq};
 ghost use Rattle.typing_infos.specs.Keys.{key_of};
 ghost use Rattle.typing_infos.specs.Marks.{EachOnce, Indexes, marks_of};
 
 use crate::keys::keys_of;
 use crate::marks::marks_of;
-use spec_analysis::{SamplingKey, SamplingPair};
+use spec_expressions::{SamplingKey, SamplingPair};
 use std::alloc::{AllocError, Global};
 use std::collections::HashSet;
 use std::hash::Hash;
@@ -53,7 +53,7 @@ struct Pairs {
 
 impl Model for Pairs {
     ghost use Rattle.std.specs.Prelude.{List};
-    ghost use Rattle.spec_analysis.specs.judged.Pairs.{SamplingPair};
+    ghost use Rattle.spec_expressions.specs.judged.Pairs.{SamplingPair};
 
     ghost Value = { List SamplingPair };
 
@@ -69,7 +69,7 @@ struct Keys {
 
 impl Model for Keys {
     ghost use Rattle.std.specs.Prelude.{List};
-    ghost use Rattle.spec_analysis.specs.declared.sampling.SamplingKey.{SamplingKey};
+    ghost use Rattle.spec_expressions.specs.declared.sampling.SamplingKey.{SamplingKey};
 
     ghost Value = { List SamplingKey };
 

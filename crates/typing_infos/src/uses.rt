@@ -3,12 +3,12 @@
 ghost use Rattle.std.specs.Prelude.{◌≡◌, ◌↔◌, IsTrue, Some, slice_index_or};
 ghost use Rattle.ir_flags.specs.Sets.{Has};
 ghost use Rattle.typing_infos.specs.Infos.{joined_use, marked, with_uses, Dominates};
-ghost use Rattle.spec_analysis.specs.judged.Summaries.{no_use};
+ghost use Rattle.spec_expressions.specs.judged.Summaries.{no_use};
 
 use bitflags::Flags;
 use ir_arena::handle::Handle;
 use ir_types::key;
-use spec_analysis::GlobalUse;
+use spec_expressions::GlobalUse;
 
 // A use and a further one.
 fn joined(kind: GlobalUse, more: GlobalUse) -> GlobalUse

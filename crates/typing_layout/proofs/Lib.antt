@@ -1,4 +1,5 @@
 pub mod Alignments
+pub mod Capable
 pub mod Held
 pub mod Latest
 pub mod Powers
@@ -6,4 +7,3 @@ pub mod Precedence
 pub mod Rounds
 pub mod Sizes
 pub mod Trees
-pub mod Capable

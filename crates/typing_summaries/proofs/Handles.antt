@@ -5,7 +5,7 @@ use Rattle.ir_arena.specs.declared.span.Span.{Span}
 use Rattle.ir_types.specs.judged.ExpressionPlain.{expression_view}
 use Rattle.ir_types.specs.declared.expressions.Expression.{Expression}
 use Rattle.ir_items.specs.found.GlobalView.{values_of}
-use Rattle.spec_analysis.specs.declared.global_use.GlobalUse.{GlobalUse}
+use Rattle.spec_expressions.specs.declared.global_use.GlobalUse.{GlobalUse}
 use Rattle.typing_summaries.specs.Tallies.{Known, Tallied, expression_done, expressions_done, expressions_done_with, name_one, name_all, name_all_with}
 
 pub expressions_with : (k : Known) (place : ℕ) (entries : List (Expression × Span)) (t : Tallied) → expressions_done_with k (handles_from place entries) t ≡ expressions_done k place (map expression_view (values_of entries)) t

@@ -1,5 +1,10 @@
 pub mod Effects
+pub mod Equal
 pub mod Handles
+pub mod Joining
+pub mod Listing
+pub mod Lookups
+pub mod Marked
 pub mod Merging
 pub mod PairLemmas
 pub mod PartLemmas

@@ -3,8 +3,8 @@ use Rattle.std.proofs.Common.{◌≡◌, ℕ, ◌+◌, ◌≤◌, ◌<◌, min, 
 use Rattle.std.proofs.Math.ListN.{drop_of_length-le}
 use Rattle.std.proofs.lemmas.Bool.{cases_lt}
 use Rattle.std.proofs.lemmas.List.{set_past}
-use Rattle.spec_analysis.specs.declared.global_use.GlobalUse.{GlobalUse}
-use Rattle.spec_analysis.specs.judged.Summaries.{no_use}
+use Rattle.spec_expressions.specs.declared.global_use.GlobalUse.{GlobalUse}
+use Rattle.spec_expressions.specs.judged.Summaries.{no_use}
 use Rattle.std.specs.Prelude.{slice_index_or}
 use Rattle.typing_infos.specs.Infos.{joined_use}
 use Rattle.typing_summaries.specs.Tallies.{merged_from}

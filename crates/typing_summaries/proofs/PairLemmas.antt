@@ -5,13 +5,13 @@ use Rattle.std.specs.List.{list_any}
 use Rattle.indexmap.specs.IndexSet.{insert_key}
 use Rattle.typing_rules.specs.judged.Laws.{IsAmong}
 use Rattle.ir_types.specs.judged.ExpressionPlain.{PlainExpression}
-use Rattle.spec_analysis.specs.declared.sampling.GlobalOrArgument.{GlobalOrArgument}
-use Rattle.spec_analysis.specs.declared.sampling.GlobalOrArgument.TheVariants.{Global, Argument}
-use Rattle.spec_analysis.specs.judged.Pairs.{SamplingPair, pair_eq}
-use Rattle.typing_sampling.proofs.Equal.{pair_same}
-use Rattle.spec_analysis.specs.judged.Chains.{place, seen_through, argument_means}
-use Rattle.spec_analysis.specs.judged.Summaries.{ComesUp, IsWrongArgument}
-use Rattle.spec_analysis.proofs.Members.{among-left, among-right, among-cases}
+use Rattle.spec_expressions.specs.declared.sampling.GlobalOrArgument.{GlobalOrArgument}
+use Rattle.spec_expressions.specs.declared.sampling.GlobalOrArgument.TheVariants.{Global, Argument}
+use Rattle.spec_expressions.specs.judged.Pairs.{SamplingPair, pair_eq}
+use Rattle.typing_summaries.proofs.Equal.{pair_same}
+use Rattle.spec_expressions.specs.judged.Chains.{place, seen_through, argument_means}
+use Rattle.spec_expressions.specs.judged.Summaries.{ComesUp, IsWrongArgument}
+use Rattle.spec_expressions.proofs.Members.{among-left, among-right, among-cases}
 use Rattle.typing_summaries.specs.Tallies.{Paired, with_pair, with_wrong, first_wrong, part_wrong, pair_one, passed_for, pass_up, pass_all_up}
 
 pub some_is : {X : Type 0} {x y : X} → Some x ≡ Some y → x ≡ y

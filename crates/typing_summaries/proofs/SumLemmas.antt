@@ -5,13 +5,13 @@ use Rattle.std.specs.Int.{bit_at}
 use Rattle.std.proofs.lemmas.Bool.{cases_eq, ne_eqb}
 use Rattle.std.proofs.lemmas.List.{get_or-set_same, get_or-set_other}
 use Rattle.typing_rules.specs.judged.Laws.{IsAmong}
-use Rattle.spec_analysis.specs.declared.global_use.GlobalUse.{GlobalUse}
-use Rattle.spec_analysis.specs.judged.Pairs.{SamplingPair}
-use Rattle.spec_analysis.specs.judged.Operands.{Operand}
-use Rattle.spec_analysis.specs.judged.Effects.{Effect, takes, samples, runs, discards, places_of}
-use Rattle.spec_analysis.specs.judged.Chains.{place}
-use Rattle.spec_analysis.specs.judged.Values.{known_at}
-use Rattle.spec_analysis.specs.judged.Summaries.{Summary, no_use, HasUseBit, HasBit}
+use Rattle.spec_expressions.specs.declared.global_use.GlobalUse.{GlobalUse}
+use Rattle.spec_expressions.specs.judged.Pairs.{SamplingPair}
+use Rattle.spec_expressions.specs.judged.Operands.{Operand}
+use Rattle.spec_expressions.specs.judged.Effects.{Effect, takes, samples, runs, discards, places_of}
+use Rattle.spec_expressions.specs.judged.Chains.{place}
+use Rattle.spec_expressions.specs.judged.Values.{known_at}
+use Rattle.spec_expressions.specs.judged.Summaries.{Summary, no_use, HasUseBit, HasBit}
 use Rattle.typing_summaries.specs.Tallies.{Known, Tallied, bumped, join_summary}
 use Rattle.typing_summaries.proofs.Effects.{do_one, do_all}
 use Rattle.typing_infos.proofs.UseBits.{one_use, marked_length}

@@ -9,14 +9,14 @@ use Rattle.ir_types.specs.judged.ExpressionPlain.{PlainExpression, compose, plai
 use Rattle.ir_types.specs.declared.expressions.Expression.TheVariants as x
 use Rattle.ir_blocks.specs.judged.Plain.{PlainBlock}
 use Rattle.ir_items.specs.judged.Plain.{PlainFunction}
-use Rattle.spec_analysis.specs.declared.global_use.GlobalUse.{GlobalUse}
-use Rattle.spec_analysis.specs.declared.global_use.TheConstants.GlobalUse.{QUERY}
-use Rattle.spec_analysis.specs.judged.Pairs.{SamplingPair}
-use Rattle.spec_analysis.specs.judged.Operands.{Operand}
-use Rattle.spec_analysis.specs.judged.Effects.{Effect, takes, samples, runs, discards, expressions_effects, effects_in, effects_of, places_of}
-use Rattle.spec_analysis.specs.judged.Values.{StartsAt, AreStarts}
-use Rattle.spec_analysis.specs.judged.Chains.{place, UsesDirectly, Names, Samples, Discards}
-use Rattle.spec_analysis.specs.judged.Summaries.{Summary, no_use, HasUseBit, HasBit, CallsOne, ComesUp, JoinsUse, IsJoined, IsWrongArgument, IsFormFault}
+use Rattle.spec_expressions.specs.declared.global_use.GlobalUse.{GlobalUse}
+use Rattle.spec_expressions.specs.declared.global_use.TheConstants.GlobalUse.{QUERY}
+use Rattle.spec_expressions.specs.judged.Pairs.{SamplingPair}
+use Rattle.spec_expressions.specs.judged.Operands.{Operand}
+use Rattle.spec_expressions.specs.judged.Effects.{Effect, takes, samples, runs, discards, expressions_effects, effects_in, effects_of, places_of}
+use Rattle.spec_expressions.specs.judged.Values.{StartsAt, AreStarts}
+use Rattle.spec_expressions.specs.judged.Chains.{place, UsesDirectly, Names, Samples, Discards}
+use Rattle.spec_expressions.specs.judged.Summaries.{Summary, no_use, HasUseBit, HasBit, CallsOne, ComesUp, JoinsUse, IsJoined, IsWrongArgument, IsFormFault}
 use Rattle.typing_summaries.specs.Tallies.{Known, Tallied, queried, name_one, name_all, nothing_tallied, expressions_done, done_in, named, whole_tally}
 use Rattle.typing_summaries.specs.Tallied.{summary_in, IsTally}
 use Rattle.typing_summaries.proofs.Effects.{do_all, do_append, do_expressions, do_in}

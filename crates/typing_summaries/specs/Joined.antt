@@ -3,11 +3,11 @@ use Rattle.std.specs.Prelude.{◌≡◌, ℕ, true, List, Some, slice_get}
 use Rattle.std.specs.List.{list_any}
 use Rattle.typing_rules.specs.judged.Laws.{IsAmong}
 use Rattle.ir_types.specs.judged.ExpressionPlain.{PlainExpression}
-use Rattle.spec_analysis.specs.declared.sampling.GlobalOrArgument.{GlobalOrArgument}
-use Rattle.spec_analysis.specs.judged.Pairs.{SamplingPair, pair_eq}
+use Rattle.spec_expressions.specs.declared.sampling.GlobalOrArgument.{GlobalOrArgument}
+use Rattle.spec_expressions.specs.judged.Pairs.{SamplingPair, pair_eq}
 use Rattle.typing_infos.specs.Marks.{marks_of}
-use Rattle.spec_analysis.specs.judged.Chains.{place, seen_through}
-use Rattle.spec_analysis.specs.judged.Summaries.{Summary}
+use Rattle.spec_expressions.specs.judged.Chains.{place, seen_through}
+use Rattle.spec_expressions.specs.judged.Summaries.{Summary}
 use Rattle.typing_summaries.specs.Parts.{parts_of}
 use Rattle.typing_summaries.specs.Tallies.{Known, Paired}
 use Rattle.typing_summaries.specs.declared.passed.Passed.{Passed}

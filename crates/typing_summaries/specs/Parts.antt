@@ -1,6 +1,6 @@
 -- What a call passes for the arguments that are marked.
 use Rattle.std.specs.Prelude.{◌≡◌, ℕ, Bool, true, false, List, [], ◌∷◌, Option, Some, None, slice_get}
-use Rattle.spec_analysis.specs.declared.sampling.GlobalOrArgument.{GlobalOrArgument}
+use Rattle.spec_expressions.specs.declared.sampling.GlobalOrArgument.{GlobalOrArgument}
 
 -- what an argument denotes, where it is marked
 abbrev pub part_if : Bool → Option GlobalOrArgument → Option GlobalOrArgument

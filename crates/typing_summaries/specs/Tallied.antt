@@ -2,8 +2,8 @@
 use Rattle.std.specs.Prelude.{◌≡◌, ◌↔◌, ℕ, ◌-◌, ◌^◌, ◌<◌, min, List, length, Option, Some, None, slice_index}
 use Rattle.ir_types.specs.judged.ExpressionPlain.{PlainExpression}
 use Rattle.ir_items.specs.judged.Plain.{PlainFunction}
-use Rattle.spec_analysis.specs.judged.Effects.{effects_of, places_of}
-use Rattle.spec_analysis.specs.judged.Summaries.{Summary, IsJoined, IsFormFault}
+use Rattle.spec_expressions.specs.judged.Effects.{effects_of, places_of}
+use Rattle.spec_expressions.specs.judged.Summaries.{Summary, IsJoined, IsFormFault}
 use Rattle.typing_summaries.specs.Tallies.{Tallied}
 
 abbrev pub summary_in : Tallied → Summary

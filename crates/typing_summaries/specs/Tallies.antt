@@ -5,13 +5,13 @@ use Rattle.ir_types.specs.declared.expressions.Expression.{Expression}
 use Rattle.ir_types.specs.declared.expressions.Expression.TheVariants.{GlobalVariable}
 use Rattle.ir_blocks.specs.judged.Plain.{PlainStatement, emit, block, if_, switch, loop, break, continue, return, kill, operation, call, PlainBlock, stop, next, PlainCases, no_case, case}
 use Rattle.ir_items.specs.found.GlobalView.{values_of}
-use Rattle.spec_analysis.specs.declared.global_use.GlobalUse.{GlobalUse}
-use Rattle.spec_analysis.specs.declared.global_use.TheConstants.GlobalUse.{QUERY}
-use Rattle.spec_analysis.specs.judged.Operands.{Operand, expression_operands, statement_operands}
-use Rattle.spec_analysis.specs.judged.Values.{known_at}
-use Rattle.spec_analysis.specs.judged.Summaries.{Summary, no_use}
+use Rattle.spec_expressions.specs.declared.global_use.GlobalUse.{GlobalUse}
+use Rattle.spec_expressions.specs.declared.global_use.TheConstants.GlobalUse.{QUERY}
+use Rattle.spec_expressions.specs.judged.Operands.{Operand, expression_operands, statement_operands}
+use Rattle.spec_expressions.specs.judged.Values.{known_at}
+use Rattle.spec_expressions.specs.judged.Summaries.{Summary, no_use}
 use Rattle.typing_infos.specs.Infos.{marked, summary_of}
-pub use Rattle.typing_sampling.specs.Pairings.{Paired, paired, with_pair, first_wrong, with_wrong, part_wrong, pair_one, passed_for, pass_up, pass_all_up, sample_one}
+pub use Rattle.typing_summaries.specs.Pairings.{Paired, paired, with_pair, first_wrong, with_wrong, part_wrong, pair_one, passed_for, pass_up, pass_all_up, sample_one}
 use Rattle.typing_summaries.specs.declared.tally.Context.{Context}
 use Rattle.typing_summaries.specs.declared.tally.Tally.{Tally}
 use Rattle.typing_summaries.specs.declared.counts.Counts.{Counts}

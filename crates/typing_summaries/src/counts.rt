@@ -1,17 +1,17 @@
 //! How often expressions are operands, and how global variables are used.
 
 ghost use Rattle.std.specs.Prelude.{◌≡◌, Option, List, Some, map, IfOk, replicate, slice_index_or, ◌==◌};
-ghost use Rattle.spec_analysis.specs.judged.Operands.{operand};
-ghost use Rattle.spec_handles.specs.declared.operand.Usage.TheVariants.{Read};
-ghost use Rattle.spec_analysis.specs.judged.Summaries.{no_use};
-ghost use Rattle.spec_analysis.specs.judged.Values.{known_at};
+ghost use Rattle.spec_expressions.specs.judged.Operands.{operand};
+ghost use Rattle.spec_expressions.specs.declared.operand.Usage.TheVariants.{Read};
+ghost use Rattle.spec_expressions.specs.judged.Summaries.{no_use};
+ghost use Rattle.spec_expressions.specs.judged.Values.{known_at};
 ghost use Rattle.typing_infos.specs.Infos.{marked, joined_use};
 ghost use Rattle.typing_summaries.specs.Tallies.{Counted, counted, bumped, take_one, take_all, merged, queried};
 
 use bitflags::Flags;
 use ir_arena::handle::Handle;
 use ir_types::key;
-use spec_analysis::GlobalUse;
+use spec_expressions::GlobalUse;
 use std::alloc::{AllocError, Global};
 use typing_infos::mark_at;
 

@@ -6,12 +6,12 @@ ghost use Rattle.ir_arena.specs.judged.Handles.{handles_from};
 ghost use Rattle.ir_items.specs.found.GlobalView.{values_of};
 ghost use Rattle.typing_summaries.specs.Tallies.{known, counted, tallied, expression_done, expressions_done, expressions_done_with, name_one, name_all, name_all_with};
 
+use crate::Expressions;
 use crate::counts::{Counts, name};
 use crate::tally::{Context, Tally};
 use ir_arena::handle::Handle;
 use ir_types::{Expression, key};
 use std::alloc::AllocError;
-use typing_sampling::Expressions;
 
 impl Tally {
     fn add_expression(

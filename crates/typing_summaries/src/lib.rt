@@ -1,14 +1,20 @@
-//! How often the expressions of a function are operands, what it does to global variables, and what it samples: from its
-//! own body and from what is kept of the functions that it calls.
+//! How often the expressions of a function are operands, what it does to global variables, and which pairs of images and
+//! samplers it samples: from its own body, and from what is kept of the functions that it calls, as it sees them.
 #![tactic(auto)]
 
 mod counts;
 mod expressions;
+mod list;
 mod operands;
+mod pairs;
 mod passed;
+mod places;
+mod samples;
 mod tally;
 mod walk;
 
 pub use counts::Counts;
+pub use list::PairList;
+pub use pairs::{Part, Sampled};
+pub use places::{Expressions, place};
 pub use tally::{Context, Tally};
-pub use typing_sampling::{PairList, Sampled};

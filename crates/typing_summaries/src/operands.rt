@@ -3,8 +3,8 @@
 ghost use Rattle.std.specs.Prelude.{◌≡◌};
 ghost use Rattle.ir_types.specs.judged.ExpressionPlain.{expression_view};
 ghost use Rattle.ir_blocks.specs.found.View.{statement_view};
-ghost use Rattle.spec_analysis.specs.judged.Operands.{operand, operands_in, expression_operands, statement_operands};
-ghost use Rattle.spec_handles.specs.Operands.{these};
+ghost use Rattle.spec_expressions.specs.judged.Operands.{operand, operands_in, expression_operands, statement_operands};
+ghost use Rattle.spec_expressions.specs.Operands.{these};
 ghost use Rattle.typing_summaries.specs.Tallies.{counted, take_one, take_all};
 
 use crate::counts::{Counts, Start};
@@ -12,8 +12,7 @@ use ir_arena::handle::Handle;
 use ir_blocks::Statement;
 use ir_references::{OperandUser, with_operands, with_statement_operands};
 use ir_types::{Expression, key};
-use spec_analysis::GlobalUse;
-use spec_handles::{Scoping, Slot, Usage};
+use spec_expressions::{GlobalUse, Scoping, Slot, Usage};
 
 // Counts operands.
 #[derive(Drop)]
@@ -23,7 +22,7 @@ struct Counter<'a> {
 
 impl OperandUser<Counts, ()> for Counter<'_> {
     ghost use Rattle.std.specs.Prelude.{◌≡◌};
-    ghost use Rattle.spec_analysis.specs.judged.Operands.{operands_in};
+    ghost use Rattle.spec_expressions.specs.judged.Operands.{operands_in};
     ghost use Rattle.typing_summaries.specs.Tallies.{counted, take_all};
 
     ghost does = { λ counter before after answer operands. counted after ≡ take_all counter.globals.now (operands_in operands) (counted before) };

@@ -4,19 +4,19 @@ ghost use Rattle.std.specs.Prelude.{◌≡◌, ◌⊎◌, IfOk, IsTrue, OnOk, ma
 ghost use Rattle.ir_types.specs.judged.ExpressionPlain.{expression_view};
 ghost use Rattle.ir_items.specs.found.GlobalView.{values_of};
 ghost use Rattle.typing_infos.specs.Marks.{marks_of};
-ghost use Rattle.spec_analysis.specs.judged.Chains.{place};
+ghost use Rattle.spec_expressions.specs.judged.Chains.{place};
 ghost use Rattle.typing_summaries.specs.Parts.{part_if, parts_of, Stands, AllStand};
 ghost use Rattle.typing_summaries.specs.Joined.{IsKept, IsWrong, AreJoined};
 ghost use Rattle.typing_summaries.specs.Tallies.{known, paired, pass_all_up};
 
 use crate::tally::Context;
+use crate::{Expressions, Sampled, place};
 use indexmap::IndexSet;
 use ir_arena::handle::Handle;
 use ir_types::key;
-use spec_analysis::GlobalOrArgument;
+use spec_expressions::GlobalOrArgument;
 use std::alloc::{AllocError, Global};
 use typing_infos::SampledPairs;
-use typing_sampling::{Expressions, Sampled, place};
 
 /// A function that was called, and for each of its arguments, up to the last among its pairs, what was passed: what that stands
 /// for in the caller where the argument is among the pairs, and nothing where it isn't.

@@ -4,6 +4,7 @@ ghost use Rattle.std.specs.Prelude.{◌≡◌, IfOk, length};
 ghost use Rattle.ir_blocks.specs.found.View.{block_view};
 ghost use Rattle.typing_summaries.specs.Tallies.{known, tallied, nothing_tallied, whole_tally};
 
+use crate::Sampled;
 use crate::counts::Counts;
 use ir_arena::arena::Arena;
 use ir_arena::handle::Handle;
@@ -11,7 +12,6 @@ use ir_blocks::Block;
 use ir_types::{Expression, key};
 use std::alloc::{AllocError, Global};
 use typing_infos::FunctionInfo;
-use typing_sampling::Sampled;
 
 /// What a tally is made from.
 #[derive(Clone, Copy)]

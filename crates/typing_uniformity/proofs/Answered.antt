@@ -5,10 +5,10 @@ use Rattle.ir_flags.specs.declared.settings.ValidationFlags.{ValidationFlags}
 use Rattle.ir_flags.specs.declared.settings.TheConstants.ValidationFlags.{CONTROL_FLOW_UNIFORMITY}
 use Rattle.ir_kinds.specs.declared.diagnostics.Severity.{Severity}
 use Rattle.ir_blocks.specs.judged.Plain.{PlainBlock}
-use Rattle.spec_analysis.specs.declared.uniformity.Uniformity.{Uniformity}
-use Rattle.spec_analysis.specs.judged.Uniformity.{Required}
-use Rattle.spec_analysis.specs.found.Found.{required_in}
-use Rattle.spec_analysis.proofs.FoundLaws.{asked_sound, asked_complete}
+use Rattle.spec_expressions.specs.declared.uniformity.Uniformity.{Uniformity}
+use Rattle.spec_expressions.specs.judged.Uniformity.{Required}
+use Rattle.spec_expressions.specs.found.Found.{required_in}
+use Rattle.spec_expressions.proofs.FoundLaws.{asked_sound, asked_complete}
 use Rattle.typing_uniformity.specs.Requiring.{asks, AreNext, varies_of, required_of, look_of, required_view}
 use Rattle.typing_uniformity.specs.Uniform.{IsAnswer}
 use Rattle.typing_uniformity.specs.declared.fault.NonUniform.{NonUniform}

@@ -10,9 +10,9 @@ use Rattle.ir_types.specs.declared.expressions.Expression.{Expression}
 use Rattle.ir_types.specs.declared.expressions.Expression.TheVariants as x
 use Rattle.ir_items.specs.found.GlobalView.{values_of}
 use Rattle.ir_items.specs.judged.Plain.{PlainFunction, PlainModule}
-use Rattle.spec_analysis.specs.judged.Operands.{Operand, operand, expression_operands}
-use Rattle.spec_handles.specs.declared.operand.Usage.TheVariants.{Base}
-use Rattle.spec_analysis.specs.judged.Values.{inner_of, known_at, is_source, ComesFrom, itself, through, StartsAt, is_global, accessed, accessed_index, AreStarts, OperandsPrecede, IsExact}
+use Rattle.spec_expressions.specs.judged.Operands.{Operand, operand, expression_operands}
+use Rattle.spec_expressions.specs.declared.operand.Usage.TheVariants.{Base}
+use Rattle.spec_expressions.specs.judged.Values.{inner_of, known_at, is_source, ComesFrom, itself, through, StartsAt, is_global, accessed, accessed_index, AreStarts, OperandsPrecede, IsExact}
 use Rattle.typing_uniformity.specs.Facts.{or_known, find_all, source_if, source_of, start_of, sources_of, starts_of, AreSources}
 
 some_is : {X : Type 0} {x y : X} → Some x ≡ Some y → x ≡ y

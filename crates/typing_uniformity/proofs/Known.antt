@@ -6,14 +6,14 @@ use Rattle.ir_kinds.specs.declared.diagnostics.Severity.{Severity}
 use Rattle.ir_kinds.specs.declared.diagnostics.StandardFilterableTriggeringRule.TheVariants.{DerivativeUniformity}
 use Rattle.ir_types.specs.judged.ExpressionPlain.{PlainExpression}
 use Rattle.ir_items.specs.judged.Plain.{PlainFunction, PlainModule}
-use Rattle.spec_analysis.specs.declared.uniformity.Uniformity.{Uniformity}
-use Rattle.spec_analysis.specs.judged.Values.{ComesFrom, itself, through, NonUniform as Varies}
-use Rattle.spec_analysis.proofs.Members.{get-within}
+use Rattle.spec_expressions.specs.declared.uniformity.Uniformity.{Uniformity}
+use Rattle.spec_expressions.specs.judged.Values.{ComesFrom, itself, through, NonUniform as Varies}
+use Rattle.spec_expressions.proofs.Members.{get-within}
 use Rattle.typing_uniformity.specs.Facts.{AreUniformities}
-use Rattle.spec_analysis.specs.judged.Faults.{requirement_in, requirement_at}
-use Rattle.spec_analysis.specs.judged.Severity.{HasSeverity}
-use Rattle.spec_analysis.specs.judged.Uniformity.{UniformityFault}
-use Rattle.spec_analysis.proofs.FoundLaws.{fault_as}
+use Rattle.spec_expressions.specs.judged.Faults.{requirement_in, requirement_at}
+use Rattle.spec_expressions.specs.judged.Severity.{HasSeverity}
+use Rattle.spec_expressions.specs.judged.Uniformity.{UniformityFault}
+use Rattle.spec_expressions.proofs.FoundLaws.{fault_as}
 use Rattle.typing_uniformity.specs.Requiring.{source_in, requirement_in as requirement_known, required_of, required_view}
 use Rattle.typing_uniformity.specs.Uniform.{VariesBy, IsAnswer as IsAnswerBy}
 use Rattle.typing_uniformity.specs.declared.fault.NonUniform.{NonUniform}

@@ -10,7 +10,7 @@ use Rattle.ir_kinds.specs.declared.diagnostics.StandardFilterableTriggeringRule.
 use Rattle.ir_items.specs.judged.GlobalPlain.{PlainNode, standard}
 use Rattle.ir_proc.specs.found.Filters.{ParentsPrecede}
 use Rattle.ir_kinds.specs.declared.diagnostics.StandardFilterableTriggeringRule.TheVariants.{DerivativeUniformity}
-use Rattle.spec_analysis.specs.judged.Severity.{IsTrail, IsFirst, IsNearest}
+use Rattle.spec_expressions.specs.judged.Severity.{IsTrail, IsFirst, IsNearest}
 use Rattle.typing_uniformity.specs.Nearest.{AreNearest}
 
 -- the plain item at a handle

@@ -5,10 +5,10 @@ use Rattle.std.proofs.lemmas.Option.{get_or_from_slice_get, slice_get_within, sl
 use borrow.Author.Tests.{ltb-true, lt-ltb, eqb-true, eq-eqb}
 use Rattle.ir_kinds.specs.declared.diagnostics.Severity.{Severity}
 use Rattle.ir_kinds.specs.declared.diagnostics.Severity.TheVariants.{Off, Info, Warning, Error}
-use Rattle.spec_analysis.specs.declared.uniformity.Uniformity.{Uniformity}
-use Rattle.spec_analysis.specs.declared.uniformity.TheConstants.UniformityRequirements.{DERIVATIVE, IMPLICIT_LEVEL, COOP_OPS}
-use Rattle.spec_analysis.specs.judged.Uniformity.{Counts, cooperative, derivative, implicit_level, Required, EmitRequires}
-use Rattle.spec_analysis.specs.found.Found.{IsLook}
+use Rattle.spec_expressions.specs.declared.uniformity.Uniformity.{Uniformity}
+use Rattle.spec_expressions.specs.declared.uniformity.TheConstants.UniformityRequirements.{DERIVATIVE, IMPLICIT_LEVEL, COOP_OPS}
+use Rattle.spec_expressions.specs.judged.Uniformity.{Counts, cooperative, derivative, implicit_level, Required, EmitRequires}
+use Rattle.spec_expressions.specs.found.Found.{IsLook}
 use Rattle.typing_uniformity.specs.Requiring.{required_of, requirement_in, is_error, counts, asks, IsNext, AreNext, required_with, required_from, look_of}
 
 -- ---- steps of the loop

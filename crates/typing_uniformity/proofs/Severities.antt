@@ -4,7 +4,7 @@ use Rattle.ir_kinds.specs.declared.diagnostics.Severity.{Severity}
 use Rattle.ir_kinds.specs.declared.diagnostics.StandardFilterableTriggeringRule.{StandardFilterableTriggeringRule}
 use Rattle.ir_items.specs.judged.GlobalPlain.{PlainNode}
 use Rattle.ir_items.specs.judged.Plain.{PlainFunction, PlainModule}
-use Rattle.spec_analysis.specs.judged.Severity.{IsTrail, IsFirst, IsNearest, HasSeverity}
+use Rattle.spec_expressions.specs.judged.Severity.{IsTrail, IsFirst, IsNearest, HasSeverity}
 
 one_trail : (nodes : List PlainNode) (start : Option ℕ) (p q : List PlainNode) → IsTrail nodes start p → IsTrail nodes start q → p ≡ q
 one_trail nodes start [] [] a b = refl

@@ -7,10 +7,10 @@ use Rattle.ir_types.specs.judged.ExpressionPlain.{PlainExpression, expression_vi
 use Rattle.ir_types.specs.declared.expressions.Expression.{Expression}
 use Rattle.ir_items.specs.found.GlobalView.{values_of}
 use Rattle.ir_items.specs.judged.Plain.{PlainFunction, PlainModule}
-use Rattle.spec_analysis.specs.declared.uniformity.Uniformity.{Uniformity}
-use Rattle.spec_analysis.specs.judged.Values.{ComesFrom, IsExact}
+use Rattle.spec_expressions.specs.declared.uniformity.Uniformity.{Uniformity}
+use Rattle.spec_expressions.specs.judged.Values.{ComesFrom, IsExact}
 use Rattle.typing_uniformity.specs.Facts.{AreSources, IsUniformity, AreUniformities}
-use Rattle.spec_analysis.specs.judged.Faults.{requirement_in}
+use Rattle.spec_expressions.specs.judged.Faults.{requirement_in}
 use Rattle.typing_uniformity.specs.Reported.{Reported, told, reported_of, all_reported}
 
 some_is : {X : Type 0} {a b : X} → Some a ≡ Some b → a ≡ b

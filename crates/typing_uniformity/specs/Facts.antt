@@ -4,10 +4,10 @@ use Rattle.ir_types.specs.judged.ExpressionPlain.{PlainExpression, plain, expres
 use Rattle.ir_types.specs.declared.expressions.Expression.{Expression}
 use Rattle.ir_types.specs.declared.expressions.Expression.TheVariants.{GlobalVariable, Access, AccessIndex}
 use Rattle.ir_items.specs.judged.Plain.{PlainFunction, PlainModule}
-use Rattle.spec_analysis.specs.declared.uniformity.Uniformity.{Uniformity}
-use Rattle.spec_analysis.specs.judged.Operands.{Operand, expression_operands}
-use Rattle.spec_analysis.specs.judged.Values.{known_at, is_source, ComesFrom, IsExact}
-use Rattle.spec_analysis.specs.judged.Faults.{requirement_at}
+use Rattle.spec_expressions.specs.declared.uniformity.Uniformity.{Uniformity}
+use Rattle.spec_expressions.specs.judged.Operands.{Operand, expression_operands}
+use Rattle.spec_expressions.specs.judged.Values.{known_at, is_source, ComesFrom, IsExact}
+use Rattle.spec_expressions.specs.judged.Faults.{requirement_at}
 
 -- what is found already, or what is known of one more operand
 abbrev pub or_known : List (Option ℕ) → ℕ → Option ℕ → Option ℕ

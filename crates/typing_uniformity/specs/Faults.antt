@@ -2,8 +2,8 @@
 use Rattle.std.specs.Prelude.{◌≡◌, Option, Some, None}
 use Rattle.ir_flags.specs.declared.settings.ValidationFlags.{ValidationFlags}
 use Rattle.ir_items.specs.judged.Plain.{PlainFunction, PlainModule}
-use Rattle.spec_analysis.specs.judged.Faults.{FunctionFault}
-use Rattle.spec_analysis.specs.judged.Uniformity.{Required}
+use Rattle.spec_expressions.specs.judged.Faults.{FunctionFault}
+use Rattle.spec_expressions.specs.judged.Uniformity.{Required}
 use Rattle.typing_uniformity.specs.Requiring.{required_view}
 use Rattle.typing_uniformity.specs.declared.fault.NonUniform.{NonUniform}
 

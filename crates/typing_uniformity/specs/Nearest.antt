@@ -3,7 +3,7 @@ use Rattle.std.specs.Prelude.{◌≡◌, ℕ, List, Option, Some, slice_get}
 use Rattle.ir_items.specs.judged.GlobalPlain.{PlainNode}
 use Rattle.ir_kinds.specs.declared.diagnostics.Severity.{Severity}
 use Rattle.ir_kinds.specs.declared.diagnostics.StandardFilterableTriggeringRule.TheVariants.{DerivativeUniformity}
-use Rattle.spec_analysis.specs.judged.Severity.{IsNearest}
+use Rattle.spec_expressions.specs.judged.Severity.{IsNearest}
 
 -- each is the severity of the nearest filter of derivatives from the node at its place on, if there is one
 abbrev pub AreNearest : List PlainNode → List (Option Severity) → Type 0

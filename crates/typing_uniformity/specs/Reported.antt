@@ -2,8 +2,8 @@
 use Rattle.std.specs.Prelude.{ℕ, List, map, Option}
 use Rattle.ir_types.specs.judged.ExpressionPlain.{PlainExpression, expression_view}
 use Rattle.ir_types.specs.declared.expressions.Expression.{Expression}
-use Rattle.spec_analysis.specs.declared.uniformity.Uniformity.{Uniformity}
-use Rattle.spec_analysis.specs.judged.Values.{known_at, requirements_of}
+use Rattle.spec_expressions.specs.declared.uniformity.Uniformity.{Uniformity}
+use Rattle.spec_expressions.specs.judged.Values.{known_at, requirements_of}
 
 -- Where its value comes from, and the bits of what it requires.
 pub record Reported : Type 0 where

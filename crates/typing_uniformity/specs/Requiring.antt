@@ -2,9 +2,9 @@
 use Rattle.std.specs.Prelude.{◌≡◌, ℕ, ◌<◌, ◌≤◌, Bool, true, false, IsTrue, ◌||◌, ◌&&◌, nat_lt, ◌==◌, List, length, Option, Some, None, is_some, option_and_then, slice_get, slice_index_or, if◌then◌else◌}
 use Rattle.ir_kinds.specs.declared.diagnostics.Severity.{Severity}
 use Rattle.ir_kinds.specs.declared.diagnostics.Severity.TheVariants.{Off, Info, Warning, Error}
-use Rattle.spec_analysis.specs.declared.uniformity.Uniformity.{Uniformity}
-use Rattle.spec_analysis.specs.declared.uniformity.TheConstants.UniformityRequirements.{DERIVATIVE, IMPLICIT_LEVEL, COOP_OPS}
-use Rattle.spec_analysis.specs.judged.Uniformity.{Required}
+use Rattle.spec_expressions.specs.declared.uniformity.Uniformity.{Uniformity}
+use Rattle.spec_expressions.specs.declared.uniformity.TheConstants.UniformityRequirements.{DERIVATIVE, IMPLICIT_LEVEL, COOP_OPS}
+use Rattle.spec_expressions.specs.judged.Uniformity.{Required}
 use Rattle.typing_uniformity.specs.declared.fault.NonUniform.{NonUniform}
 
 abbrev pub source_in : Option Uniformity → Option ℕ

@@ -3,8 +3,8 @@ use Rattle.std.specs.Prelude.{◌≡◌, ℕ, IsTrue, List, Option, Some, None}
 use Rattle.ir_flags.specs.declared.settings.ValidationFlags.{ValidationFlags}
 use Rattle.ir_kinds.specs.declared.diagnostics.Severity.{Severity}
 use Rattle.ir_blocks.specs.judged.Plain.{PlainBlock}
-use Rattle.spec_analysis.specs.declared.uniformity.Uniformity.{Uniformity}
-use Rattle.spec_analysis.specs.judged.Uniformity.{Required, UniformityFault}
+use Rattle.spec_expressions.specs.declared.uniformity.Uniformity.{Uniformity}
+use Rattle.spec_expressions.specs.judged.Uniformity.{Required, UniformityFault}
 use Rattle.typing_uniformity.specs.Requiring.{varies_of, required_of, required_view}
 use Rattle.typing_uniformity.specs.declared.fault.NonUniform.{NonUniform}
 

@@ -11,7 +11,7 @@ use crate::{NonUniform, derivative_severity_by, find_fault};
 use ir_flags::ValidationFlags;
 use ir_items::{Function, Module};
 use ir_kinds::Severity;
-use spec_analysis::Uniformity;
+use spec_expressions::Uniformity;
 use std::alloc::{AllocError, Global};
 
 /// A fault of uniformity of a function of the module, or `None` where it has none (see [`find_fault`]). `uniformities` says of

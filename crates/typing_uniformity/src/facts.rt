@@ -4,7 +4,7 @@ ghost use Rattle.std.specs.Prelude.{◌≡◌, ◌++◌, ◌∷◌, [], OnOk, If
 ghost use Rattle.ir_arena.specs.judged.Handles.{handles_from};
 ghost use Rattle.ir_types.specs.judged.ExpressionPlain.{expression_view};
 ghost use Rattle.ir_items.specs.found.View.{function_view, module_view};
-ghost use Rattle.spec_analysis.specs.judged.Values.{AreStarts, OperandsPrecede, known_at};
+ghost use Rattle.spec_expressions.specs.judged.Values.{AreStarts, OperandsPrecede, known_at};
 ghost use Rattle.typing_uniformity.specs.Facts.{source_if, source_of, start_of, sources_of, starts_of, AreUniformities};
 
 use crate::found::{known, source_below};
@@ -13,7 +13,7 @@ use crate::uniformities::uniformities_of;
 use ir_arena::handle::Handle;
 use ir_items::{Function, Module};
 use ir_types::{Expression, key};
-use spec_analysis::Uniformity;
+use spec_expressions::Uniformity;
 use std::alloc::{AllocError, Global};
 
 /// What is known of each expression of a function.

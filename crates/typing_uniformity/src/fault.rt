@@ -5,7 +5,7 @@ ghost use Rattle.ir_flags.specs.Sets.{Has};
 ghost use Rattle.ir_flags.specs.declared.settings.TheConstants.ValidationFlags.{CONTROL_FLOW_UNIFORMITY};
 ghost use Rattle.ir_blocks.specs.found.View.{block_view};
 ghost use Rattle.typing_errors.specs.declared.error.FunctionError.TheVariants.{NonUniformControlFlow};
-ghost use Rattle.spec_analysis.specs.found.Found.{required_in};
+ghost use Rattle.spec_expressions.specs.found.Found.{required_in};
 ghost use Rattle.typing_uniformity.specs.Requiring.{varies_of, look_of, required_view};
 ghost use Rattle.typing_uniformity.specs.Uniform.{IsAnswer};
 
@@ -17,7 +17,7 @@ use ir_arena::handle::Handle;
 use ir_flags::ValidationFlags;
 use ir_items::{Block, key};
 use ir_kinds::Severity;
-use spec_analysis::{Uniformity, UniformityRequirements};
+use spec_expressions::{Uniformity, UniformityRequirements};
 use std::alloc::{AllocError, Global};
 use typing_errors::{FunctionError, UniformityDisruptor};
 

@@ -2,16 +2,16 @@
 
 ghost use Rattle.std.specs.Prelude.{◌≡◌, Option, None, map};
 ghost use Rattle.ir_types.specs.judged.ExpressionPlain.{expression_view};
-ghost use Rattle.spec_analysis.specs.judged.Operands.{operand, operands_in, expression_operands};
-ghost use Rattle.spec_handles.specs.declared.operand.Usage.TheVariants.{Read};
-ghost use Rattle.spec_analysis.specs.judged.Values.{known_at};
-ghost use Rattle.spec_handles.specs.Operands.{these};
+ghost use Rattle.spec_expressions.specs.judged.Operands.{operand, operands_in, expression_operands};
+ghost use Rattle.spec_expressions.specs.declared.operand.Usage.TheVariants.{Read};
+ghost use Rattle.spec_expressions.specs.judged.Values.{known_at};
+ghost use Rattle.spec_expressions.specs.Operands.{these};
 ghost use Rattle.typing_uniformity.specs.Facts.{or_known, find_all};
 
 use ir_arena::handle::Handle;
 use ir_references::{OperandUser, with_operands};
 use ir_types::{Expression, key};
-use spec_handles::{Scoping, Slot};
+use spec_expressions::{Scoping, Slot};
 
 type Operand = Handle<key::Expression>;
 
@@ -65,7 +65,7 @@ struct Sources<'a> {
 
 impl OperandUser<(), Option<Operand>> for Sources<'_> {
     ghost use Rattle.std.specs.Prelude.{◌≡◌, None};
-    ghost use Rattle.spec_analysis.specs.judged.Operands.{operands_in};
+    ghost use Rattle.spec_expressions.specs.judged.Operands.{operands_in};
     ghost use Rattle.typing_uniformity.specs.Facts.{find_all};
 
     ghost does = { λ t before after found operands. found ≡ find_all t.sources.now (operands_in operands) None };

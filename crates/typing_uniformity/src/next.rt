@@ -4,7 +4,7 @@ ghost use Rattle.std.specs.Prelude.{◌≡◌, IfOk, length, slice_get};
 ghost use Rattle.typing_uniformity.specs.Requiring.{is_error, counts, asks, AreNext};
 
 use ir_kinds::Severity;
-use spec_analysis::{Uniformity, UniformityRequirements};
+use spec_expressions::{Uniformity, UniformityRequirements};
 use std::alloc::{AllocError, Global};
 
 fn is_error(severity: Severity) -> bool

@@ -2,10 +2,10 @@
 
 ghost use Rattle.std.specs.Prelude.{◌≡◌};
 ghost use Rattle.ir_types.specs.judged.ExpressionPlain.{expression_view};
-ghost use Rattle.spec_analysis.specs.judged.Values.{requirements_of};
+ghost use Rattle.spec_expressions.specs.judged.Values.{requirements_of};
 
 use ir_types::Expression;
-use spec_analysis::UniformityRequirements;
+use spec_expressions::UniformityRequirements;
 
 // What the expression itself requires of control flow, if anything.
 pub(crate) fn requirements_of(expression: &Expression) -> UniformityRequirements

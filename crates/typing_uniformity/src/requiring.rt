@@ -1,13 +1,13 @@
 //! What is known of expressions.
 
 ghost use Rattle.std.specs.Prelude.{◌≡◌, is_some, option_map, slice_get};
-ghost use Rattle.spec_analysis.specs.found.Found.{where_disrupted};
+ghost use Rattle.spec_expressions.specs.found.Found.{where_disrupted};
 ghost use Rattle.typing_uniformity.specs.Requiring.{varies_of, look_of, required_with, required_from, required_view};
 
 use crate::fault::NonUniform;
 use ir_arena::handle::Handle;
 use ir_items::key;
-use spec_analysis::Uniformity;
+use spec_expressions::Uniformity;
 use typing_errors::UniformityDisruptor;
 
 // Whether the value of each expression differs and what it requires, and for each the first from it on that requires

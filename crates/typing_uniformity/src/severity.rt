@@ -7,7 +7,7 @@ ghost use Rattle.ir_items.specs.found.View.{function_view, module_view};
 ghost use Rattle.ir_kinds.specs.declared.diagnostics.StandardFilterableTriggeringRule.TheVariants.{DerivativeUniformity};
 ghost use Rattle.ir_proc.specs.found.Filters.{nodes_of, ParentsPrecede};
 ghost use Rattle.typing_uniformity.specs.Nearest.{AreNearest};
-ghost use Rattle.spec_analysis.specs.judged.Severity.{IsNearest, HasSeverity};
+ghost use Rattle.spec_expressions.specs.judged.Severity.{IsNearest, HasSeverity};
 
 use ir_arena::arena::Arena;
 use ir_arena::handle::Handle;

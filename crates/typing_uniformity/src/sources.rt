@@ -6,7 +6,7 @@ ghost use Rattle.ir_types.specs.judged.ExpressionPlain.{expression_view};
 ghost use Rattle.ir_items.specs.found.GlobalView.{values_of, global_view};
 ghost use Rattle.ir_items.specs.found.View.{argument_view, function_view, module_view};
 ghost use Rattle.ir_types.specs.judged.Plain.{inner_view, type_view};
-ghost use Rattle.spec_analysis.specs.judged.Values.{may_store, space_varies, class_varies, inner_varies, type_varies, global_varies, built_in_varies, binding_varies, argument_varies, is_source};
+ghost use Rattle.spec_expressions.specs.judged.Values.{may_store, space_varies, class_varies, inner_varies, type_varies, global_varies, built_in_varies, binding_varies, argument_varies, is_source};
 
 use bitflags::Flags;
 use ir_arena::handle::Handle;

@@ -2,14 +2,14 @@
 
 ghost use Rattle.std.specs.Prelude.{◌≡◌, map, IfOk};
 ghost use Rattle.ir_arena.specs.judged.Handles.{handles_from};
-ghost use Rattle.spec_analysis.specs.judged.Values.{known_at};
+ghost use Rattle.spec_expressions.specs.judged.Values.{known_at};
 ghost use Rattle.typing_uniformity.specs.Reported.{told, all_reported};
 
 use crate::requirements::requirements_of;
 use ir_arena::handle::Handle;
 use ir_items::Function;
 use ir_types::key;
-use spec_analysis::Uniformity;
+use spec_expressions::Uniformity;
 use std::alloc::{AllocError, Global};
 
 fn source_at(

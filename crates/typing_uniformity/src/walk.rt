@@ -2,17 +2,17 @@
 
 ghost use Rattle.std.specs.Prelude.{◌≡◌, ◌||◌, false, is_some, option_map, map};
 ghost use Rattle.ir_blocks.specs.found.View.{statement_view, block_view, case_view, cases_of};
-ghost use Rattle.spec_analysis.specs.judged.Disruption.{ends_in, ends_at, ends_in_cases};
-ghost use Rattle.spec_analysis.specs.found.Found.{first_required, where_disrupted, required_in, required_at, required_in_cases};
-ghost use Rattle.spec_analysis.specs.judged.Uniformity.{Required};
-ghost use Rattle.spec_analysis.specs.declared.uniformity.TheConstants.UniformityRequirements.{WORK_GROUP_BARRIER};
+ghost use Rattle.spec_expressions.specs.judged.Disruption.{ends_in, ends_at, ends_in_cases};
+ghost use Rattle.spec_expressions.specs.found.Found.{first_required, where_disrupted, required_in, required_at, required_in_cases};
+ghost use Rattle.spec_expressions.specs.judged.Uniformity.{Required};
+ghost use Rattle.spec_expressions.specs.declared.uniformity.TheConstants.UniformityRequirements.{WORK_GROUP_BARRIER};
 ghost use Rattle.typing_uniformity.specs.Requiring.{varies_of, look_of, required_view};
 
 use crate::fault::NonUniform;
 use crate::requiring::Requiring;
 use ir_arena::handle::Handle;
 use ir_items::{Block, Statement, SwitchCase, key};
-use spec_analysis::UniformityRequirements;
+use spec_expressions::UniformityRequirements;
 use typing_errors::UniformityDisruptor;
 
 // What a part of a body shows: whether it holds an end that not all invocations take, and its first fault.

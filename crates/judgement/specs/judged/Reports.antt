@@ -3,12 +3,12 @@ use Rattle.std.specs.Prelude.{◌≡◌, ◌<◌, ◌↔◌, ℕ, List, ◌++◌
 use Rattle.std.specs.List.Sorted.{IsStrictlySortedBy}
 use Rattle.std.specs.Ordering.{nat_cmp, ordering_then}
 use Rattle.std.specs.declared.cmp.Ordering.{Ordering}
-use Rattle.spec_analysis.specs.declared.global_use.GlobalUse.{GlobalUse}
-use Rattle.spec_analysis.specs.declared.sampling.GlobalOrArgument.TheVariants.{Global}
+use Rattle.spec_expressions.specs.declared.global_use.GlobalUse.{GlobalUse}
+use Rattle.spec_expressions.specs.declared.sampling.GlobalOrArgument.TheVariants.{Global}
 use Rattle.ir_items.specs.judged.Plain.{PlainEntry, PlainModule}
 use Rattle.typing_rules.specs.judged.Laws.{IsAmong}
-use Rattle.spec_analysis.specs.judged.Chains.{HasUse, HasPair}
-use Rattle.spec_analysis.specs.judged.Summaries.{HasUseBit}
+use Rattle.spec_expressions.specs.judged.Chains.{HasUse, HasPair}
+use Rattle.spec_expressions.specs.judged.Summaries.{HasUseBit}
 use Rattle.judgement.specs.judged.Lines.{buffers, is_own, entry_lines}
 
 -- These are the uses of the module's global variables by what is reached from the entry point, one for each in order. Of the

@@ -5,7 +5,7 @@ use Rattle.shader_check.specs.found.Judged.{IsRefusedAt}
 use Rattle.check_errors.specs.declared.error.InvalidFunction.{InvalidFunction}
 use Rattle.ir_items.specs.judged.Plain.{PlainModule}
 use Rattle.function_real_lower.specs.Readings.{reading_of, faults_of}
-use Rattle.spec_analysis.specs.judged.Summaries.{Summary, AreSummaries}
+use Rattle.spec_expressions.specs.judged.Summaries.{Summary, AreSummaries}
 use Rattle.spec_statements.specs.judged.ModuleFunctions.{FunctionsOK, IsFirstFailing}
 
 -- All functions are accepted, and these are their summaries.

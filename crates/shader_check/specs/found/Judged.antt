@@ -13,7 +13,7 @@ use Rattle.ir_flags.specs.declared.settings.ValidationFlags.{ValidationFlags}
 use Rattle.ir_flags.specs.declared.stages.ShaderStages.{ShaderStages}
 use Rattle.ir_flags.specs.declared.settings.Settings.{Settings}
 use Rattle.ir_items.specs.judged.Plain.{PlainFunction, PlainModule}
-use Rattle.spec_analysis.specs.judged.Summaries.{Summary, CalleesKnown, AreSummaries}
+use Rattle.spec_expressions.specs.judged.Summaries.{Summary, CalleesKnown, AreSummaries}
 use Rattle.spec_statements.specs.judged.ExpressionStages.{all_stages}
 use Rattle.spec_statements.specs.judged.EarlierPayloads.{IsPayloadBefore}
 use Rattle.spec_statements.specs.judged.Functions.{Reading, FunctionOK, AllowsStage}

@@ -13,8 +13,8 @@ use Rattle.ir_faults.specs.declared.refusal.Refusal.TheVariants as refusal
 use Rattle.ir_flags.specs.declared.stages.ShaderStages.{ShaderStages}
 use Rattle.ir_flags.specs.declared.settings.Settings.{Settings}
 use Rattle.ir_items.specs.judged.Plain.{PlainEntry, PlainModule}
-use Rattle.spec_analysis.specs.judged.Chains.{HasUse}
-use Rattle.spec_analysis.specs.judged.Summaries.{Summary}
+use Rattle.spec_expressions.specs.judged.Chains.{HasUse}
+use Rattle.spec_expressions.specs.judged.Summaries.{Summary}
 use Rattle.spec_interface.specs.judged.Entries.{EntryOK}
 use Rattle.spec_interface.specs.judged.EarlierPayloads.{IsPayloadBeforeEntry}
 use Rattle.spec_interface.specs.judged.EntryNames.{IsConflict}

@@ -14,18 +14,18 @@ use Rattle.ir_flags.specs.declared.stages.ShaderStages.{ShaderStages}
 use Rattle.ir_flags.specs.declared.settings.Settings.{Settings}
 use Rattle.ir_items.specs.judged.Plain.{PlainModule}
 use Rattle.typing_infos.specs.declared.info.ModuleInfo.{ModuleInfo}
-use Rattle.module_types.specs.Validated.{AreAccepted}
+use Rattle.module_context.specs.AcceptedTypes.{AreAccepted}
 use Rattle.module_validator.specs.Faults.{IsModuleFault}
 use Rattle.module_validator.specs.Refusals.{IsVariableFault}
 use Rattle.function_real_lower.specs.Readings.{reading_of, faults_of}
-use Rattle.spec_analysis.specs.judged.Summaries.{Summary, AreSummaries}
+use Rattle.spec_expressions.specs.judged.Summaries.{Summary, AreSummaries}
 use Rattle.spec_interface.specs.judged.Modules as entries
 use Rattle.spec_interface.specs.judged.Modules.{EntriesOK, AreStages}
 use Rattle.spec_expressions.specs.judged.Context.{outside}
 use Rattle.spec_statements.specs.judged.ModuleFunctions.{reading_over, FunctionsOK}
 use Rattle.spec_interface.specs.judged.Globals.{GlobalsOK}
 use Rattle.judgement.specs.judged.ModuleSteps.{ModuleOK}
-use Rattle.typing_expressions.specs.Types.{AreTypes}
+use Rattle.typing_infos.specs.Types.{AreTypes}
 use Rattle.typing_layout.specs.found.Held.{AreLayouts}
 
 -- All entry points are accepted, and these are their summaries.

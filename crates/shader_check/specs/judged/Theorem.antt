@@ -16,9 +16,9 @@ use Rattle.judgement.specs.judged.Steps.{IsFinding, IsPrepared}
 use Rattle.judgement.specs.judged.Text.{text_of}
 use Rattle.judgement.specs.declared.finding.Finding.{Finding}
 use Rattle.judgement.specs.declared.finding.Finding.TheVariants as finding
-use Rattle.judgement_returns.specs.judged.Like.{HasNoResult}
-use Rattle.judgement_runs.specs.judged.Local.{EntryIsLocal}
-use Rattle.judgement_runs.specs.judged.Sound.{AreChecked, ModuleIsSound}
+use Rattle.judgement_laws.specs.judged.Like.{HasNoResult}
+use Rattle.judgement_laws.specs.judged.Local.{EntryIsLocal}
+use Rattle.judgement_laws.specs.judged.Sound.{AreChecked, ModuleIsSound}
 use Rattle.judgement.specs.judged.Reports.{IsReport}
 use Rattle.shader_check.specs.declared.check.TheConstants.{MAX_TAKEN}
 use Rattle.shader_check.specs.declared.check.Verdict.{Verdict}

@@ -1,8 +1,8 @@
 -- What entry points may do with global variables, by the memory in which these lie.
 use Rattle.std.specs.Prelude.{◌≡◌, ◌==◌, ◌⊎◌, ℕ, List, Bool, true, false, Option, Some, if◌then◌else◌, bit_and, bit_or, option_map}
 use Rattle.std.specs.Int.{bit_at}
-use Rattle.spec_analysis.specs.declared.global_use.GlobalUse.{GlobalUse}
-use Rattle.spec_analysis.specs.declared.global_use.TheConstants.GlobalUse as use_
+use Rattle.spec_expressions.specs.declared.global_use.GlobalUse.{GlobalUse}
+use Rattle.spec_expressions.specs.declared.global_use.TheConstants.GlobalUse as use_
 use Rattle.ir_flags.specs.declared.memory.StorageAccess.{StorageAccess}
 use Rattle.ir_flags.specs.declared.memory.TheConstants.StorageAccess as access
 use Rattle.ir_items.specs.judged.Plain.{PlainEntry}

@@ -2,10 +2,10 @@
 use Rattle.std.specs.Prelude.{◌≡◌, ◌↔◌, ℕ, List, Option}
 use Rattle.ir_flags.specs.declared.settings.ValidationFlags.{ValidationFlags}
 use Rattle.ir_items.specs.judged.Plain.{PlainFunction, PlainModule}
-use Rattle.spec_analysis.specs.judged.Summaries.{Summary, CalleesKnown, CallsBelow, IsFormFault}
+use Rattle.spec_expressions.specs.judged.Summaries.{Summary, CalleesKnown, CallsBelow, IsFormFault}
 use Rattle.spec_statements.specs.judged.Analysis.{HasWrongForm}
 use Rattle.spec_statements.specs.judged.EarlierPayloads.{IsPayloadBefore}
-use Rattle.spec_handles.specs.Conditions.{CalleesPrecede}
+use Rattle.spec_expressions.specs.Conditions.{CalleesPrecede}
 
 -- at most one payload type is kept
 abbrev pub OnePayload : Type 0

@@ -1,14 +1,14 @@
 -- What the analysis requires of a function, by the chains of calls that begin at it.
 use Rattle.std.specs.Prelude.{◌≡◌, ◌⊎◌, ℕ, None}
-use Rattle.spec_analysis.specs.judged.Pairs.{SamplingPair}
-use Rattle.spec_analysis.specs.judged.Faults.{FunctionFault}
+use Rattle.spec_expressions.specs.judged.Pairs.{SamplingPair}
+use Rattle.spec_expressions.specs.judged.Faults.{FunctionFault}
 use Rattle.ir_flags.specs.declared.settings.ValidationFlags.{ValidationFlags}
 use Rattle.ir_items.specs.judged.Plain.{PlainFunction, PlainModule}
 use Rattle.typing_rules.specs.judged.Laws.{IsAmong}
-use Rattle.spec_analysis.specs.judged.Chains.{place, Step, Calls, HasPair}
-use Rattle.spec_analysis.specs.judged.Effects.{samples, effects_of}
-use Rattle.spec_analysis.specs.judged.Summaries.{IsWrongArgument}
-use Rattle.spec_analysis.specs.judged.Uniformity.{Required}
+use Rattle.spec_expressions.specs.judged.Chains.{place, Step, Calls, HasPair}
+use Rattle.spec_expressions.specs.judged.Effects.{samples, effects_of}
+use Rattle.spec_expressions.specs.judged.Summaries.{IsWrongArgument}
+use Rattle.spec_expressions.specs.judged.Uniformity.{Required}
 
 -- an image or a sampler of a sampling at e denotes neither a global variable nor an argument
 pub record SamplesWrongForm (f : PlainFunction) (e : ℕ) : Type 0 where

@@ -1,6 +1,6 @@
 use Rattle.function_entries.proofs.Reported.{mesh_refused}
 use Rattle.function_entries.specs.Contexts.{entry_in, module_in}
-use Rattle.spec_analysis.specs.judged.Summaries.{HasUseBit}
+use Rattle.spec_expressions.specs.judged.Summaries.{HasUseBit}
 use Rattle.function_entries.proofs.connections.check_connections_with.Goals as goal
 
 pub returns-in-Err-check_mesh-clause-judged : goal.returns-in-Err-check_mesh-clause-judged

@@ -2,7 +2,7 @@ use Rattle.std.proofs.Common.{◌+◌, sym, subst}
 use Rattle.function_entry_checks.proofs.UsedLaws.{AreSeenBelow, kept_at, more_at}
 use Rattle.function_entry_checks.specs.Bindings.{IsSeen}
 use Rattle.ir_items.specs.found.View.{module_view}
-use Rattle.spec_analysis.specs.judged.Summaries.{HasUseBit}
+use Rattle.spec_expressions.specs.judged.Summaries.{HasUseBit}
 use Rattle.function_entry_checks.proofs.bindings.check_bindings.Goals.{in-None, in-Some+in-Ok-true}
 use Rattle.function_entry_checks.proofs.bindings.check_bindings.Goals as goal
 

@@ -1,7 +1,7 @@
 use Rattle.function_entry_checks.proofs.UsedLaws.{AreSeenBelow}
 use Rattle.function_entry_checks.specs.Bindings.{IsSeen}
 use Rattle.ir_items.specs.found.View.{module_view}
-use Rattle.spec_analysis.specs.judged.Summaries.{HasUseBit}
+use Rattle.spec_expressions.specs.judged.Summaries.{HasUseBit}
 use Rattle.function_entry_checks.proofs.bindings.check_bindings.Given as goal
 
 -- the bindings of those before this one are seen, and no two of them are the same

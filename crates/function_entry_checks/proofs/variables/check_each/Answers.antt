@@ -1,13 +1,13 @@
 use Rattle.std.proofs.Common.{◌≡◌, subst, arith}
 use Rattle.std.specs.Int.{bit_at}
-use Rattle.spec_analysis.specs.declared.global_use.GlobalUse.{GlobalUse}
+use Rattle.spec_expressions.specs.declared.global_use.GlobalUse.{GlobalUse}
 use Rattle.spec_interface.proofs.Places.{found}
 use Rattle.function_entry_checks.proofs.UsedLaws.{all_each, each_at, each_unused, unused_by, use_is, used_by}
 use Rattle.function_entry_checks.specs.Faults.{IsVariableFault}
 use Rattle.module_globals.proofs.SizeLemmas.{many_variables}
 use Rattle.ir_items.specs.found.GlobalView.{global_view}
 use Rattle.ir_items.specs.found.View.{entry_view, module_view}
-use Rattle.spec_analysis.specs.judged.Summaries.{HasUseBit}
+use Rattle.spec_expressions.specs.judged.Summaries.{HasUseBit}
 use Rattle.spec_interface.specs.judged.Variables.{VariableOK}
 use Rattle.function_entry_checks.proofs.variables.check_each.Goals.{then-kinds-ne0+in-Ok, else-kinds-ne0}
 use Rattle.function_entry_checks.proofs.variables.check_each.Goals as goal

@@ -1,6 +1,6 @@
 use Rattle.function_entry_checks.proofs.UsedLaws.{EachBelow}
 use Rattle.ir_items.specs.found.View.{entry_view, module_view}
-use Rattle.spec_analysis.specs.judged.Summaries.{HasUseBit}
+use Rattle.spec_expressions.specs.judged.Summaries.{HasUseBit}
 use Rattle.function_entry_checks.proofs.variables.check_each.Given as goal
 
 -- those before this one are used as they may be

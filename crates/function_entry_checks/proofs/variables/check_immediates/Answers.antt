@@ -1,7 +1,7 @@
 use Rattle.std.proofs.Common.{◌+◌, true≢false, sym, subst, ◌∙◌}
 use Rattle.function_entry_checks.proofs.UsedLaws.{IsFoundBelow, found_first, found_none, two_found}
 use Rattle.ir_items.specs.found.View.{module_view}
-use Rattle.spec_analysis.specs.judged.Summaries.{HasUseBit}
+use Rattle.spec_expressions.specs.judged.Summaries.{HasUseBit}
 use Rattle.function_entry_checks.proofs.variables.check_immediates.Goals.{then-is_used_immediate+in-None, else-is_used_immediate}
 use Rattle.function_entry_checks.proofs.variables.check_immediates.Goals as goal
 

@@ -1,6 +1,6 @@
 use Rattle.function_entry_checks.proofs.UsedLaws.{IsFoundBelow}
 use Rattle.ir_items.specs.found.View.{module_view}
-use Rattle.spec_analysis.specs.judged.Summaries.{HasUseBit}
+use Rattle.spec_expressions.specs.judged.Summaries.{HasUseBit}
 use Rattle.function_entry_checks.proofs.variables.check_immediates.Given as goal
 
 -- the immediate is found that is used before this one, if one is

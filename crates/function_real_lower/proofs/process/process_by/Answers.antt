@@ -1,7 +1,7 @@
 use Rattle.std.proofs.Common.{map}
 use Rattle.ir_items.specs.found.View.{function_view, module_view}
 use Rattle.typing_infos.specs.Infos.{summary_of}
-use Rattle.spec_analysis.proofs.SummaryLaws.{summary_of_joined}
+use Rattle.spec_expressions.proofs.SummaryLaws.{summary_of_joined}
 use Rattle.module_handles.proofs.SameLemmas.{same_order}
 use Rattle.function_real_lower.proofs.Joined.{is_analysed, analysed_agrees, refusal_agrees}
 use Rattle.function_real_lower.proofs.Named.{items_named}

@@ -1,7 +1,7 @@
 use Rattle.function_validator.proofs.EntryWhole.{adds_still, blending_is, refused_as, uses_added, unconnected_to}
 use Rattle.function_validator.specs.EntryFaults.{IsUnconnected}
 use Rattle.ir_items.specs.found.View.{entry_view, module_view}
-use Rattle.spec_analysis.specs.judged.Summaries.{HasUseBit}
+use Rattle.spec_expressions.specs.judged.Summaries.{HasUseBit}
 use Rattle.spec_interface.specs.judged.Uses.{EntryUses}
 use Rattle.spec_interface.specs.judged.Varyings.{HasBlendSources, result_varyings}
 use Rattle.function_validator.proofs.connect.connect.Goals as goal

@@ -7,7 +7,7 @@ use Rattle.function_validator.specs.EntryFaults.{IsUnconnected}
 use Rattle.ir_arena.specs.found.Arenas.{value_of_entry}
 use Rattle.ir_items.specs.found.GlobalView.{global_view, values_of}
 use Rattle.ir_items.specs.found.View.{entry_view, module_view}
-use Rattle.spec_analysis.specs.judged.Summaries.{HasUseBit}
+use Rattle.spec_expressions.specs.judged.Summaries.{HasUseBit}
 use Rattle.spec_interface.specs.judged.Entries.{ConnectionsOK}
 use Rattle.module_type_checks.specs.Known.{AreInfos}
 use Rattle.function_validator.proofs.connect.judge.Goals as goal

@@ -8,7 +8,7 @@ use Rattle.function_validator.proofs.Whole.{accepted, stages_noted, joined_noted
 use Rattle.function_validator.specs.Faults.{IsFaultAfter, IsFunctionFault, behind}
 use Rattle.function_interface.specs.Question.{question}
 use Rattle.ir_items.specs.found.View.{function_view, module_view}
-use Rattle.spec_analysis.proofs.SummaryLaws.{summary_of_joined}
+use Rattle.spec_expressions.proofs.SummaryLaws.{summary_of_joined}
 use Rattle.spec_statements.specs.judged.Functions.{FunctionOK, block_context}
 use Rattle.typing_errors.specs.Answers.{form_given}
 use Rattle.function_validator.proofs.validate.validate_function_with.Goals as goal

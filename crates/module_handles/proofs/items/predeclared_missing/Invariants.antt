@@ -1,6 +1,6 @@
 use Rattle.std.proofs.Common.{◌≡◌, map}
 use Rattle.module_handles.specs.Found.{first_missing}
-use Rattle.spec_handles.specs.declared.item.ItemKind.TheVariants as kind
+use Rattle.spec_expressions.specs.declared.item.ItemKind.TheVariants as kind
 use Rattle.module_handles.proofs.items.predeclared_missing.Given as goal
 
 -- the first of the rest is the first of all

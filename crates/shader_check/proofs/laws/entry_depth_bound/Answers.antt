@@ -1,7 +1,7 @@
 use Rattle.std.proofs.Common.{sym, subst, ◌∙◌}
 use Rattle.ir_items.specs.found.View.{function_view, module_view}
-use Rattle.judgement_runs.proofs.Sound.{functions_bound_depth}
-use Rattle.judgement_runs.specs.judged.Sound.{BoundsDepth}
+use Rattle.judgement_laws.proofs.Sound.{functions_bound_depth}
+use Rattle.judgement_laws.specs.judged.Sound.{BoundsDepth}
 use Rattle.shader_check.proofs.Promises.{many_values}
 use Rattle.shader_check.proofs.laws.entry_depth_bound.Goals as goal
 

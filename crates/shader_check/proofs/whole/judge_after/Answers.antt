@@ -12,7 +12,7 @@ use Rattle.check_errors.specs.declared.error.ValidationError.TheVariants as erro
 use Rattle.ir_items.specs.found.View.{module_view}
 use Rattle.typing_infos.specs.declared.info.ModuleInfo.{ModuleInfo}
 use Rattle.function_real_lower.specs.Readings.{reading_of, faults_of}
-use Rattle.spec_analysis.specs.judged.Summaries.{AreSummaries}
+use Rattle.spec_expressions.specs.judged.Summaries.{AreSummaries}
 use Rattle.shader_check.proofs.whole.judge_after.Goals as goal
 
 pub judge_all-requires-clause-made : goal.judge_all-requires-clause-made

@@ -2,7 +2,7 @@
 use Rattle.std.proofs.Common.{◌≡◌, ◌++◌, drop, map}
 use Rattle.ir_types.specs.judged.ExpressionPlain.{expression_view}
 use Rattle.ir_items.specs.found.GlobalView.{values_of}
-use Rattle.spec_analysis.specs.judged.Chains.{place}
+use Rattle.spec_expressions.specs.judged.Chains.{place}
 use Rattle.typing_summaries.specs.Parts.{parts_of}
 use Rattle.typing_summaries.proofs.passed.parts_of.Given as goal
 

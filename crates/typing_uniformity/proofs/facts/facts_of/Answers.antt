@@ -1,7 +1,7 @@
 use Rattle.std.proofs.Common.{◌≡◌, map, refl, sym, subst}
 use Rattle.ir_arena.specs.judged.Handles.{handles_from}
 use Rattle.ir_items.specs.found.View.{function_view, module_view}
-use Rattle.spec_analysis.specs.judged.Values.{AreStarts}
+use Rattle.spec_expressions.specs.judged.Values.{AreStarts}
 use Rattle.typing_uniformity.specs.Facts.{AreSources}
 use Rattle.typing_uniformity.specs.Reported.{told, all_reported}
 use Rattle.typing_uniformity.proofs.FactLemmas.{are_sources, are_starts}

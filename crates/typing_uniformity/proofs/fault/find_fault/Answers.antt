@@ -1,6 +1,6 @@
 use Rattle.std.proofs.Common.{ap, ◌∙◌, false}
 use Rattle.ir_blocks.specs.found.View.{block_view}
-use Rattle.spec_analysis.specs.found.Found.{required_in}
+use Rattle.spec_expressions.specs.found.Found.{required_in}
 use Rattle.typing_uniformity.specs.Requiring.{varies_of, look_of}
 use Rattle.typing_uniformity.proofs.Answered.{answered}
 use Rattle.typing_uniformity.proofs.fault.find_fault.Goals as goal

@@ -3,7 +3,7 @@ use Rattle.std.proofs.Common.{Option}
 use Rattle.ir_kinds.specs.declared.diagnostics.Severity.{Severity}
 use Rattle.ir_proc.specs.found.Filters.{nodes_of}
 use Rattle.typing_uniformity.proofs.Nearest.{ahead}
-use Rattle.spec_analysis.specs.judged.Severity.{IsNearest}
+use Rattle.spec_expressions.specs.judged.Severity.{IsNearest}
 use Rattle.typing_uniformity.proofs.severity.nearest.Given as goal
 
 abbrev pub invariant-loop-current : goal.invariant-loop-current

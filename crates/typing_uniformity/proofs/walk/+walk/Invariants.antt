@@ -1,8 +1,8 @@
 -- What was seen with what the rest shows is what the whole shows.
 use Rattle.std.proofs.Common.{◌≡◌, ◌||◌, is_some, option_map, drop, map}
 use Rattle.ir_blocks.specs.found.View.{statements_view, case_view, cases_of}
-use Rattle.spec_analysis.specs.judged.Disruption.{ends_in, ends_in_cases}
-use Rattle.spec_analysis.specs.found.Found.{first_required, required_in, required_in_cases}
+use Rattle.spec_expressions.specs.judged.Disruption.{ends_in, ends_in_cases}
+use Rattle.spec_expressions.specs.found.Found.{first_required, required_in, required_in_cases}
 use Rattle.typing_uniformity.specs.Requiring.{varies_of, look_of, required_view}
 use Rattle.typing_uniformity.proofs.walk.+walk.Given as goal
 

@@ -2,7 +2,7 @@ use Rattle.std.proofs.Common.{length, sym, ap, subst, ◌∙◌}
 use Rattle.std.specs.Prelude.{◌↔◌, ◌⊎◌}
 use Rattle.typing_infos.proofs.UseBits.{with_bits, with_length}
 use Rattle.typing_infos.specs.Infos.{NotesUse}
-use Rattle.spec_analysis.specs.judged.Summaries.{HasUseBit}
+use Rattle.spec_expressions.specs.judged.Summaries.{HasUseBit}
 use Rattle.function_tiny_lower.proofs.tiny.TinyLowerLower.note.Goals as goal
 
 pub returns-clause-uses : goal.returns-clause-uses

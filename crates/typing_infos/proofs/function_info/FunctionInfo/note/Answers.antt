@@ -1,6 +1,6 @@
 use Rattle.std.proofs.Common.{sym, ap, subst, length, ◌∙◌}
 use Rattle.std.specs.Prelude.{◌↔◌, ◌⊎◌}
-use Rattle.spec_analysis.specs.judged.Summaries.{HasUseBit}
+use Rattle.spec_expressions.specs.judged.Summaries.{HasUseBit}
 use Rattle.typing_infos.specs.Infos.{NotesUse}
 use Rattle.typing_infos.proofs.UseBits.{with_bits, with_length}
 use Rattle.typing_infos.proofs.function_info.FunctionInfo.note.Goals as goal

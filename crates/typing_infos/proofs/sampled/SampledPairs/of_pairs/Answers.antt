@@ -1,6 +1,6 @@
 use Rattle.std.proofs.Common.{◌∙◌, ap}
 use Rattle.std.specs.List.{flat_map, list_any}
-use Rattle.spec_analysis.specs.judged.Pairs.{pair_eq}
+use Rattle.spec_expressions.specs.judged.Pairs.{pair_eq}
 use Rattle.typing_infos.specs.Keys.{key_of}
 use Rattle.typing_infos.specs.Marks.{marks_of}
 use Rattle.typing_infos.proofs.sampled.SampledPairs.of_pairs.Goals as goal

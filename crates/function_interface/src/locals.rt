@@ -1,0 +1,138 @@
+//! The variables of a function.
+
+ghost use Rattle.std.specs.Prelude.{◌≡◌, ◌↔◌, ◌⊎◌, IsTrue, MatchResult};
+ghost use Rattle.function_interface.specs.Items.{EachOK, IsFirstAt};
+ghost use Rattle.function_interface.specs.Locals.{IsBeginError, IsLocalError, IsLocalsFault};
+ghost use Rattle.function_interface.specs.Refusals.{IsRefusal};
+ghost use Rattle.function_interface.specs.Reported.{AreReported};
+ghost use Rattle.ir_items.specs.found.View.{local_view};
+ghost use Rattle.spec_statements.specs.judged.BlockContext.{BlockContext as PlainContext};
+ghost use Rattle.spec_statements.specs.judged.Interfaces.{BeginsAs, LocalOK};
+ghost use Rattle.function_statement_checks.specs.View.{context_view, IsKnown};
+ghost use Rattle.typing_layout.specs.judged.Constness.{IsOfKind};
+ghost use Rattle.typing_layout.specs.declared.constness.ExpressionKind.TheVariants.{Const, Override};
+
+use crate::flags::is_constructible;
+use crate::item_names::name_of;
+use function_statement_checks::{BlockContext, StatementContext};
+use ir_arena::handle::Handle;
+use ir_faults::refusal::Refusal;
+use ir_faults::with_span::WithSpan;
+use ir_items::LocalVariable;
+use ir_types::key;
+use module_context::are_same;
+use std::alloc::Global;
+use typing_errors::{FunctionError, LocalVariableError};
+use typing_layout::TypeInfo;
+
+// Whether the value of an expression is known before the shader runs.
+fn is_known(context: &BlockContext<'_>, handle: Handle<key::Expression>) -> bool
+    requires { IsKnown context.now }
+    ensures { IsTrue result ↔ (IsOfKind (context_view context.now).f.expressions handle Const ⊎ IsOfKind (context_view context.now).f.expressions handle Override) }
+{
+    handle.index() < context.function.expressions.len()
+        && context.kinds.is_const_or_override(handle)
+}
+
+// Whether a variable of a type may begin as an expression.
+fn check_begin(
+    context: &BlockContext<'_>,
+    ty: Handle<key::IrType>,
+    init: Handle<key::Expression>,
+) -> Result<(), LocalVariableError>
+    requires { IsKnown context.now }
+    ensures { MatchResult result
+        (λ _. BeginsAs (context_view context.now) ty init)
+        (IsBeginError (context_view context.now) ty init) }
+{
+    if !are_same(context.form_at(init), context.form_of(ty)) {
+        return Err(LocalVariableError::InitializerType);
+    }
+    if !is_known(context, init) {
+        return Err(LocalVariableError::NonConstOrOverrideInitializer);
+    }
+    Ok(())
+}
+
+/// Whether values of a variable's type can be composed, and it begins, if as anything, as a value of its type that is known
+/// before the shader runs (naga's `validate_local_var`). `infos` has what is reported of the module's types.
+///
+/// # Errors
+///
+/// [`LocalVariableError::InvalidType`] where values of its type can't be composed,
+/// [`LocalVariableError::InitializerType`] where what it begins as is of another type, and
+/// [`LocalVariableError::NonConstOrOverrideInitializer`] where that is known only when the shader runs.
+pub fn check_local(
+    context: &BlockContext<'_>,
+    infos: &[TypeInfo],
+    local: &LocalVariable,
+) -> Result<(), LocalVariableError>
+    requires known { IsKnown context.now }
+    requires told { AreReported (context_view context.now).m.types infos.now }
+    ensures { MatchResult result
+        (λ _. LocalOK (context_view context.now) (local_view local.now))
+        (IsLocalError (context_view context.now) (local_view local.now)) }
+{
+    if !is_constructible(infos, local.ty) {
+        return Err(LocalVariableError::InvalidType(local.ty));
+    }
+    match local.init {
+        None => Ok(()),
+        Some(init) => match check_begin(context, local.ty, init) {
+            Ok(()) => Ok(()),
+            Err(error) => Err(error),
+        },
+    }
+}
+
+// The refusal of a variable.
+fn refused_local(
+    alloc: Global,
+    handle: Handle<key::LocalVariable>,
+    local: &LocalVariable,
+    source: LocalVariableError,
+) -> Refusal<FunctionError>
+    ensures { (c : PlainContext) → IsFirstAt (LocalOK c) (λ l. (l ≡ local_view local.now) × IsLocalError c l source) c.f.locals handle
+        → IsRefusal (EachOK (LocalOK c) c.f.locals) (IsLocalsFault c) result }
+{
+    match name_of(alloc, &local.name) {
+        Ok(name) => {
+            let error = FunctionError::LocalVariable {
+                handle,
+                name,
+                source,
+            };
+            Refusal::Fault(WithSpan::new(alloc, error))
+        }
+        Err(error) => Refusal::Memory(error),
+    }
+}
+
+/// Whether a function may have each of its variables. `infos` has what is reported of the module's types.
+///
+/// # Errors
+///
+/// [`Refusal::Fault`] with [`FunctionError::LocalVariable`] for the first variable that it may not have, by its name, which is
+/// empty where it has none, and with what [`check_local`] answers; [`Refusal::Memory`] where there is such a variable and no
+/// memory for its name.
+pub fn check_locals(
+    alloc: Global,
+    context: &BlockContext<'_>,
+    infos: &[TypeInfo],
+) -> Result<(), Refusal<FunctionError>>
+    requires known { IsKnown context.now }
+    requires told { AreReported (context_view context.now).m.types infos.now }
+    ensures { MatchResult result
+        (λ _. EachOK (LocalOK (context_view context.now)) (context_view context.now).f.locals)
+        (IsRefusal (EachOK (LocalOK (context_view context.now)) (context_view context.now).f.locals) (IsLocalsFault (context_view context.now))) }
+{
+    let locals = &context.function.local_variables;
+    for index in 0..locals.len() {
+        let handle = Handle::at(index);
+        let local = &locals[handle];
+        if let Err(source) = check_local(context, infos, local) {
+            return Err(refused_local(alloc, handle, local, source));
+        }
+    }
+    Ok(())
+}

@@ -1,3 +1,0 @@
-mod Known
-pub mod InterfaceRefuted
-mod Widened

@@ -1,5 +1,0 @@
-use Rattle.function_interface_checks.proofs.InterfaceRefuted.{first_refuted, argument_refuted}
-use Rattle.function_interface_checks.proofs.arguments.refused_argument.Goals as goal
-
-pub returns-in-Err : goal.returns-in-Err
-returns-in-Err k = λ c entry first. first_refuted _ _ (λ a wrong ok. argument_refuted c.m entry a k.args.fault wrong.1 ok) c.f.arguments k.args.index first

@@ -1,3 +1,0 @@
-pub mod PayloadLemmas
-pub mod Refuted
-pub mod SubgroupRefuted

@@ -1,8 +1,0 @@
-//! Laws of the checks of what follows rays.
-ghost use Rattle.function_operation_checks.specs.Laws.{FaultsRefute};
-
-/// What is done with a ray query, or a ray that is traced, with a fault does not meet its rule, and payloads with a fault are not
-/// of one type: so an error is answered exactly where the rule is not met.
-pub fn faults_refute()
-    ensures { FaultsRefute }
-{}

@@ -1,0 +1,151 @@
+-- What walks find of the payloads of a function.
+use Rattle.std.proofs.Common.{◌≡◌, ◌≢◌, ◌⊎◌, ℕ, Bool, true, false, true≢false, ◌==◌, Option, Some, None, inl, inr, if◌then◌else◌, refl, sym, subst, ◌∙◌}
+use Rattle.std.specs.Prelude.{option_map}
+use Rattle.std.specs.Option.{MatchOption}
+use Rattle.std.proofs.lemmas.Bool.{eq-eqb, eqb-true}
+use Rattle.typing_errors.specs.declared.error.FunctionError.TheVariants as error
+use Rattle.ir_blocks.specs.judged.Places.{OccursAt}
+use Rattle.ir_blocks.specs.judged.Plain.{PlainStatement, operation, ray_pipeline}
+use Rattle.ir_blocks.specs.declared.operations.RayPipelineFunction.TheVariants.{TraceRay}
+use Rattle.ir_flags.specs.Sets.{Has}
+use Rattle.ir_flags.specs.declared.settings.ValidationFlags.{ValidationFlags}
+use Rattle.ir_flags.specs.declared.settings.TheConstants.ValidationFlags.{BLOCKS}
+use Rattle.ir_items.specs.judged.Plain.{PlainFunction, PlainModule}
+use Rattle.ir_references.specs.First.{first_in}
+use Rattle.ir_references.proofs.FirstLaws.{none_at, place_found}
+use Rattle.function_statements.specs.Payloads.{payload_type, unlike, AreOfOneType}
+use Rattle.spec_statements.specs.judged.BlockContext.{BlockContext}
+use Rattle.spec_statements.specs.judged.Payloads.{HasPayload, PayloadsOK, IsPayloadAfter}
+use Rattle.spec_statements.specs.judged.Variables.{variable_at}
+
+-- ---- one payload
+
+-- A statement traces a ray with a payload of the type.
+pub record Traces (c : BlockContext) (s : PlainStatement) (type : ℕ) : Type 0 where
+  pub structure : ℕ
+  pub descriptor : ℕ
+  pub payload : ℕ
+  pub is : s ≡ operation (ray_pipeline (TraceRay structure descriptor payload))
+  pub declared : option_map (λ g. g.ty) (variable_at c.m c.f payload) ≡ Some type
+
+traces : (c : BlockContext) (s : PlainStatement) (type : ℕ) → payload_type c s ≡ Some type → Traces c s type
+traces c (operation (ray_pipeline (TraceRay structure descriptor payload))) type e =
+    record { structure = structure; descriptor = descriptor; payload = payload; is = refl; declared = e }
+traces c _ type e = absurd (let x = e in cc)
+
+-- another type is found
+other_one : (held : ℕ) (o : Option ℕ) (type : ℕ) → unlike held o ≡ Some type → (o ≡ Some type) × (type ≢ held)
+other_one held None type e = absurd (let x = e in cc)
+other_one held (Some own) type e = by_test (own == held) refl e
+  where
+    by_test : (b : Bool) → (own == held) ≡ b → (if b then None else Some own) ≡ Some type → (Some own ≡ Some type) × (type ≢ held)
+    by_test true is e = absurd (let x = e in cc)
+    by_test false is e = (e, λ same. true≢false (sym (eq-eqb own held (let own_is : own ≡ type = (let x = e in cc) in own_is ∙ same)) ∙ is))
+
+-- and none is
+same_one : (held : ℕ) (o : Option ℕ) (type : ℕ) → unlike held o ≡ None → o ≡ Some type → type ≡ held
+same_one held None type e is = absurd (let x = is in cc)
+same_one held (Some own) type e is = by_test (own == held) refl e
+  where
+    by_test : (b : Bool) → (own == held) ≡ b → (if b then None else Some own) ≡ None → type ≡ held
+    by_test true test e = let own_is : own ≡ type = (let x = is in cc) in sym own_is ∙ eqb-true own held test
+    by_test false test e = absurd (let x = e in cc)
+
+-- ---- all of them
+
+pub first_found : (c : BlockContext) (type : ℕ) → first_in (payload_type c) c.f.body ≡ Some type → HasPayload c.m c.f type
+first_found c type e =
+    let found = place_found (payload_type c) c.f.body type e in
+    let ray = traces c found.1 type found.3 in
+    record {
+      place = found.0;
+      acceleration_structure = ray.structure;
+      descriptor = ray.descriptor;
+      payload = ray.payload;
+      stands = subst (OccursAt c.f.body found.0) ray.is found.2;
+      declared = ray.declared;
+    }
+
+pub none_found : (c : BlockContext) → first_in (payload_type c) c.f.body ≡ None → (type : ℕ) → HasPayload c.m c.f type → ⊥
+none_found c e type h = let none = none_at (payload_type c) h.place c.f.body e _ h.stands in let some = h.declared in cc
+
+pub other_found : (c : BlockContext) (held type : ℕ) → first_in (λ s. unlike held (payload_type c s)) c.f.body ≡ Some type → HasPayload c.m c.f type × (type ≢ held)
+other_found c held type e =
+    let found = place_found (λ s. unlike held (payload_type c s)) c.f.body type e in
+    let one = other_one held (payload_type c found.1) type found.3 in
+    let ray = traces c found.1 type one.0 in (
+      record {
+        place = found.0;
+        acceleration_structure = ray.structure;
+        descriptor = ray.descriptor;
+        payload = ray.payload;
+        stands = subst (OccursAt c.f.body found.0) ray.is found.2;
+        declared = ray.declared;
+      },
+      one.1,
+    )
+
+pub no_other_found : (c : BlockContext) (held : ℕ) → first_in (λ s. unlike held (payload_type c s)) c.f.body ≡ None → (type : ℕ) → HasPayload c.m c.f type → type ≡ held
+no_other_found c held e type h = same_one held _ type (none_at (λ s. unlike held (payload_type c s)) h.place c.f.body e _ h.stands) h.declared
+
+-- ---- what is kept
+
+-- all are of the type from before
+pub before_held : (m : PlainModule) (f : PlainFunction) (before : ℕ) → ((type : ℕ) → HasPayload m f type → type ≡ before) → AreOfOneType m f (Some before) (Some before)
+before_held m f before all = record {
+  payloads = record {
+    as_before = λ type other h is. all type h ∙ (let x = is in cc);
+    one = λ type other h g. all type h ∙ sym (all other g);
+  };
+  held_after = λ flags has. record {
+    kept = λ other is. is;
+    found = λ blocks type h none. absurd (let x = none in cc);
+    none = λ none never. absurd (let x = none in cc);
+    unasked = λ never. refl;
+  };
+}
+
+-- all are of the type of one of them
+pub found_held : (m : PlainModule) (f : PlainFunction) (first : ℕ) → HasPayload m f first → ((type : ℕ) → HasPayload m f type → type ≡ first) → AreOfOneType m f None (Some first)
+found_held m f first own all = record {
+  payloads = record {
+    as_before = λ type other h is. absurd (let x = is in cc);
+    one = λ type other h g. all type h ∙ sym (all other g);
+  };
+  held_after = λ flags has. record {
+    kept = λ other is. absurd (let x = is in cc);
+    found = λ blocks type h none. let same = all type h in cc;
+    none = λ none never. absurd (never first own);
+    unasked = λ never. absurd (never has);
+  };
+}
+
+-- there is none
+pub none_held : (m : PlainModule) (f : PlainFunction) → ((type : ℕ) → HasPayload m f type → ⊥) → AreOfOneType m f None None
+none_held m f never = record {
+  payloads = record {
+    as_before = λ type other h is. absurd (never type h);
+    one = λ type other h g. absurd (never type h);
+  };
+  held_after = λ flags has. record {
+    kept = λ other is. is;
+    found = λ blocks type h none. absurd (never type h);
+    none = λ none absent. refl;
+    unasked = λ none. refl;
+  };
+}
+
+-- ---- what is reported
+
+pub first_reported : (c : BlockContext) (found : Option ℕ) → found ≡ first_in (payload_type c) c.f.body
+    → MatchOption found ((type : ℕ) → HasPayload c.m c.f type → ⊥) (HasPayload c.m c.f)
+first_reported c None e = none_found c (sym e)
+first_reported c (Some type) e = first_found c type (sym e)
+
+pub other_told : (c : BlockContext) (held : ℕ) (found : Option ℕ) → found ≡ first_in (λ s. unlike held (payload_type c s)) c.f.body
+    → MatchOption found ((type : ℕ) → HasPayload c.m c.f type → type ≡ held) (λ type. HasPayload c.m c.f type × (type ≢ held))
+other_told c held None e = no_other_found c held (sym e)
+other_told c held (Some type) e = other_found c held type (sym e)
+
+pub none_told : (m : PlainModule) (f : PlainFunction) (held : Option ℕ) → held ≡ None → ((type : ℕ) → HasPayload m f type → ⊥) → AreOfOneType m f held None
+none_told m f held is never = subst (λ h. AreOfOneType m f h None) (sym is) (none_held m f never)

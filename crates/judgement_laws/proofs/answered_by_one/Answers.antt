@@ -1,5 +1,0 @@
-use Rattle.judgement_laws.proofs.Answers.{answered_by_one}
-use Rattle.judgement_laws.proofs.answered_by_one.Goals as goal
-
-pub returns : goal.returns
-returns c = answered_by_one

@@ -1,5 +1,0 @@
-use Rattle.judgement_laws.proofs.Apart.{bindings_differ}
-use Rattle.judgement_laws.proofs.bindings_differ.Goals as goal
-
-pub returns : goal.returns
-returns c = bindings_differ

@@ -1,0 +1,4 @@
+pub mod Like
+pub mod Lines
+pub mod Local
+pub mod Sound

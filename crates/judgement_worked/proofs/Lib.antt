@@ -1,2 +1,0 @@
-pub mod ScopeExamples
-pub mod AnswerExamples

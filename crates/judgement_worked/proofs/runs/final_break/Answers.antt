@@ -1,5 +1,0 @@
-use Rattle.spec_runs.specs.judged.FinalSwitches.{break_here, of_last}
-use Rattle.judgement_worked.proofs.runs.final_break.Goals as goal
-
-pub returns : goal.returns
-returns c = of_last 0 break_here

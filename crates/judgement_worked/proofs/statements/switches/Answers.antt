@@ -1,6 +1,0 @@
-use Rattle.std.proofs.Common.{refl, arith}
-use Rattle.ir_kinds.specs.declared.values.SwitchValue.TheVariants.{U32}
-use Rattle.judgement_worked.proofs.statements.switches.Goals as goal
-
-pub returns-clause-another_kind : goal.returns-clause-another_kind
-returns-clause-another_kind c ok = let same = ok.1.fit (U32 1) (0, omega arith, refl) in cc

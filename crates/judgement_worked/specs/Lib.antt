@@ -1,2 +1,0 @@
-pub mod RunExamples
-pub mod Worked

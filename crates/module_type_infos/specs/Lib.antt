@@ -1,5 +1,0 @@
-pub mod BlendFaults
-pub mod BufferFaults
-pub mod Faults
-pub mod Infos
-pub mod MemberFaults

@@ -1,5 +1,0 @@
-pub mod Accepted
-pub mod Refuted
-pub mod WholeLaws
-pub mod Inside
-pub mod LayoutLaws

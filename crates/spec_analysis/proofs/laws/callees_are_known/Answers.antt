@@ -1,5 +1,0 @@
-use Rattle.spec_analysis.proofs.SummaryLaws.{callees_known}
-use Rattle.spec_analysis.proofs.laws.callees_are_known.Goals as goal
-
-pub returns : goal.returns
-returns c = λ m f summaries are below within. callees_known m f summaries are below within

@@ -1,5 +1,0 @@
-use Rattle.spec_analysis.proofs.SummaryLaws.{joined_by_callees}
-use Rattle.spec_analysis.proofs.laws.joined_by_callees.Goals as goal
-
-pub returns : goal.returns
-returns c = λ globals f summaries others s agree joined. joined_by_callees f summaries others agree globals s joined

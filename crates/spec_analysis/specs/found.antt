@@ -1,4 +1,0 @@
-pub mod Laws
-pub mod Words
-pub mod Everywhere
-pub mod Found

@@ -1,0 +1,126 @@
+-- Chains of call statements, what expressions denote at their ends, and what a function has over all of them.
+use Rattle.std.specs.Prelude.{◌≡◌, ◌⊎◌, ℕ, List, [], ◌∷◌, Option, Some, None, slice_get, ⊤}
+use Rattle.std.specs.Int.{bit_at}
+use Rattle.ir_types.specs.judged.ExpressionPlain.{PlainExpression, plain}
+use Rattle.ir_types.specs.declared.expressions.Expression.TheVariants.{GlobalVariable, FunctionArgument, Access, AccessIndex}
+use Rattle.ir_items.specs.judged.Plain.{PlainFunction, PlainModule}
+use Rattle.typing_rules.specs.judged.Laws.{IsAmong}
+use Rattle.spec_expressions.specs.declared.global_use.TheConstants.GlobalUse.{QUERY}
+use Rattle.spec_expressions.specs.declared.sampling.GlobalOrArgument.{GlobalOrArgument}
+use Rattle.spec_expressions.specs.declared.sampling.GlobalOrArgument.TheVariants.{Global, Argument}
+use Rattle.spec_expressions.specs.judged.Pairs.{SamplingPair}
+use Rattle.spec_expressions.specs.judged.Operands.{Operand}
+use Rattle.spec_expressions.specs.judged.Effects.{Effect, takes, samples, runs, discards, effects_of}
+use Rattle.spec_expressions.specs.judged.Values.{StartsAt}
+
+-- ---- what an expression denotes
+
+-- what the base of an access denotes
+abbrev pub base_denotes : Option PlainExpression → Option GlobalOrArgument
+base_denotes (Some (plain (GlobalVariable g))) = Some (Global g)
+base_denotes _ = None
+
+abbrev pub denotes : List PlainExpression → Option PlainExpression → Option GlobalOrArgument
+denotes expressions (Some (plain (GlobalVariable g))) = Some (Global g)
+denotes expressions (Some (plain (FunctionArgument number))) = Some (Argument number)
+denotes expressions (Some (plain (Access base index))) = base_denotes (slice_get expressions base)
+denotes expressions (Some (plain (AccessIndex base index))) = base_denotes (slice_get expressions base)
+denotes expressions _ = None
+
+-- what the expression at a place denotes in its function: a global variable, where it is one or an access directly on
+-- one, or an argument
+abbrev pub place : List PlainExpression → ℕ → Option GlobalOrArgument
+place expressions e = denotes expressions (slice_get expressions e)
+
+-- ---- chains
+
+-- A step of a chain: which effect of the function reached is the call, what it passes, and the function that it runs.
+pub record Step : Type 0 where
+  pub at : ℕ
+  pub arguments : List ℕ
+  pub function : PlainFunction
+
+-- the effect of f at that place is a call that passes these arguments to that function
+pub record Calls (m : PlainModule) (f : PlainFunction) (s : Step) : Type 0 where
+  pub callee : ℕ
+  pub call : slice_get (effects_of f) s.at ≡ Some (runs callee s.arguments)
+  pub found : slice_get m.functions callee ≡ Some s.function
+
+-- the function that a chain from f has reached; the last step stands first
+abbrev pub end_of : PlainFunction → List Step → PlainFunction
+end_of f [] = f
+end_of f (s ∷ before) = s.function
+
+-- each step is a call statement of the function reached before it
+abbrev pub IsChain : PlainModule → PlainFunction → List Step → Type 0
+IsChain m f [] = ⊤
+IsChain m f (s ∷ before) = Calls m (end_of f before) s × IsChain m f before
+
+-- what an argument of a call denotes in the caller, whose expressions mean this
+abbrev pub argument_means : (ℕ → Option GlobalOrArgument) → Option ℕ → Option GlobalOrArgument
+argument_means meaning (Some e) = meaning e
+argument_means meaning None = None
+
+-- what denotes something in the callee, seen from a caller that passes these arguments
+abbrev pub seen_through : (meaning : ℕ → Option GlobalOrArgument) → (arguments : List ℕ) → Option GlobalOrArgument → Option GlobalOrArgument
+seen_through meaning arguments None = None
+seen_through meaning arguments (Some (Global g)) = Some (Global g)
+seen_through meaning arguments (Some (Argument number)) = argument_means meaning (slice_get arguments number)
+
+-- what expression e of the function reached denotes where the chain began
+abbrev pub bound : PlainFunction → List Step → ℕ → Option GlobalOrArgument
+bound f [] e = place f.expressions e
+bound f (s ∷ before) e = seen_through (bound f before) s.arguments (place s.function.expressions e)
+
+-- some function on a chain from f is such
+pub record Reaches (m : PlainModule) (f : PlainFunction) (P : PlainFunction → Type 0) : Type 0 where
+  pub chain : List Step
+  pub is_chain : IsChain m f chain
+  pub holds : P (end_of f chain)
+
+-- ---- uses
+
+-- an operand of the function uses the global variable, with this bit
+pub record UsesDirectly (g k : ℕ) (f : PlainFunction) : Type 0 where
+  pub operand : Operand
+  pub taken : IsAmong (takes operand) (effects_of f)
+  pub starts : StartsAt f.expressions operand.handle g
+  pub bit : bit_at operand.use_bits k ≡ 1
+
+-- an expression of the function is the global variable
+abbrev pub Names : ℕ → PlainFunction → Type 0
+Names g f = (e : ℕ) × (slice_get f.expressions e ≡ Some (plain (GlobalVariable g)))
+
+-- nothing reached from the function uses the global variable directly
+abbrev pub IsUnusedFrom : PlainModule → ℕ → PlainFunction → Type 0
+IsUnusedFrom m g f = (k : ℕ) → Reaches m f (UsesDirectly g k) → ⊥
+
+-- The function uses the global variable with this bit: something reached from it does so directly, or, for QUERY, something
+-- reached names it while nothing reached from there uses it directly.
+abbrev pub HasUse : PlainModule → PlainFunction → (g k : ℕ) → Type 0
+HasUse m f g k = Reaches m f (UsesDirectly g k) ⊎ ((bit_at QUERY.0 k ≡ 1) × Reaches m f (λ h. Names g h × IsUnusedFrom m g h))
+
+-- ---- pairs
+
+-- an expression of the function samples an image by a sampler that denote these, where its expressions mean this
+pub record Samples (meaning : ℕ → Option GlobalOrArgument) (f : PlainFunction) (p : SamplingPair) : Type 0 where
+  pub expression : ℕ
+  pub image : ℕ
+  pub sampler : ℕ
+  pub sampling : IsAmong (samples expression image sampler) (effects_of f)
+  pub image_means : meaning image ≡ Some p.0
+  pub sampler_means : meaning sampler ≡ Some p.1
+
+-- the pair is sampled at the end of a chain from f
+pub record HasPair (m : PlainModule) (f : PlainFunction) (p : SamplingPair) : Type 0 where
+  pub chain : List Step
+  pub is_chain : IsChain m f chain
+  pub sampled : Samples (bound f chain) (end_of f chain) p
+
+-- ---- ends of the fragment
+
+abbrev pub Discards : PlainFunction → Type 0
+Discards f = IsAmong discards (effects_of f)
+
+abbrev pub MayKill : PlainModule → PlainFunction → Type 0
+MayKill m f = Reaches m f Discards

@@ -1,0 +1,114 @@
+-- Where control flow may differ between invocations.
+use Rattle.std.specs.Prelude.{◌≡◌, ℕ, Bool, true, false, ◌||◌, IsTrue, Option, Some, None}
+use Rattle.ir_blocks.specs.judged.Plain.{PlainStatement, emit, block, if_, switch, loop, break, continue, return, kill, operation, call, PlainBlock, stop, next, PlainCases, no_case, case}
+use Rattle.ir_blocks.specs.judged.Shapes.{Part, loop_continuing, shape_of, part_of}
+use Rattle.ir_blocks.specs.judged.Places.{Place, here, later, inside, condition, Before, OccursAt}
+use Rattle.spec_expressions.specs.judged.Positions.{Holds, Around}
+
+-- the value that chooses which of a statement's parts is run
+abbrev pub chosen_by : PlainStatement → Option ℕ
+chosen_by (emit first end) = None
+chosen_by (block b) = None
+chosen_by (if_ h accept reject) = Some h
+chosen_by (switch h cases) = Some h
+chosen_by (loop body continuing break_if) = None
+chosen_by break = None
+chosen_by continue = None
+chosen_by (return value) = None
+chosen_by kill = None
+chosen_by (operation a) = None
+chosen_by (call function arguments result) = None
+
+-- the statement ends the function or the fragment
+abbrev pub is_end : PlainStatement → Bool
+is_end (emit first end) = false
+is_end (block b) = false
+is_end (if_ h accept reject) = false
+is_end (switch h cases) = false
+is_end (loop body continuing break_if) = false
+is_end break = false
+is_end continue = false
+is_end (return value) = true
+is_end kill = true
+is_end (operation a) = false
+is_end (call function arguments result) = false
+
+-- At r stands a statement that ends the function or the fragment, and it is or stands inside one that comes before p.
+pub record IsEndBefore (body : PlainBlock) (p r : Place) : Type 0 where
+  pub end : PlainStatement
+  pub stands : OccursAt body r end
+  pub ends : IsTrue (is_end end)
+  pub earlier : Place
+  pub holds : Holds earlier r
+  pub before : Before earlier p
+
+-- A place is disrupted in a part of a statement that chooses by a value that varies, and after an earlier statement that
+-- holds a disrupted end: one in a block that holds the place or something around it, a loop's body being earlier than its
+-- continuing part. `outer` says that the whole body stands at a disrupted place.
+pub data Disrupted (varies : ℕ → Type 0) (outer : Bool) (body : PlainBlock) : Place → Type 0 where
+  already : {p : Place} → IsTrue outer → Disrupted varies outer body p
+  chosen : {p a : Place} (s : PlainStatement) (h : ℕ) → Around a p → OccursAt body a s → chosen_by s ≡ Some h → varies h → Disrupted varies outer body p
+  after : {p r : Place} → IsEndBefore body p r → Disrupted varies outer body r → Disrupted varies outer body p
+
+-- ---- the same, found step by step
+
+abbrev mutual
+  -- the body holds a disrupted end, where it is disrupted itself or is not
+  pub ends_in : (ℕ → Bool) → Bool → PlainBlock → Bool
+  ends_in varies d stop = false
+  ends_in varies d (next s rest) = ends_at varies d s || ends_in varies (d || ends_at varies d s) rest
+
+  pub ends_at : (ℕ → Bool) → Bool → PlainStatement → Bool
+  ends_at varies d (emit first end) = false
+  ends_at varies d (block b) = ends_in varies d b
+  ends_at varies d (if_ h accept reject) = ends_in varies (d || varies h) accept || ends_in varies (d || varies h) reject
+  ends_at varies d (switch h cases) = ends_in_cases varies (d || varies h) cases
+  ends_at varies d (loop body continuing break_if) = ends_in varies d body || ends_in varies (d || ends_in varies d body) continuing
+  ends_at varies d break = false
+  ends_at varies d continue = false
+  ends_at varies d (return value) = d
+  ends_at varies d kill = d
+  ends_at varies d (operation a) = false
+  ends_at varies d (call function arguments result) = false
+
+  pub ends_in_cases : (ℕ → Bool) → Bool → PlainCases → Bool
+  ends_in_cases varies d no_case = false
+  ends_in_cases varies d (case value body falls rest) = ends_in varies d body || ends_in_cases varies d rest
+
+-- whether a part of a statement is disrupted where it begins
+abbrev pub enter : (ℕ → Bool) → Bool → PlainStatement → Part → Bool
+enter varies d (if_ h accept reject) part = d || varies h
+enter varies d (switch h cases) part = d || varies h
+enter varies d (loop body continuing break_if) loop_continuing = d || ends_in varies d body
+enter varies d (loop body continuing break_if) part = d
+enter varies d (emit first end) part = d
+enter varies d (block b) part = d
+enter varies d break part = d
+enter varies d continue part = d
+enter varies d (return value) part = d
+enter varies d kill part = d
+enter varies d (operation a) part = d
+enter varies d (call function arguments result) part = d
+
+-- whether a loop's condition is
+abbrev pub at_condition : (ℕ → Bool) → Bool → PlainStatement → Bool
+at_condition varies d (loop body continuing break_if) = d || ends_at varies d (loop body continuing break_if)
+at_condition varies d (emit first end) = d
+at_condition varies d (block b) = d
+at_condition varies d (if_ h accept reject) = d
+at_condition varies d (switch h cases) = d
+at_condition varies d break = d
+at_condition varies d continue = d
+at_condition varies d (return value) = d
+at_condition varies d kill = d
+at_condition varies d (operation a) = d
+at_condition varies d (call function arguments result) = d
+
+abbrev pub disrupted_at : (ℕ → Bool) → Bool → Place → PlainBlock → Bool
+disrupted_at varies d here body = d
+disrupted_at varies d (later p) stop = d
+disrupted_at varies d (later p) (next s rest) = disrupted_at varies (d || ends_at varies d s) p rest
+disrupted_at varies d (inside part p) stop = d
+disrupted_at varies d (inside part p) (next s rest) = disrupted_at varies (enter varies d s part) p (part_of (shape_of s) part)
+disrupted_at varies d condition stop = d
+disrupted_at varies d condition (next s rest) = at_condition varies d s

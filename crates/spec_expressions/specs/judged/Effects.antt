@@ -1,0 +1,81 @@
+-- What a function does that its summary tells, in the order of its text.
+use Rattle.std.specs.Prelude.{ℕ, ◌+◌, List, [], ◌∷◌, ◌++◌, map, ◌==◌, if◌then◌else◌}
+use Rattle.ir_types.specs.judged.ExpressionPlain.{PlainExpression, compose, plain}
+use Rattle.ir_types.specs.declared.expressions.Expression.TheVariants.{ImageSample}
+use Rattle.ir_blocks.specs.judged.Plain.{PlainStatement, emit, block, if_, switch, loop, break, continue, return, kill, operation, call, PlainBlock, stop, next, PlainCases, no_case, case}
+use Rattle.ir_items.specs.judged.Plain.{PlainFunction}
+use Rattle.spec_expressions.specs.judged.Operands.{Operand, expression_operands, statement_operands}
+
+-- It takes an operand, samples an image in an expression, runs a function with these arguments, or ends the fragment.
+pub data Effect : Type 0 where
+  takes : Operand → Effect
+  samples : (expression image sampler : ℕ) → Effect
+  runs : (function : ℕ) → (arguments : List ℕ) → Effect
+  discards : Effect
+
+-- the sampling that the expression at a place is, if it is one
+abbrev pub sampling_at : ℕ → PlainExpression → List Effect
+sampling_at e (plain (ImageSample image sampler gathers coordinate array_index offset level depth_ref clamp_to_edge)) = samples e image sampler ∷ []
+sampling_at e _ = []
+
+-- of the expression at a place
+abbrev pub expression_effects : ℕ → PlainExpression → List Effect
+expression_effects e expression = map takes (expression_operands expression) ++ sampling_at e expression
+
+-- of these expressions, the first of which has this place
+abbrev pub expressions_effects : ℕ → List PlainExpression → List Effect
+expressions_effects e [] = []
+expressions_effects e (expression ∷ rest) = expression_effects e expression ++ expressions_effects (e + 1) rest
+
+-- whether the statement ends the fragment or runs a function
+abbrev pub leaving_effects : PlainStatement → List Effect
+leaving_effects (emit first end) = []
+leaving_effects (block body) = []
+leaving_effects (if_ condition accept reject) = []
+leaving_effects (switch selector cases) = []
+leaving_effects (loop body continuing break_if) = []
+leaving_effects break = []
+leaving_effects continue = []
+leaving_effects (return value) = []
+leaving_effects kill = discards ∷ []
+leaving_effects (operation a) = []
+leaving_effects (call function arguments result) = runs function arguments ∷ []
+
+-- of the statement itself, and not of the statements inside it
+abbrev pub statement_effects : PlainStatement → List Effect
+statement_effects s = map takes (statement_operands s) ++ leaving_effects s
+
+-- of all statements of a block, at any depth
+abbrev mutual
+  pub effects_in : PlainBlock → List Effect
+  effects_in stop = []
+  effects_in (next s rest) = (statement_effects s ++ effects_inside s) ++ effects_in rest
+
+  pub effects_inside : PlainStatement → List Effect
+  effects_inside (emit first end) = []
+  effects_inside (block body) = effects_in body
+  effects_inside (if_ condition accept reject) = effects_in accept ++ effects_in reject
+  effects_inside (switch selector cases) = effects_in_cases cases
+  effects_inside (loop body continuing break_if) = effects_in body ++ effects_in continuing
+  effects_inside break = []
+  effects_inside continue = []
+  effects_inside (return value) = []
+  effects_inside kill = []
+  effects_inside (operation a) = []
+  effects_inside (call function arguments result) = []
+
+  pub effects_in_cases : PlainCases → List Effect
+  effects_in_cases no_case = []
+  effects_in_cases (case value body falls rest) = effects_in body ++ effects_in_cases rest
+
+-- All expressions count, emitted or not; what a local variable begins as is no operand.
+abbrev pub effects_of : PlainFunction → List Effect
+effects_of f = expressions_effects 0 f.expressions ++ effects_in f.body
+
+-- at how many places an expression is an operand
+abbrev pub places_of : ℕ → List Effect → ℕ
+places_of e [] = 0
+places_of e (takes operand ∷ rest) = (if operand.handle == e then 1 else 0) + places_of e rest
+places_of e (samples expression image sampler ∷ rest) = places_of e rest
+places_of e (runs function arguments ∷ rest) = places_of e rest
+places_of e (discards ∷ rest) = places_of e rest

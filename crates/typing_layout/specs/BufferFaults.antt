@@ -1,0 +1,77 @@
+-- What keeps a host from laying out a type.
+use Rattle.std.specs.Prelude.{◌≡◌, ◌<◌, ◌⊎◌, ℕ, List, Some, slice_get}
+use Rattle.std.specs.Int.{◌∣◌}
+use Rattle.ir_types.specs.judged.Plain.{PlainType}
+use Rattle.ir_types.specs.declared.types.ArraySize.{ArraySize}
+use Rattle.typing_layout.specs.judged.Buffers.{uniform_alignment, free_after}
+use Rattle.typing_layout.specs.judged.Flags.{HasFlag, HostShareable}
+use Rattle.typing_layout.specs.judged.Immediates.{scalar_of}
+use Rattle.typing_layout.specs.judged.Parts.{Part, listed, before, Somewhere}
+use Rattle.typing_layout.specs.judged.Layout.{alignment}
+use Rattle.typing_layout.specs.judged.Tree.{Tree, Members, array, struct}
+use Rattle.typing_layout.specs.judged.View.{type_tree}
+use Rattle.typing_layout.specs.declared.type_error.Disalignment.{Disalignment}
+use Rattle.typing_layout.specs.declared.type_error.Disalignment.TheVariants as fault
+use Rattle.typing_layout.specs.declared.type_error.ImmediateError.{ImmediateError}
+use Rattle.typing_layout.specs.declared.type_error.ImmediateError.TheVariants as immediate
+
+-- an array whose stride is no multiple of a number that its elements require
+pub record IsBadStride (asks : Tree → ℕ → Type 0) (stride a : ℕ) (t : Tree) : Type 0 where
+  pub base : Tree
+  pub count : ArraySize
+  pub is : t ≡ array base count stride
+  pub asked : asks base a
+  pub broken : ¬ (a ∣ stride)
+
+-- a struct whose span is no multiple of its alignment
+pub record IsBadSpan (span a : ℕ) (t : Tree) : Type 0 where
+  pub members : Members
+  pub is : t ≡ struct members span
+  pub asked : a ≡ alignment t
+  pub broken : ¬ (a ∣ span)
+
+-- a struct with a member that does not begin at a multiple of what `part` requires of its type
+pub record IsBadOffset (part : Tree → ℕ) (index offset a : ℕ) (t : Tree) : Type 0 where
+  pub members : Members
+  pub span : ℕ
+  pub is : t ≡ struct members span
+  pub p : Part
+  pub at : slice_get (listed members) index ≡ Some p
+  pub begins : offset ≡ p.offset
+  pub asked : a ≡ part p.of_type
+  pub broken : ¬ (a ∣ offset)
+
+-- a struct with a member that begins too near after a struct
+pub record IsNearAfter (index offset expected : ℕ) (t : Tree) : Type 0 where
+  pub members : Members
+  pub span : ℕ
+  pub is : t ≡ struct members span
+  pub p : Part
+  pub at : slice_get (listed members) index ≡ Some p
+  pub q : Part
+  pub behind : before (listed members) index ≡ Some q
+  pub begins : offset ≡ p.offset
+  pub asked : expected ≡ free_after q q.of_type
+  pub near : offset < expected
+
+abbrev pub BreaksStorage : Disalignment → Tree → Type 0
+BreaksStorage (fault.ArrayStride stride a) t = IsBadStride (λ base n. n ≡ alignment base) stride a t
+BreaksStorage (fault.StructSpan span a) t = IsBadSpan span a t
+BreaksStorage (fault.MemberOffset index offset a) t = IsBadOffset alignment index offset a t
+BreaksStorage (fault.MemberOffsetAfterStruct index offset expected) t = ⊥
+BreaksStorage fault.NonHostShareable t = ¬ HasFlag HostShareable t
+
+abbrev pub BreaksUniform : Disalignment → Tree → Type 0
+BreaksUniform (fault.ArrayStride stride a) t = IsBadStride (λ base n. (n ≡ uniform_alignment base) ⊎ (n ≡ 16)) stride a t
+BreaksUniform (fault.StructSpan span a) t = IsBadSpan span a t
+BreaksUniform (fault.MemberOffset index offset a) t = IsBadOffset uniform_alignment index offset a t
+BreaksUniform (fault.MemberOffsetAfterStruct index offset expected) t = IsNearAfter index offset expected t
+BreaksUniform fault.NonHostShareable t = ¬ HasFlag HostShareable t
+
+-- the fault stands at the type itself or at one inside, which is that at the handle
+abbrev pub IsBroken : (Disalignment → Tree → Type 0) → List PlainType → Tree → (ℕ × Disalignment) → Type 0
+IsBroken breaks types t e = Somewhere (λ inside. (inside ≡ type_tree types e.0) × breaks e.1 inside) t
+
+-- the scalar stands inside, and takes two bytes
+abbrev pub IsUnfit : Tree → ImmediateError → Type 0
+IsUnfit t (immediate.InvalidScalar s) = Somewhere (λ inside. scalar_of inside ≡ Some s) t × (s.width ≡ 2)

@@ -1,5 +1,0 @@
-pub mod Equal
-pub mod Joining
-pub mod Listing
-pub mod Lookups
-pub mod Marked

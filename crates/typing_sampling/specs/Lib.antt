@@ -1,4 +1,0 @@
-pub mod Fronts
-pub mod Listed
-pub mod Pairings
-pub mod Passed

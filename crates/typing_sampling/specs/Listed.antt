@@ -1,7 +1,0 @@
--- The pairs of a list.
-use Rattle.std.specs.Prelude.{List, ◌++◌}
-use Rattle.spec_analysis.specs.judged.Pairs.{SamplingPair}
-use Rattle.typing_sampling.specs.declared.list.PairList.{PairList}
-
-abbrev pub listed : PairList → List SamplingPair
-listed l = l.few.items ++ l.more.keys

@@ -1,0 +1,6 @@
+-- What was added with the rest is what all add.
+use Rattle.std.proofs.Common.{◌≡◌, ◌++◌, drop}
+use Rattle.typing_summaries.proofs.list.append.Given as goal
+
+abbrev pub invariant-loop-value : goal.invariant-loop-value
+invariant-loop-value g l = (l.values.items ++ drop l.value-index l.others) ≡ l.fn.values.items ++ l.others

@@ -1,0 +1,141 @@
+//! Lists of pairs, each once.
+
+ghost use Rattle.std.specs.Prelude.{◌≡◌, ◌++◌, [], IfOk, IsTrue, OnErr, OnOk};
+ghost use Rattle.indexmap.specs.IndexSet.{insert_key};
+ghost use Rattle.spec_expressions.specs.judged.Pairs.{pair_eq};
+ghost use Rattle.typing_infos.specs.Marks.{EachOnce};
+ghost use Rattle.typing_summaries.specs.Fronts.{BeginsWith};
+
+use indexmap::IndexSet;
+use spec_expressions::SamplingPair;
+use std::alloc::{AllocError, Global};
+use std::hash::Hash;
+use typing_infos::SampledPairs;
+
+/// Pairs in the order in which they were found, each once. The first few are a list, or all those of a function that is called,
+/// which has them as well; only those after them are found by hashes of this list's own: most functions sample few pairs, and a
+/// table is dear to make.
+#[derive(Drop)]
+pub struct PairList {
+    few: SampledPairs,
+    more: IndexSet<SamplingPair>,
+    ghost once: { EachOnce (few.items ++ more.keys) },
+}
+
+// A value of a set, once. The error is out of memory; the set is as it was then.
+fn keep<T: Eq + Hash + Drop>(set: &mut IndexSet<T>, value: T) -> Result<(), AllocError>
+    ensures added { OnOk result (set.new.keys ≡ insert_key T.eq set.old.keys value) }
+    ensures err { OnErr result (set.new.keys ≡ set.old.keys) }
+{
+    set.insert(value)?;
+    Ok(())
+}
+
+// These values after others. The error is out of memory.
+fn append<T: Copy + Drop>(values: &mut Vec<T>, others: &[T]) -> Result<(), AllocError>
+    ensures { OnOk result (values.new.items ≡ values.old.items ++ others.now) }
+{
+    for value in others {
+        values.push(*value)?;
+    }
+    Ok(())
+}
+
+// Whether values begin with others.
+fn begins_with<T: Copy + PartialEq>(values: &[T], others: &[T]) -> bool
+    ensures { IsTrue result → BeginsWith T.eq values.now others.now }
+{
+    if values.len() < others.len() {
+        return false;
+    }
+    for index in 0..others.len() {
+        let same = others[index] == values[index];
+        if !same {
+            return false;
+        }
+    }
+    true
+}
+
+impl PairList {
+    ghost use Rattle.typing_summaries.specs.Listed.{listed};
+
+    /// No pair.
+    pub fn new(alloc: Global) -> PairList
+        ensures { listed result ≡ [] }
+    {
+        PairList {
+            few: SampledPairs::new(alloc),
+            more: IndexSet::new(alloc),
+        }
+    }
+
+    // These pairs, each once, which another function has as well.
+    pub(crate) fn shared(alloc: Global, pairs: SampledPairs) -> PairList
+        requires { EachOnce pairs.items }
+        ensures { listed result ≡ pairs.items }
+    {
+        PairList {
+            few: pairs,
+            more: IndexSet::new(alloc),
+        }
+    }
+
+    // What the list takes memory from.
+    pub(crate) fn allocator(&self) -> Global {
+        *self.more.allocator()
+    }
+
+    // Whether these begin with all pairs of the list.
+    pub(crate) fn is_front_of(&self, pairs: &[SamplingPair]) -> bool
+        ensures { IsTrue result → BeginsWith pair_eq pairs.now (listed self.now) }
+    {
+        let few = self.few.as_slice();
+        if pairs.len() < few.len() {
+            return false;
+        }
+        let (front, behind) = pairs.split_at(few.len());
+        begins_with(front, few) && begins_with(behind, self.more.as_slice())
+    }
+
+    // Whether the list begins with these, as far as it is one that another function has.
+    pub(crate) fn begins_with(&self, pairs: &[SamplingPair]) -> bool
+        ensures { IsTrue result → BeginsWith pair_eq (listed self.now) pairs.now }
+    {
+        begins_with(self.few.as_slice(), pairs)
+    }
+
+    /// Adds a pair, where it is not there. The error is out of memory.
+    #[tactic(auto, using(crate::proofs::Listing::there, crate::proofs::Listing::first, crate::proofs::Listing::later))]
+    pub fn insert(&mut self, pair: SamplingPair) -> Result<(), AllocError>
+        ensures { OnOk result (listed self.new ≡ insert_key pair_eq (listed self.old) pair) }
+    {
+        if self.few.contains(&pair) {
+            return Ok(());
+        }
+        if !self.more.is_empty() {
+            keep(&mut self.more, pair)?;
+            return Ok(());
+        }
+        if self.few.push_few(pair)? {
+            return Ok(());
+        }
+        keep(&mut self.more, pair)?;
+        Ok(())
+    }
+
+    /// All pairs. The error is out of memory.
+    pub fn into_pairs(self) -> Result<SampledPairs, AllocError>
+        ensures { IfOk result (λ pairs. pairs.items ≡ listed self) }
+    {
+        let alloc = self.allocator();
+        let PairList { few, more } = self;
+        if more.is_empty() {
+            return Ok(few);
+        }
+        let mut pairs = Vec::with_capacity(alloc, few.len().saturating_add(more.len()))?;
+        append(&mut pairs, few.as_slice())?;
+        append(&mut pairs, more.as_slice())?;
+        SampledPairs::of_pairs(alloc, pairs)
+    }
+}

@@ -1,0 +1,242 @@
+//! Pairs of images and samplers.
+
+ghost use Rattle.std.specs.Prelude.{◌≡◌, ℕ, Some, IfOk, IsTrue, OnOk, None, [], slice_get, true};
+ghost use Rattle.ir_types.specs.judged.ExpressionPlain.{expression_view};
+ghost use Rattle.ir_items.specs.found.GlobalView.{values_of};
+ghost use Rattle.typing_infos.specs.Marks.{EachOnce};
+ghost use Rattle.spec_expressions.specs.judged.Chains.{place, seen_through};
+ghost use Rattle.std.specs.Prelude.{map};
+ghost use Rattle.typing_summaries.specs.Pairings.{Paired, paired, with_pair, with_wrong, first_wrong, part_wrong, pair_one, passed_for, pass_up, pass_all_up};
+ghost use Rattle.typing_summaries.specs.Passed.{PassesOn, PassesAllOn};
+
+use crate::list::PairList;
+use crate::places::{Expressions, place};
+use ir_arena::handle::Handle;
+use ir_types::key;
+use spec_expressions::{GlobalOrArgument, SamplingPair};
+use std::alloc::{AllocError, Global};
+use typing_infos::SampledPairs;
+
+/// The pairs, each once.
+#[derive(Drop)]
+pub struct Sampled {
+    /// The pairs in the order in which they were found.
+    pub pairs: PairList,
+    /// An expression of a wrong form for an image or a sampler, if there is one.
+    pub wrong: Option<Handle<key::Expression>>,
+}
+
+/// What an image or a sampler denotes, and the expression that is wrong where it denotes nothing.
+#[derive(Clone, Copy)]
+pub struct Part {
+    /// What it denotes.
+    pub means: Option<GlobalOrArgument>,
+    /// The expression, if there is one.
+    pub wrong: Option<Handle<key::Expression>>,
+}
+
+// What denotes this in a callee, seen from the caller that passes these arguments.
+fn seen(
+    expressions: &Expressions,
+    arguments: &[Handle<key::Expression>],
+    below: GlobalOrArgument,
+) -> Part
+    ensures means { result.means ≡ seen_through (place (map expression_view (values_of expressions.now))) arguments.now (Some below) }
+    ensures wrong { result.wrong ≡ passed_for arguments.now below }
+{
+    match below {
+        GlobalOrArgument::Global(_) => Part {
+            means: Some(below),
+            wrong: None,
+        },
+        GlobalOrArgument::Argument(number) => match arguments.get(number as usize) {
+            Some(argument) => Part {
+                means: place(expressions, *argument),
+                wrong: Some(*argument),
+            },
+            None => Part {
+                means: None,
+                wrong: None,
+            },
+        },
+    }
+}
+
+// Whether what is passed for an argument is the caller's argument of the same number.
+fn passes_on(
+    expressions: &Expressions,
+    arguments: &[Handle<key::Expression>],
+    number: usize,
+) -> bool
+    ensures { IsTrue result → PassesOn (place (map expression_view (values_of expressions.now))) arguments.now number }
+{
+    match arguments.get(number) {
+        Some(argument) => match place(expressions, *argument) {
+            Some(part) => match part {
+                GlobalOrArgument::Argument(own) => own as usize == number,
+                GlobalOrArgument::Global(_) => false,
+            },
+            None => false,
+        },
+        None => false,
+    }
+}
+
+// The same of an argument, where it is marked.
+fn passes_if_marked(
+    expressions: &Expressions,
+    arguments: &[Handle<key::Expression>],
+    marks: &[bool],
+    number: usize,
+) -> bool
+    ensures { IsTrue result → slice_get marks.now number ≡ Some true → PassesOn (place (map expression_view (values_of expressions.now))) arguments.now number }
+{
+    match marks.get(number) {
+        Some(marked) => {
+            if *marked {
+                passes_on(expressions, arguments, number)
+            } else {
+                true
+            }
+        }
+        None => true,
+    }
+}
+
+// The same of all arguments that are marked.
+fn passes_marked_on(
+    expressions: &Expressions,
+    arguments: &[Handle<key::Expression>],
+    marks: &[bool],
+) -> bool
+    ensures { IsTrue result → (n : ℕ) → slice_get marks.now n ≡ Some true → PassesOn (place (map expression_view (values_of expressions.now))) arguments.now n }
+{
+    for number in 0..marks.len() {
+        if !passes_if_marked(expressions, arguments, marks, number) {
+            return false;
+        }
+    }
+    true
+}
+
+// Whether each of a table of pairs of a callee is the same pair in the caller.
+fn passes_all_on(
+    expressions: &Expressions,
+    arguments: &[Handle<key::Expression>],
+    callee: &SampledPairs,
+) -> bool
+    ensures once { IsTrue result → EachOnce callee.now.items }
+    ensures same { IsTrue result → PassesAllOn (place (map expression_view (values_of expressions.now))) arguments.now callee.now.items }
+{
+    match callee.marks() {
+        Some(marks) => passes_marked_on(expressions, arguments, marks),
+        None => false,
+    }
+}
+
+impl Sampled {
+    /// No pair.
+    pub fn new(alloc: Global) -> Sampled
+        ensures { paired result ≡ record { pairs = []; wrong = None } }
+    {
+        Sampled {
+            pairs: PairList::new(alloc),
+            wrong: None,
+        }
+    }
+
+    fn insert(&mut self, pair: SamplingPair) -> Result<(), AllocError>
+        ensures { OnOk result (paired self.new ≡ with_pair pair (paired self.old)) }
+    {
+        self.pairs.insert(pair)
+    }
+
+    fn note_wrong(&mut self, wrong: Option<Handle<key::Expression>>)
+        ensures { paired self.new ≡ with_wrong wrong (paired self.old) }
+    {
+        if self.wrong.is_none() {
+            self.wrong = wrong;
+        }
+    }
+
+    fn note_part(&mut self, part: Part)
+        ensures { paired self.new ≡ part_wrong part.wrong part.means (paired self.old) }
+    {
+        if part.means.is_none() {
+            self.note_wrong(part.wrong);
+        }
+    }
+
+    /// Notes an image and a sampler: as a pair where both denote something, and else the expression that is wrong. The error
+    /// is out of memory.
+    pub fn pair(&mut self, image: Part, sampler: Part) -> Result<(), AllocError>
+        ensures { OnOk result (paired self.new ≡ pair_one image.wrong sampler.wrong image.means sampler.means (paired self.old)) }
+    {
+        match image.means {
+            Some(of_image) => match sampler.means {
+                Some(of_sampler) => self.insert((of_image, of_sampler)),
+                None => {
+                    self.note_wrong(sampler.wrong);
+                    Ok(())
+                }
+            },
+            None => {
+                self.note_wrong(image.wrong);
+                self.note_part(sampler);
+                Ok(())
+            }
+        }
+    }
+
+    // A pair of a callee to which these arguments are passed.
+    fn pass_up(
+        &mut self,
+        expressions: &Expressions,
+        arguments: &[Handle<key::Expression>],
+        pair: SamplingPair,
+    ) -> Result<(), AllocError>
+        ensures { OnOk result (paired self.new ≡ pass_up (map expression_view (values_of expressions.now)) arguments.now pair (paired self.old)) }
+    {
+        self.pair(
+            seen(expressions, arguments, pair.0),
+            seen(expressions, arguments, pair.1),
+        )
+    }
+
+    /// Notes all pairs of a callee to which these arguments are passed, as the caller sees them. The error is out of memory.
+    pub fn pass_all_up(
+        &mut self,
+        expressions: &Expressions,
+        arguments: &[Handle<key::Expression>],
+        pairs: &[SamplingPair],
+    ) -> Result<(), AllocError>
+        ensures { OnOk result (paired self.new ≡ pass_all_up (map expression_view (values_of expressions.now)) arguments.now pairs.now (paired self.old)) }
+    {
+        for pair in pairs {
+            self.pass_up(expressions, arguments, *pair)?;
+        }
+        Ok(())
+    }
+
+    /// The same for what is kept of the callee. Where each of a table of pairs is the same pair in the caller, and those that the
+    /// caller has are the first of them, it shares the table, and nothing is copied. The error is out of memory.
+    pub fn join(
+        &mut self,
+        expressions: &Expressions,
+        arguments: &[Handle<key::Expression>],
+        callee: &SampledPairs,
+    ) -> Result<(), AllocError>
+        ensures { OnOk result (paired self.new ≡ pass_all_up (map expression_view (values_of expressions.now)) arguments.now callee.now.items (paired self.old)) }
+    {
+        if passes_all_on(expressions, arguments, callee) {
+            if self.pairs.is_front_of(callee.as_slice()) {
+                self.pairs = PairList::shared(self.pairs.allocator(), callee.share()?);
+                return Ok(());
+            }
+            if self.pairs.begins_with(callee.as_slice()) {
+                return Ok(());
+            }
+        }
+        self.pass_all_up(expressions, arguments, callee.as_slice())
+    }
+}
