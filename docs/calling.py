@@ -19,7 +19,7 @@ PAGES = [
      [("A caller", "test_items/src/returns.rt", None)], ["ir_flags", "ir_kinds", "ir_arena", "ir_sets", "ir_faults", "ir_types",
                                         "ir_blocks", "ir_items", "ir_proc"]),
     ("shader_typing", "What is required of types, their layouts, the kinds and types of expressions, and the overload sets of the math functions.",
-     [("A caller", "test_calls/src/overload_alone.rt", None)], ["typing_forms", "typing_expressions", "typing_layout", "typing_rules",
+     [("A caller", "test_calls/src/overload_alone.rt", None)], ["typing_forms", "typing_infos", "typing_layout", "typing_rules",
                                             "typing_overloads",
                                             "spec_expressions", "typing_resolve"]),
     ("document_reader", "From bytes to a document.",
