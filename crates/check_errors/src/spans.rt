@@ -56,6 +56,19 @@ fn outer_label(module: &Module, error: &ValidationError) -> Option<Label>
     }
 }
 
+// The error with a label, if there is one and its span is known. Where there is no memory, the error is freed.
+fn labelled_once<E: Drop>(
+    fault: WithSpan<E>,
+    label: Option<Label>,
+) -> Result<WithSpan<E>, AllocError>
+    ensures { IfOk result (λ f. (error_of f ≡ error_of fault) × (spans_of f ≡ labelled (spans_of fault) label)) }
+{
+    match with_label(fault, label) {
+        Ok(fault) => Ok(fault),
+        Err(_) => Err(AllocError),
+    }
+}
+
 // The error with the spans of the items that it names.
 fn located(
     module: &Module,
@@ -65,12 +78,9 @@ fn located(
 {
     let inner = inner_label(module, fault.as_inner());
     let outer = outer_label(module, fault.as_inner());
-    match with_label(fault, inner) {
-        Ok(fault) => match with_label(fault, outer) {
-            Ok(fault) => Ok(fault),
-            Err(_) => Err(AllocError),
-        },
-        Err(_) => Err(AllocError),
+    match labelled_once(fault, inner) {
+        Ok(fault) => labelled_once(fault, outer),
+        Err(error) => Err(error),
     }
 }
 

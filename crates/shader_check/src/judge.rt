@@ -113,11 +113,13 @@ pub fn judge_document(alloc: Global, document: &mut Document) -> Result<Judgemen
     ensures judged { IfOk result (IsJudgementOf (document_view document.old)) }
 {
     let examined = examine_document(alloc, document)?;
-    let report = report_on(alloc, &document.module, &examined)?;
-    Ok(Judgement {
-        finding: examined.finding(),
-        report,
-    })
+    let finding = examined.finding();
+    let report = report_on(alloc, &document.module, &examined);
+    drop(examined);
+    match report {
+        Ok(report) => Ok(Judgement { finding, report }),
+        Err(error) => Err(error),
+    }
 }
 
 // What is reported of bytes that spell no document.
