@@ -2,7 +2,7 @@
 use Rattle.std.specs.Prelude.{ℕ, List, Option, Some, None, codes}
 use Rattle.ir_arena.specs.found.Arenas.{span_at}
 use Rattle.ir_arena.specs.declared.span.Span.{Span}
-use Rattle.ir_faults.specs.Faults.{with_context}
+use Rattle.ir_types.specs.found.Faults.{with_context}
 use Rattle.ir_items.specs.declared.entries.EntryPoint.{EntryPoint}
 use Rattle.ir_items.specs.declared.functions.Function.{Function}
 use Rattle.ir_items.specs.declared.module.Module.{Module}

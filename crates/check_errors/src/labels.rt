@@ -2,10 +2,10 @@
 
 ghost use Rattle.std.specs.Prelude.{◌≡◌, IfErr, IfOk, codes};
 ghost use Rattle.check_errors.specs.Labels.{item_text, labelled};
-ghost use Rattle.ir_faults.specs.Faults.{IsSameFault, error_of, spans_of};
+ghost use Rattle.ir_types.specs.found.Faults.{IsSameFault, error_of, spans_of};
 
 use ir_arena::span::Span;
-use ir_faults::with_span::WithSpan;
+use ir_types::with_span::WithSpan;
 use std::alloc::AllocFailed;
 
 /// What stands at a span.

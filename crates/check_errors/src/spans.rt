@@ -4,14 +4,14 @@ ghost use Rattle.std.specs.Prelude.{◌≡◌, IfOk, slice_get};
 ghost use Rattle.check_errors.specs.Spans.{IsSpanned, inner_label, label_in_entry, label_in_function, outer_label};
 ghost use Rattle.check_errors.specs.Labels.{labelled};
 ghost use Rattle.ir_arena.specs.found.Arenas.{value_at};
-ghost use Rattle.ir_faults.specs.Faults.{error_of, spans_of};
+ghost use Rattle.ir_types.specs.found.Faults.{error_of, spans_of};
 
 use crate::error::{InvalidEntryPoint, InvalidFunction, ValidationError};
 use crate::labels::{Label, with_label};
 use crate::modules::{entry_label, function_label, module_label, subject_label, variable_label};
-use ir_faults::refusal::Refusal;
-use ir_faults::with_span::WithSpan;
 use ir_items::Module;
+use ir_types::refusal::Refusal;
+use ir_types::with_span::WithSpan;
 use std::alloc::AllocError;
 
 fn label_in_function(module: &Module, refused: &InvalidFunction) -> Option<Label>

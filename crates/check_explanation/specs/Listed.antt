@@ -15,7 +15,7 @@ use Rattle.judgement.specs.judged.Reports.{IsReport}
 use Rattle.typing_infos.specs.declared.info.ModuleInfo.{ModuleInfo}
 use Rattle.shader_check.specs.declared.examined.Examined.{Examined}
 use Rattle.shader_check.specs.declared.examined.Examined.TheVariants as examined
-use Rattle.spec_expressions.specs.InOrder.{HandlesOK}
+use Rattle.spec_expressions.specs.judged.ModuleHandles.{HandlesOK}
 
 -- what is kept of a module is enough to list its buffers and to report on it
 pub record CanReport (m : PlainModule) (info : ModuleInfo) : Type 0 where

@@ -7,7 +7,7 @@ use Rattle.ir_types.specs.declared.types.StructMember.{StructMember}
 use Rattle.check_report.proofs.Listed.{repeated_last, split_at}
 use Rattle.check_report.specs.Lines.{leaf_line, leaf_lines, path_word}
 use Rattle.check_report.specs.Paths.{dot_after, named, numbered, parts_at, parts_found, parts_of_found, to_element, to_found, to_member, path_along}
-use Rattle.judgement.specs.Leaves.{Leaf, leaf, inside, leaves, member_leaves, repeated}
+use Rattle.judgement.specs.judged.Leaves.{Leaf, leaf, inside, leaves, member_leaves, repeated}
 use Rattle.typing_forms.specs.judged.Resolutions.{inner_at}
 use Rattle.typing_layout.specs.judged.Tree.{Tree}
 use Rattle.typing_layout.specs.judged.View.{members_by, tree_by, tree_along}

@@ -5,7 +5,7 @@ use Rattle.ir_types.specs.judged.Plain.{PlainInner, PlainType, member_view}
 use Rattle.ir_types.specs.declared.types.StructMember.{StructMember}
 use Rattle.check_report.specs.Rows.{row, rows}
 use Rattle.check_report.specs.declared.leaves.Leaf.{Leaf}
-use Rattle.judgement.specs.Leaves.{Leaf as Place, inside, leaves, member_leaves, repeated}
+use Rattle.judgement.specs.judged.Leaves.{Leaf as Place, inside, leaves, member_leaves, repeated}
 use Rattle.typing_forms.specs.judged.Resolutions.{inner_at}
 use Rattle.typing_layout.specs.judged.Tree.{Tree}
 use Rattle.typing_layout.specs.judged.View.{members_by, tree_by, tree_found, tree_along}

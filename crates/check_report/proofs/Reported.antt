@@ -8,8 +8,8 @@ use Rattle.ir_types.specs.declared.types.TypeInner.TheVariants as inner
 use Rattle.check_report.proofs.Along.{all_along}
 use Rattle.check_report.specs.Lines.{described, leaf_lines, leaves_of}
 use Rattle.check_report.specs.Paths.{parts_at, path_along}
-use Rattle.judgement.specs.Laws.{buffer_type}
-use Rattle.judgement.specs.Leaves.{leaves}
+use Rattle.judgement.specs.judged.BufferLaws.{buffer_type}
+use Rattle.judgement.specs.judged.Leaves.{leaves}
 use Rattle.spec_interface.specs.judged.Spaces.{array_base, counted}
 use Rattle.judgement.specs.judged.Lines.{each_from, is_buffer, buffer_line}
 use Rattle.typing_forms.specs.judged.Order.{TypesGoBack}

@@ -4,8 +4,8 @@ use Rattle.ir_items.specs.judged.GlobalPlain.{PlainGlobal}
 use Rattle.ir_items.specs.judged.Plain.{PlainModule}
 use Rattle.ir_types.specs.judged.Plain.{PlainType}
 use Rattle.check_report.specs.Paths.{path_along, parts_at}
-use Rattle.judgement.specs.Laws.{buffer_type}
-use Rattle.judgement.specs.Leaves.{Leaf, leaves}
+use Rattle.judgement.specs.judged.BufferLaws.{buffer_type}
+use Rattle.judgement.specs.judged.Leaves.{Leaf, leaves}
 use Rattle.spec_interface.specs.judged.Spaces.{counted}
 use Rattle.judgement.specs.judged.Lines.{each_from, is_buffer, buffer_line}
 use Rattle.typing_layout.specs.judged.Layout.{size, alignment}

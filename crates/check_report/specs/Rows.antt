@@ -5,8 +5,8 @@ use Rattle.ir_items.specs.judged.Plain.{PlainModule}
 use Rattle.ir_types.specs.judged.Plain.{PlainInner, PlainType}
 use Rattle.check_report.specs.declared.leaves.Leaf.{Leaf}
 use Rattle.typing_infos.specs.declared.info.ModuleInfo.{ModuleInfo}
-use Rattle.judgement.specs.Laws.{buffer_type}
-use Rattle.judgement.specs.Leaves.{Leaf as Place, leaves}
+use Rattle.judgement.specs.judged.BufferLaws.{buffer_type}
+use Rattle.judgement.specs.judged.Leaves.{Leaf as Place, leaves}
 use Rattle.typing_forms.specs.judged.Resolutions.{inner_at}
 use Rattle.typing_forms.specs.judged.Sizes.{type_size}
 use Rattle.typing_forms.specs.declared.sizes.TheConstants.{MAX_TYPE_SIZE}

@@ -4,7 +4,7 @@ ghost use Rattle.std.specs.Prelude.{◌≡◌, ◌<◌, IfOk, length};
 ghost use Rattle.ir_items.specs.found.View.{module_view};
 ghost use Rattle.check_report.specs.Rows.{AreLaid, AreLeavesOf};
 ghost use Rattle.spec_interface.specs.judged.Spaces.{counted};
-ghost use Rattle.spec_expressions.specs.InOrder.{HandlesOK};
+ghost use Rattle.spec_expressions.specs.judged.ModuleHandles.{HandlesOK};
 ghost use Rattle.typing_forms.specs.judged.Resolutions.{types_view};
 
 use crate::leaves::{Leaf, add_along};

@@ -5,7 +5,7 @@ ghost use Rattle.ir_types.specs.judged.Plain.{inner_view, member_view};
 ghost use Rattle.check_report.specs.Lines.{leaf_line, leaf_lines, path_word};
 ghost use Rattle.check_report.specs.Paths.{named, numbered, parts_at, parts_by, path_along};
 ghost use Rattle.check_report.specs.Rows.{AreInRange, HasRoom};
-ghost use Rattle.judgement.specs.Leaves.{leaf, leaves, member_leaves, repeated};
+ghost use Rattle.judgement.specs.judged.Leaves.{leaf, leaves, member_leaves, repeated};
 ghost use Rattle.typing_forms.specs.judged.Resolutions.{types_view};
 ghost use Rattle.typing_forms.specs.judged.Sizes.{type_size};
 ghost use Rattle.typing_forms.specs.declared.sizes.TheConstants.{MAX_TYPE_SIZE};

@@ -3,7 +3,7 @@
 ghost use Rattle.std.specs.Prelude.{◌≡◌, ◌<◌, ◌≤◌, ◌+◌, ◌*◌, ◌^◌, ◌++◌, ◌∷◌, [], map, OnOk};
 ghost use Rattle.ir_types.specs.judged.Plain.{inner_view, member_view};
 ghost use Rattle.check_report.specs.Rows.{rows, AreInRange, HasRoom};
-ghost use Rattle.judgement.specs.Leaves.{leaves, member_leaves, repeated};
+ghost use Rattle.judgement.specs.judged.Leaves.{leaves, member_leaves, repeated};
 ghost use Rattle.typing_forms.specs.judged.Resolutions.{types_view};
 ghost use Rattle.typing_forms.specs.judged.Sizes.{counted, type_size, vector_alignment};
 ghost use Rattle.typing_forms.specs.declared.sizes.TheConstants.{MAX_TYPE_SIZE};

@@ -5,7 +5,7 @@ ghost use Rattle.ir_items.specs.found.GlobalView.{global_view};
 ghost use Rattle.ir_items.specs.found.View.{module_view};
 ghost use Rattle.check_report.specs.Lines.{described, leaf_report};
 ghost use Rattle.check_report.specs.Rows.{AreLaid, AreLayoutsIn};
-ghost use Rattle.spec_expressions.specs.InOrder.{HandlesOK};
+ghost use Rattle.spec_expressions.specs.judged.ModuleHandles.{HandlesOK};
 ghost use Rattle.judgement.specs.judged.Lines.{buffer_line, is_buffer};
 
 use crate::leaf_buffers::counted;

@@ -1,9 +1,9 @@
 -- How a texel that is written is refused.
 use Rattle.std.proofs.Common.{◌≡◌, ℕ, [], Option, subst, sym}
 use Rattle.typing_errors.specs.declared.error.FunctionError.{FunctionError}
-use Rattle.ir_faults.specs.Faults.{error_of, spans_of}
-use Rattle.ir_faults.specs.declared.refusal.Refusal.TheVariants.{Fault}
-use Rattle.ir_faults.specs.declared.with_span.WithSpan.{WithSpan}
+use Rattle.ir_types.specs.found.Faults.{error_of, spans_of}
+use Rattle.ir_types.specs.declared.refusal.Refusal.TheVariants.{Fault}
+use Rattle.ir_types.specs.declared.with_span.WithSpan.{WithSpan}
 use Rattle.function_atomic_checks.specs.StorageImages.{IsImageStoreFault, IsImageStoreRefusal}
 use Rattle.spec_statements.specs.judged.BlockContext.{BlockContext}
 

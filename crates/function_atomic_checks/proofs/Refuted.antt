@@ -13,7 +13,7 @@ use Rattle.typing_errors.specs.declared.atomics.AtomicError.TheVariants as fault
 use Rattle.ir_blocks.specs.declared.operations.AtomicFunction.{AtomicFunction}
 use Rattle.ir_flags.specs.declared.settings.Capabilities.{Capabilities}
 use Rattle.ir_kinds.specs.declared.scalars.Scalar.{Scalar}
-use Rattle.spec_expressions.specs.Operands.{compared}
+use Rattle.spec_expressions.specs.judged.Operands.{compared}
 use Rattle.spec_statements.specs.judged.Atomics.{changed_scalar, WideOK, FloatOK, ScalarAllows, AtomicAnswer, declared_answer, AnswerOK, AtomicResultOK, AtomicChangeOK, AtomicStatementOK}
 use Rattle.spec_statements.specs.judged.BlockContext.{BlockContext, form_at}
 use Rattle.spec_statements.specs.judged.UniformLoads.{UniformLoadStatementOK}

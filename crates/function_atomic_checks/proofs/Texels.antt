@@ -23,7 +23,7 @@ use Rattle.ir_kinds.specs.declared.images.ImageClass.TheVariants as class
 use Rattle.ir_kinds.specs.declared.images.StorageFormat.{StorageFormat}
 use Rattle.ir_kinds.specs.declared.scalars.VectorSize.TheVariants.{Quad}
 use Rattle.ir_types.specs.judged.Plain.{PlainType}
-use Rattle.ir_proc.specs.judged.Bases.{base_of, global_of}
+use Rattle.ir_items.specs.judged.Bases.{base_of, global_of}
 use Rattle.spec_statements.specs.judged.Shapes.{ExactlyIf, picture_of}
 use Rattle.spec_statements.specs.declared.shapes.Picture.{Picture}
 use Rattle.spec_statements.specs.judged.BlockContext.{BlockContext, form_at}

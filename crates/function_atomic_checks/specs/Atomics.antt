@@ -11,7 +11,7 @@ use Rattle.ir_flags.specs.declared.settings.TheConstants.Capabilities.{SHADER_FL
 use Rattle.ir_kinds.specs.judged.Scalars.{floating, signed, unsigned}
 use Rattle.ir_kinds.specs.declared.scalars.Scalar.{Scalar}
 use Rattle.spec_statements.specs.judged.ExpressionResults.{IsExchangeOf}
-use Rattle.spec_expressions.specs.Operands.{compared}
+use Rattle.spec_expressions.specs.judged.Operands.{compared}
 use Rattle.spec_statements.specs.judged.Atomics.{changed_scalar, IsInStorage, IsStorageMinMaxWithoutResult, IsDoneWithFloats, AtomicAnswer, declared_answer, MayBeUnanswered}
 use Rattle.spec_statements.specs.judged.BlockContext.{BlockContext, form_at}
 use Rattle.spec_statements.specs.judged.Stores.{pointer_space}

@@ -6,7 +6,7 @@ ghost use Rattle.ir_types.specs.judged.Plain.{inner_view};
 ghost use Rattle.function_atomic_checks.specs.Atomics.{IsWide, IsWideFault, IsFloatFault, IsScalarFault, IsPlainFault, IsExchangeFault, IsAnswerFault, IsChangeFault, IsAtomicFault};
 ghost use Rattle.function_atomic_checks.specs.View.{answer_view};
 ghost use Rattle.spec_statements.specs.judged.ExpressionResults.{IsExchangeOf};
-ghost use Rattle.spec_expressions.specs.Operands.{compared};
+ghost use Rattle.spec_expressions.specs.judged.Operands.{compared};
 ghost use Rattle.spec_statements.specs.judged.Atomics.{atomic_of, changed_scalar, IsStorage, IsInStorage, IsStorageMinMaxWithoutResult, WideOK, IsDoneWithFloats, FloatOK, ScalarAllows, declared_answer, AnswerOK, MayBeUnanswered, AtomicResultOK, AtomicChangeOK, AtomicStatementOK};
 ghost use Rattle.spec_statements.specs.judged.BlockContext.{form_at};
 ghost use Rattle.spec_statements.specs.judged.StorageImages.{IsExtremum};

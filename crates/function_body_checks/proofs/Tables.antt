@@ -12,7 +12,7 @@ use Rattle.ir_blocks.specs.judged.Plain.{PlainStatement, emit, block, if_, switc
 use Rattle.ir_types.specs.judged.ExpressionPlain.{PlainExpression}
 use Rattle.ir_items.specs.judged.Plain.{PlainFunction}
 use Rattle.ir_references.specs.First.{emitted_view}
-use Rattle.spec_expressions.specs.Statements.{Emitted, statement_callee, statement_range, statement_result}
+use Rattle.spec_expressions.specs.judged.StatementNames.{Emitted, statement_callee, statement_range, statement_result}
 use Rattle.spec_statements.specs.judged.Results.{answer_of}
 use Rattle.spec_statements.specs.judged.Scope.{is_pre_emitted}
 use Rattle.spec_statements.specs.judged.Tables.{checked_at, statement_checked, introduced}

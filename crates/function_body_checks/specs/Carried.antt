@@ -14,7 +14,7 @@ use Rattle.ir_blocks.specs.judged.Places.{Spot, nothing, statement, loop_conditi
 use Rattle.ir_blocks.specs.judged.Plain.{PlainStatement, emit, block, if_, switch, loop, break, continue, return, kill, operation, call, PlainBlock, stop, next, PlainCases, no_case, case}
 use Rattle.ir_types.specs.judged.ExpressionPlain.{PlainExpression}
 use Rattle.ir_items.specs.judged.Plain.{PlainFunction}
-use Rattle.spec_expressions.specs.Statements.{statement_callee}
+use Rattle.spec_expressions.specs.judged.StatementNames.{statement_callee}
 use Rattle.spec_statements.specs.found.Answered.{answered_in, answered_at}
 use Rattle.spec_statements.specs.judged.Results.{answer_of}
 use Rattle.spec_statements.specs.judged.Scope.{PreEmitted, is_pre_emitted}

@@ -9,9 +9,9 @@ use Rattle.typing_errors.specs.declared.calls.CallError.{CallError}
 use Rattle.typing_errors.specs.declared.calls.CallError.TheVariants as call_error
 use Rattle.ir_blocks.specs.judged.Places.{Place, OccursAt, spot_at}
 use Rattle.ir_blocks.specs.judged.Plain.{call}
-use Rattle.ir_faults.specs.Faults.{error_of}
-use Rattle.ir_faults.specs.declared.refusal.Refusal.{Refusal}
-use Rattle.ir_faults.specs.declared.refusal.Refusal.TheVariants as refusal
+use Rattle.ir_types.specs.found.Faults.{error_of}
+use Rattle.ir_types.specs.declared.refusal.Refusal.{Refusal}
+use Rattle.ir_types.specs.declared.refusal.Refusal.TheVariants as refusal
 use Rattle.ir_flags.specs.Sets.{Has}
 use Rattle.ir_flags.specs.declared.settings.ValidationFlags.{ValidationFlags}
 use Rattle.ir_flags.specs.declared.settings.TheConstants.ValidationFlags.{EXPRESSIONS}

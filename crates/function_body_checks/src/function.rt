@@ -21,10 +21,10 @@ use crate::statement::Carried;
 use crate::walk::check_block;
 use bitflags::Flags;
 use ir_arena::handle::Handle;
-use ir_faults::refusal::Refusal;
-use ir_faults::with_span::WithSpan;
 use ir_flags::ValidationFlags;
 use ir_items::{Function, key};
+use ir_types::refusal::Refusal;
+use ir_types::with_span::WithSpan;
 use std::alloc::{AllocError, Global};
 use typing_errors::{AtomicError, CallError, ExpressionError, FunctionError};
 

@@ -5,7 +5,7 @@ ghost use Rattle.ir_blocks.specs.found.View.{statement_view};
 ghost use Rattle.ir_types.specs.judged.ExpressionPlain.{expression_view};
 ghost use Rattle.ir_items.specs.found.View.{function_view};
 ghost use Rattle.function_body_checks.specs.Carried.{holds, pre_known, known, first_lacking, place_lacking};
-ghost use Rattle.spec_expressions.specs.Operands.{these, is_looked_up, looked_up, of_statement};
+ghost use Rattle.spec_expressions.specs.judged.Operands.{these, is_looked_up, looked_up, of_statement};
 ghost use Rattle.spec_statements.specs.judged.Scope.{is_pre_emitted};
 
 use crate::list::ExpressionList;
@@ -107,7 +107,7 @@ impl OperandUser<(), Option<Handle<key::Expression>>> for Unknown<'_> {
     ghost use Rattle.std.specs.Prelude.{◌≡◌};
     ghost use Rattle.ir_items.specs.found.View.{function_view};
     ghost use Rattle.function_body_checks.specs.Carried.{known, first_lacking};
-    ghost use Rattle.spec_expressions.specs.Operands.{looked_up};
+    ghost use Rattle.spec_expressions.specs.judged.Operands.{looked_up};
 
     ghost does = { λ t before after found operands. found ≡ first_lacking (known (function_view t.function.now) t.scope.now) (looked_up t.strict operands) };
 

@@ -5,7 +5,7 @@ ghost use Rattle.ir_blocks.specs.judged.Places.{statement as spot, loop_conditio
 ghost use Rattle.ir_blocks.specs.found.View.{statement_view};
 ghost use Rattle.ir_items.specs.found.View.{function_view};
 ghost use Rattle.function_body_checks.specs.Carried.{Fine, IfFault, IsArgumentError, IsFaultHere, Known};
-ghost use Rattle.spec_expressions.specs.Statements.{statement_callee};
+ghost use Rattle.spec_expressions.specs.judged.StatementNames.{statement_callee};
 ghost use Rattle.spec_statements.specs.judged.Results.{answer_of};
 ghost use Rattle.spec_statements.specs.judged.Tables.{checked_at, introduced, statement_checked};
 

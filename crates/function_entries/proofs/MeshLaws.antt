@@ -8,9 +8,9 @@ use Rattle.function_entries.specs.Interfaces.{ArePartsAt}
 use Rattle.function_entries.specs.MeshFaults.{AreSame, HasBadField, HasBadPrimitives, IsImpliedFault, IsSaidFault}
 use Rattle.function_entries.specs.MeshFields.{HasFields}
 use Rattle.function_entries.specs.declared.meshes.Fields.{Fields}
-use Rattle.ir_faults.specs.Faults.{error_of}
-use Rattle.ir_faults.specs.declared.refusal.Refusal.{Refusal}
-use Rattle.ir_faults.specs.declared.refusal.Refusal.TheVariants as refusal
+use Rattle.ir_types.specs.found.Faults.{error_of}
+use Rattle.ir_types.specs.declared.refusal.Refusal.{Refusal}
+use Rattle.ir_types.specs.declared.refusal.Refusal.TheVariants as refusal
 use Rattle.ir_items.specs.judged.GlobalPlain.{PlainGlobal}
 use Rattle.ir_items.specs.judged.Plain.{PlainModule}
 use Rattle.ir_items.specs.declared.entries.MeshStageInfo.{MeshStageInfo}

@@ -5,8 +5,8 @@ use Rattle.function_entry_checks.specs.declared.error.EntryPointError.{EntryPoin
 use Rattle.function_entries.specs.ConnectionFaults.{IsConnectionFault, of_mesh}
 use Rattle.function_entries.specs.OutputFaults.{IsMeshFault}
 use Rattle.function_entries.specs.VaryingFaults.{IsGivenFault, IsReportedOfResult}
-use Rattle.ir_faults.specs.declared.refusal.Refusal.{Refusal}
-use Rattle.ir_faults.specs.declared.refusal.Refusal.TheVariants as refusal
+use Rattle.ir_types.specs.declared.refusal.Refusal.{Refusal}
+use Rattle.ir_types.specs.declared.refusal.Refusal.TheVariants as refusal
 use Rattle.ir_flags.specs.declared.settings.Capabilities.{Capabilities}
 use Rattle.ir_flags.specs.declared.settings.ValidationFlags.{ValidationFlags}
 use Rattle.ir_items.specs.judged.Plain.{PlainEntry, PlainModule}

@@ -14,7 +14,7 @@ use crate::known::KnownInterfaces;
 use crate::outputs::check_mesh;
 use crate::varyings::{check_arguments, check_result};
 use function_entry_checks::{EntryPointError, check_variables};
-use ir_faults::refusal::Refusal;
+use ir_types::refusal::Refusal;
 use spec_expressions::GlobalUse;
 use std::alloc::Global;
 

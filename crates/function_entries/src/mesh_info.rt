@@ -2,17 +2,17 @@
 
 ghost use Rattle.std.specs.Prelude.{◌<◌, MatchOption, None, length, slice_index_or};
 ghost use Rattle.function_entries.specs.MeshFaults.{IsImpliedFault};
-ghost use Rattle.ir_faults.specs.Faults.{error_of};
+ghost use Rattle.ir_types.specs.found.Faults.{error_of};
 ghost use Rattle.ir_items.specs.judged.Plain.{PlainModule};
 ghost use Rattle.spec_interface.specs.judged.Meshes.{ImpliesMeshInfo};
 
 use crate::meshes::implied_mesh;
 use function_entry_checks::EntryPointError;
 use ir_arena::handle::Handle;
-use ir_faults::with_span::WithSpan;
 use ir_items::{MeshStageInfo, Module};
 use ir_kinds::MeshOutputTopology;
 use ir_types::key;
+use ir_types::with_span::WithSpan;
 use std::alloc::Global;
 
 /// What is implied of a mesh shader, with the overrides that say how many vertices and how many primitives there are at most, and

@@ -21,12 +21,12 @@ use bitflags::Flags;
 use function_entry_checks::EntryPointError;
 use function_varyings::KnownTypes;
 use ir_arena::handle::Handle;
-use ir_faults::refusal::Refusal;
-use ir_faults::with_span::WithSpan;
 use ir_flags::Capabilities;
 use ir_items::{MeshStageInfo, Module};
 use ir_kinds::MeshOutputTopology;
 use ir_types::key;
+use ir_types::refusal::Refusal;
+use ir_types::with_span::WithSpan;
 use spec_interface::{Direction, is_workgroup, space_at};
 use std::alloc::Global;
 

@@ -11,11 +11,11 @@ ghost use Rattle.spec_interface.specs.judged.Variables.{BindingsApart, IsUsed};
 
 use crate::error::EntryPointError;
 use ir_arena::handle::Handle;
-use ir_faults::refusal::Refusal;
-use ir_faults::with_span::WithSpan;
 use ir_items::Module;
 use ir_kinds::ResourceBinding;
 use ir_types::key;
+use ir_types::refusal::Refusal;
+use ir_types::with_span::WithSpan;
 use spec_expressions::GlobalUse;
 use spec_interface::{binding_at, use_at};
 use std::alloc::{AllocError, Global};

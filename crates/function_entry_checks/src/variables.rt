@@ -17,12 +17,12 @@ use crate::bindings::check_bindings;
 use crate::error::EntryPointError;
 use bitflags::Flags;
 use ir_arena::handle::Handle;
-use ir_faults::refusal::Refusal;
-use ir_faults::with_span::WithSpan;
 use ir_flags::ValidationFlags;
 use ir_items::{EntryPoint, GlobalVariable, Module};
 use ir_kinds::{AddressSpace, ShaderStage};
 use ir_types::key;
+use ir_types::refusal::Refusal;
+use ir_types::with_span::WithSpan;
 use spec_expressions::GlobalUse;
 use spec_interface::{
     allowed_uses, inner_at, is_immediate, is_run_for_rays, is_task_payload, space_at, traces_rays,

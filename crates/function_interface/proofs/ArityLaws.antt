@@ -2,8 +2,8 @@
 use Rattle.std.proofs.Common.{◌≡◌, length, Some, None, refl, sym, ap, ◌∙◌}
 use Rattle.spec_expressions.proofs.Members.{get-within}
 use Rattle.ir_items.specs.judged.Plain.{PlainFunction, PlainModule}
-use Rattle.spec_expressions.specs.Conditions.{HandlesInRange}
-use Rattle.spec_expressions.specs.References.{done, statement_calls}
+use Rattle.spec_expressions.specs.judged.FunctionHandles.{HandlesInRange}
+use Rattle.spec_expressions.specs.judged.References.{done, statement_calls}
 use Rattle.module_handles.specs.Tests.{PassesWrongCount, count_of}
 use Rattle.module_handles.specs.declared.arities.ArityFault.{ArityFault}
 

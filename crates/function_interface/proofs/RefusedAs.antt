@@ -1,8 +1,8 @@
 -- A refusal for one fault is one for any that it implies.
 use Rattle.typing_errors.specs.declared.error.FunctionError.{FunctionError}
-use Rattle.ir_faults.specs.Faults.{error_of}
-use Rattle.ir_faults.specs.declared.refusal.Refusal.{Refusal}
-use Rattle.ir_faults.specs.declared.refusal.Refusal.TheVariants as refusal
+use Rattle.ir_types.specs.found.Faults.{error_of}
+use Rattle.ir_types.specs.declared.refusal.Refusal.{Refusal}
+use Rattle.ir_types.specs.declared.refusal.Refusal.TheVariants as refusal
 use Rattle.function_interface.specs.Analysis.{IsRefusedFor}
 
 pub refused_as : (P Q : FunctionError → Type 0) → ((e : FunctionError) → P e → Q e) → (r : Refusal FunctionError) → IsRefusedFor P r → IsRefusedFor Q r

@@ -6,8 +6,8 @@ use Rattle.function_interface.specs.Interfaces.{IsInterfaceFault}
 use Rattle.function_interface.specs.Items.{EachOK}
 use Rattle.function_interface.specs.Locals.{IsLocalsFault}
 use Rattle.function_interface.specs.Refusals.{IsRefusal}
-use Rattle.ir_faults.specs.declared.refusal.Refusal.{Refusal}
-use Rattle.ir_faults.specs.declared.refusal.Refusal.TheVariants as refusal
+use Rattle.ir_types.specs.declared.refusal.Refusal.{Refusal}
+use Rattle.ir_types.specs.declared.refusal.Refusal.TheVariants as refusal
 use Rattle.spec_statements.specs.judged.BlockContext.{BlockContext}
 use Rattle.spec_statements.specs.judged.Interfaces.{ArgumentOK, InterfaceOK, LocalOK}
 

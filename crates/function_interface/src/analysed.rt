@@ -4,15 +4,15 @@ ghost use Rattle.std.specs.Prelude.{IfErr, IfOk, OnOk, map};
 ghost use Rattle.function_interface.specs.Analysis.{IsFaultBefore, IsKept, IsRefusedFor};
 ghost use Rattle.function_interface.specs.Question.{question};
 ghost use Rattle.ir_items.specs.found.View.{function_view, module_view};
-ghost use Rattle.ir_proc.specs.found.Filters.{ParentsPrecede};
-ghost use Rattle.spec_expressions.specs.Conditions.{AritiesMatch, HandlesInRange, OperandsPrecede};
+ghost use Rattle.ir_items.specs.found.Filters.{ParentsPrecede};
+ghost use Rattle.spec_expressions.specs.judged.FunctionHandles.{AritiesMatch, HandlesInRange, OperandsPrecede};
 
 use crate::arities::check_arities;
 use crate::lower::Lower;
-use ir_faults::refusal::Refusal;
-use ir_faults::with_span::WithSpan;
 use ir_flags::ValidationFlags;
 use ir_items::{Function, Module};
+use ir_types::refusal::Refusal;
+use ir_types::with_span::WithSpan;
 use std::alloc::Global;
 use typing_errors::FunctionError;
 

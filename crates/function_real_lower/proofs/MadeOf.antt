@@ -6,7 +6,7 @@ use Rattle.typing_infos.specs.declared.info.ModuleInfo.{ModuleInfo}
 use Rattle.module_context.specs.AcceptedTypes.{AreAccepted}
 use Rattle.function_real_lower.specs.Made.{IsMadeOf}
 use Rattle.spec_expressions.specs.judged.Context.{outside}
-use Rattle.spec_expressions.specs.InOrder.{HandlesOK}
+use Rattle.spec_expressions.specs.judged.ModuleHandles.{HandlesOK}
 use Rattle.typing_infos.specs.Types.{AreTypes}
 
 pub made_of : (capabilities : Capabilities) (resolved : Bool) (m : PlainModule) (info : ModuleInfo) → HandlesOK m → AreAccepted capabilities resolved m.types info.types.items

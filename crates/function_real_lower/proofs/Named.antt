@@ -4,9 +4,9 @@ use Rattle.ir_types.specs.judged.ExpressionPlain.{PlainExpression, compose, plai
 use Rattle.ir_types.specs.declared.expressions.Expression.TheVariants as x
 use Rattle.ir_items.specs.judged.Plain.{PlainFunction, PlainModule}
 use Rattle.spec_expressions.specs.judged.Context.{inside}
-use Rattle.spec_expressions.specs.Conditions.{HandlesInRange}
-use Rattle.spec_expressions.specs.Expressions.{expression_item}
-use Rattle.spec_expressions.specs.References.{item, computed, expression_names, ItemExists}
+use Rattle.spec_expressions.specs.judged.FunctionHandles.{HandlesInRange}
+use Rattle.spec_expressions.specs.judged.ExpressionNames.{expression_item}
+use Rattle.spec_expressions.specs.judged.References.{item, computed, expression_names, ItemExists}
 use Rattle.spec_expressions.specs.declared.target.Target.{Target}
 use Rattle.spec_expressions.specs.declared.target.Target.TheVariants as target
 use Rattle.typing_infos.specs.Types.{ItemsNamed}

@@ -15,9 +15,9 @@ use Rattle.spec_statements.specs.judged.ExpressionStages.{IsRunBy, stages_of}
 use Rattle.spec_expressions.proofs.TypingLaws.{one_type}
 use Rattle.spec_expressions.specs.judged.Context.{inside, outside}
 use Rattle.spec_expressions.specs.judged.Typing.{HasGlobalType, HasType}
-use Rattle.spec_expressions.specs.InOrder.{HandlesOK}
-use Rattle.spec_expressions.specs.Modules as part
-use Rattle.spec_expressions.specs.References.{operand}
+use Rattle.spec_expressions.specs.judged.ModuleHandles.{HandlesOK}
+use Rattle.spec_expressions.specs.judged.ModuleReferences as part
+use Rattle.spec_expressions.specs.judged.References.{operand}
 use Rattle.typing_forms.specs.declared.form.Form.{Form}
 use Rattle.typing_forms.specs.declared.resolution.TypeResolution.{TypeResolution}
 

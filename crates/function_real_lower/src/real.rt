@@ -2,18 +2,18 @@
 
 ghost use Rattle.std.specs.Prelude.{◌≡◌, IfOk, None, length};
 ghost use Rattle.ir_items.specs.found.View.{module_view};
-ghost use Rattle.ir_proc.specs.found.Filters.{ParentsPrecede};
+ghost use Rattle.ir_items.specs.found.Filters.{ParentsPrecede};
 ghost use Rattle.function_real_lower.specs.Severities.{AreKnown, severities_in};
 
 use crate::process::process_by;
 use function_interface::{Lower, NotedStages};
 use function_statement_checks::BlockContext;
 use ir_arena::handle::Handle;
-use ir_faults::refusal::Refusal;
 use ir_flags::{ShaderStages, ValidationFlags};
 use ir_items::{Function, Module};
 use ir_kinds::Severity;
 use ir_types::key;
+use ir_types::refusal::Refusal;
 use module_context::CheckContext;
 use module_expressions::{expression_stages, validate_expression};
 use spec_expressions::{GlobalUse, SamplingPair};

@@ -2,7 +2,7 @@
 
 ghost use Rattle.std.specs.Prelude.{◌≡◌, List, MatchResult, IfSome, None};
 ghost use Rattle.ir_types.specs.judged.Plain.{inner_view, PlainType};
-ghost use Rattle.ir_proc.specs.judged.Bases.{BasesPrecede};
+ghost use Rattle.ir_items.specs.judged.Bases.{BasesPrecede};
 ghost use Rattle.spec_statements.specs.judged.BlockContext.{form_at};
 ghost use Rattle.spec_statements.specs.judged.Stores.{StoreOK, IsStorable};
 ghost use Rattle.function_statement_checks.specs.Stores.{IsStoreFault};

@@ -4,7 +4,7 @@ ghost use Rattle.std.specs.Prelude.{◌≡◌, option_map, slice_get};
 ghost use Rattle.std.specs.Option.{option_or};
 ghost use Rattle.ir_types.specs.judged.ExpressionPlain.{expression_view};
 ghost use Rattle.ir_items.specs.found.GlobalView.{global_view};
-ghost use Rattle.ir_proc.specs.judged.Bases.{global_of};
+ghost use Rattle.ir_items.specs.judged.Bases.{global_of};
 ghost use Rattle.spec_statements.specs.judged.Variables.{variable_at, accessed_at};
 
 use crate::context::StatementContext;

@@ -9,7 +9,7 @@ use Rattle.ir_flags.specs.declared.stages.SubgroupOperationSet.{SubgroupOperatio
 use Rattle.ir_flags.specs.declared.stages.TheConstants.SubgroupOperationSet.{BALLOT}
 use Rattle.ir_kinds.specs.declared.subgroups.CollectiveOperation.{CollectiveOperation}
 use Rattle.ir_kinds.specs.declared.subgroups.SubgroupOperation.{SubgroupOperation}
-use Rattle.spec_expressions.specs.Operands.{gather_index}
+use Rattle.spec_expressions.specs.judged.Operands.{gather_index}
 use Rattle.spec_statements.specs.judged.BlockContext.{BlockContext}
 use Rattle.spec_statements.specs.judged.Subgroups.{HasOperation, BallotOK, CollectiveOK, GatherOK, collective_needs, gather_needs}
 use Rattle.function_statements.specs.SubgroupLaws.{FaultsRefute}

@@ -13,7 +13,7 @@ use Rattle.ir_kinds.specs.judged.Scalars.{boolean, unsigned}
 use Rattle.ir_kinds.specs.declared.subgroups.CollectiveOperation.{CollectiveOperation}
 use Rattle.ir_kinds.specs.declared.subgroups.SubgroupOperation.{SubgroupOperation}
 use Rattle.spec_statements.specs.judged.Shapes.{IsOfValue, IsMadeOf, shaped_of}
-use Rattle.spec_expressions.specs.Operands.{gather_index}
+use Rattle.spec_expressions.specs.judged.Operands.{gather_index}
 use Rattle.spec_statements.specs.judged.BlockContext.{BlockContext, form_at}
 use Rattle.spec_statements.specs.judged.Subgroups.{collective_needs, gather_needs, AnswersAs, IsNumber, TakesShape, GoesOver, IndexIsKnown}
 use Rattle.typing_forms.specs.declared.form.Form.TheVariants as form

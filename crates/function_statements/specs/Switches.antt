@@ -4,9 +4,9 @@ use Rattle.function_body_checks.specs.Cases.{IsCaseFault}
 use Rattle.typing_errors.specs.declared.error.FunctionError.{FunctionError}
 use Rattle.typing_errors.specs.declared.error.FunctionError.TheVariants as error
 use Rattle.ir_blocks.specs.judged.Plain.{PlainCases}
-use Rattle.ir_faults.specs.Faults.{error_of, spans_of}
-use Rattle.ir_faults.specs.declared.refusal.Refusal.{Refusal}
-use Rattle.ir_faults.specs.declared.refusal.Refusal.TheVariants as refusal
+use Rattle.ir_types.specs.found.Faults.{error_of, spans_of}
+use Rattle.ir_types.specs.declared.refusal.Refusal.{Refusal}
+use Rattle.ir_types.specs.declared.refusal.Refusal.TheVariants as refusal
 use Rattle.ir_kinds.specs.declared.scalars.ScalarKind.{ScalarKind}
 use Rattle.spec_statements.specs.judged.Shapes.{IsInteger, shaped_of}
 use Rattle.spec_statements.specs.judged.BlockContext.{BlockContext, form_at}

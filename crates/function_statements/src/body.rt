@@ -3,17 +3,17 @@
 ghost use Rattle.std.specs.Prelude.{MatchResult};
 ghost use Rattle.ir_blocks.specs.judged.Places.{Place, OccursAt};
 ghost use Rattle.ir_blocks.specs.judged.Plain.{PlainStatement};
-ghost use Rattle.ir_proc.specs.judged.Bases.{BasesPrecede};
-ghost use Rattle.spec_expressions.specs.Conditions.{AritiesMatch};
+ghost use Rattle.ir_items.specs.judged.Bases.{BasesPrecede};
+ghost use Rattle.spec_expressions.specs.judged.FunctionHandles.{AritiesMatch};
 ghost use Rattle.spec_statements.specs.judged.Statements.{StatementOK};
 ghost use Rattle.function_statements.specs.Faults.{IsBodyRefusal};
 
 use crate::error::StatementError;
 use crate::rules::Rules;
 use function_statement_checks::StatementContext;
-use ir_faults::refusal::Refusal;
-use ir_faults::with_span::WithSpan;
 use ir_references::check_each;
+use ir_types::refusal::Refusal;
+use ir_types::with_span::WithSpan;
 use std::alloc::Global;
 use typing_errors::FunctionError;
 

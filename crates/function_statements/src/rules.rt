@@ -17,7 +17,7 @@ pub(crate) struct Rules<'a, C> {
 }
 
 impl<'a, C: StatementContext> StatementRule<StatementError> for Rules<'a, C> {
-    ghost use Rattle.ir_proc.specs.judged.Bases.{BasesPrecede};
+    ghost use Rattle.ir_items.specs.judged.Bases.{BasesPrecede};
     ghost use Rattle.function_statements.specs.Bodies.{Meets, IsWrong};
 
     ghost fits = { λ r. C.known r.context.now × BasesPrecede (C.seen r.context.now).f.expressions };

@@ -2,7 +2,7 @@
 
 ghost use Rattle.std.specs.Prelude.{IfSome, IsSomeAnd, MatchResult, map};
 ghost use Rattle.ir_blocks.specs.found.View.{statement_view, case_view, cases_of};
-ghost use Rattle.ir_proc.specs.judged.Bases.{BasesPrecede};
+ghost use Rattle.ir_items.specs.judged.Bases.{BasesPrecede};
 ghost use Rattle.function_atomic_checks.specs.StorageImages.{IsImageStoreFault};
 ghost use Rattle.spec_statements.specs.judged.BlockContext.{form_at};
 ghost use Rattle.spec_statements.specs.judged.Conditions.{ConditionOK};
@@ -26,8 +26,8 @@ use function_statement_checks::{
 };
 use ir_arena::handle::Handle;
 use ir_blocks::{Statement, SwitchCase};
-use ir_faults::refusal::Refusal;
 use ir_types::key;
+use ir_types::refusal::Refusal;
 use std::alloc::Global;
 use typing_errors::FunctionError;
 

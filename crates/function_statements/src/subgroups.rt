@@ -6,7 +6,7 @@ ghost use Rattle.ir_flags.specs.declared.stages.TheConstants.SubgroupOperationSe
 ghost use Rattle.ir_kinds.specs.judged.Scalars.{unsigned};
 ghost use Rattle.function_statements.specs.Subgroups.{IsOperationFault, IsBallotFault, IsCollectiveFault, IsGatherFault};
 ghost use Rattle.spec_statements.specs.judged.Shapes.{IsOfValue, IsMadeOf, shaped_of};
-ghost use Rattle.spec_expressions.specs.Operands.{gather_index};
+ghost use Rattle.spec_expressions.specs.judged.Operands.{gather_index};
 ghost use Rattle.spec_statements.specs.judged.BlockContext.{form_at};
 ghost use Rattle.spec_statements.specs.judged.Subgroups.{collective_needs, gather_needs, HasOperation, answered_type, AnswersAs, BallotOK, IsNumber, TakesShape, IsScanned, GoesOver, CollectiveOK, IndexIsKnown, GatherOK};
 

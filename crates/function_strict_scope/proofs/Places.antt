@@ -10,7 +10,7 @@ use Rattle.ir_blocks.specs.judged.Plain.{ray_query, ballot, PlainStatement, emit
 use Rattle.ir_blocks.specs.judged.Shapes.{Part, inner, accepting, rejecting, case_at, loop_body, loop_continuing, shape_of, part_of, case_body}
 use Rattle.ir_blocks.specs.declared.operations.RayQueryFunction.TheVariants as ray
 use Rattle.ir_items.specs.judged.Plain.{PlainFunction}
-use Rattle.spec_expressions.specs.Statements.{operation_result}
+use Rattle.spec_expressions.specs.judged.StatementNames.{operation_result}
 use Rattle.spec_statements.proofs.StrictLaws.{strict_by_walk_lem}
 use Rattle.spec_statements.specs.judged.Scope.{InScope, ScopeOK}
 use Rattle.spec_statements.specs.judged.Strict.{InStrictScope, StrictOK, needed_at, statement_needed}

@@ -7,7 +7,7 @@ use Rattle.typing_errors.specs.declared.error.FunctionError.{FunctionError}
 use Rattle.typing_errors.specs.declared.error.FunctionError.TheVariants as error
 use Rattle.ir_types.specs.judged.ExpressionPlain.{PlainExpression}
 use Rattle.ir_items.specs.judged.Plain.{PlainFunction}
-use Rattle.spec_expressions.specs.Expressions.{expression_operands}
+use Rattle.spec_expressions.specs.judged.ExpressionNames.{expression_operands}
 use Rattle.function_body_checks.proofs.Tables.{head_held, only}
 use Rattle.function_body_checks.specs.Carried.{Known}
 use Rattle.function_strict_scope.specs.Tables.{operands_given}

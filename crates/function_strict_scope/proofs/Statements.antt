@@ -10,7 +10,7 @@ use Rattle.ir_blocks.specs.judged.Plain.{PlainStatement, emit, block, if_, switc
 use Rattle.ir_types.specs.judged.ExpressionPlain.{PlainExpression, plain}
 use Rattle.ir_types.specs.declared.expressions.Expression.TheVariants.{RayQueryProceedResult, SubgroupBallotResult}
 use Rattle.ir_items.specs.judged.Plain.{PlainFunction}
-use Rattle.spec_expressions.specs.Statements.{Emitted, statement_callee, statement_range, statement_result}
+use Rattle.spec_expressions.specs.judged.StatementNames.{Emitted, statement_callee, statement_range, statement_result}
 use Rattle.spec_statements.specs.judged.Strict.{statement_needed, needed_at}
 use Rattle.spec_statements.specs.judged.Tables.{introduced}
 use Rattle.function_body_checks.proofs.Tables.{head_held}

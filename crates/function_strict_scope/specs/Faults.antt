@@ -9,13 +9,13 @@ use Rattle.typing_errors.specs.declared.calls.CallError.TheVariants as call_erro
 use Rattle.ir_blocks.specs.judged.Places.{Place, OccursAt}
 use Rattle.ir_blocks.specs.judged.Plain.{emit, operation, call, ray_query, ballot}
 use Rattle.ir_blocks.specs.declared.operations.RayQueryFunction.TheVariants.{Proceed}
-use Rattle.ir_faults.specs.Faults.{error_of}
-use Rattle.ir_faults.specs.declared.refusal.Refusal.{Refusal}
-use Rattle.ir_faults.specs.declared.refusal.Refusal.TheVariants as refusal
+use Rattle.ir_types.specs.found.Faults.{error_of}
+use Rattle.ir_types.specs.declared.refusal.Refusal.{Refusal}
+use Rattle.ir_types.specs.declared.refusal.Refusal.TheVariants as refusal
 use Rattle.ir_types.specs.judged.ExpressionPlain.{PlainExpression, plain}
 use Rattle.ir_types.specs.declared.expressions.Expression.TheVariants.{RayQueryProceedResult, SubgroupBallotResult}
 use Rattle.ir_items.specs.judged.Plain.{PlainFunction}
-use Rattle.spec_expressions.specs.Expressions.{expression_operands}
+use Rattle.spec_expressions.specs.judged.ExpressionNames.{expression_operands}
 use Rattle.spec_statements.specs.judged.Strict.{InStrictScope, Needs}
 
 -- an operand is used where it is not in strict scope, by another statement than a call

@@ -3,8 +3,8 @@
 ghost use Rattle.std.specs.Prelude.{◌≡◌, ◌++◌, OnOk, slice_get};
 ghost use Rattle.ir_types.specs.judged.ExpressionPlain.{expression_view};
 ghost use Rattle.ir_items.specs.found.View.{function_view};
-ghost use Rattle.spec_expressions.specs.Expressions.{expression_operands};
-ghost use Rattle.spec_expressions.specs.Operands.{these, handles_of};
+ghost use Rattle.spec_expressions.specs.judged.ExpressionNames.{expression_operands};
+ghost use Rattle.spec_expressions.specs.judged.Operands.{these, handles_of};
 ghost use Rattle.function_strict_scope.specs.Tables.{operands_given};
 
 use ir_arena::handle::Handle;
@@ -44,7 +44,7 @@ struct Adder;
 
 impl OperandUser<Vec<Handle<key::Expression>>, Result<(), AllocError>> for Adder {
     ghost use Rattle.std.specs.Prelude.{◌≡◌, ◌++◌, OnOk};
-    ghost use Rattle.spec_expressions.specs.Operands.{handles_of};
+    ghost use Rattle.spec_expressions.specs.judged.Operands.{handles_of};
 
     ghost does = { λ adder before after added operands. OnOk added (after.items ≡ before.items ++ handles_of operands) };
 

@@ -12,9 +12,9 @@ use crate::error::StrictError;
 use crate::pairs::begin;
 use crate::walk::check_block;
 use function_body_checks::ExpressionList;
-use ir_faults::refusal::Refusal;
-use ir_faults::with_span::WithSpan;
 use ir_items::Function;
+use ir_types::refusal::Refusal;
+use ir_types::with_span::WithSpan;
 use std::alloc::Global;
 use typing_errors::{CallError, ExpressionError, FunctionError};
 

@@ -9,7 +9,7 @@ use Rattle.ir_types.specs.declared.expressions.Expression.TheVariants as x
 use Rattle.ir_references.specs.First.{first_in, first_at, first_in_cases}
 use Rattle.typing_rules.specs.judged.Laws.{IsAmong}
 use Rattle.spec_expressions.specs.judged.Effects.{Effect, takes, samples, sampling_at, expression_effects, expressions_effects, leaving_effects, statement_effects, effects_in, effects_inside, effects_in_cases}
-use Rattle.spec_expressions.specs.judged.Operands.{Operand, expression_operands, statement_operands}
+use Rattle.spec_expressions.specs.judged.OperandUses.{Operand, expression_uses, statement_uses}
 
 -- ---- a test of members
 
@@ -58,13 +58,13 @@ module _ (p : Effect → Bool) (not_taken : (o : Operand) → p (takes o) ≡ fa
     none_in_expressions e [] = refl
     none_in_expressions e (expression ∷ rest) =
         list_any-append p (expression_effects e expression) (expressions_effects (e + 1) rest)
-        ∙ ap (λ b. b || list_any p (expressions_effects (e + 1) rest)) (behind_taken (expression_operands expression) (sampling_at e expression) ∙ none_sampled e expression)
+        ∙ ap (λ b. b || list_any p (expressions_effects (e + 1) rest)) (behind_taken (expression_uses expression) (sampling_at e expression) ∙ none_sampled e expression)
         ∙ none_in_expressions (e + 1) rest
 
   -- in a body, where it is what is looked for in a statement
   module _ {F : Type 0} (look : PlainStatement → Option F) (own : (s : PlainStatement) → list_any p (leaving_effects s) ≡ is_some (look s)) where
     of_statement : (s : PlainStatement) → list_any p (statement_effects s) ≡ is_some (look s)
-    of_statement s = behind_taken (statement_operands s) (leaving_effects s) ∙ own s
+    of_statement s = behind_taken (statement_uses s) (leaving_effects s) ∙ own s
 
     -- with nothing inside
     alone : (s : PlainStatement) → list_any p (statement_effects s ++ []) ≡ is_some (look s)

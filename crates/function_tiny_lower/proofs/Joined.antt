@@ -14,7 +14,7 @@ use Rattle.typing_rules.specs.judged.Laws.{IsAmong}
 use Rattle.spec_expressions.proofs.Members.{among-cases}
 use Rattle.spec_expressions.specs.judged.Chains.{Discards}
 use Rattle.spec_expressions.specs.judged.Effects.{Effect, takes, samples, runs, discards, sampling_at, expression_effects, expressions_effects, leaving_effects, effects_in, effects_of}
-use Rattle.spec_expressions.specs.judged.Operands.{Operand, expression_operands}
+use Rattle.spec_expressions.specs.judged.OperandUses.{Operand, expression_uses}
 use Rattle.spec_expressions.specs.judged.Summaries.{Summary, CallsOne, IsJoined}
 use Rattle.function_tiny_lower.proofs.Effects.{any_among, among_any, none_in_expressions, found_in}
 use Rattle.function_tiny_lower.proofs.Typed.{typed_somewhere}
@@ -73,8 +73,8 @@ in_expressions : (at e image sampler : ℕ) (expressions : List PlainExpression)
     → (expression : PlainExpression) × IsAmong expression expressions × HasNone expression
 in_expressions at e image sampler [] among = elim among [ ]
 in_expressions at e image sampler (expression ∷ rest) among = elim (among-cases (expression_effects at expression) (expressions_effects (at + 1) rest) (samples e image sampler) among) [
-  | inl own ↦ elim (among-cases (map takes (expression_operands expression)) (sampling_at at expression) (samples e image sampler) own) [
-    | inl operand ↦ absurd (not_an_operand (expression_operands expression) e image sampler operand)
+  | inl own ↦ elim (among-cases (map takes (expression_uses expression)) (sampling_at at expression) (samples e image sampler) own) [
+    | inl operand ↦ absurd (not_an_operand (expression_uses expression) e image sampler operand)
     | inr sampling ↦ (expression, inl refl, sampling_has_none at e image sampler expression sampling)
   ]
   | inr later ↦ (let r = in_expressions (at + 1) e image sampler rest later in (r.0, inr r.1, r.2))

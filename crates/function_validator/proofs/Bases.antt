@@ -3,9 +3,9 @@ use Rattle.std.proofs.Common.{◌≡◌, ◌<◌, ℕ, List, [], ◌∷◌, Some
 use Rattle.std.proofs.lemmas.List.Elements.{All-head}
 use Rattle.ir_types.specs.judged.ExpressionPlain.{PlainExpression, plain}
 use Rattle.ir_types.specs.declared.expressions.Expression.TheVariants as x
-use Rattle.ir_proc.specs.judged.Bases.{base_of, BasesPrecede}
-use Rattle.spec_expressions.specs.Conditions.{OperandsPrecede}
-use Rattle.spec_expressions.specs.Expressions.{expression_operands}
+use Rattle.ir_items.specs.judged.Bases.{base_of, BasesPrecede}
+use Rattle.spec_expressions.specs.judged.FunctionHandles.{OperandsPrecede}
+use Rattle.spec_expressions.specs.judged.ExpressionNames.{expression_operands}
 
 base_below : (handle base : ℕ) (e : PlainExpression) → base_of e ≡ Some base → All (λ operand. operand < handle) (expression_operands e) → base < handle
 base_below handle base (plain (x.Access b index)) is all = subst (λ y. y < handle) (let h = is in cc) (All-head (λ (operand : ℕ). operand < handle) b (index ∷ []) all)

@@ -3,9 +3,9 @@ use Rattle.std.proofs.Common.{◌≡◌, ◌<◌, ℕ, Option, Some, None, IfSom
 use Rattle.module_globals.specs.There.{IsPlaced}
 use Rattle.ir_items.specs.judged.GlobalPlain.{PlainGlobal}
 use Rattle.ir_items.specs.judged.Plain.{PlainModule}
-use Rattle.spec_expressions.specs.InOrder.{HandlesOK}
-use Rattle.spec_expressions.specs.Modules as part
-use Rattle.spec_expressions.specs.References.{item, operand}
+use Rattle.spec_expressions.specs.judged.ModuleHandles.{HandlesOK}
+use Rattle.spec_expressions.specs.judged.ModuleReferences as part
+use Rattle.spec_expressions.specs.judged.References.{item, operand}
 use Rattle.spec_expressions.specs.declared.target.Target.TheVariants as target
 
 module _ (m : PlainModule) (ok : HandlesOK m) (handle : ℕ) (v : PlainGlobal) (at : slice_get m.globals handle ≡ Some v) where

@@ -6,9 +6,9 @@ use Rattle.function_interface.specs.Analysis.{Faults, IsRefusedFor, IsFaultBefor
 use Rattle.function_interface.proofs.RefusedAs.{refused_as}
 use Rattle.ir_items.specs.judged.Plain.{PlainFunction, PlainModule}
 use Rattle.function_interface.specs.Refusals.{IsRefusal}
-use Rattle.ir_faults.specs.Faults.{error_of}
-use Rattle.ir_faults.specs.declared.refusal.Refusal.{Refusal}
-use Rattle.ir_faults.specs.declared.refusal.Refusal.TheVariants as refusal
+use Rattle.ir_types.specs.found.Faults.{error_of}
+use Rattle.ir_types.specs.declared.refusal.Refusal.{Refusal}
+use Rattle.ir_types.specs.declared.refusal.Refusal.TheVariants as refusal
 use Rattle.ir_flags.specs.Sets.{Has}
 use Rattle.ir_flags.specs.declared.settings.TheConstants.ValidationFlags.{EXPRESSIONS, BLOCKS}
 use Rattle.ir_flags.specs.declared.stages.ShaderStages.{ShaderStages}

@@ -12,8 +12,8 @@ use function_body_checks::ExpressionList;
 use function_interface::check_answered;
 use function_statement_checks::BlockContext;
 use ir_arena::handle::Handle;
-use ir_faults::refusal::Refusal;
-use ir_faults::with_span::WithSpan;
+use ir_types::refusal::Refusal;
+use ir_types::with_span::WithSpan;
 use std::alloc::{AllocError, Global};
 use typing_errors::FunctionError;
 

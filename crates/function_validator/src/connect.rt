@@ -16,9 +16,9 @@ use crate::uses::{note_own, uses_of};
 use function_entries::{EntryContext, KnownInterfaces, check_connections_with};
 use function_entry_checks::EntryPointError;
 use function_interface::Lower;
-use ir_faults::refusal::Refusal;
 use ir_flags::Settings;
 use ir_items::{EntryPoint, Module};
+use ir_types::refusal::Refusal;
 use std::alloc::Global;
 
 // Whether it is as it may be, where these are the uses of an entry point with its own; then whether two sources of a blend are

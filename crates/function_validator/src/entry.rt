@@ -9,10 +9,10 @@ ghost use Rattle.function_interface.specs.Question.{question};
 ghost use Rattle.ir_flags.specs.Sets.{Has};
 ghost use Rattle.ir_items.specs.found.View.{entry_view, module_view};
 ghost use Rattle.ir_items.specs.declared.entries.MeshStageInfo.{MeshStageInfo};
-ghost use Rattle.ir_proc.specs.found.Filters.{ParentsPrecede};
+ghost use Rattle.ir_items.specs.found.Filters.{ParentsPrecede};
 ghost use Rattle.spec_expressions.specs.judged.Chains.{HasUse};
 ghost use Rattle.spec_expressions.specs.judged.Summaries.{CalleesKnown};
-ghost use Rattle.spec_expressions.specs.Conditions.{HandlesInRange, OperandsPrecede};
+ghost use Rattle.spec_expressions.specs.judged.FunctionHandles.{HandlesInRange, OperandsPrecede};
 ghost use Rattle.spec_interface.specs.judged.Contexts.{stage_set};
 ghost use Rattle.function_statement_checks.specs.Descriptors.{AreDescriptors};
 
@@ -23,12 +23,12 @@ use function_entries::KnownInterfaces;
 use function_entry_checks::{EntryPointError, check_payload, check_stage, stage_set};
 use function_interface::Lower;
 use ir_arena::handle::Handle;
-use ir_faults::refusal::Refusal;
-use ir_faults::with_span::WithSpan;
 use ir_flags::Settings;
 use ir_items::{EntryPoint, Module};
 use ir_kinds::ShaderStage;
 use ir_types::key;
+use ir_types::refusal::Refusal;
+use ir_types::with_span::WithSpan;
 use std::alloc::Global;
 use typing_errors::FunctionError;
 
@@ -131,10 +131,8 @@ pub fn validate_entry_point_with<L: Lower>(
     requires output { IfSome entry.now.mesh_info (λ (i : MeshStageInfo). i.output_variable < length (module_view «module».now).globals) }
     requires known { CalleesKnown (module_view «module».now) (entry_view entry.now).function (map (L.summary lower.now) callees.now) }
     ensures interfaces { OnOk result (AreInterfacesKnown settings.flags settings.capabilities (module_view «module».now).types known.new) }
-    ensures judged { let m = module_view «module».now in
-        let e = entry_view entry.now in
-        let q = question m e.function (map (L.summary lower.now) callees.now) (map (L.noted lower.now) callees.now) in
-        MatchResult result
+    ensures judged { let m = module_view «module».now in let e = entry_view entry.now in
+        let q = question m e.function (map (L.summary lower.now) callees.now) (map (L.noted lower.now) callees.now) in MatchResult result
         (λ v. IsEntryValidated (L.reading lower.now q) q.stages settings held m e (L.summary lower.now v.info) (L.noted lower.now v.info) (L.blending lower.now v.info) v.held)
         (IsRefusedFor (IsRefusedAs (L.reading lower.now q) (L.faults lower.now q) q.stages (HasUse m e.function) settings held m e)) }
 {

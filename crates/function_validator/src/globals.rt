@@ -7,13 +7,13 @@ ghost use Rattle.module_globals.specs.Initializers.{IsInitializer, IsTypedBy};
 ghost use Rattle.ir_items.specs.found.GlobalView.{global_view};
 ghost use Rattle.ir_items.specs.found.View.{module_view};
 ghost use Rattle.spec_interface.specs.judged.Globals.{VariableBy};
-ghost use Rattle.spec_expressions.specs.InOrder.{HandlesOK};
+ghost use Rattle.spec_expressions.specs.judged.ModuleHandles.{HandlesOK};
 
 use function_interface::Lower;
-use ir_faults::refusal::Refusal;
-use ir_faults::with_span::WithSpan;
 use ir_flags::{Capabilities, ValidationFlags};
 use ir_items::{GlobalVariable, Module};
+use ir_types::refusal::Refusal;
+use ir_types::with_span::WithSpan;
 use module_globals::{GlobalVariableError, Initializer, VariableContext, validate_variable};
 use std::alloc::{AllocError, Global};
 use typing_forms::form_of;

@@ -9,8 +9,8 @@ ghost use Rattle.ir_flags.specs.Sets.{Has};
 ghost use Rattle.ir_flags.specs.declared.settings.TheConstants.ValidationFlags.{EXPRESSIONS, BLOCKS};
 ghost use Rattle.ir_blocks.specs.judged.Places.{Place};
 ghost use Rattle.spec_statements.specs.judged.Results.{AnswersBy};
-ghost use Rattle.ir_proc.specs.judged.Bases.{BasesPrecede};
-ghost use Rattle.spec_expressions.specs.Conditions.{AritiesMatch};
+ghost use Rattle.ir_items.specs.judged.Bases.{BasesPrecede};
+ghost use Rattle.spec_expressions.specs.judged.FunctionHandles.{AritiesMatch};
 ghost use Rattle.function_statement_checks.specs.View.{context_view, IsKnown};
 
 use crate::answers::check_answers;
@@ -22,10 +22,10 @@ use function_body_checks::ExpressionList;
 use function_interface::{Lower, check_interface, stages_of};
 use function_statement_checks::BlockContext;
 use ir_arena::handle::Handle;
-use ir_faults::refusal::Refusal;
-use ir_faults::with_span::WithSpan;
 use ir_flags::{Settings, ShaderStages, ValidationFlags};
 use ir_types::key;
+use ir_types::refusal::Refusal;
+use ir_types::with_span::WithSpan;
 use std::alloc::Global;
 use typing_errors::FunctionError;
 

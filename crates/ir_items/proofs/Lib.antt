@@ -2,3 +2,8 @@ pub mod CopyLemmas
 pub mod Returned
 pub mod EachLemmas
 pub mod ReturnLemmas
+pub mod Chains
+pub mod FlatLemmas
+pub mod Paths
+pub mod Places
+pub mod Runs

@@ -1,3 +1,4 @@
 pub mod Plain
 pub mod Returned
 pub mod GlobalPlain
+pub mod Bases

@@ -1,19 +1,32 @@
-// The items of the IR: constants, overrides, variables, special types, diagnostic filters, functions, entry points and the
-// module that holds everything. It hands on statements, blocks, the types and the expressions.
+//! The items of the IR: constants, overrides, variables, special types, diagnostic filters, functions, entry points and the
+//! module that holds everything. It hands on statements, blocks, the types and the expressions.
+//!
+//! What goes over the parts of a function: the calls that follow the handles inside an arena (from a filter to its parent, from
+//! an access to its base, from a composition to its components; they require that each handle is in its arena and leads to an
+//! earlier place), and what gives the `Emit` statements of a function that is being built. Their names are those of naga's
+//! `proc`.
 #![tactic(auto)]
 
+mod bases;
+mod emitter;
+pub mod emitter_laws;
 mod entries;
 mod filters;
+mod flatten;
 mod functions;
 mod globals;
 pub mod laws;
 mod module;
 mod module_lists;
 mod returns;
+mod severity;
 mod special;
 
+pub use bases::FunctionExt;
+pub use emitter::Emitter;
 pub use entries::{EntryPoint, MeshStageInfo};
 pub use filters::{DiagnosticFilter, DiagnosticFilterNode, FilterableTriggeringRule};
+pub use flatten::{FlattenCompose, flatten_compose};
 pub use functions::{Function, FunctionArgument, FunctionResult, LocalVariable};
 pub use globals::{Constant, GlobalVariable, Override};
 pub use ir_blocks::{
@@ -25,4 +38,5 @@ pub use ir_types::{
     TypeInner, key,
 };
 pub use module::{GlobalCtx, Module};
+pub use severity::DiagnosticFilterNodeExt;
 pub use special::SpecialTypes;

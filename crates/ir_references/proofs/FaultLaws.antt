@@ -12,12 +12,12 @@ use Rattle.ir_items.specs.found.GlobalView.{values_of, node_view}
 use Rattle.ir_items.specs.declared.filters.DiagnosticFilterNode.{DiagnosticFilterNode}
 use Rattle.ir_items.specs.judged.Plain.{PlainFunction, PlainModule}
 use Rattle.ir_items.specs.declared.functions.FunctionResult.{FunctionResult}
-use Rattle.ir_proc.specs.found.Filters.{ParentsPrecede}
-use Rattle.spec_expressions.specs.Conditions.{HandlesInRange, OperandsPrecede, CalleesPrecede}
-use Rattle.spec_expressions.specs.Expressions.{expression_operands, expression_item}
-use Rattle.spec_expressions.specs.InOrder.{named_at}
-use Rattle.spec_expressions.specs.References.{Site, Named, item, operand, range, Names, argument_type, answer_type, local_type, local_value, filter_leaf, expression_names, expression_reads, statement_reads, statement_answers, statement_emits, statement_calls, ItemExists, IsThere}
-use Rattle.spec_expressions.specs.Statements.{statement_operands, statement_result, Emitted, statement_range, statement_callee}
+use Rattle.ir_items.specs.found.Filters.{ParentsPrecede}
+use Rattle.spec_expressions.specs.judged.FunctionHandles.{HandlesInRange, OperandsPrecede, CalleesPrecede}
+use Rattle.spec_expressions.specs.judged.ExpressionNames.{expression_operands, expression_item}
+use Rattle.spec_expressions.specs.judged.ModuleHandles.{named_at}
+use Rattle.spec_expressions.specs.judged.References.{Site, Named, item, operand, range, Names, argument_type, answer_type, local_type, local_value, filter_leaf, expression_names, expression_reads, statement_reads, statement_answers, statement_emits, statement_calls, ItemExists, IsThere}
+use Rattle.spec_expressions.specs.judged.StatementNames.{statement_operands, statement_result, Emitted, statement_range, statement_callee}
 use Rattle.spec_expressions.specs.declared.item.ItemKind.{ItemKind}
 use Rattle.spec_expressions.specs.declared.item.ItemKind.TheVariants as kind
 use Rattle.spec_expressions.specs.declared.target.Target.{Target}

@@ -10,10 +10,10 @@ use Rattle.ir_references.specs.First.{first_past, first_of, first_in}
 use Rattle.ir_references.specs.declared.bounds.Bounds.{Bounds}
 use Rattle.ir_references.specs.declared.fault.HandleFault.{HandleFault}
 use Rattle.ir_references.specs.declared.fault.HandleFault.TheVariants as fault
-use Rattle.spec_expressions.specs.Expressions.{expression_operands, expression_item}
-use Rattle.spec_expressions.specs.InOrder.{named_at}
-use Rattle.spec_expressions.specs.References.{Site, Named, item, range, Names, IsThere}
-use Rattle.spec_expressions.specs.Statements.{statement_operands, statement_result, Emitted, statement_range, statement_callee}
+use Rattle.spec_expressions.specs.judged.ExpressionNames.{expression_operands, expression_item}
+use Rattle.spec_expressions.specs.judged.ModuleHandles.{named_at}
+use Rattle.spec_expressions.specs.judged.References.{Site, Named, item, range, Names, IsThere}
+use Rattle.spec_expressions.specs.judged.StatementNames.{statement_operands, statement_result, Emitted, statement_range, statement_callee}
 use Rattle.spec_expressions.specs.declared.item.ItemKind.{ItemKind}
 use Rattle.spec_expressions.specs.declared.item.ItemKind.TheVariants as kind
 use Rattle.spec_expressions.specs.declared.target.Target.{Target}

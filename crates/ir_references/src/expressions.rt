@@ -2,7 +2,7 @@
 
 ghost use Rattle.std.specs.Prelude.{◌≡◌};
 ghost use Rattle.ir_types.specs.judged.ExpressionPlain.{expression_view};
-ghost use Rattle.spec_expressions.specs.Expressions.{expression_item};
+ghost use Rattle.spec_expressions.specs.judged.ExpressionNames.{expression_item};
 
 use ir_types::Expression;
 use spec_expressions::Target;

@@ -8,7 +8,7 @@ ghost use Rattle.ir_items.specs.found.GlobalView.{values_of};
 ghost use Rattle.ir_items.specs.found.View.{argument_view, local_view, function_view, module_view};
 ghost use Rattle.ir_references.specs.Faults.{missing, range_out, expression_missing, statement_missing, argument_missing, local_missing, signature_missing, function_missing, IsMissingFault};
 ghost use Rattle.ir_references.specs.First.{first_of, emitted_view};
-ghost use Rattle.spec_expressions.specs.Conditions.{HandlesInRange};
+ghost use Rattle.spec_expressions.specs.judged.FunctionHandles.{HandlesInRange};
 ghost use Rattle.spec_expressions.specs.declared.item.ItemKind.TheVariants as kind;
 
 use crate::bounds::{Bounds, absent};

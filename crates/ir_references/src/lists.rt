@@ -4,9 +4,9 @@ ghost use Rattle.std.specs.Prelude.{◌≡◌};
 ghost use Rattle.ir_types.specs.judged.ExpressionPlain.{expression_view};
 ghost use Rattle.ir_blocks.specs.found.View.{statement_view};
 ghost use Rattle.ir_references.specs.First.{first_past};
-ghost use Rattle.spec_expressions.specs.Expressions.{expression_operands};
-ghost use Rattle.spec_expressions.specs.Operands.{these, handles_of};
-ghost use Rattle.spec_expressions.specs.Statements.{statement_operands};
+ghost use Rattle.spec_expressions.specs.judged.ExpressionNames.{expression_operands};
+ghost use Rattle.spec_expressions.specs.judged.Operands.{these, handles_of};
+ghost use Rattle.spec_expressions.specs.judged.StatementNames.{statement_operands};
 
 use crate::operands::{OperandUser, with_operands, with_statement_operands};
 use ir_arena::handle::Handle;
@@ -49,7 +49,7 @@ struct Past {
 impl OperandUser<(), Option<Handle<key::Expression>>> for Past {
     ghost use Rattle.std.specs.Prelude.{◌≡◌};
     ghost use Rattle.ir_references.specs.First.{first_past};
-    ghost use Rattle.spec_expressions.specs.Operands.{handles_of};
+    ghost use Rattle.spec_expressions.specs.judged.Operands.{handles_of};
 
     ghost does = { λ past before after found operands. found ≡ first_past past.end (handles_of operands) };
 

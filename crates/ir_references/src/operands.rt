@@ -3,7 +3,7 @@
 ghost use Rattle.std.specs.Prelude.{◌≡◌, ◌∷◌};
 ghost use Rattle.ir_types.specs.judged.ExpressionPlain.{expression_view};
 ghost use Rattle.ir_blocks.specs.found.View.{statement_view};
-ghost use Rattle.spec_expressions.specs.Operands.{Operands, these, each_of, used, reads, reads_if, scoped, level_first, level_second, query_level, compared, where_answered, gather_index, of_expression, of_query, of_pipeline, of_statement};
+ghost use Rattle.spec_expressions.specs.judged.Operands.{Operands, these, each_of, used, reads, reads_if, scoped, level_first, level_second, query_level, compared, where_answered, gather_index, of_expression, of_query, of_pipeline, of_statement};
 ghost use Rattle.spec_expressions.specs.declared.operand.Scoping.TheVariants.{Strictly};
 
 use ir_arena::handle::Handle;
@@ -15,7 +15,7 @@ type Operand = Handle<key::Expression>;
 
 /// What is done with the operands of an expression or of a statement, to a state, and what it answers.
 pub trait OperandUser<S, A> {
-    ghost use Rattle.spec_expressions.specs.Operands.{Operands};
+    ghost use Rattle.spec_expressions.specs.judged.Operands.{Operands};
 
     /// It is done, from the state before to the state after, with this answer.
     ghost does: { Self → S → S → A → Operands → Type 0 };

@@ -8,8 +8,8 @@ ghost use Rattle.ir_items.specs.found.GlobalView.{values_of, node_view};
 ghost use Rattle.ir_items.specs.found.View.{function_view};
 ghost use Rattle.ir_references.specs.Faults.{operand_forward, callee_forward, function_of, expression_forward, callees_forward, parent_forward, IsForwardOperand, IsForwardCallee, IsForwardParent};
 ghost use Rattle.ir_references.specs.First.{first_of};
-ghost use Rattle.ir_proc.specs.found.Filters.{ParentsPrecede};
-ghost use Rattle.spec_expressions.specs.Conditions.{OperandsPrecede, CalleesPrecede};
+ghost use Rattle.ir_items.specs.found.Filters.{ParentsPrecede};
+ghost use Rattle.spec_expressions.specs.judged.FunctionHandles.{OperandsPrecede, CalleesPrecede};
 
 use crate::expressions::item_of;
 use crate::fault::HandleFault;

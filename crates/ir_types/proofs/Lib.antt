@@ -3,3 +3,4 @@ pub mod Choices
 pub mod Same
 pub mod TypeEquality
 pub mod ByView
+pub mod Known

@@ -15,14 +15,14 @@ use Rattle.ir_types.specs.judged.Plain.{PlainInner, struct as written_struct, pl
 use Rattle.ir_types.specs.declared.types.TypeInner.TheVariants as inner
 use Rattle.judgement.proofs.Inside.{everywhere_inside}
 use Rattle.judgement.proofs.Placed.{buffer_sound}
-use Rattle.judgement.specs.Laws.{buffer_type, BuffersOK, TypesAreSound, BuffersAreSound}
-use Rattle.judgement.specs.Sound.{StrideOK, ShapesOK, IsBuffer}
+use Rattle.judgement.specs.judged.BufferLaws.{buffer_type, BuffersOK, TypesAreSound, BuffersAreSound}
+use Rattle.judgement.specs.judged.Sound.{StrideOK, ShapesOK, IsBuffer}
 use Rattle.spec_interface.specs.judged.Globals.{VariableOK, GlobalsOK}
 use Rattle.spec_interface.specs.judged.Spaces.{array_base, counted, LiesIn}
-use Rattle.spec_expressions.specs.InOrder.{HandlesOK}
-use Rattle.spec_expressions.specs.Order.{a_type, type_on_named}
-use Rattle.spec_expressions.specs.Modules.{variable, variable_type}
-use Rattle.spec_expressions.specs.References.{item}
+use Rattle.spec_expressions.specs.judged.ModuleHandles.{HandlesOK}
+use Rattle.spec_expressions.specs.judged.Order.{a_type, type_on_named}
+use Rattle.spec_expressions.specs.judged.ModuleReferences.{variable, variable_type}
+use Rattle.spec_expressions.specs.judged.References.{item}
 use Rattle.spec_expressions.specs.declared.target.Target.TheVariants as target
 use Rattle.judgement.specs.judged.ModuleSteps.{layout, type, ModuleOK}
 use Rattle.judgement.specs.judged.Lines.{is_buffer, buffer_line, buffer_of}

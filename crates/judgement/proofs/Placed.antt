@@ -7,11 +7,11 @@ use Rattle.ir_types.specs.declared.types.ArraySize.{ArraySize}
 use Rattle.ir_types.specs.declared.types.ArraySize.TheVariants as count
 use Rattle.judgement.proofs.Powers.{divides_max_left, divides_max_right, alignment_power, greatest_power, part_power, uniform_divides}
 use Rattle.judgement.proofs.Runs.{Runs, runs_lower, runs_higher, runs_wider, runs_append, runs_inside, runs_repeated, runs_aligned, runs_fitting, runs_apart, runs_within}
-use Rattle.judgement.specs.Sound.{StrideOK, LeavesOK, ShapesOK, IsBuffer}
+use Rattle.judgement.specs.judged.Sound.{StrideOK, LeavesOK, ShapesOK, IsBuffer}
 use Rattle.typing_layout.specs.judged.Buffers.{PartsAligned, StorageAt, UniformAt}
 use Rattle.typing_layout.specs.judged.Flags.{HasFlag, AllHave, HostShareable, Sized, IsInOrder}
 use Rattle.typing_layout.specs.judged.Layout.{size, alignment, greatest_alignment, LayoutOK}
-use Rattle.judgement.specs.Leaves.{inside, repeated, leaves, member_leaves}
+use Rattle.judgement.specs.judged.Leaves.{inside, repeated, leaves, member_leaves}
 use Rattle.typing_layout.specs.judged.Parts.{Part, listed, end_of, Everywhere, EverywhereIn}
 use Rattle.typing_layout.specs.judged.Tree.{Tree, scalar, vector, matrix, cooperative_matrix, atomic, pointer, value_pointer, array, struct, image, sampler, acceleration_structure, ray_query, binding_array, Members, no_members, member}
 

@@ -6,8 +6,8 @@ use Rattle.std.proofs.lemmas.List.Elements.{All-nil, All-cons, All-weaker}
 use Rattle.std.proofs.lemmas.List.Kept.{AllPairs-cons}
 use Rattle.std.proofs.lemmas.Nat.Gcd.{dvd_trans}
 use Rattle.std.proofs.Math.Nat.{dvd-add, dvd-mul_left_of_dvd}
-use Rattle.judgement.specs.Sound.{AreApart}
-use Rattle.judgement.specs.Leaves.{Leaf, inside, repeated}
+use Rattle.judgement.specs.judged.Sound.{AreApart}
+use Rattle.judgement.specs.judged.Leaves.{Leaf, inside, repeated}
 
 -- from low to high, each at a multiple of its alignment, which divides a
 abbrev pub Runs : (a low : ℕ) → List Leaf → (high : ℕ) → Type 0

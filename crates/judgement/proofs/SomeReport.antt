@@ -11,9 +11,9 @@ use Rattle.ir_items.specs.judged.Plain.{PlainEntry, PlainFunction, PlainModule}
 use Rattle.typing_rules.specs.judged.Laws.{IsAmong}
 use Rattle.spec_expressions.specs.judged.Chains.{base_denotes, denotes, place, Step, IsChain, end_of, bound, argument_means, seen_through, HasUse, HasPair}
 use Rattle.spec_expressions.specs.judged.Summaries.{no_use}
-use Rattle.spec_expressions.specs.Conditions.{HandlesInRange}
-use Rattle.spec_expressions.specs.InOrder.{HandlesOK}
-use Rattle.spec_expressions.specs.References.{computed, item, expression_names}
+use Rattle.spec_expressions.specs.judged.FunctionHandles.{HandlesInRange}
+use Rattle.spec_expressions.specs.judged.ModuleHandles.{HandlesOK}
+use Rattle.spec_expressions.specs.judged.References.{computed, item, expression_names}
 use Rattle.spec_expressions.specs.declared.target.Target.TheVariants as target
 use Rattle.judgement.proofs.Numbers.{HasBits, some_number, HasItems, some_list}
 use Rattle.judgement.proofs.Classical.{Holds, surely, then}

@@ -1,5 +1,2 @@
-pub mod Laws
-pub mod Leaves
-pub mod Sound
 pub mod found
 pub mod judged

@@ -3,3 +3,6 @@ pub mod Text
 pub mod ModuleSteps
 pub mod Lines
 pub mod Reports
+pub mod BufferLaws
+pub mod Leaves
+pub mod Sound

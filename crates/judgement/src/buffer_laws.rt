@@ -3,7 +3,7 @@
 //!
 //! The functions do nothing: their contracts are the laws.
 
-ghost use Rattle.judgement.specs.Laws.{BuffersAreSound, TypesAreSound};
+ghost use Rattle.judgement.specs.judged.BufferLaws.{BuffersAreSound, TypesAreSound};
 
 /// The leaves of a type that a storage or a uniform buffer can hold, and in which no array has a stride shorter than its element,
 /// are aligned, and no two share a byte, however many elements an array without a length has. Where it has one, they lie within

@@ -7,7 +7,7 @@ ghost use Rattle.std.specs.Prelude.{◌≡◌, [], ◌∷◌, None, false};
 ghost use Rattle.ir_kinds.specs.judged.Scalars.{floating, unsigned};
 ghost use Rattle.ir_kinds.specs.declared.scalars.VectorSize.TheVariants.{Bi, Tri, Quad};
 ghost use Rattle.ir_types.specs.declared.types.ArraySize.TheVariants.{Constant, Pending, Dynamic};
-ghost use Rattle.judgement.specs.Leaves.{leaves, leaf};
+ghost use Rattle.judgement.specs.judged.Leaves.{leaves, leaf};
 ghost use Rattle.typing_layout.specs.judged.Tree.{scalar, vector, matrix, atomic, array, struct, sampler, no_members, member};
 
 /// The leaves of types that hold none but themselves, or none at all.

@@ -8,8 +8,8 @@ use Rattle.ir_blocks.specs.declared.operations.RayQueryFunction.TheVariants as r
 use Rattle.ir_kinds.specs.declared.scalars.Scalar.{Scalar}
 use Rattle.ir_types.specs.judged.ExpressionPlain.{PlainExpression, plain}
 use Rattle.ir_types.specs.declared.expressions.Expression.TheVariants as x
-use Rattle.spec_expressions.specs.Expressions.{expression_operands}
-use Rattle.spec_expressions.specs.Statements.{operation_result, ray_result}
+use Rattle.spec_expressions.specs.judged.ExpressionNames.{expression_operands}
+use Rattle.spec_expressions.specs.judged.StatementNames.{operation_result, ray_result}
 use Rattle.spec_statements.specs.judged.Atomics.{AtomicResultOK, AtomicChangeOK, changed_scalar, declared_answer}
 use Rattle.spec_statements.specs.judged.BlockContext.{BlockContext, form_at}
 use Rattle.spec_statements.specs.judged.Calls.{CallResultOK}

@@ -13,7 +13,7 @@ use Rattle.ir_items.specs.judged.Plain.{PlainFunction, PlainModule}
 use Rattle.judgement_laws.specs.Laws.{IsCallOf, IsOperationOf, OccursOnce, EachAnswered, AnsweredByOne}
 use Rattle.spec_statements.specs.judged.ModuleFunctions.{FunctionAtOK}
 use Rattle.ir_kinds.specs.declared.scalars.Scalar.{Scalar}
-use Rattle.spec_expressions.specs.Operands.{compared}
+use Rattle.spec_expressions.specs.judged.Operands.{compared}
 use Rattle.spec_statements.specs.judged.Atomics.{AnswerOK, AtomicAnswer, AtomicChangeOK, changed_scalar, declared_answer}
 use Rattle.spec_statements.specs.judged.BlockContext.{BlockContext, form_at}
 use Rattle.spec_statements.specs.judged.Functions.{BodyOK}

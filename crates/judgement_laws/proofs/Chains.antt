@@ -15,9 +15,9 @@ use Rattle.typing_rules.specs.judged.Laws.{IsAmong}
 use Rattle.spec_expressions.proofs.Members.{among-left, among-right, get-among}
 use Rattle.spec_expressions.specs.judged.Chains.{place, Step, Calls, IsChain, end_of, argument_means, seen_through, bound, Reaches, Names, HasPair}
 use Rattle.spec_expressions.specs.judged.Effects.{Effect, takes, samples as sampling, runs, sampling_at, expression_effects, expressions_effects, statement_effects, effects_in, effects_inside, effects_in_cases, effects_of}
-use Rattle.spec_expressions.specs.judged.Operands.{expression_operands, statement_operands}
-use Rattle.spec_expressions.specs.Conditions.{HandlesInRange}
-use Rattle.spec_expressions.specs.References.{computed as computed_site, expression_names}
+use Rattle.spec_expressions.specs.judged.OperandUses.{expression_uses, statement_uses}
+use Rattle.spec_expressions.specs.judged.FunctionHandles.{HandlesInRange}
+use Rattle.spec_expressions.specs.judged.References.{computed as computed_site, expression_names}
 use Rattle.spec_runs.specs.judged.Events.{Event, entered, executed, introduced_expression, named, sampled, used, passed, returned, fell_off, escaped}
 use Rattle.spec_runs.specs.judged.Good.{NamedOK, SampledOK}
 use Rattle.spec_runs.specs.found.Invariants.{IsInvariant}
@@ -64,7 +64,7 @@ call_among : (f : PlainFunction) (p : Place) (function : ℕ) (arguments : List 
 call_among f p function arguments result stands =
     among-right (expressions_effects 0 f.expressions) (effects_in f.body) _
     (occurs_among p f.body (call function arguments result) (runs function arguments) stands
-    (among-right (map takes (statement_operands (call function arguments result))) (runs function arguments ∷ []) _ (inl refl)))
+    (among-right (map takes (statement_uses (call function arguments result))) (runs function arguments ∷ []) _ (inl refl)))
 
 -- ---- so is a sampling among the expressions
 
@@ -74,7 +74,7 @@ expression_among first zero (z ∷ xs) x y at h =
     let same : x ≡ z = some_is (sym at) in
     let number : first + 0 ≡ first = omega arith in
     among-left (expression_effects first z) (expressions_effects (first + 1) xs) y
-    (among-right (map takes (expression_operands z)) (sampling_at first z) y (subst (λ n. IsAmong y (sampling_at n z)) number (subst (λ w. IsAmong y (sampling_at (first + 0) w)) same h)))
+    (among-right (map takes (expression_uses z)) (sampling_at first z) y (subst (λ n. IsAmong y (sampling_at n z)) number (subst (λ w. IsAmong y (sampling_at (first + 0) w)) same h)))
 expression_among first (suc e) (z ∷ xs) x y at h =
     let number : first + suc e ≡ (first + 1) + e = omega arith in
     among-right (expression_effects first z) (expressions_effects (first + 1) xs) y (expression_among (first + 1) e xs x y at (subst (λ n. IsAmong y (sampling_at n x)) number h))

@@ -7,8 +7,8 @@ use Rattle.spec_expressions.proofs.Members.{among-get}
 use Rattle.spec_expressions.specs.judged.Chains.{Step, Calls, IsChain, end_of}
 use Rattle.spec_expressions.specs.judged.Effects.{runs, effects_of}
 use Rattle.spec_statements.proofs.CallLaws.{calls_precede}
-use Rattle.spec_expressions.specs.Conditions.{CalleesPrecede}
-use Rattle.spec_expressions.specs.InOrder.{HandlesOK}
+use Rattle.spec_expressions.specs.judged.FunctionHandles.{CalleesPrecede}
+use Rattle.spec_expressions.specs.judged.ModuleHandles.{HandlesOK}
 
 -- the last one, or where the chain begins
 abbrev head_or : List ℕ → ℕ → ℕ

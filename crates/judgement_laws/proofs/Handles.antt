@@ -4,14 +4,14 @@ use Rattle.std.specs.Prelude.{◌<◌, Contains}
 use Rattle.ir_blocks.specs.judged.Plain.{PlainBlock}
 use Rattle.ir_items.specs.judged.Plain.{PlainFunction, PlainEntry, PlainModule}
 use Rattle.spec_expressions.specs.declared.target.Target.TheVariants as target
-use Rattle.spec_expressions.specs.Items.{mesh_types, mesh_expressions, entry_variables}
-use Rattle.spec_expressions.specs.References.{Named, item, operand, range, IsThere}
-use Rattle.spec_expressions.specs.Conditions.{HandlesInRange}
-use Rattle.spec_expressions.specs.Modules as in_module
-use Rattle.spec_expressions.specs.Modules.{NamesIn, IsThereIn}
-use Rattle.spec_expressions.specs.Order as order
-use Rattle.spec_expressions.specs.Order.{Ordered, NamesType, DependsOn, IsBefore}
-use Rattle.spec_expressions.specs.InOrder.{HandlesOK}
+use Rattle.spec_expressions.specs.judged.ItemNames.{mesh_types, mesh_expressions, entry_variables}
+use Rattle.spec_expressions.specs.judged.References.{Named, item, operand, range, IsThere}
+use Rattle.spec_expressions.specs.judged.FunctionHandles.{HandlesInRange}
+use Rattle.spec_expressions.specs.judged.ModuleReferences as in_module
+use Rattle.spec_expressions.specs.judged.ModuleReferences.{NamesIn, IsThereIn}
+use Rattle.spec_expressions.specs.judged.Order as order
+use Rattle.spec_expressions.specs.judged.Order.{Ordered, NamesType, DependsOn, IsBefore}
+use Rattle.spec_expressions.specs.judged.ModuleHandles.{HandlesOK}
 use Rattle.judgement_laws.specs.judged.Like.{Matched, LikeFunction, LikeEntry, LikeModule}
 use Rattle.judgement_laws.specs.found.Laws.{ReturnsKeepHandles}
 use Rattle.judgement_laws.proofs.Likeness.{function_back, module_back, over_like, like_returned}

@@ -12,7 +12,7 @@ use Rattle.ir_blocks.specs.found.View.{HoldsNoBlock}
 use Rattle.spec_expressions.specs.judged.Disruption.{chosen_by, is_end}
 use Rattle.spec_expressions.specs.judged.Uniformity.{Required, Requires}
 use Rattle.ir_kinds.specs.declared.diagnostics.Severity.{Severity}
-use Rattle.spec_expressions.specs.Statements.{statement_operands, statement_result, statement_range, statement_callee}
+use Rattle.spec_expressions.specs.judged.StatementNames.{statement_operands, statement_result, statement_range, statement_callee}
 use Rattle.spec_statements.specs.judged.BlockContext.{BlockContext, form_at}
 use Rattle.spec_statements.specs.judged.Results.{answer_of}
 use Rattle.spec_statements.specs.judged.Shapes.{shaped_of}

@@ -3,8 +3,8 @@ use Rattle.std.proofs.Common.{◌≡◌, Some, None, sym, subst}
 use Rattle.std.specs.Prelude.{Contains}
 use Rattle.ir_blocks.specs.judged.Plain.{PlainBlock}
 use Rattle.ir_items.specs.judged.Plain.{PlainFunction}
-use Rattle.spec_expressions.specs.References.{Site, Named, Names, argument_type, answer_type, local_type, local_value, filter_leaf, expression_names, expression_reads, statement_reads, statement_answers, statement_emits, statement_calls}
-use Rattle.spec_expressions.specs.Statements.{statement_operands, statement_result, statement_range, statement_callee}
+use Rattle.spec_expressions.specs.judged.References.{Site, Named, Names, argument_type, answer_type, local_type, local_value, filter_leaf, expression_names, expression_reads, statement_reads, statement_answers, statement_emits, statement_calls}
+use Rattle.spec_expressions.specs.judged.StatementNames.{statement_operands, statement_result, statement_range, statement_callee}
 use Rattle.judgement_laws.specs.found.Alike.{IsCarried}
 use Rattle.judgement_laws.specs.judged.Like.{LikeFunction}
 use Rattle.judgement_laws.proofs.Bodies.{carry, looks, none_contained}

@@ -11,7 +11,7 @@ use Rattle.ir_flags.specs.declared.stages.SubgroupOperationSet.{SubgroupOperatio
 use Rattle.ir_items.specs.judged.Plain.{PlainFunction, PlainEntry, PlainLocal, PlainArgument}
 use Rattle.ir_items.specs.declared.functions.FunctionResult.{FunctionResult}
 use Rattle.ir_kinds.specs.declared.scalars.Scalar.{Scalar}
-use Rattle.spec_expressions.specs.Operands.{compared}
+use Rattle.spec_expressions.specs.judged.Operands.{compared}
 use Rattle.spec_statements.specs.judged.Atomics.{AtomicAnswer, AnswerOK, AtomicResultOK, AtomicChangeOK, changed_scalar}
 use Rattle.spec_statements.specs.judged.Barriers.{HasSubgroupBarriers}
 use Rattle.spec_statements.specs.judged.BlockContext.{BlockContext, form_at}

@@ -6,7 +6,7 @@ use Rattle.ir_blocks.specs.judged.Plain.{PlainStatement, emit, block, if_, switc
 use Rattle.ir_blocks.specs.judged.Shapes.{Part, inner, accepting, rejecting, case_at, loop_body, loop_continuing, shape_of, part_of, case_body}
 use Rattle.ir_types.specs.judged.ExpressionPlain.{PlainExpression}
 use Rattle.ir_items.specs.judged.Plain.{PlainFunction}
-use Rattle.spec_expressions.specs.Operands.{given}
+use Rattle.spec_expressions.specs.judged.Operands.{given}
 use Rattle.spec_statements.proofs.ScopeLaws.{none_held, scope_by_walk_lem}
 use Rattle.spec_statements.specs.judged.Scope.{is_pre_emitted, PreEmitted, ScopeOK}
 use Rattle.spec_statements.specs.judged.Tables.{statement_checked, checked_at, introduced, introduced_at}

@@ -15,7 +15,7 @@ use Rattle.spec_expressions.specs.judged.Summaries.{no_use}
 use Rattle.spec_interface.specs.judged.Modules.{EntriesOK}
 use Rattle.spec_interface.specs.judged.Payloads.{binding_at}
 use Rattle.spec_statements.specs.judged.ModuleFunctions.{FunctionsOK}
-use Rattle.spec_expressions.specs.InOrder.{HandlesOK}
+use Rattle.spec_expressions.specs.judged.ModuleHandles.{HandlesOK}
 use Rattle.judgement.specs.judged.Lines.{is_own, is_used}
 use Rattle.judgement.specs.judged.Reports.{IsEntryReport}
 use Rattle.spec_statements.specs.judged.Results.{answer_of}

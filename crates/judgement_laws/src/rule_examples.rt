@@ -11,7 +11,7 @@ ghost use Rattle.ir_blocks.specs.judged.Shapes.{breaks, continues, returns, kill
 ghost use Rattle.ir_blocks.specs.judged.Control.{may_leave};
 ghost use Rattle.ir_blocks.specs.judged.Tails.{completed};
 ghost use Rattle.typing_layout.specs.judged.Widths.{IsKindAllowed};
-ghost use Rattle.spec_expressions.specs.Statements.{statement_operands, statement_callee, statement_result, statement_range};
+ghost use Rattle.spec_expressions.specs.judged.StatementNames.{statement_operands, statement_callee, statement_result, statement_range};
 ghost use Rattle.judgement.specs.judged.Text.{text_of};
 ghost use Rattle.judgement.specs.declared.finding.Finding.TheVariants.{Accepted, RefusedDocument, RefusedHandles, Refused};
 ghost use Rattle.judgement.specs.declared.finding.Step.TheVariants.{«Type», Function};

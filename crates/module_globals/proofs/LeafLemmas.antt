@@ -5,7 +5,7 @@ use Rattle.module_globals.specs.Reached.{IsMet, IsReached, IsReachedIn}
 use Rattle.module_globals.specs.Slots.{IsIn, Meets}
 use Rattle.ir_types.specs.declared.types.ArraySize.{ArraySize}
 use Rattle.ir_types.specs.declared.types.ArraySize.TheVariants as count
-use Rattle.judgement.specs.Leaves.{Leaf, inside, repeated, held_in, leaves, member_leaves}
+use Rattle.judgement.specs.judged.Leaves.{Leaf, inside, repeated, held_in, leaves, member_leaves}
 use Rattle.typing_layout.specs.judged.Tree.{Tree, scalar, vector, matrix, cooperative_matrix, atomic, pointer, value_pointer, array, struct, image, sampler, acceleration_structure, ray_query, binding_array, Members, no_members, member}
 use Rattle.typing_forms.specs.judged.Sizes.{counted}
 

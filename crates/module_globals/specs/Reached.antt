@@ -2,7 +2,7 @@
 use Rattle.std.specs.Prelude.{◌<◌, ◌+◌, ◌*◌, ◌⊎◌, ℕ}
 use Rattle.std.specs.List.{Contains}
 use Rattle.module_globals.specs.Slots.{Meets}
-use Rattle.judgement.specs.Leaves.{Leaf, leaves}
+use Rattle.judgement.specs.judged.Leaves.{Leaf, leaves}
 use Rattle.typing_layout.specs.judged.Layout.{size}
 use Rattle.typing_layout.specs.judged.Tree.{Tree, scalar, vector, matrix, cooperative_matrix, atomic, pointer, value_pointer, array, struct, image, sampler, acceleration_structure, ray_query, binding_array, Members, no_members, member}
 use Rattle.typing_forms.specs.judged.Sizes.{counted}

@@ -6,8 +6,8 @@ use Rattle.ir_references.specs.declared.fault.HandleFault.{HandleFault}
 use Rattle.ir_references.specs.declared.fault.HandleFault.TheVariants as fault
 use Rattle.module_handles.specs.InOrder.{IsFaultIn, IsFunctionFault, IsEntryFault}
 use Rattle.module_handles.proofs.OutsideFaults.{entry_fault}
-use Rattle.spec_expressions.specs.InOrder.{in_function, in_entry}
-use Rattle.spec_expressions.specs.Order.{an_expression, a_function, a_filter, of_function, of_entry, filter_on_parent, expression_on_operand, function_on_callee, inside_function, inside_entry}
+use Rattle.spec_expressions.specs.judged.ModuleHandles.{in_function, in_entry}
+use Rattle.spec_expressions.specs.judged.Order.{an_expression, a_function, a_filter, of_function, of_entry, filter_on_parent, expression_on_operand, function_on_callee, inside_function, inside_entry}
 
 module _ (m : PlainModule) where
   -- ---- of a function

@@ -7,11 +7,11 @@ use Rattle.module_handles.specs.Steps.{ExpressionConditions, AllExpressions, Ord
 use Rattle.module_handles.proofs.Whole.{conditions}
 use Rattle.module_handles.specs.Conditions.{FunctionConditions}
 use Rattle.spec_expressions.specs.judged.Context.{Context, inside, outside, NamesItem}
-use Rattle.spec_expressions.specs.Expressions.{expression_item}
-use Rattle.spec_expressions.specs.InOrder.{HandlesOK}
-use Rattle.spec_expressions.specs.Modules.{expression, expression_names}
-use Rattle.spec_expressions.specs.References.{computed, item, ItemExists}
-use Rattle.spec_expressions.specs.References.{expression_names as function_names}
+use Rattle.spec_expressions.specs.judged.ExpressionNames.{expression_item}
+use Rattle.spec_expressions.specs.judged.ModuleHandles.{HandlesOK}
+use Rattle.spec_expressions.specs.judged.ModuleReferences.{expression, expression_names}
+use Rattle.spec_expressions.specs.judged.References.{computed, item, ItemExists}
+use Rattle.spec_expressions.specs.judged.References.{expression_names as function_names}
 use Rattle.spec_expressions.specs.declared.target.Target.{Target}
 use Rattle.spec_expressions.specs.declared.target.Target.TheVariants as target
 use Rattle.module_handles.proofs.SameLemmas.{same_order}

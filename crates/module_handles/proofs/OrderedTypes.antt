@@ -30,13 +30,13 @@ use Rattle.spec_expressions.specs.judged.Results.{result_of}
 use Rattle.spec_expressions.specs.judged.Typing.{HasTypeAmong, has}
 use Rattle.spec_expressions.specs.declared.faults.TypingFault.{TypingFault}
 use Rattle.spec_expressions.specs.declared.faults.TypingFault.TheVariants.{BuiltinArgumentsInvalid, FunctionArgumentNotFound, FunctionReturnsVoid, InvalidAccess, InvalidPointer, MissingSpecialType}
-use Rattle.spec_expressions.specs.Conditions.{HandlesInRange}
-use Rattle.spec_expressions.specs.Expressions.{expression_item}
-use Rattle.spec_expressions.specs.Operands.{given}
-use Rattle.spec_expressions.specs.InOrder.{HandlesOK}
-use Rattle.spec_expressions.specs.Items.{special_types}
-use Rattle.spec_expressions.specs.Modules as part
-use Rattle.spec_expressions.specs.References.{ItemExists, item, argument, answer, local, computed, argument_type, answer_type, local_type, expression_names}
+use Rattle.spec_expressions.specs.judged.FunctionHandles.{HandlesInRange}
+use Rattle.spec_expressions.specs.judged.ExpressionNames.{expression_item}
+use Rattle.spec_expressions.specs.judged.Operands.{given}
+use Rattle.spec_expressions.specs.judged.ModuleHandles.{HandlesOK}
+use Rattle.spec_expressions.specs.judged.ItemNames.{special_types}
+use Rattle.spec_expressions.specs.judged.ModuleReferences as part
+use Rattle.spec_expressions.specs.judged.References.{ItemExists, item, argument, answer, local, computed, argument_type, answer_type, local_type, expression_names}
 use Rattle.spec_expressions.specs.declared.target.Target.{Target}
 use Rattle.spec_expressions.specs.declared.target.Target.TheVariants as target
 use Rattle.spec_expressions.specs.judged.Given.{is_key, handle_for, given_type}

@@ -12,8 +12,8 @@ use Rattle.ir_items.specs.found.View.{function_view, entry_view, module_view}
 use Rattle.ir_references.proofs.FaultLaws.{map_some}
 use Rattle.module_handles.specs.Steps.{OrderGivesOrigins}
 use Rattle.module_handles.proofs.Whole.{conditions}
-use Rattle.spec_expressions.specs.Conditions.{OperandsPrecede}
-use Rattle.spec_expressions.specs.Expressions.{expression_operands}
+use Rattle.spec_expressions.specs.judged.FunctionHandles.{OperandsPrecede}
+use Rattle.spec_expressions.specs.judged.ExpressionNames.{expression_operands}
 use Rattle.std.specs.List.{cons_option}
 use Rattle.typing_layout.specs.judged.Constness.{OriginsPrecede, origin_of, operands_from}
 

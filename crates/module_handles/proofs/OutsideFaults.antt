@@ -13,13 +13,13 @@ use Rattle.ir_types.specs.judged.Plain.{PlainInner, PlainType}
 use Rattle.module_handles.specs.Found.{first_missing, special_missing, leaf_missing, constant_missing, override_missing, variable_missing, entry_missing, pending_missing, built_forward, up_to, looked_through}
 use Rattle.module_handles.specs.LookupFound.{type_of, init_of, forward, counted_by, counted_forward}
 use Rattle.module_handles.specs.InOrder.{IsFaultIn, NamesForward, IsGlobalExpressionFault}
-use Rattle.spec_expressions.specs.Expressions.{expression_item}
-use Rattle.spec_expressions.specs.InOrder.{named_at, in_module}
-use Rattle.spec_expressions.specs.Items.{pending_of, special_types, mesh_types, mesh_expressions, entry_variables}
-use Rattle.spec_expressions.specs.Modules.{Part, a_type, special, leaf, constant, override, expression, variable, entry, NamesIn, type_counts, special_names, leaf_names, constant_type, constant_value, override_type, override_value, expression_names, variable_type, variable_value, entry_type, entry_expression, entry_variable, IsThereIn}
-use Rattle.spec_expressions.specs.Order.{Ordered, an_expression, NamesType, by_itself, by_constant, by_override, DependsOn, type_on_named, type_on_override, type_on_expression, expression_on_constant, expression_on_override, kind_of, place_of}
-use Rattle.spec_expressions.specs.Order.{a_type as type_before}
-use Rattle.spec_expressions.specs.References.{Named, item, operand}
+use Rattle.spec_expressions.specs.judged.ExpressionNames.{expression_item}
+use Rattle.spec_expressions.specs.judged.ModuleHandles.{named_at, in_module}
+use Rattle.spec_expressions.specs.judged.ItemNames.{pending_of, special_types, mesh_types, mesh_expressions, entry_variables}
+use Rattle.spec_expressions.specs.judged.ModuleReferences.{Part, a_type, special, leaf, constant, override, expression, variable, entry, NamesIn, type_counts, special_names, leaf_names, constant_type, constant_value, override_type, override_value, expression_names, variable_type, variable_value, entry_type, entry_expression, entry_variable, IsThereIn}
+use Rattle.spec_expressions.specs.judged.Order.{Ordered, an_expression, NamesType, by_itself, by_constant, by_override, DependsOn, type_on_named, type_on_override, type_on_expression, expression_on_constant, expression_on_override, kind_of, place_of}
+use Rattle.spec_expressions.specs.judged.Order.{a_type as type_before}
+use Rattle.spec_expressions.specs.judged.References.{Named, item, operand}
 use Rattle.spec_expressions.specs.declared.item.ItemKind.{ItemKind}
 use Rattle.spec_expressions.specs.declared.item.ItemKind.TheVariants as kind
 use Rattle.spec_expressions.specs.declared.target.Target.{Target}

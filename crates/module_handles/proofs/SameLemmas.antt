@@ -3,9 +3,9 @@ use Rattle.std.proofs.Common.{◌≡◌, inl, inr, ℕ, ◌<◌, List, [], ◌�
 use Rattle.std.specs.List.{cons_option}
 use Rattle.std.proofs.lemmas.List.Elements.{All-cons, All-nil, All-head, All-tail}
 use Rattle.typing_rules.specs.judged.Laws.{IsAmong}
-use Rattle.spec_expressions.specs.judged.Operands.{Operand, operand, operands_in, expression_operands as operands_with_uses}
+use Rattle.spec_expressions.specs.judged.OperandUses.{Operand, operand, operands_in, expression_uses}
 use Rattle.spec_expressions.specs.declared.operand.Usage.TheVariants.{Read}
-use Rattle.spec_expressions.specs.Operands.{Operands, these, each_of, of_expression, handles_of as handles_in}
+use Rattle.spec_expressions.specs.judged.Operands.{Operands, these, each_of, of_expression, handles_of as handles_in}
 use Rattle.spec_expressions.specs.declared.operand.Slot.{Slot}
 use Rattle.spec_expressions.specs.declared.operand.Usage.{Usage}
 use Rattle.module_handles.specs.SameOperands.{handles_of, SameOperands, SameOrder}
@@ -46,7 +46,7 @@ all_among end (y ∷ ys) h = All-cons (λ o. o < end) y.handle (handles_of ys) (
 pub same_order : SameOrder
 same_order expressions = (
   (λ precede e expression operand at among.
-      among_all e (operands_with_uses expression) (subst (λ l. All (λ o. o < e) l) (sym (same_operands expression)) (precede e expression at)) operand among),
+      among_all e (expression_uses expression) (subst (λ l. All (λ o. o < e) l) (sym (same_operands expression)) (precede e expression at)) operand among),
   (λ precede e expression at.
-      subst (λ l. All (λ o. o < e) l) (same_operands expression) (all_among e (operands_with_uses expression) (λ operand among. precede e expression operand at among))),
+      subst (λ l. All (λ o. o < e) l) (same_operands expression) (all_among e (expression_uses expression) (λ operand among. precede e expression operand at among))),
 )

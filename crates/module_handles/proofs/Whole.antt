@@ -9,19 +9,19 @@ use Rattle.ir_references.proofs.FaultLaws.{missing_none, then_none, map_none, ma
 use Rattle.ir_references.proofs.FirstLaws.{or_none, below_each}
 use Rattle.ir_references.specs.Faults.{outside_functions, missing, item_missing}
 use Rattle.ir_types.specs.judged.Plain.{PlainInner, PlainType}
-use Rattle.ir_proc.specs.found.Filters.{ParentsPrecede}
+use Rattle.ir_items.specs.found.Filters.{ParentsPrecede}
 use Rattle.module_handles.proofs.OutsideFaults.{forward_none, each_there, item_there, type_found}
 use Rattle.module_handles.specs.Conditions.{FunctionConditions, ModuleConditions, OrderGivesConditions}
 use Rattle.module_handles.specs.Found.{up_to, looked_through}
 use Rattle.module_handles.specs.LookupFound.{type_of, init_of, forward, counted_by}
 use Rattle.module_handles.specs.InOrder.{TypesOK, ItemsOK, GlobalExpressionsOK, FunctionsOK, EntriesOK}
-use Rattle.spec_expressions.specs.Conditions.{OperandsPrecede}
-use Rattle.spec_expressions.specs.Expressions.{expression_operands, expression_item}
-use Rattle.spec_expressions.specs.InOrder.{HandlesOK}
-use Rattle.spec_expressions.specs.Items.{pending_of, special_types, mesh_types, mesh_expressions, entry_variables}
-use Rattle.spec_expressions.specs.Modules.{Part, NamesIn, type_names, type_counts, special_names, filter_names, leaf_names, constant_type, constant_value, override_type, override_value, expression_names, expression_reads, variable_type, variable_value, entry_type, entry_expression, entry_variable, IsThereIn}
-use Rattle.spec_expressions.specs.Order.{Ordered, a_type, a_filter, a_function, an_expression, of_function, of_entry, DependsOn, type_on_named, type_on_override, type_on_expression, filter_on_parent, expression_on_operand, expression_on_constant, expression_on_override, function_on_callee, inside_function, inside_entry, IsBefore}
-use Rattle.spec_expressions.specs.References.{Named, item}
+use Rattle.spec_expressions.specs.judged.FunctionHandles.{OperandsPrecede}
+use Rattle.spec_expressions.specs.judged.ExpressionNames.{expression_operands, expression_item}
+use Rattle.spec_expressions.specs.judged.ModuleHandles.{HandlesOK}
+use Rattle.spec_expressions.specs.judged.ItemNames.{pending_of, special_types, mesh_types, mesh_expressions, entry_variables}
+use Rattle.spec_expressions.specs.judged.ModuleReferences.{Part, NamesIn, type_names, type_counts, special_names, filter_names, leaf_names, constant_type, constant_value, override_type, override_value, expression_names, expression_reads, variable_type, variable_value, entry_type, entry_expression, entry_variable, IsThereIn}
+use Rattle.spec_expressions.specs.judged.Order.{Ordered, a_type, a_filter, a_function, an_expression, of_function, of_entry, DependsOn, type_on_named, type_on_override, type_on_expression, filter_on_parent, expression_on_operand, expression_on_constant, expression_on_override, function_on_callee, inside_function, inside_entry, IsBefore}
+use Rattle.spec_expressions.specs.judged.References.{Named, item}
 use Rattle.spec_expressions.specs.declared.item.ItemKind.TheVariants as kind
 use Rattle.spec_expressions.specs.declared.target.Target.TheVariants as target
 use Rattle.typing_forms.specs.judged.Order.{named_types, TypesGoBack}

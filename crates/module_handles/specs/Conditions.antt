@@ -1,9 +1,9 @@
 -- What a module whose handles are in order gives to the steps after: what layouts, types and the analysis of functions require.
 use Rattle.std.specs.Prelude.{◌≡◌, ℕ, Some, length, slice_get}
 use Rattle.ir_items.specs.judged.Plain.{PlainFunction, PlainEntry, PlainModule}
-use Rattle.ir_proc.specs.found.Filters.{ParentsPrecede}
-use Rattle.spec_expressions.specs.Conditions.{HandlesInRange, OperandsPrecede, CalleesPrecede}
-use Rattle.spec_expressions.specs.InOrder.{HandlesOK}
+use Rattle.ir_items.specs.found.Filters.{ParentsPrecede}
+use Rattle.spec_expressions.specs.judged.FunctionHandles.{HandlesInRange, OperandsPrecede, CalleesPrecede}
+use Rattle.spec_expressions.specs.judged.ModuleHandles.{HandlesOK}
 use Rattle.typing_forms.specs.judged.Order.{TypesGoBack}
 
 -- what the analysis requires of a function before which so many functions stand, beside the parents of filters and the arities

@@ -3,7 +3,7 @@ use Rattle.std.specs.Prelude.{◌≡◌, ℕ, List, codes}
 use Rattle.module_handles.specs.declared.error.InvalidHandleError.{InvalidHandleError}
 use Rattle.module_handles.specs.declared.error.InvalidHandleError.TheVariants as error
 use Rattle.ir_items.specs.judged.Plain.{PlainModule}
-use Rattle.spec_expressions.specs.InOrder.{IsMissing, IsRangeOut, IsForward}
+use Rattle.spec_expressions.specs.judged.ModuleHandles.{IsMissing, IsRangeOut, IsForward}
 use Rattle.spec_expressions.specs.declared.item.ItemKind.{ItemKind}
 use Rattle.spec_expressions.specs.declared.item.ItemKind.TheVariants as kind
 

@@ -12,8 +12,8 @@ use Rattle.ir_references.specs.declared.fault.HandleFault.{HandleFault}
 use Rattle.ir_references.specs.declared.fault.HandleFault.TheVariants as fault
 use Rattle.ir_types.specs.judged.Plain.{PlainInner}
 use Rattle.module_handles.specs.LookupFound.{type_of, init_of, forward, counted_by, counted_forward}
-use Rattle.spec_expressions.specs.Expressions.{expression_item}
-use Rattle.spec_expressions.specs.Items.{pending_of, special_types, mesh_types, mesh_expressions, entry_variables}
+use Rattle.spec_expressions.specs.judged.ExpressionNames.{expression_item}
+use Rattle.spec_expressions.specs.judged.ItemNames.{pending_of, special_types, mesh_types, mesh_expressions, entry_variables}
 use Rattle.spec_expressions.specs.declared.item.ItemKind.{ItemKind}
 use Rattle.spec_expressions.specs.declared.item.ItemKind.TheVariants as kind
 use Rattle.spec_expressions.specs.declared.target.Target.{Target}

@@ -5,7 +5,7 @@ use Rattle.ir_items.specs.judged.Plain.{PlainModule}
 use Rattle.ir_references.specs.declared.fault.HandleFault.{HandleFault}
 use Rattle.ir_references.specs.declared.fault.HandleFault.TheVariants as fault
 use Rattle.ir_types.specs.judged.Plain.{PlainInner}
-use Rattle.spec_expressions.specs.Items.{pending_of}
+use Rattle.spec_expressions.specs.judged.ItemNames.{pending_of}
 use Rattle.spec_expressions.specs.declared.item.ItemKind.{ItemKind}
 use Rattle.spec_expressions.specs.declared.item.ItemKind.TheVariants as kind
 use Rattle.spec_expressions.specs.declared.target.Target.{Target}

@@ -1,17 +1,17 @@
 -- The operands of an expression are the same, with the uses that they make and without.
 use Rattle.std.specs.Prelude.{◌≡◌, ◌↔◌, ℕ, List, map}
 use Rattle.ir_types.specs.judged.ExpressionPlain.{PlainExpression}
-use Rattle.spec_expressions.specs.judged.Operands.{Operand, expression_operands as operands_with_uses}
+use Rattle.spec_expressions.specs.judged.OperandUses.{Operand, expression_uses}
 use Rattle.spec_expressions.specs.judged.Values.{OperandsPrecede as OperandsWithUsesPrecede}
-use Rattle.spec_expressions.specs.Conditions.{OperandsPrecede}
-use Rattle.spec_expressions.specs.Expressions.{expression_operands}
+use Rattle.spec_expressions.specs.judged.FunctionHandles.{OperandsPrecede}
+use Rattle.spec_expressions.specs.judged.ExpressionNames.{expression_operands}
 
 abbrev pub handles_of : List Operand → List ℕ
 handles_of operands = map (λ (o : Operand). o.handle) operands
 
 -- the handles of the operands with their uses are the operands
 abbrev pub SameOperands : Type 0
-SameOperands = (x : PlainExpression) → handles_of (operands_with_uses x) ≡ expression_operands x
+SameOperands = (x : PlainExpression) → handles_of (expression_uses x) ≡ expression_operands x
 
 -- so the operands precede in the one sense exactly where they do in the other
 abbrev pub SameOrder : Type 0

@@ -10,7 +10,7 @@ use Rattle.ir_items.specs.declared.functions.Function.{Function}
 use Rattle.ir_items.specs.declared.module.Module.{Module}
 use Rattle.spec_expressions.specs.judged.Values.{OperandsPrecede}
 use Rattle.spec_expressions.specs.judged.Context.{Context, inside, outside, NamesItem}
-use Rattle.spec_expressions.specs.InOrder.{HandlesOK}
+use Rattle.spec_expressions.specs.judged.ModuleHandles.{HandlesOK}
 use Rattle.typing_layout.specs.judged.Constness.{OriginsPrecede}
 
 -- the items that expressions name are there, and their operands precede

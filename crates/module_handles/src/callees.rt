@@ -2,7 +2,7 @@
 
 ghost use Rattle.std.specs.Prelude.{◌↔◌, IsTrue};
 ghost use Rattle.ir_items.specs.found.View.{function_view};
-ghost use Rattle.spec_expressions.specs.Conditions.{CalleesPrecede};
+ghost use Rattle.spec_expressions.specs.judged.FunctionHandles.{CalleesPrecede};
 
 use ir_items::{Function, Module};
 use ir_references::forward_callee;

@@ -2,7 +2,7 @@
 
 ghost use Rattle.std.specs.Prelude.{◌↔◌, IsTrue};
 ghost use Rattle.ir_items.specs.found.View.{module_view};
-ghost use Rattle.ir_proc.specs.found.Filters.{ParentsPrecede};
+ghost use Rattle.ir_items.specs.found.Filters.{ParentsPrecede};
 
 use ir_items::{Function, Module};
 use ir_references::forward_parent;

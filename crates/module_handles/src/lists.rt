@@ -6,7 +6,7 @@ ghost use Rattle.ir_items.specs.found.GlobalView.{values_of};
 ghost use Rattle.ir_references.specs.First.{first_past};
 ghost use Rattle.module_handles.specs.Found.{first_missing};
 ghost use Rattle.module_handles.specs.Lists.{AllPass, SomeFails};
-ghost use Rattle.spec_expressions.specs.Operands.{given};
+ghost use Rattle.spec_expressions.specs.judged.Operands.{given};
 
 use ir_arena::arena::Arena;
 use ir_arena::handle::Handle;

@@ -5,7 +5,7 @@ ghost use Rattle.ir_types.specs.judged.ExpressionPlain.{expression_view};
 ghost use Rattle.ir_items.specs.found.GlobalView.{constant_view, override_view};
 ghost use Rattle.ir_items.specs.found.View.{module_view};
 ghost use Rattle.module_handles.specs.LookupFound.{type_of, init_of, forward};
-ghost use Rattle.spec_expressions.specs.Expressions.{expression_item};
+ghost use Rattle.spec_expressions.specs.judged.ExpressionNames.{expression_item};
 
 use ir_arena::handle::Handle;
 use ir_items::{Constant, Expression, Module, Override, key};

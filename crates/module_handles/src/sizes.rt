@@ -4,7 +4,7 @@ ghost use Rattle.std.specs.Prelude.{◌≡◌};
 ghost use Rattle.ir_items.specs.found.View.{module_view};
 ghost use Rattle.ir_types.specs.judged.Plain.{inner_view};
 ghost use Rattle.module_handles.specs.LookupFound.{counted_by, counted_forward};
-ghost use Rattle.spec_expressions.specs.Items.{pending_in, pending_of};
+ghost use Rattle.spec_expressions.specs.judged.ItemNames.{pending_in, pending_of};
 
 use crate::lookups::{forward, place_of, type_of};
 use ir_arena::handle::Handle;

@@ -4,11 +4,11 @@ ghost use Rattle.std.specs.Prelude.{◌≡◌, MatchResult};
 ghost use Rattle.std.specs.Option.{MatchOption};
 ghost use Rattle.ir_items.specs.found.View.{module_view};
 ghost use Rattle.ir_items.specs.judged.Plain.{PlainModule};
-ghost use Rattle.ir_proc.specs.found.Filters.{ParentsPrecede};
+ghost use Rattle.ir_items.specs.found.Filters.{ParentsPrecede};
 ghost use Rattle.module_handles.specs.Errors.{word_of, IsHandleError};
 ghost use Rattle.module_handles.specs.InOrder.{IsFaultIn};
-ghost use Rattle.spec_expressions.specs.Conditions.{OperandsPrecede};
-ghost use Rattle.spec_expressions.specs.InOrder.{HandlesOK};
+ghost use Rattle.spec_expressions.specs.judged.FunctionHandles.{OperandsPrecede};
+ghost use Rattle.spec_expressions.specs.judged.ModuleHandles.{HandlesOK};
 
 use crate::entries::fault_of_entries;
 use crate::expressions::fault_of_expressions;

@@ -6,9 +6,9 @@ use Rattle.ir_items.specs.judged.Plain.{PlainModule}
 use Rattle.module_constants.specs.Known.{AreThere}
 use Rattle.module_handles.specs.Errors.{IsHandleError}
 use Rattle.typing_rules.specs.judged.Laws.{IsAmong}
-use Rattle.spec_expressions.specs.InOrder.{HandlesOK, IsAbsent, in_module, in_function, in_entry}
-use Rattle.spec_expressions.specs.Modules as part
-use Rattle.spec_expressions.specs.References.{Named, item, operand}
+use Rattle.spec_expressions.specs.judged.ModuleHandles.{HandlesOK, IsAbsent, in_module, in_function, in_entry}
+use Rattle.spec_expressions.specs.judged.ModuleReferences as part
+use Rattle.spec_expressions.specs.judged.References.{Named, item, operand}
 use Rattle.spec_expressions.specs.declared.target.Target.TheVariants as target
 
 among_contains : (xs : List ℕ) (x : ℕ) → IsAmong x xs → Contains xs x

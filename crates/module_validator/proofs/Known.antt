@@ -4,9 +4,9 @@ use Rattle.module_globals.specs.There.{IsThere}
 use Rattle.ir_items.specs.judged.GlobalPlain.{PlainGlobal}
 use Rattle.ir_items.specs.judged.Plain.{PlainModule}
 use Rattle.module_handles.proofs.Whole.{conditions}
-use Rattle.spec_expressions.specs.InOrder.{HandlesOK}
-use Rattle.spec_expressions.specs.Modules as part
-use Rattle.spec_expressions.specs.References.{item, operand}
+use Rattle.spec_expressions.specs.judged.ModuleHandles.{HandlesOK}
+use Rattle.spec_expressions.specs.judged.ModuleReferences as part
+use Rattle.spec_expressions.specs.judged.References.{item, operand}
 use Rattle.spec_expressions.specs.declared.target.Target.TheVariants as target
 
 -- what stands at a place of a list

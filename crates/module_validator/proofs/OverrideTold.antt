@@ -2,9 +2,9 @@
 use Rattle.std.proofs.Common.{◌≡◌, ◌<◌, ℕ, Bool, length, sym, subst, arith}
 use Rattle.module_constants.specs.Overrides.{IsOverrideFault}
 use Rattle.module_constants.specs.declared.override_error.OverrideError.{OverrideError}
-use Rattle.ir_faults.specs.Faults.{error_of}
-use Rattle.ir_faults.specs.declared.refusal.Refusal.{Refusal}
-use Rattle.ir_faults.specs.declared.refusal.Refusal.TheVariants as refusal
+use Rattle.ir_types.specs.found.Faults.{error_of}
+use Rattle.ir_types.specs.declared.refusal.Refusal.{Refusal}
+use Rattle.ir_types.specs.declared.refusal.Refusal.TheVariants as refusal
 use Rattle.ir_items.specs.judged.Plain.{PlainModule}
 use Rattle.module_constants.specs.Refusals.{IsOverrideRefusal}
 use Rattle.module_validator.specs.OverrideRefusals.{IsReportedAt, IsRefusal}

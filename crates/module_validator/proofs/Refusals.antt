@@ -6,10 +6,10 @@ use Rattle.module_constants.specs.Expressions.{IsConstExpressionFault, IsUntyped
 use Rattle.module_constants.specs.Overrides.{IsOverrideFault}
 use Rattle.typing_errors.specs.declared.const_expressions.ConstExpressionError.TheVariants as expression_error
 use Rattle.module_handles.specs.declared.error.InvalidHandleError.{InvalidHandleError}
-use Rattle.ir_faults.specs.Faults.{error_of}
-use Rattle.ir_faults.specs.declared.refusal.Refusal.{Refusal}
-use Rattle.ir_faults.specs.declared.refusal.Refusal.TheVariants as refusal
-use Rattle.ir_faults.specs.declared.with_span.WithSpan.{WithSpan}
+use Rattle.ir_types.specs.found.Faults.{error_of}
+use Rattle.ir_types.specs.declared.refusal.Refusal.{Refusal}
+use Rattle.ir_types.specs.declared.refusal.Refusal.TheVariants as refusal
+use Rattle.ir_types.specs.declared.with_span.WithSpan.{WithSpan}
 use Rattle.ir_items.specs.judged.Plain.{PlainModule}
 use Rattle.module_constants.specs.declared.constants.InvalidConstant.{InvalidConstant}
 use Rattle.module_constants.specs.declared.expressions.InvalidGlobalExpression.{InvalidGlobalExpression}

@@ -24,7 +24,7 @@ use Rattle.spec_expressions.specs.judged.Constants.{ConstantOK}
 use Rattle.spec_expressions.specs.judged.GlobalExpressions.{GlobalExpressionOK}
 use Rattle.spec_expressions.specs.judged.Overrides.{OverrideOK}
 use Rattle.spec_expressions.specs.judged.Context.{outside}
-use Rattle.spec_expressions.specs.InOrder.{HandlesOK}
+use Rattle.spec_expressions.specs.judged.ModuleHandles.{HandlesOK}
 use Rattle.judgement.specs.judged.ModuleSteps.{expression, constant, override, item_count, StepPasses, IsReached, FailsFirst}
 use Rattle.spec_expressions.specs.judged.Typing.{HasGlobalType}
 use Rattle.typing_infos.specs.Types.{AreTypes}

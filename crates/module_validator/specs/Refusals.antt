@@ -1,9 +1,9 @@
 -- Why not all global variables of a module are accepted.
 use Rattle.std.specs.Prelude.{◌≡◌, []}
 use Rattle.module_globals.specs.Faults.{IsGlobalFault}
-use Rattle.ir_faults.specs.Faults.{error_of, spans_of}
-use Rattle.ir_faults.specs.declared.refusal.Refusal.{Refusal}
-use Rattle.ir_faults.specs.declared.refusal.Refusal.TheVariants as refusal
+use Rattle.ir_types.specs.found.Faults.{error_of, spans_of}
+use Rattle.ir_types.specs.declared.refusal.Refusal.{Refusal}
+use Rattle.ir_types.specs.declared.refusal.Refusal.TheVariants as refusal
 use Rattle.ir_flags.specs.declared.settings.Capabilities.{Capabilities}
 use Rattle.ir_flags.specs.declared.settings.ValidationFlags.{ValidationFlags}
 use Rattle.ir_items.specs.judged.Plain.{PlainModule}

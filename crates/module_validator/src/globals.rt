@@ -7,15 +7,15 @@ ghost use Rattle.module_validator.specs.Refusals.{IsVariableFault, IsRefusal};
 ghost use Rattle.module_context.specs.AcceptedTypes.{AreAccepted};
 ghost use Rattle.spec_expressions.specs.judged.Context.{outside};
 ghost use Rattle.spec_interface.specs.judged.Globals.{GlobalsOK};
-ghost use Rattle.spec_expressions.specs.InOrder.{HandlesOK};
+ghost use Rattle.spec_expressions.specs.judged.ModuleHandles.{HandlesOK};
 ghost use Rattle.typing_infos.specs.Types.{AreTypes};
 
 use ir_arena::handle::Handle;
-use ir_faults::refusal::Refusal;
-use ir_faults::with_span::WithSpan;
 use ir_flags::{Settings, ValidationFlags};
 use ir_items::Module;
 use ir_types::key;
+use ir_types::refusal::Refusal;
+use ir_types::with_span::WithSpan;
 use module_constants::{GlobalContext, forms_given};
 use module_globals::{GlobalVariableError, validate_global_var};
 use std::alloc::Global;

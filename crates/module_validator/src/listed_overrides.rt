@@ -7,9 +7,9 @@ ghost use Rattle.module_validator.specs.OverrideRefusals.{IsReportedAt, IsRefusa
 ghost use Rattle.spec_expressions.specs.judged.Overrides.{OverrideOK};
 
 use ir_arena::handle::Handle;
-use ir_faults::refusal::Refusal;
-use ir_faults::with_span::WithSpan;
 use ir_types::key;
+use ir_types::refusal::Refusal;
+use ir_types::with_span::WithSpan;
 use module_constants::{GlobalContext, OverrideError, OverrideIds, validate_override};
 use std::alloc::Global;
 use thiserror::Error;

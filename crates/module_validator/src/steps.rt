@@ -11,10 +11,10 @@ ghost use Rattle.typing_layout.specs.found.Held.{AreLayouts};
 
 use crate::error::ModuleError;
 use crate::validate_types;
-use ir_faults::refusal::Refusal;
-use ir_faults::with_span::WithSpan;
 use ir_flags::Settings;
 use ir_items::Module;
+use ir_types::refusal::Refusal;
+use ir_types::with_span::WithSpan;
 use module_constants::InvalidGlobalExpression;
 use module_handles::validate_module_handles;
 use std::alloc::{AllocError, Global};

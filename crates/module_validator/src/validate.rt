@@ -10,10 +10,10 @@ ghost use Rattle.typing_layout.specs.found.Held.{AreLayouts};
 
 use crate::info::info_of;
 use ir_arena::handle::Handle;
-use ir_faults::refusal::Refusal;
-use ir_faults::with_span::WithSpan;
 use ir_flags::Capabilities;
 use ir_sets::unique_arena::UniqueArena;
+use ir_types::refusal::Refusal;
+use ir_types::with_span::WithSpan;
 use ir_types::{IrType, key};
 use module_type_checks::{TypeContext, check_type};
 use std::alloc::Global;

@@ -11,10 +11,10 @@ ghost use Rattle.typing_layout.specs.Faults.{IsWidthFault};
 ghost use Rattle.module_type_checks.specs.Widths.{IsLiteralFault};
 
 use crate::{ModuleError, check_handles, check_values, expression_types, lay_out, type_infos};
-use ir_faults::refusal::Refusal;
 use ir_flags::Settings;
 use ir_items::Module;
 use ir_kinds::{Literal, Scalar};
+use ir_types::refusal::Refusal;
 use module_type_checks::{check_width, validate_literal};
 use std::alloc::Global;
 use std::mem;

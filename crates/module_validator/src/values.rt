@@ -16,9 +16,9 @@ use crate::error::ModuleError;
 use crate::listed_overrides::validate_overrides;
 use crate::steps::refused;
 use bitflags::Flags;
-use ir_faults::refusal::Refusal;
 use ir_flags::{Settings, ValidationFlags};
 use ir_items::Module;
+use ir_types::refusal::Refusal;
 use module_constants::{
     GlobalContext, forms_given, validate_const_expressions, validate_constants,
 };

@@ -8,9 +8,9 @@ use Rattle.shader_check.specs.found.Validated.{AreEntriesKept, IsEntryFault, IsF
 use Rattle.check_errors.specs.declared.error.InvalidEntryPoint.{InvalidEntryPoint}
 use Rattle.check_errors.specs.declared.error.ValidationError.{ValidationError}
 use Rattle.check_errors.specs.declared.error.ValidationError.TheVariants as error
-use Rattle.ir_faults.specs.Faults.{error_of}
-use Rattle.ir_faults.specs.declared.refusal.Refusal.{Refusal}
-use Rattle.ir_faults.specs.declared.refusal.Refusal.TheVariants as refusal
+use Rattle.ir_types.specs.found.Faults.{error_of}
+use Rattle.ir_types.specs.declared.refusal.Refusal.{Refusal}
+use Rattle.ir_types.specs.declared.refusal.Refusal.TheVariants as refusal
 use Rattle.ir_flags.specs.declared.settings.Capabilities.{Capabilities}
 use Rattle.ir_flags.specs.declared.settings.ValidationFlags.{ValidationFlags}
 use Rattle.ir_flags.specs.declared.stages.ShaderStages.{ShaderStages}
@@ -32,7 +32,7 @@ use Rattle.spec_expressions.specs.judged.Summaries.{Summary}
 use Rattle.spec_interface.specs.judged.Modules.{AreStages}
 use Rattle.spec_expressions.specs.judged.Context.{outside}
 use Rattle.spec_interface.specs.judged.Globals.{GlobalsOK}
-use Rattle.spec_expressions.specs.InOrder.{HandlesOK}
+use Rattle.spec_expressions.specs.judged.ModuleHandles.{HandlesOK}
 use Rattle.judgement.specs.judged.ModuleSteps.{ModuleOK}
 use Rattle.spec_statements.specs.judged.ModuleFunctions.{reading_over}
 use Rattle.typing_infos.specs.Types.{AreTypes}

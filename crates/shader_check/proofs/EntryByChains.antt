@@ -23,7 +23,7 @@ use Rattle.spec_interface.specs.judged.Entries.{EntryOK}
 use Rattle.spec_interface.specs.judged.EntryNames.{IsConflict}
 use Rattle.spec_interface.specs.judged.Modules.{AreStages, EntryAtOK}
 use Rattle.spec_statements.specs.judged.ModuleFunctions.{reading_over}
-use Rattle.spec_expressions.specs.InOrder.{HandlesOK}
+use Rattle.spec_expressions.specs.judged.ModuleHandles.{HandlesOK}
 use Rattle.spec_statements.specs.judged.Functions.{FunctionOK, AllowsStage}
 use Rattle.spec_interface.specs.judged.Contexts.{stage_set}
 

@@ -13,9 +13,9 @@ use Rattle.shader_check.proofs.Chained.{one_more_at, some_is, one_longer, below_
 use Rattle.shader_check.proofs.EntryHeld.{entry_held_next}
 use Rattle.shader_check.specs.found.JudgedEntries.{reading_at, Note, IsEntryAcceptedAt, IsEntryRefusedAt, conflicting, unaccepted, AreEntryNotes, AreEntrySummaries, AreEntriesJudged, IsFirstEntryRefused, IsEntryReportedAt, IsConflictReported, IsEntryRefusal}
 use Rattle.check_errors.specs.declared.error.InvalidEntryPoint.{InvalidEntryPoint}
-use Rattle.ir_faults.specs.Faults.{error_of}
-use Rattle.ir_faults.specs.declared.refusal.Refusal.{Refusal}
-use Rattle.ir_faults.specs.declared.refusal.Refusal.TheVariants as refusal
+use Rattle.ir_types.specs.found.Faults.{error_of}
+use Rattle.ir_types.specs.declared.refusal.Refusal.{Refusal}
+use Rattle.ir_types.specs.declared.refusal.Refusal.TheVariants as refusal
 use Rattle.ir_flags.specs.declared.stages.ShaderStages.{ShaderStages}
 use Rattle.ir_flags.specs.declared.settings.Settings.{Settings}
 use Rattle.ir_items.specs.judged.Plain.{PlainEntry, PlainModule}
@@ -28,10 +28,10 @@ use Rattle.spec_expressions.specs.judged.Summaries.{Summary, AreSummaries, Calle
 use Rattle.spec_interface.specs.judged.EarlierPayloads.{IsPayloadBeforeEntry}
 use Rattle.spec_interface.specs.judged.EntryNames.{IsConflict}
 use Rattle.spec_statements.proofs.CallLaws.{calls_precede}
-use Rattle.spec_expressions.specs.InOrder.{HandlesOK}
-use Rattle.spec_expressions.specs.Items.{entry_variables, mesh_variables}
-use Rattle.spec_expressions.specs.Modules.{entry, entry_variable}
-use Rattle.spec_expressions.specs.References.{item}
+use Rattle.spec_expressions.specs.judged.ModuleHandles.{HandlesOK}
+use Rattle.spec_expressions.specs.judged.ItemNames.{entry_variables, mesh_variables}
+use Rattle.spec_expressions.specs.judged.ModuleReferences.{entry, entry_variable}
+use Rattle.spec_expressions.specs.judged.References.{item}
 use Rattle.spec_expressions.specs.declared.target.Target.TheVariants.{GlobalVariable}
 use Rattle.spec_statements.specs.judged.Functions.{Reading}
 

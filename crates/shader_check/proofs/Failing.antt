@@ -9,7 +9,7 @@ use Rattle.spec_statements.specs.judged.ModuleFunctions as functions
 use Rattle.spec_statements.specs.judged.ModuleFunctions.{FunctionAtOK, FunctionsOK}
 use Rattle.spec_interface.specs.judged.Globals as globals
 use Rattle.spec_interface.specs.judged.Globals.{GlobalOK, GlobalsOK}
-use Rattle.spec_expressions.specs.InOrder.{HandlesOK}
+use Rattle.spec_expressions.specs.judged.ModuleHandles.{HandlesOK}
 use Rattle.judgement.proofs.Failures.{one_failure, none_fails}
 use Rattle.judgement.specs.judged.ModuleSteps.{ModuleStep, IsFirstFailing, ModuleOK}
 

@@ -17,7 +17,7 @@ use Rattle.shader_check.specs.found.Fresh.{AreAlike, AnswersAreAlike}
 use Rattle.shader_check.specs.found.Validated.{IsValidated, IsValidationFault}
 use Rattle.check_errors.specs.declared.error.ValidationError.{ValidationError}
 use Rattle.check_errors.specs.declared.error.ValidationError.TheVariants as validation
-use Rattle.spec_expressions.specs.InOrder.{HandlesOK}
+use Rattle.spec_expressions.specs.judged.ModuleHandles.{HandlesOK}
 use Rattle.judgement.specs.judged.ModuleSteps as step
 use Rattle.judgement.specs.judged.ModuleSteps.{ModuleStep, IsFirstFailing}
 

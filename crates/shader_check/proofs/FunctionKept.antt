@@ -6,8 +6,8 @@ use Rattle.shader_check.specs.found.Chains.{AreKept, IsFunctionFault}
 use Rattle.shader_check.specs.found.Judged.{AreJudged, IsFirstRefused, IsRefusal}
 use Rattle.shader_check.specs.found.Validated.{IsRefusedWith}
 use Rattle.check_errors.specs.declared.error.InvalidFunction.{InvalidFunction}
-use Rattle.ir_faults.specs.declared.refusal.Refusal.{Refusal}
-use Rattle.ir_faults.specs.declared.refusal.Refusal.TheVariants as refusal
+use Rattle.ir_types.specs.declared.refusal.Refusal.{Refusal}
+use Rattle.ir_types.specs.declared.refusal.Refusal.TheVariants as refusal
 use Rattle.ir_flags.specs.declared.stages.ShaderStages.{ShaderStages}
 use Rattle.ir_flags.specs.declared.settings.Settings.{Settings}
 use Rattle.ir_items.specs.judged.Plain.{PlainModule}

@@ -11,8 +11,8 @@ use Rattle.module_handles.proofs.Whole.{order_gives_conditions}
 use Rattle.typing_infos.specs.declared.info.ModuleInfo.{ModuleInfo}
 use Rattle.check_report.proofs.Noted.{noted_is_reported}
 use Rattle.check_report.specs.Reported.{IsEntryInfo, IsReported}
-use Rattle.spec_expressions.specs.Modules as part
-use Rattle.spec_expressions.specs.References.{item}
+use Rattle.spec_expressions.specs.judged.ModuleReferences as part
+use Rattle.spec_expressions.specs.judged.References.{item}
 use Rattle.spec_expressions.specs.declared.target.Target.TheVariants as target
 
 module _ (s : Settings) (m : PlainModule) (info : ModuleInfo) (h : IsValidated s false m info) where

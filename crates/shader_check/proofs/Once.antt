@@ -11,7 +11,7 @@ use Rattle.judgement.specs.declared.finding.Step.{Step}
 use Rattle.judgement.specs.declared.finding.Step.TheVariants.{Layout, «Type», Typing, Expression, Constant, Override, Global, Function, Entry}
 use Rattle.judgement.specs.declared.finding.Finding.{Finding}
 use Rattle.judgement.specs.declared.finding.Finding.TheVariants.{Accepted, RefusedDocument, RefusedHandles, Refused}
-use Rattle.spec_expressions.specs.InOrder.{HandlesOK}
+use Rattle.spec_expressions.specs.judged.ModuleHandles.{HandlesOK}
 use Rattle.judgement.specs.judged.ModuleSteps as step
 use Rattle.judgement.proofs.OneReport.{one_report}
 use Rattle.judgement.specs.judged.Reports.{IsReport}

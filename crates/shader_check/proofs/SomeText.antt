@@ -13,7 +13,7 @@ use Rattle.document_reader.specs.judged.Plain.{PlainDocument}
 use Rattle.document_reader.specs.judged.Distinct.{AreDistinct}
 use Rattle.document_reader.specs.judged.Form.{Reads}
 use Rattle.document_reader.proofs.Candidates.{IsCandidate, candidate}
-use Rattle.spec_expressions.specs.InOrder.{HandlesOK}
+use Rattle.spec_expressions.specs.judged.ModuleHandles.{HandlesOK}
 use Rattle.judgement.proofs.Reached.{reach_first, reach, all_passed}
 use Rattle.judgement.specs.judged.ModuleSteps.{ModuleStep, layout, type, typing, expression, constant, override, item_count, StepOK, StepPasses, IsReached, IsFirstFailing, ModuleOK}
 use Rattle.judgement.specs.judged.Steps.{IsFinding, IsPrepared, IsScopeStrict}

@@ -16,8 +16,8 @@ use Rattle.function_real_lower.specs.Readings.{reading_of}
 use Rattle.spec_expressions.specs.judged.Summaries.{Summary}
 use Rattle.spec_interface.specs.judged.Modules.{AreStages}
 use Rattle.spec_statements.specs.judged.ModuleFunctions.{reading_over}
-use Rattle.spec_expressions.specs.Conditions.{CalleesPrecede}
-use Rattle.spec_expressions.specs.References.{computed, done, expression_names, statement_calls}
+use Rattle.spec_expressions.specs.judged.FunctionHandles.{CalleesPrecede}
+use Rattle.spec_expressions.specs.judged.References.{computed, done, expression_names, statement_calls}
 use Rattle.spec_statements.specs.judged.ExpressionStages.{all_stages, callee_stages, stages_in, stages_of}
 use Rattle.spec_statements.specs.judged.Functions.{AllowsStage}
 use Rattle.spec_statements.specs.judged.Stages.{statement_stages}

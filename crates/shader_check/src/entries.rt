@@ -9,7 +9,7 @@ ghost use Rattle.ir_items.specs.found.View.{module_view};
 ghost use Rattle.spec_expressions.specs.judged.Summaries.{AreSummaries};
 ghost use Rattle.spec_interface.specs.judged.EarlierPayloads.{IsPayloadBeforeEntry};
 ghost use Rattle.spec_interface.specs.judged.EntryNames.{IsConflict};
-ghost use Rattle.spec_expressions.specs.InOrder.{HandlesOK};
+ghost use Rattle.spec_expressions.specs.judged.ModuleHandles.{HandlesOK};
 ghost use Rattle.function_statement_checks.specs.Descriptors.{AreDescriptors};
 
 use crate::functions::Judged;
@@ -20,10 +20,10 @@ use function_entry_checks::EntryPointError;
 use function_interface::Lower;
 use function_validator::{SeenNames, Validated, validate_entry_point_with};
 use ir_arena::handle::Handle;
-use ir_faults::refusal::Refusal;
-use ir_faults::with_span::WithSpan;
 use ir_items::{EntryPoint, Module};
 use ir_types::key;
+use ir_types::refusal::Refusal;
+use ir_types::with_span::WithSpan;
 use std::alloc::Global;
 
 // The refusal of the entry point at an index, as one of all entry points.

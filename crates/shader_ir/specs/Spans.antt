@@ -7,4 +7,4 @@ pub use Rattle.ir_blocks.specs.judged.Tails.{IsCompleted, completed, CompletedBy
 pub use Rattle.ir_arena.specs.found.Copies.{entry_of}
 pub use Rattle.ir_items.specs.found.Copies.{SpannedFunction, spanned_function, SpannedEntry, spanned_entry, SpannedModule, spanned_module}
 pub use Rattle.ir_items.specs.judged.Returned.{IsReturnedFunction, IsReturnedEntry, IsReturned, KeepsFunctionSpans, KeepsEntrySpans, KeepsSpansAt, KeepsModuleSpans, returned_module, returned_module_spans, ReturnedByBodies, OneReturned}
-pub use Rattle.ir_proc.specs.found.Emitted.{emitted, Run, AreRuns, ranges_of, Holds, ArePartition, Partition}
+pub use Rattle.ir_items.specs.found.Emitted.{emitted, Run, AreRuns, ranges_of, Holds, ArePartition, Partition}

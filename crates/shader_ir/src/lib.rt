@@ -1,6 +1,6 @@
 //! The intermediate representation of a shader from one place: sets of words (`ir_flags`), plain enums and structs (`ir_kinds`),
-//! arenas (`ir_arena`), sets of handles (`ir_sets`), errors with spans (`ir_faults`), types and expressions (`ir_types`), statements
-//! (`ir_blocks`), items (`ir_items`), the emitter and calls that follow handles (`ir_proc`), and in `specs/` the words of their
+//! arenas (`ir_arena`), sets of handles (`ir_sets`), types, expressions and errors with spans (`ir_types`), statements
+//! (`ir_blocks`), items, the emitter and calls that follow handles (`ir_items`), and in `specs/` the words of their
 //! contracts.
 //!
 //! Nothing is defined here. A crate that uses the representation as a whole names this crate alone.
@@ -22,9 +22,6 @@ pub use ir_arena::iter_mut::IterMut;
 pub use ir_arena::range::BadRangeError;
 pub use ir_arena::range::Range;
 pub use ir_arena::span::Span;
-pub use ir_faults::refusal::Refusal;
-pub use ir_faults::with_span::SpanContext;
-pub use ir_faults::with_span::WithSpan;
 pub use ir_flags::Barrier;
 pub use ir_flags::Capabilities;
 pub use ir_flags::MemoryDecorations;
@@ -39,11 +36,15 @@ pub use ir_items::Constant;
 pub use ir_items::CooperativeData;
 pub use ir_items::DiagnosticFilter;
 pub use ir_items::DiagnosticFilterNode;
+pub use ir_items::DiagnosticFilterNodeExt;
+pub use ir_items::Emitter;
 pub use ir_items::EntryPoint;
 pub use ir_items::Expression;
 pub use ir_items::FilterableTriggeringRule;
+pub use ir_items::FlattenCompose;
 pub use ir_items::Function;
 pub use ir_items::FunctionArgument;
+pub use ir_items::FunctionExt;
 pub use ir_items::FunctionResult;
 pub use ir_items::GatherMode;
 pub use ir_items::GlobalCtx;
@@ -66,6 +67,7 @@ pub use ir_items::StructMember;
 pub use ir_items::SwitchCase;
 pub use ir_items::TypeInner;
 pub use ir_items::ensure_block_returns;
+pub use ir_items::flatten_compose;
 pub use ir_items::key;
 pub use ir_kinds::ABSTRACT_WIDTH;
 pub use ir_kinds::AddressSpace;
@@ -103,13 +105,11 @@ pub use ir_kinds::SwitchValue;
 pub use ir_kinds::SwizzleComponent;
 pub use ir_kinds::UnaryOperator;
 pub use ir_kinds::VectorSize;
-pub use ir_proc::DiagnosticFilterNodeExt;
-pub use ir_proc::Emitter;
-pub use ir_proc::FlattenCompose;
-pub use ir_proc::FunctionExt;
-pub use ir_proc::flatten_compose;
 pub use ir_sets::handle_set::ArenaType;
 pub use ir_sets::handle_set::HandleSet;
 pub use ir_sets::handle_vec::HandleVec;
 pub use ir_sets::unique_arena::UniqueArena;
 pub use ir_types::LiteralExt;
+pub use ir_types::refusal::Refusal;
+pub use ir_types::with_span::SpanContext;
+pub use ir_types::with_span::WithSpan;

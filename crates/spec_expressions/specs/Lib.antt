@@ -1,11 +1,2 @@
-pub mod Conditions
-pub mod Expressions
-pub mod InOrder
-pub mod Items
-pub mod Modules
-pub mod Operands
-pub mod Order
-pub mod References
-pub mod Statements
 pub mod found
 pub mod judged

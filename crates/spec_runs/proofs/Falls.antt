@@ -12,7 +12,7 @@ use Rattle.ir_blocks.specs.judged.Tails.{Ends, goes_on, empty, after_last, furth
 use Rattle.ir_types.specs.judged.ExpressionPlain.{PlainExpression, plain}
 use Rattle.ir_types.specs.declared.expressions.Expression.TheVariants.{GlobalVariable, ImageSample}
 use Rattle.ir_items.specs.judged.Plain.{PlainFunction, PlainModule}
-use Rattle.spec_expressions.specs.Statements.{statement_operands}
+use Rattle.spec_expressions.specs.judged.StatementNames.{statement_operands}
 use Rattle.spec_statements.specs.judged.Switches.{case_values, falls_at_end}
 use Rattle.spec_statements.specs.judged.Tables.{introduced}
 use Rattle.spec_statements.specs.judged.Visible.{top_level}

@@ -9,7 +9,7 @@ use Rattle.ir_blocks.specs.judged.Plain.{PlainStatement, emit, block, if_, switc
 use Rattle.ir_blocks.specs.judged.Shapes.{Exit, breaks, continues, returns, shape_of, exit_of, inner, accepting, rejecting, case_at, case_body, loop_body, loop_continuing}
 use Rattle.ir_blocks.specs.judged.Places.{Place, here, later, inside, condition, Spot, statement, loop_condition, spot_at}
 use Rattle.ir_items.specs.judged.Plain.{PlainFunction, PlainModule}
-use Rattle.spec_expressions.specs.Statements.{statement_operands}
+use Rattle.spec_expressions.specs.judged.StatementNames.{statement_operands}
 use Rattle.spec_statements.specs.judged.Tables.{introduced, introduced_at}
 use Rattle.spec_statements.specs.judged.Visible.{top_level}
 use Rattle.spec_statements.proofs.ScopeLaws.{none_held}

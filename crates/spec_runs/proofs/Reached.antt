@@ -3,8 +3,8 @@ use Rattle.std.proofs.Common.{◌≡◌, ℕ, zero, suc, ◌<◌, List, [], ◌�
 use Rattle.std.specs.List.{flat_map}
 use Rattle.std.proofs.lemmas.List.Elements.{All-contains, Contains-append_left, Contains-append_right, Contains-append_cases, Contains-push}
 use Rattle.ir_types.specs.judged.ExpressionPlain.{PlainExpression}
-use Rattle.spec_expressions.specs.Conditions.{OperandsPrecede}
-use Rattle.spec_expressions.specs.Expressions.{expression_operands}
+use Rattle.spec_expressions.specs.judged.FunctionHandles.{OperandsPrecede}
+use Rattle.spec_expressions.specs.judged.ExpressionNames.{expression_operands}
 use Rattle.spec_statements.proofs.ScopeLaws.{none_held}
 use Rattle.spec_runs.specs.judged.Reached.{IsReachedFrom, itself, by_operand, operands_at, reached_within, AllAreReached}
 

@@ -6,12 +6,12 @@ use Rattle.ir_blocks.specs.judged.Places.{Place, Spot, nothing, statement, loop_
 use Rattle.ir_blocks.specs.judged.Plain.{PlainStatement, emit, block, if_, switch, loop, break, continue, return, kill, operation, call, PlainBlock, stop, next}
 use Rattle.ir_types.specs.judged.ExpressionPlain.{PlainExpression}
 use Rattle.ir_items.specs.judged.Plain.{PlainFunction}
-use Rattle.spec_expressions.specs.Expressions.{expression_operands}
-use Rattle.spec_expressions.specs.Operands.{Operands, these, each_of, of_statement, handles_of, is_looked_up, looked_up}
+use Rattle.spec_expressions.specs.judged.ExpressionNames.{expression_operands}
+use Rattle.spec_expressions.specs.judged.Operands.{Operands, these, each_of, of_statement, handles_of, is_looked_up, looked_up}
 use Rattle.spec_expressions.specs.declared.operand.Scoping.{Scoping}
 use Rattle.spec_expressions.specs.declared.operand.Scoping.TheVariants.{Always, Strictly, Apart}
 use Rattle.spec_expressions.specs.declared.operand.Slot.{Slot}
-use Rattle.spec_expressions.specs.Statements.{statement_result}
+use Rattle.spec_expressions.specs.judged.StatementNames.{statement_result}
 use Rattle.spec_statements.proofs.ScopeLaws.{none_held}
 use Rattle.spec_statements.proofs.StrictLaws.{strict_by_walk_lem}
 use Rattle.spec_statements.specs.judged.Scope.{PreEmitted}

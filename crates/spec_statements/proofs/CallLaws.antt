@@ -9,9 +9,9 @@ use Rattle.ir_items.specs.judged.Plain.{PlainFunction}
 use Rattle.typing_rules.specs.judged.Laws.{IsAmong}
 use Rattle.spec_expressions.proofs.Members.{among-cases}
 use Rattle.spec_expressions.specs.judged.Effects.{Effect, takes, samples, runs, discards, sampling_at, expression_effects, expressions_effects, leaving_effects, statement_effects, effects_in, effects_inside, effects_in_cases, effects_of}
-use Rattle.spec_expressions.specs.judged.Operands.{Operand, expression_operands, statement_operands}
+use Rattle.spec_expressions.specs.judged.OperandUses.{Operand, expression_uses, statement_uses}
 use Rattle.spec_statements.specs.found.FunctionLaws.{CallsPrecede}
-use Rattle.spec_expressions.specs.References.{done, statement_calls}
+use Rattle.spec_expressions.specs.judged.References.{done, statement_calls}
 
 -- a call of this function with these arguments is in the block
 pub record CallOccurs (b : PlainBlock) (callee : ℕ) (arguments : List ℕ) : Type 0 where
@@ -32,8 +32,8 @@ module _ (callee : ℕ) (arguments : List ℕ) where
   no_run_computed : (e : ℕ) (xs : List PlainExpression) → IsAmong (runs callee arguments) (expressions_effects e xs) → ⊥
   no_run_computed e [] h = elim h [ ]
   no_run_computed e (x ∷ xs) h = elim (among-cases (expression_effects e x) (expressions_effects (e + 1) xs) _ h) [
-    | inl own ↦ elim (among-cases (map takes (expression_operands x)) (sampling_at e x) _ own) [
-      | inl taken ↦ no_run_taken callee arguments (expression_operands x) taken
+    | inl own ↦ elim (among-cases (map takes (expression_uses x)) (sampling_at e x) _ own) [
+      | inl taken ↦ no_run_taken callee arguments (expression_uses x) taken
       | inr sampled ↦ no_run_sampled callee arguments e x sampled
     ]
     | inr rest ↦ no_run_computed (e + 1) xs rest
@@ -59,8 +59,8 @@ module _ (callee : ℕ) (arguments : List ℕ) where
   here_call (operation a) rest h = elim h [ ]
 
   own_call : (s : PlainStatement) (rest : PlainBlock) → IsAmong (runs callee arguments) (statement_effects s) → CallOccurs (next s rest) callee arguments
-  own_call s rest h = elim (among-cases (map takes (statement_operands s)) (leaving_effects s) _ h) [
-    | inl taken ↦ absurd (no_run_taken callee arguments (statement_operands s) taken)
+  own_call s rest h = elim (among-cases (map takes (statement_uses s)) (leaving_effects s) _ h) [
+    | inl taken ↦ absurd (no_run_taken callee arguments (statement_uses s) taken)
     | inr leaving ↦ here_call s rest leaving
   ]
 

@@ -2,7 +2,6 @@
 use function_real_lower::RealLower;
 use ir_arena::handle::Handle;
 use ir_arena::span::Span;
-use ir_faults::refusal::Refusal;
 use ir_flags::{
     Capabilities, MemoryDecorations, ShaderStages, StorageAccess, SubgroupOperationSet,
     ValidationFlags,
@@ -11,6 +10,7 @@ use ir_items::{
     EntryPoint, Expression, Function, GlobalVariable, IrType, Module, Statement, TypeInner, key,
 };
 use ir_kinds::{AddressSpace, Literal, ResourceBinding, Scalar, ShaderStage};
+use ir_types::refusal::Refusal;
 use shader_check::{Document, Settings, ValidationError, Validator, judge_document};
 use std::alloc::{AllocError, Global};
 use test_support::call::freeing;

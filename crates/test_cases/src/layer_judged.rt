@@ -2,16 +2,16 @@
 
 ghost use Rattle.std.specs.Prelude.{◌≡◌, IsTrue};
 ghost use Rattle.ir_items.specs.found.View.{function_view, module_view};
-ghost use Rattle.ir_proc.specs.found.Filters.{ParentsPrecede};
-ghost use Rattle.spec_expressions.specs.Conditions.{HandlesInRange, OperandsPrecede};
+ghost use Rattle.ir_items.specs.found.Filters.{ParentsPrecede};
+ghost use Rattle.spec_expressions.specs.judged.FunctionHandles.{HandlesInRange, OperandsPrecede};
 ghost use Rattle.function_tiny_lower.specs.Readings.{IsMadeOf};
 
 use crate::layer_made::lower_for;
 use function_interface::Lower;
 use function_tiny_lower::{TinyInfo, TinyLower};
-use ir_faults::refusal::Refusal;
 use ir_flags::{Capabilities, ShaderStages, ValidationFlags};
 use ir_items::{Function, Module};
+use ir_types::refusal::Refusal;
 use module_handles::{filter_parents_precede, handles_in_range, operands_precede};
 use shader_check::{DocumentError, Validator, read_document};
 use std::alloc::{AllocError, Global};

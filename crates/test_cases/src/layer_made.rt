@@ -7,10 +7,10 @@ ghost use Rattle.function_tiny_lower.specs.Readings.{IsMadeOf};
 ghost use Rattle.typing_forms.specs.judged.Resolutions.{types_view};
 
 use function_tiny_lower::TinyLower;
-use ir_faults::refusal::Refusal;
 use ir_flags::Capabilities;
 use ir_items::Module;
 use ir_sets::unique_arena::UniqueArena;
+use ir_types::refusal::Refusal;
 use ir_types::{IrType, key};
 use module_validator::validate_types;
 use std::alloc::{AllocError, Global};

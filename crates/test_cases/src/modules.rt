@@ -1,7 +1,7 @@
 // Whether the handles of a module are in order, whether it is accepted up to its overrides, and why it is not.
 use document_reader::Document;
-use ir_faults::refusal::Refusal;
 use ir_items::Module;
+use ir_types::refusal::Refusal;
 use module_handles::{InvalidHandleError, validate_module_handles};
 use module_validator::{InvalidType, ModuleError, ModuleInfo, ModuleValidator};
 use std::alloc::{AllocError, Global};

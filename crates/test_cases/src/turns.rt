@@ -1,9 +1,9 @@
 // One validator for the modules of several documents in turn.
 use document_reader::{Document, DocumentError, read_document};
 use function_real_lower::RealLower;
-use ir_faults::refusal::Refusal;
 use ir_flags::Settings;
 use ir_items::Module;
+use ir_types::refusal::Refusal;
 use serde_json::Value;
 use shader_check::{Finding, ValidationError, Validator, refused_by};
 use std::alloc::{AllocError, Global};

@@ -3,9 +3,8 @@ ghost use Rattle.std.specs.Prelude.{◌≡◌, ◌+◌, OnOk, length};
 
 use ir_arena::arena::Arena;
 use ir_arena::span::Span;
-use ir_items::{Expression, Statement, key};
+use ir_items::{Emitter, Expression, Statement, key};
 use ir_kinds::Literal;
-use ir_proc::Emitter;
 use serde_json::Value;
 use std::alloc::{AllocError, Global};
 use std::ops;

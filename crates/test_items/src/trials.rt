@@ -2,8 +2,7 @@
 // calls of blocks.
 use crate::item::{Item, read_at};
 use crate::walks::{Composition, leaves_of};
-use ir_items::{Block, Expression, Function, IrType, Module};
-use ir_proc::FlattenCompose;
+use ir_items::{Block, Expression, FlattenCompose, Function, IrType, Module};
 use serde_json::Value;
 use std::alloc::{AllocError, Global};
 use test_support::block_in_little;

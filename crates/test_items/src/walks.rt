@@ -5,9 +5,11 @@ use crate::trials::is_composition_refused;
 use ir_arena::arena::Arena;
 use ir_arena::handle::Handle;
 use ir_arena::span::Span;
-use ir_items::{DiagnosticFilterNode, Function, IrType, key};
+use ir_items::{
+    DiagnosticFilterNode, DiagnosticFilterNodeExt, FlattenCompose, Function, FunctionExt, IrType,
+    flatten_compose, key,
+};
 use ir_kinds::{Severity, StandardFilterableTriggeringRule};
-use ir_proc::{DiagnosticFilterNodeExt, FlattenCompose, FunctionExt, flatten_compose};
 use ir_sets::unique_arena::UniqueArena;
 use serde_json::Value;
 use std::alloc::{AllocError, Global};

@@ -1,8 +1,8 @@
 // Errors with spans, and refusals.
 use ir_arena::handle::BadHandle;
 use ir_arena::span::Span;
-use ir_faults::refusal::Refusal;
-use ir_faults::with_span::{SpanContext, WithSpan};
+use ir_types::refusal::Refusal;
+use ir_types::with_span::{SpanContext, WithSpan};
 use serde_json::Value;
 use std::alloc::{AllocError, AllocFailed, Global};
 use std::mem;

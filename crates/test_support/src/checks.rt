@@ -3,9 +3,9 @@ ghost use Rattle.std.specs.Prelude.{◌≡◌, ◌<◌, length, IsTrue};
 ghost use Rattle.std.specs.List.{All};
 ghost use Rattle.std.specs.Option.{ForSome};
 ghost use Rattle.ir_types.specs.judged.ExpressionPlain.{expression_view};
-ghost use Rattle.ir_proc.specs.judged.Bases.{expressions_of, base_of, BasesPrecede};
-ghost use Rattle.ir_proc.specs.found.Filters.{nodes_of, ParentsPrecede};
-ghost use Rattle.ir_proc.specs.found.Flat.{parts_of, PartsPrecede};
+ghost use Rattle.ir_items.specs.judged.Bases.{expressions_of, base_of, BasesPrecede};
+ghost use Rattle.ir_items.specs.found.Filters.{nodes_of, ParentsPrecede};
+ghost use Rattle.ir_items.specs.found.Flat.{parts_of, PartsPrecede};
 
 use ir_arena::arena::Arena;
 use ir_arena::handle::Handle;

@@ -4,9 +4,9 @@ ghost use Rattle.typing_forms.specs.judged.Order.{TypesGoBack};
 ghost use Rattle.typing_forms.specs.judged.Resolutions.{types_view};
 ghost use Rattle.typing_layout.specs.found.Held.{AreLayouts};
 
-use ir_faults::refusal::Refusal;
 use ir_flags::Capabilities;
 use ir_sets::unique_arena::UniqueArena;
+use ir_types::refusal::Refusal;
 use ir_types::{IrType, key};
 use module_validator::{InvalidType, validate_types};
 use std::alloc::{AllocError, Global};

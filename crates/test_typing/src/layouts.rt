@@ -4,8 +4,8 @@ ghost use Rattle.typing_forms.specs.judged.Resolutions.{types_view};
 ghost use Rattle.typing_layout.specs.found.Held.{AreLayouts};
 
 use ir_arena::handle::Handle;
-use ir_faults::refusal::Refusal;
 use ir_sets::unique_arena::UniqueArena;
+use ir_types::refusal::Refusal;
 use ir_types::{IrType, key};
 use std::alloc::{AllocError, Global};
 use test_support::call::{completed, freeing, push};

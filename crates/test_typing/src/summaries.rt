@@ -1,13 +1,13 @@
 // What is found of functions, from their own bodies and from what is found of the functions that they call.
 ghost use Rattle.std.specs.Prelude.{IsTrue};
 ghost use Rattle.ir_items.specs.found.View.{function_view, module_view};
-ghost use Rattle.ir_proc.specs.found.Filters.{ParentsPrecede};
-ghost use Rattle.spec_expressions.specs.Conditions.{HandlesInRange, OperandsPrecede};
+ghost use Rattle.ir_items.specs.found.Filters.{ParentsPrecede};
+ghost use Rattle.spec_expressions.specs.judged.FunctionHandles.{HandlesInRange, OperandsPrecede};
 
 use function_real_lower::process_function;
-use ir_faults::refusal::Refusal;
 use ir_flags::ValidationFlags;
 use ir_items::{Function, Module};
+use ir_types::refusal::Refusal;
 use module_handles::{
     arities_match, callees_precede, filter_parents_precede, handles_in_range, operands_precede,
 };

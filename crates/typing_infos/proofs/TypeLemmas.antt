@@ -9,7 +9,7 @@ use Rattle.ir_types.specs.judged.ExpressionPlain.{PlainExpression, compose, plai
 use Rattle.ir_types.specs.declared.expressions.Expression.{Expression}
 use Rattle.ir_types.specs.declared.expressions.Expression.TheVariants as x
 use Rattle.ir_items.specs.found.GlobalView.{values_of}
-use Rattle.spec_expressions.specs.judged.Operands.{Operand, operand, expression_operands}
+use Rattle.spec_expressions.specs.judged.OperandUses.{Operand, operand, expression_uses}
 use Rattle.spec_expressions.specs.declared.operand.Usage.TheVariants.{Base, Query, Read}
 use Rattle.spec_expressions.specs.judged.Values.{OperandsPrecede}
 use Rattle.spec_expressions.proofs.Members.{get-within}
@@ -38,7 +38,7 @@ operands_typed c xs types missing y below typed o among = typed o (slice_index_o
 -- ---- the operands whose types count are operands
 
 abbrev Takes : PlainExpression → ℕ → Type 0
-Takes y o = (q : Operand) × IsAmong q (expression_operands y) × (q.handle ≡ o)
+Takes y o = (q : Operand) × IsAmong q (expression_uses y) × (q.handle ≡ o)
 
 typing_taken : (y : PlainExpression) (o : ℕ) → IsAmong o (typing_operands y) → Takes y o
 typing_taken (compose t cs) o h = elim h [ ]

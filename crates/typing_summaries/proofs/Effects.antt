@@ -3,7 +3,7 @@ use Rattle.std.proofs.Common.{◌≡◌, ℕ, ◌+◌, true, List, [], ◌∷◌
 use Rattle.ir_types.specs.judged.ExpressionPlain.{PlainExpression, compose, plain}
 use Rattle.ir_types.specs.declared.expressions.Expression.TheVariants as x
 use Rattle.ir_blocks.specs.judged.Plain.{PlainStatement, emit, block, if_, switch, loop, break, continue, return, kill, operation, call, PlainBlock, stop, next, PlainCases, no_case, case}
-use Rattle.spec_expressions.specs.judged.Operands.{Operand, expression_operands, statement_operands}
+use Rattle.spec_expressions.specs.judged.OperandUses.{Operand, expression_uses, statement_uses}
 use Rattle.spec_expressions.specs.judged.Effects.{Effect, takes, samples, runs, discards, sampling_at, expression_effects, expressions_effects, leaving_effects, statement_effects, effects_in, effects_inside, effects_in_cases}
 use Rattle.spec_expressions.specs.judged.Chains.{place}
 use Rattle.typing_summaries.specs.Tallies.{Counted, Paired, Known, Tallied, take_one, take_all, pair_one, sample_one, count_all, expression_done, expressions_done, join_summary, leave, statement_done, done_in, done_inside, done_in_cases}
@@ -32,8 +32,8 @@ do_sampling k e _ t = refl
 
 do_expression : (k : Known) (e : ℕ) (expression : PlainExpression) (t : Tallied) → do_all k (expression_effects e expression) t ≡ expression_done k e expression t
 do_expression k e expression t =
-    do_append k (map takes (expression_operands expression)) (sampling_at e expression) t
-    ∙ (ap (do_all k (sampling_at e expression)) (do_takes k (expression_operands expression) t) ∙ do_sampling k e expression (count_all k (expression_operands expression) t))
+    do_append k (map takes (expression_uses expression)) (sampling_at e expression) t
+    ∙ (ap (do_all k (sampling_at e expression)) (do_takes k (expression_uses expression) t) ∙ do_sampling k e expression (count_all k (expression_uses expression) t))
 
 pub do_expressions : (k : Known) (e : ℕ) (expressions : List PlainExpression) (t : Tallied) → do_all k (expressions_effects e expressions) t ≡ expressions_done k e expressions t
 do_expressions k e [] t = refl
@@ -56,8 +56,8 @@ do_leaving k (call function arguments result) t = refl
 
 do_statement : (k : Known) (s : PlainStatement) (t : Tallied) → do_all k (statement_effects s) t ≡ statement_done k s t
 do_statement k s t =
-    do_append k (map takes (statement_operands s)) (leaving_effects s) t
-    ∙ (ap (do_all k (leaving_effects s)) (do_takes k (statement_operands s) t) ∙ do_leaving k s (count_all k (statement_operands s) t))
+    do_append k (map takes (statement_uses s)) (leaving_effects s) t
+    ∙ (ap (do_all k (leaving_effects s)) (do_takes k (statement_uses s) t) ∙ do_leaving k s (count_all k (statement_uses s) t))
 
 -- a part, and what stands after it
 then_rest : (k : Known) (xs ys : List Effect) (t u v : Tallied) → do_all k xs t ≡ u → do_all k ys u ≡ v → do_all k (xs ++ ys) t ≡ v

@@ -7,7 +7,7 @@ use Rattle.std.proofs.lemmas.List.{get_or-set_same, get_or-set_other}
 use Rattle.typing_rules.specs.judged.Laws.{IsAmong}
 use Rattle.spec_expressions.specs.declared.global_use.GlobalUse.{GlobalUse}
 use Rattle.spec_expressions.specs.judged.Pairs.{SamplingPair}
-use Rattle.spec_expressions.specs.judged.Operands.{Operand}
+use Rattle.spec_expressions.specs.judged.OperandUses.{Operand}
 use Rattle.spec_expressions.specs.judged.Effects.{Effect, takes, samples, runs, discards, places_of}
 use Rattle.spec_expressions.specs.judged.Chains.{place}
 use Rattle.spec_expressions.specs.judged.Values.{known_at}

@@ -12,7 +12,7 @@ use Rattle.ir_items.specs.judged.Plain.{PlainFunction}
 use Rattle.spec_expressions.specs.declared.global_use.GlobalUse.{GlobalUse}
 use Rattle.spec_expressions.specs.declared.global_use.TheConstants.GlobalUse.{QUERY}
 use Rattle.spec_expressions.specs.judged.Pairs.{SamplingPair}
-use Rattle.spec_expressions.specs.judged.Operands.{Operand}
+use Rattle.spec_expressions.specs.judged.OperandUses.{Operand}
 use Rattle.spec_expressions.specs.judged.Effects.{Effect, takes, samples, runs, discards, expressions_effects, effects_in, effects_of, places_of}
 use Rattle.spec_expressions.specs.judged.Values.{StartsAt, AreStarts}
 use Rattle.spec_expressions.specs.judged.Chains.{place, UsesDirectly, Names, Samples, Discards}

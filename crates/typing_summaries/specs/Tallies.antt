@@ -7,7 +7,7 @@ use Rattle.ir_blocks.specs.judged.Plain.{PlainStatement, emit, block, if_, switc
 use Rattle.ir_items.specs.found.GlobalView.{values_of}
 use Rattle.spec_expressions.specs.declared.global_use.GlobalUse.{GlobalUse}
 use Rattle.spec_expressions.specs.declared.global_use.TheConstants.GlobalUse.{QUERY}
-use Rattle.spec_expressions.specs.judged.Operands.{Operand, expression_operands, statement_operands}
+use Rattle.spec_expressions.specs.judged.OperandUses.{Operand, expression_uses, statement_uses}
 use Rattle.spec_expressions.specs.judged.Values.{known_at}
 use Rattle.spec_expressions.specs.judged.Summaries.{Summary, no_use}
 use Rattle.typing_infos.specs.Infos.{marked, summary_of}
@@ -73,7 +73,7 @@ count_all k operands t = record { counted = take_all k.globals operands t.counte
 
 abbrev pub expression_done : Known → ℕ → PlainExpression → Tallied → Tallied
 expression_done k e expression t = record {
-  counted = take_all k.globals (expression_operands expression) t.counted;
+  counted = take_all k.globals (expression_uses expression) t.counted;
   paired = sample_one k.expressions e expression t.paired;
   may_kill = t.may_kill;
 }
@@ -105,7 +105,7 @@ leave k (operation a) t = t
 leave k (call function arguments result) t = join_summary k arguments (slice_get k.summaries function) t
 
 abbrev pub statement_done : Known → PlainStatement → Tallied → Tallied
-statement_done k s t = leave k s (count_all k (statement_operands s) t)
+statement_done k s t = leave k s (count_all k (statement_uses s) t)
 
 abbrev mutual
   pub done_in : Known → PlainBlock → Tallied → Tallied

@@ -1,7 +1,7 @@
 //! How often expressions are operands, and how global variables are used.
 
 ghost use Rattle.std.specs.Prelude.{◌≡◌, Option, List, Some, map, IfOk, replicate, slice_index_or, ◌==◌};
-ghost use Rattle.spec_expressions.specs.judged.Operands.{operand};
+ghost use Rattle.spec_expressions.specs.judged.OperandUses.{operand};
 ghost use Rattle.spec_expressions.specs.declared.operand.Usage.TheVariants.{Read};
 ghost use Rattle.spec_expressions.specs.judged.Summaries.{no_use};
 ghost use Rattle.spec_expressions.specs.judged.Values.{known_at};

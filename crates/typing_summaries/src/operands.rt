@@ -3,8 +3,8 @@
 ghost use Rattle.std.specs.Prelude.{◌≡◌};
 ghost use Rattle.ir_types.specs.judged.ExpressionPlain.{expression_view};
 ghost use Rattle.ir_blocks.specs.found.View.{statement_view};
-ghost use Rattle.spec_expressions.specs.judged.Operands.{operand, operands_in, expression_operands, statement_operands};
-ghost use Rattle.spec_expressions.specs.Operands.{these};
+ghost use Rattle.spec_expressions.specs.judged.OperandUses.{operand, operands_in, expression_uses, statement_uses};
+ghost use Rattle.spec_expressions.specs.judged.Operands.{these};
 ghost use Rattle.typing_summaries.specs.Tallies.{counted, take_one, take_all};
 
 use crate::counts::{Counts, Start};
@@ -22,7 +22,7 @@ struct Counter<'a> {
 
 impl OperandUser<Counts, ()> for Counter<'_> {
     ghost use Rattle.std.specs.Prelude.{◌≡◌};
-    ghost use Rattle.spec_expressions.specs.judged.Operands.{operands_in};
+    ghost use Rattle.spec_expressions.specs.judged.OperandUses.{operands_in};
     ghost use Rattle.typing_summaries.specs.Tallies.{counted, take_all};
 
     ghost does = { λ counter before after answer operands. counted after ≡ take_all counter.globals.now (operands_in operands) (counted before) };
@@ -66,7 +66,7 @@ impl Counts {
 
     // The operands of an expression.
     pub(crate) fn take_expression(&mut self, globals: &[Start], expression: &Expression)
-        ensures { counted self.new ≡ take_all globals.now (expression_operands (expression_view expression.now)) (counted self.old) }
+        ensures { counted self.new ≡ take_all globals.now (expression_uses (expression_view expression.now)) (counted self.old) }
     {
         let counter = Counter { globals };
         with_operands(&counter, self, expression);
@@ -74,7 +74,7 @@ impl Counts {
 
     // The operands of a statement itself, and not of the statements inside it.
     pub(crate) fn take_statement(&mut self, globals: &[Start], statement: &Statement)
-        ensures { counted self.new ≡ take_all globals.now (statement_operands (statement_view statement.now)) (counted self.old) }
+        ensures { counted self.new ≡ take_all globals.now (statement_uses (statement_view statement.now)) (counted self.old) }
     {
         let counter = Counter { globals };
         with_statement_operands(&counter, self, statement);

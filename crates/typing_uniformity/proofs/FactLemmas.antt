@@ -10,7 +10,7 @@ use Rattle.ir_types.specs.declared.expressions.Expression.{Expression}
 use Rattle.ir_types.specs.declared.expressions.Expression.TheVariants as x
 use Rattle.ir_items.specs.found.GlobalView.{values_of}
 use Rattle.ir_items.specs.judged.Plain.{PlainFunction, PlainModule}
-use Rattle.spec_expressions.specs.judged.Operands.{Operand, operand, expression_operands}
+use Rattle.spec_expressions.specs.judged.OperandUses.{Operand, operand, expression_uses}
 use Rattle.spec_expressions.specs.declared.operand.Usage.TheVariants.{Base}
 use Rattle.spec_expressions.specs.judged.Values.{inner_of, known_at, is_source, ComesFrom, itself, through, StartsAt, is_global, accessed, accessed_index, AreStarts, OperandsPrecede, IsExact}
 use Rattle.typing_uniformity.specs.Facts.{or_known, find_all, source_if, source_of, start_of, sources_of, starts_of, AreSources}
@@ -99,7 +99,7 @@ record Through (m : PlainModule) (f : PlainFunction) (e s : ℕ) : Type 0 where
   expression : PlainExpression
   operand : Operand
   stands : slice_get f.expressions e ≡ Some expression
-  among : IsAmong operand (expression_operands expression)
+  among : IsAmong operand (expression_uses expression)
   comes : ComesFrom m f operand.handle s
 
 record Itself (m : PlainModule) (f : PlainFunction) (e s : ℕ) : Type 0 where
@@ -117,13 +117,13 @@ abbrev SourcesKnown : PlainModule → PlainFunction → List (Option ℕ) → Ty
 SourcesKnown m f known = (e : ℕ) → e < length known → IsExact (known_at known e) (ComesFrom m f e)
 
 module _ (m : PlainModule) (f : PlainFunction) (precede : OperandsPrecede f.expressions) (known : List (Option ℕ)) (sources : SourcesKnown m f known) (expression : PlainExpression) (at : slice_get f.expressions (length known) ≡ Some expression) where
-  exact_if : (b : Bool) → is_source m f expression ≡ b → IsExact (source_if b (length known) (find_all known (expression_operands expression) None)) (ComesFrom m f (length known))
+  exact_if : (b : Bool) → is_source m f expression ≡ b → IsExact (source_if b (length known) (find_all known (expression_uses expression) None)) (ComesFrom m f (length known))
   exact_if true is = record {
     found = λ s e. subst (ComesFrom m f (length known)) (some_is e) (itself expression at is);
     none = λ e. none_some (sym e);
   }
   exact_if false is = record {
-    found = λ s e. elim (find_some known (expression_operands expression) None s e) [
+    found = λ s e. elim (find_some known (expression_uses expression) None s e) [
       | inl n ↦ none_some n
       | inr (o, among, have) ↦ through expression o at among ((sources o.handle (precede (length known) expression o at among)).found s have)
     ];
@@ -131,8 +131,8 @@ module _ (m : PlainModule) (f : PlainFunction) (precede : OperandsPrecede f.expr
       | inl own ↦ true≢false (sym own.source ∙ (ap (is_source m f) (some_is (sym own.stands ∙ at)) ∙ is))
       | inr t ↦
           (let same : t.expression ≡ expression = some_is (sym t.stands ∙ at) in
-          let among : IsAmong t.operand (expression_operands expression) = subst (λ z. IsAmong t.operand (expression_operands z)) same t.among in
-          (sources t.operand.handle (precede (length known) expression t.operand at among)).none ((find_none known (expression_operands expression) None e).1 t.operand among) s t.comes)
+          let among : IsAmong t.operand (expression_uses expression) = subst (λ z. IsAmong t.operand (expression_uses z)) same t.among in
+          (sources t.operand.handle (precede (length known) expression t.operand at among)).none ((find_none known (expression_uses expression) None e).1 t.operand among) s t.comes)
     ];
   }
 

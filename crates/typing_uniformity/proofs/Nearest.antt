@@ -8,7 +8,7 @@ use Rattle.ir_items.specs.found.GlobalView.{values_of}
 use Rattle.ir_kinds.specs.declared.diagnostics.Severity.{Severity}
 use Rattle.ir_kinds.specs.declared.diagnostics.StandardFilterableTriggeringRule.{StandardFilterableTriggeringRule}
 use Rattle.ir_items.specs.judged.GlobalPlain.{PlainNode, standard}
-use Rattle.ir_proc.specs.found.Filters.{ParentsPrecede}
+use Rattle.ir_items.specs.found.Filters.{ParentsPrecede}
 use Rattle.ir_kinds.specs.declared.diagnostics.StandardFilterableTriggeringRule.TheVariants.{DerivativeUniformity}
 use Rattle.spec_expressions.specs.judged.Severity.{IsTrail, IsFirst, IsNearest}
 use Rattle.typing_uniformity.specs.Nearest.{AreNearest}

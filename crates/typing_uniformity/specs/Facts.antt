@@ -5,7 +5,7 @@ use Rattle.ir_types.specs.declared.expressions.Expression.{Expression}
 use Rattle.ir_types.specs.declared.expressions.Expression.TheVariants.{GlobalVariable, Access, AccessIndex}
 use Rattle.ir_items.specs.judged.Plain.{PlainFunction, PlainModule}
 use Rattle.spec_expressions.specs.declared.uniformity.Uniformity.{Uniformity}
-use Rattle.spec_expressions.specs.judged.Operands.{Operand, expression_operands}
+use Rattle.spec_expressions.specs.judged.OperandUses.{Operand, expression_uses}
 use Rattle.spec_expressions.specs.judged.Values.{known_at, is_source, ComesFrom, IsExact}
 use Rattle.spec_expressions.specs.judged.Faults.{requirement_at}
 
@@ -24,7 +24,7 @@ source_if false e below = below
 
 -- where the value of the expression at a place comes from
 abbrev pub source_of : PlainModule → PlainFunction → List (Option ℕ) → ℕ → PlainExpression → Option ℕ
-source_of m f sources e expression = source_if (is_source m f expression) e (find_all sources (expression_operands expression) None)
+source_of m f sources e expression = source_if (is_source m f expression) e (find_all sources (expression_uses expression) None)
 
 -- where its chain of accesses starts
 abbrev pub start_of : List (Option ℕ) → PlainExpression → Option ℕ

@@ -2,7 +2,7 @@
 
 ghost use Rattle.std.specs.Prelude.{◌≡◌, IfOk};
 ghost use Rattle.ir_items.specs.found.View.{function_view, module_view};
-ghost use Rattle.ir_proc.specs.found.Filters.{ParentsPrecede};
+ghost use Rattle.ir_items.specs.found.Filters.{ParentsPrecede};
 ghost use Rattle.typing_uniformity.specs.Facts.{AreUniformities};
 ghost use Rattle.typing_uniformity.specs.Faults.{IsAnswer};
 ghost use Rattle.typing_uniformity.specs.Nearest.{AreNearest};

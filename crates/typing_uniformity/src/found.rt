@@ -2,10 +2,10 @@
 
 ghost use Rattle.std.specs.Prelude.{◌≡◌, Option, None, map};
 ghost use Rattle.ir_types.specs.judged.ExpressionPlain.{expression_view};
-ghost use Rattle.spec_expressions.specs.judged.Operands.{operand, operands_in, expression_operands};
+ghost use Rattle.spec_expressions.specs.judged.OperandUses.{operand, operands_in, expression_uses};
 ghost use Rattle.spec_expressions.specs.declared.operand.Usage.TheVariants.{Read};
 ghost use Rattle.spec_expressions.specs.judged.Values.{known_at};
-ghost use Rattle.spec_expressions.specs.Operands.{these};
+ghost use Rattle.spec_expressions.specs.judged.Operands.{these};
 ghost use Rattle.typing_uniformity.specs.Facts.{or_known, find_all};
 
 use ir_arena::handle::Handle;
@@ -65,7 +65,7 @@ struct Sources<'a> {
 
 impl OperandUser<(), Option<Operand>> for Sources<'_> {
     ghost use Rattle.std.specs.Prelude.{◌≡◌, None};
-    ghost use Rattle.spec_expressions.specs.judged.Operands.{operands_in};
+    ghost use Rattle.spec_expressions.specs.judged.OperandUses.{operands_in};
     ghost use Rattle.typing_uniformity.specs.Facts.{find_all};
 
     ghost does = { λ t before after found operands. found ≡ find_all t.sources.now (operands_in operands) None };
@@ -81,7 +81,7 @@ impl OperandUser<(), Option<Operand>> for Sources<'_> {
 
 // The source that an operand of the expression comes from, if there is one.
 pub(crate) fn source_below(sources: &[Option<Operand>], expression: &Expression) -> Option<Operand>
-    ensures { result ≡ find_all sources.now (expression_operands (expression_view expression.now)) None }
+    ensures { result ≡ find_all sources.now (expression_uses (expression_view expression.now)) None }
 {
     let all = Sources { sources };
     with_operands(&all, &mut (), expression)

@@ -5,7 +5,7 @@ ghost use Rattle.ir_items.specs.judged.GlobalPlain.{standard};
 ghost use Rattle.ir_items.specs.found.GlobalView.{node_view};
 ghost use Rattle.ir_items.specs.found.View.{function_view, module_view};
 ghost use Rattle.ir_kinds.specs.declared.diagnostics.StandardFilterableTriggeringRule.TheVariants.{DerivativeUniformity};
-ghost use Rattle.ir_proc.specs.found.Filters.{nodes_of, ParentsPrecede};
+ghost use Rattle.ir_items.specs.found.Filters.{nodes_of, ParentsPrecede};
 ghost use Rattle.typing_uniformity.specs.Nearest.{AreNearest};
 ghost use Rattle.spec_expressions.specs.judged.Severity.{IsNearest, HasSeverity};
 

@@ -3,7 +3,7 @@ use Rattle.std.specs.Prelude.{◌≡◌, ◌↔◌, ◌<◌, ℕ, List, false, I
 use Rattle.ir_items.specs.judged.Plain.{PlainEntry, PlainModule}
 use Rattle.spec_expressions.specs.judged.Chains.{Names, Reaches}
 use Rattle.spec_expressions.specs.judged.Summaries.{no_use}
-use Rattle.spec_expressions.specs.InOrder.{HandlesOK}
+use Rattle.spec_expressions.specs.judged.ModuleHandles.{HandlesOK}
 use Rattle.judgement.specs.judged.Lines.{is_own, is_used}
 use Rattle.judgement.specs.judged.Reports.{IsEntryReport, IsReport}
 

@@ -12,7 +12,7 @@ use Rattle.spec_statements.specs.judged.ModuleFunctions as functions
 use Rattle.spec_statements.specs.judged.ModuleFunctions.{FunctionsOK}
 use Rattle.spec_interface.specs.judged.Globals as globals
 use Rattle.spec_interface.specs.judged.Globals.{GlobalsOK}
-use Rattle.spec_expressions.specs.InOrder.{HandlesOK}
+use Rattle.spec_expressions.specs.judged.ModuleHandles.{HandlesOK}
 use Rattle.judgement.specs.judged.ModuleSteps as step
 use Rattle.judgement.specs.judged.ModuleSteps.{ModuleOK, IsFirstFailing}
 use Rattle.judgement.specs.declared.finding.Step.TheVariants.{Layout, «Type», Typing, Expression, Constant, Override, Global, Function, Entry}

@@ -8,7 +8,7 @@ use Rattle.ir_blocks.specs.judged.Tails.{IsCompleted}
 use Rattle.ir_items.specs.judged.Plain.{PlainFunction, PlainEntry, PlainModule}
 use Rattle.spec_interface.specs.judged.Modules.{EntryAtOK}
 use Rattle.spec_statements.specs.judged.ModuleFunctions.{FunctionsOK}
-use Rattle.spec_expressions.specs.InOrder.{HandlesOK}
+use Rattle.spec_expressions.specs.judged.ModuleHandles.{HandlesOK}
 use Rattle.spec_interface.specs.judged.Contexts.{stage_set}
 use Rattle.spec_runs.specs.judged.Good.{DepthOK, TypesOK, LiveOK, SurelyLiveOK, NamedOK, SampledOK, StagesOK, FallsOK, NoEscape}
 use Rattle.spec_runs.specs.judged.Laws.{OnEveryRun, OnEveryRunOf}

@@ -5,7 +5,7 @@ use Rattle.ir_items.specs.judged.Plain.{PlainModule}
 use Rattle.ir_items.specs.judged.Returned.{IsReturned}
 use Rattle.judgement.specs.declared.finding.Finding.{Finding}
 use Rattle.judgement.specs.judged.Steps.{IsPrepared, IsFinding}
-use Rattle.spec_expressions.specs.InOrder.{HandlesOK}
+use Rattle.spec_expressions.specs.judged.ModuleHandles.{HandlesOK}
 use Rattle.judgement.specs.judged.Reports.{IsReport}
 use Rattle.judgement_laws.specs.judged.Like.{HasNoResult}
 

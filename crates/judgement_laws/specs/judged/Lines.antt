@@ -5,7 +5,7 @@ use Rattle.ir_items.specs.judged.GlobalPlain.{PlainGlobal}
 use Rattle.ir_items.specs.judged.Plain.{PlainEntry, PlainModule}
 use Rattle.typing_rules.specs.judged.Laws.{IsAmong}
 use Rattle.spec_expressions.specs.judged.Summaries.{no_use}
-use Rattle.judgement.specs.Laws.{buffer_type}
+use Rattle.judgement.specs.judged.BufferLaws.{buffer_type}
 use Rattle.judgement.specs.judged.Lines.{own_line, is_own, is_used, use_words, pair_line, is_buffer, buffer_line}
 use Rattle.judgement.specs.judged.Reports.{IsEntryReport, IsReport}
 use Rattle.typing_layout.specs.judged.Layout.{size, alignment}

@@ -8,8 +8,8 @@ use Rattle.ir_items.specs.judged.GlobalPlain.{PlainGlobal}
 use Rattle.ir_items.specs.judged.Plain.{PlainEntry, PlainModule}
 use Rattle.judgement.specs.judged.Steps.{IsPrepared, IsFinding, IsScopeStrict}
 use Rattle.judgement.specs.declared.finding.Finding.TheVariants.{Accepted}
-use Rattle.judgement.specs.Laws.{buffer_type}
-use Rattle.judgement.specs.Sound.{StrideOK, LeavesOK}
+use Rattle.judgement.specs.judged.BufferLaws.{buffer_type}
+use Rattle.judgement.specs.judged.Sound.{StrideOK, LeavesOK}
 use Rattle.spec_interface.specs.judged.Modules.{AreStages}
 use Rattle.judgement.specs.judged.Lines.{is_buffer}
 use Rattle.judgement.specs.judged.Reports.{IsReport}

@@ -7,9 +7,9 @@ use Rattle.function_interface.specs.Question.{Question, question}
 use Rattle.function_validator.specs.EntryFaults.{IsRefusedAs}
 use Rattle.function_validator.specs.Validated.{IsEntryNoted, IsEntrySummary}
 use Rattle.check_errors.specs.declared.error.InvalidEntryPoint.{InvalidEntryPoint}
-use Rattle.ir_faults.specs.Faults.{error_of, spans_of}
-use Rattle.ir_faults.specs.declared.refusal.Refusal.{Refusal}
-use Rattle.ir_faults.specs.declared.refusal.Refusal.TheVariants as refusal
+use Rattle.ir_types.specs.found.Faults.{error_of, spans_of}
+use Rattle.ir_types.specs.declared.refusal.Refusal.{Refusal}
+use Rattle.ir_types.specs.declared.refusal.Refusal.TheVariants as refusal
 use Rattle.ir_flags.specs.declared.stages.ShaderStages.{ShaderStages}
 use Rattle.ir_flags.specs.declared.settings.Settings.{Settings}
 use Rattle.ir_items.specs.judged.Plain.{PlainEntry, PlainModule}

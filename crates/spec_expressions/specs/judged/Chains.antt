@@ -9,7 +9,7 @@ use Rattle.spec_expressions.specs.declared.global_use.TheConstants.GlobalUse.{QU
 use Rattle.spec_expressions.specs.declared.sampling.GlobalOrArgument.{GlobalOrArgument}
 use Rattle.spec_expressions.specs.declared.sampling.GlobalOrArgument.TheVariants.{Global, Argument}
 use Rattle.spec_expressions.specs.judged.Pairs.{SamplingPair}
-use Rattle.spec_expressions.specs.judged.Operands.{Operand}
+use Rattle.spec_expressions.specs.judged.OperandUses.{Operand}
 use Rattle.spec_expressions.specs.judged.Effects.{Effect, takes, samples, runs, discards, effects_of}
 use Rattle.spec_expressions.specs.judged.Values.{StartsAt}
 

@@ -4,7 +4,7 @@ use Rattle.ir_types.specs.judged.ExpressionPlain.{PlainExpression, compose, plai
 use Rattle.ir_types.specs.declared.expressions.Expression.TheVariants.{ImageSample}
 use Rattle.ir_blocks.specs.judged.Plain.{PlainStatement, emit, block, if_, switch, loop, break, continue, return, kill, operation, call, PlainBlock, stop, next, PlainCases, no_case, case}
 use Rattle.ir_items.specs.judged.Plain.{PlainFunction}
-use Rattle.spec_expressions.specs.judged.Operands.{Operand, expression_operands, statement_operands}
+use Rattle.spec_expressions.specs.judged.OperandUses.{Operand, expression_uses, statement_uses}
 
 -- It takes an operand, samples an image in an expression, runs a function with these arguments, or ends the fragment.
 pub data Effect : Type 0 where
@@ -20,7 +20,7 @@ sampling_at e _ = []
 
 -- of the expression at a place
 abbrev pub expression_effects : ℕ → PlainExpression → List Effect
-expression_effects e expression = map takes (expression_operands expression) ++ sampling_at e expression
+expression_effects e expression = map takes (expression_uses expression) ++ sampling_at e expression
 
 -- of these expressions, the first of which has this place
 abbrev pub expressions_effects : ℕ → List PlainExpression → List Effect
@@ -43,7 +43,7 @@ leaving_effects (call function arguments result) = runs function arguments ∷ [
 
 -- of the statement itself, and not of the statements inside it
 abbrev pub statement_effects : PlainStatement → List Effect
-statement_effects s = map takes (statement_operands s) ++ leaving_effects s
+statement_effects s = map takes (statement_uses s) ++ leaving_effects s
 
 -- of all statements of a block, at any depth
 abbrev mutual

@@ -19,7 +19,7 @@ use Rattle.ir_types.specs.declared.expressions.Expression.TheVariants as x
 use Rattle.ir_items.specs.judged.GlobalPlain.{PlainGlobal}
 use Rattle.ir_items.specs.judged.Plain.{PlainArgument, PlainFunction, PlainModule}
 use Rattle.spec_expressions.specs.declared.uniformity.TheConstants.UniformityRequirements.{DERIVATIVE, IMPLICIT_LEVEL, COOP_OPS}
-use Rattle.spec_expressions.specs.judged.Operands.{Operand, expression_operands}
+use Rattle.spec_expressions.specs.judged.OperandUses.{Operand, expression_uses}
 use Rattle.typing_rules.specs.judged.Laws.{IsAmong}
 
 -- ---- sources
@@ -131,7 +131,7 @@ is_source m f (plain expression) =
 pub data ComesFrom (m : PlainModule) (f : PlainFunction) : ℕ → ℕ → Type 0 where
   itself : {s : ℕ} (expression : PlainExpression) → slice_get f.expressions s ≡ Some expression → IsTrue (is_source m f expression) → ComesFrom m f s s
   through : {e s : ℕ} (expression : PlainExpression) (operand : Operand) → slice_get f.expressions e ≡ Some expression
-      → IsAmong operand (expression_operands expression) → ComesFrom m f operand.handle s → ComesFrom m f e s
+      → IsAmong operand (expression_uses expression) → ComesFrom m f operand.handle s → ComesFrom m f e s
 
 -- the value of e may differ between invocations
 abbrev pub NonUniform : PlainModule → PlainFunction → ℕ → Type 0
@@ -161,7 +161,7 @@ AreStarts expressions globals = (e g : ℕ) → (known_at globals e ≡ Some g) 
 -- each operand stands before what has it
 abbrev pub OperandsPrecede : List PlainExpression → Type 0
 OperandsPrecede expressions =
-    (e : ℕ) (expression : PlainExpression) (operand : Operand) → slice_get expressions e ≡ Some expression → IsAmong operand (expression_operands expression)
+    (e : ℕ) (expression : PlainExpression) (operand : Operand) → slice_get expressions e ≡ Some expression → IsAmong operand (expression_uses expression)
     → operand.handle < e
 
 -- an answer names one of those that P holds of, if there is one

@@ -8,8 +8,8 @@ use Rattle.spec_runs.specs.judged.Scoping.{UsedOperands, checked_operands, all_o
 use Rattle.ir_blocks.specs.judged.Places.{Place, OccursAt}
 use Rattle.ir_blocks.specs.judged.Plain.{PlainStatement}
 use Rattle.ir_types.specs.judged.ExpressionPlain.{PlainExpression}
-use Rattle.spec_expressions.specs.Expressions.{expression_operands}
-use Rattle.spec_expressions.specs.Statements.{statement_result}
+use Rattle.spec_expressions.specs.judged.ExpressionNames.{expression_operands}
+use Rattle.spec_expressions.specs.judged.StatementNames.{statement_result}
 use Rattle.spec_statements.specs.judged.Scope.{ScopeOK}
 use Rattle.spec_statements.specs.judged.Strict.{StrictOK}
 

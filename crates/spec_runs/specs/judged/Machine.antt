@@ -13,7 +13,7 @@ use Rattle.ir_blocks.specs.judged.Shapes.{inner, accepting, rejecting, case_at, 
 use Rattle.ir_blocks.specs.judged.Places.{Place, here, later, inside, statement, loop_condition}
 use Rattle.ir_items.specs.judged.Plain.{PlainFunction, PlainEntry, PlainModule}
 use Rattle.spec_expressions.specs.judged.Chains.{place}
-use Rattle.spec_expressions.specs.Statements.{statement_operands}
+use Rattle.spec_expressions.specs.judged.StatementNames.{statement_operands}
 use Rattle.spec_statements.specs.judged.Tables.{introduced}
 use Rattle.spec_statements.specs.judged.Visible.{top_level}
 use Rattle.spec_runs.specs.judged.Events.{Event, entered, executed, introduced_expression, named, sampled, used, passed, returned, fell_off, escaped}

@@ -3,8 +3,8 @@ use Rattle.std.specs.Prelude.{◌≡◌, ◌↔◌, ℕ, zero, suc, List, [], �
 use Rattle.std.specs.List.{flat_map}
 use Rattle.ir_types.specs.judged.ExpressionPlain.{PlainExpression}
 use Rattle.ir_items.specs.judged.Plain.{PlainFunction}
-use Rattle.spec_expressions.specs.Conditions.{OperandsPrecede}
-use Rattle.spec_expressions.specs.Expressions.{expression_operands}
+use Rattle.spec_expressions.specs.judged.FunctionHandles.{OperandsPrecede}
+use Rattle.spec_expressions.specs.judged.ExpressionNames.{expression_operands}
 
 -- o is the expression e, or stands among its operands at any depth
 pub data IsReachedFrom (expressions : List PlainExpression) : (e o : ℕ) → Type 0 where

@@ -5,7 +5,7 @@ use Rattle.ir_blocks.specs.judged.Places.{Place, Spot, spot_at, OccursAt}
 use Rattle.ir_blocks.specs.judged.Plain.{PlainStatement, PlainBlock, next}
 use Rattle.ir_items.specs.judged.Plain.{PlainFunction}
 use Rattle.spec_statements.specs.judged.Scope.{PreEmitted}
-use Rattle.spec_expressions.specs.Expressions.{expression_operands}
+use Rattle.spec_expressions.specs.judged.ExpressionNames.{expression_operands}
 use Rattle.spec_statements.specs.judged.Strict.{needed_at}
 use Rattle.spec_statements.specs.found.SureLevel.{visible_by, holds_continue, sure_level}
 use Rattle.spec_statements.specs.judged.Tables.{checked_at, introduced}

@@ -5,7 +5,7 @@ use Rattle.ir_items.specs.judged.Plain.{PlainFunction, PlainModule}
 use Rattle.spec_expressions.specs.judged.Summaries.{Summary, CalleesKnown, CallsBelow, IsFormFault}
 use Rattle.spec_statements.specs.judged.Analysis.{HasWrongForm}
 use Rattle.spec_statements.specs.judged.EarlierPayloads.{IsPayloadBefore}
-use Rattle.spec_expressions.specs.Conditions.{CalleesPrecede}
+use Rattle.spec_expressions.specs.judged.FunctionHandles.{CalleesPrecede}
 
 -- at most one payload type is kept
 abbrev pub OnePayload : Type 0

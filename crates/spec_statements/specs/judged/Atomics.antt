@@ -19,7 +19,7 @@ use Rattle.typing_forms.specs.declared.form.Form.{Form}
 use Rattle.typing_forms.specs.declared.form.Form.TheVariants as form
 use Rattle.spec_statements.specs.judged.ExpressionResults.{IsExchangeOf}
 use Rattle.spec_statements.specs.judged.Shapes.{pointed_in}
-use Rattle.spec_expressions.specs.Operands.{compared}
+use Rattle.spec_expressions.specs.judged.Operands.{compared}
 use Rattle.spec_statements.specs.judged.BlockContext.{BlockContext, form_at}
 use Rattle.spec_statements.specs.judged.StorageImages.{IsExtremum}
 use Rattle.spec_statements.specs.judged.Stores.{pointer_space}

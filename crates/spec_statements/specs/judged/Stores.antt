@@ -8,7 +8,7 @@ use Rattle.ir_flags.specs.declared.memory.TheConstants.StorageAccess.{STORE}
 use Rattle.ir_kinds.specs.judged.Spaces.{access_of}
 use Rattle.ir_kinds.specs.declared.spaces.AddressSpace.{AddressSpace}
 use Rattle.ir_types.specs.judged.Plain.{PlainType}
-use Rattle.ir_proc.specs.judged.Bases.{base_of}
+use Rattle.ir_items.specs.judged.Bases.{base_of}
 use Rattle.typing_forms.specs.declared.form.Form.{Form}
 use Rattle.typing_forms.specs.declared.form.Form.TheVariants as form
 use Rattle.typing_forms.specs.judged.Resolutions.{inner_at}

@@ -7,8 +7,8 @@ use Rattle.ir_blocks.specs.declared.operations.RayQueryFunction.TheVariants.{Pro
 use Rattle.ir_types.specs.judged.ExpressionPlain.{PlainExpression, plain}
 use Rattle.ir_types.specs.declared.expressions.Expression.TheVariants.{RayQueryProceedResult, SubgroupBallotResult}
 use Rattle.ir_items.specs.judged.Plain.{PlainFunction}
-use Rattle.spec_expressions.specs.Expressions.{expression_operands}
-use Rattle.spec_expressions.specs.Operands.{given, of_statement, looked_up}
+use Rattle.spec_expressions.specs.judged.ExpressionNames.{expression_operands}
+use Rattle.spec_expressions.specs.judged.Operands.{given, of_statement, looked_up}
 use Rattle.spec_statements.specs.judged.Scope.{PreEmitted, Introduces}
 
 -- ---- what a continue may skip

@@ -22,7 +22,7 @@ use Rattle.typing_layout.specs.judged.Constness.{IsOfKind}
 use Rattle.typing_layout.specs.declared.constness.ExpressionKind.TheVariants.{Const}
 use Rattle.spec_statements.specs.judged.Shapes.{IsAlone, IsInteger, IsOfValue, IsTruth, IsMadeOf, shaped_of}
 use Rattle.spec_statements.specs.declared.shapes.Shape.{Shape}
-use Rattle.spec_expressions.specs.Operands.{gather_index}
+use Rattle.spec_expressions.specs.judged.Operands.{gather_index}
 use Rattle.spec_statements.specs.judged.BlockContext.{BlockContext, form_at}
 
 -- ---- what is needed

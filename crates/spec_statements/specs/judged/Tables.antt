@@ -3,8 +3,8 @@ use Rattle.std.specs.Prelude.{ℕ, false, List, [], ◌∷◌, Some, option_to_l
 use Rattle.ir_arena.specs.judged.Handles.{handles_between}
 use Rattle.ir_blocks.specs.judged.Places.{Spot, nothing, statement, loop_condition}
 use Rattle.ir_blocks.specs.judged.Plain.{PlainStatement, emit, block, if_, switch, loop, break, continue, return, kill, operation, call}
-use Rattle.spec_expressions.specs.Operands.{given, of_statement, looked_up}
-use Rattle.spec_expressions.specs.Statements.{operation_result}
+use Rattle.spec_expressions.specs.judged.Operands.{given, of_statement, looked_up}
+use Rattle.spec_expressions.specs.judged.StatementNames.{operation_result}
 
 -- ---- what has to be in scope
 

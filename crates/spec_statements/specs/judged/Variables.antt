@@ -2,7 +2,7 @@
 use Rattle.std.specs.Prelude.{ℕ, Option, option_and_then, slice_get}
 use Rattle.ir_items.specs.judged.GlobalPlain.{PlainGlobal}
 use Rattle.ir_items.specs.judged.Plain.{PlainFunction, PlainModule}
-use Rattle.ir_proc.specs.judged.Bases.{base_of, global_of}
+use Rattle.ir_items.specs.judged.Bases.{base_of, global_of}
 
 -- the global variable that an expression is
 abbrev pub variable_at : PlainModule → PlainFunction → ℕ → Option PlainGlobal

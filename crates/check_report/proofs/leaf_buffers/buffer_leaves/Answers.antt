@@ -5,8 +5,8 @@ use Rattle.check_report.proofs.Along.{all_along, many_types}
 use Rattle.check_report.proofs.Laid.{laid_in_range, global_found}
 use Rattle.check_report.specs.Rows.{rows}
 use Rattle.judgement.proofs.Buffers.{types_go_back}
-use Rattle.judgement.specs.Laws.{buffer_type}
-use Rattle.judgement.specs.Leaves.{leaves}
+use Rattle.judgement.specs.judged.BufferLaws.{buffer_type}
+use Rattle.judgement.specs.judged.Leaves.{leaves}
 use Rattle.spec_interface.specs.judged.Spaces.{counted}
 use Rattle.typing_layout.specs.judged.View.{tree_along}
 use Rattle.check_report.proofs.leaf_buffers.buffer_leaves.Goals as goal

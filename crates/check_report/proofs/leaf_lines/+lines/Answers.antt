@@ -4,7 +4,7 @@ use Rattle.check_report.proofs.Listed.{none_along, missing_along, found_along}
 use Rattle.check_report.proofs.LeavesWritten.{no_elements, one_element_more, one_member_more, nothing_written}
 use Rattle.check_report.specs.Lines.{leaf_lines}
 use Rattle.check_report.specs.Paths.{parts_found, path_along}
-use Rattle.judgement.specs.Leaves.{leaves}
+use Rattle.judgement.specs.judged.Leaves.{leaves}
 use Rattle.typing_forms.specs.judged.Resolutions.{inner_at, types_view}
 use Rattle.typing_layout.specs.judged.View.{tree_by, tree_along}
 use Rattle.check_report.proofs.leaf_lines.+lines.Goals as goal

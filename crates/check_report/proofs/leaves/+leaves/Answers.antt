@@ -2,7 +2,7 @@ use Rattle.std.proofs.Common.{◌≡◌, ◌++◌, OnOk, sym, subst}
 use Rattle.ir_types.specs.judged.Plain.{inner_view}
 use Rattle.check_report.proofs.Listed.{no_elements, one_element_more, one_member_more, none_along, missing_along, found_along, nothing_added}
 use Rattle.check_report.specs.Rows.{rows}
-use Rattle.judgement.specs.Leaves.{leaves}
+use Rattle.judgement.specs.judged.Leaves.{leaves}
 use Rattle.typing_forms.specs.judged.Resolutions.{types_view}
 use Rattle.typing_layout.specs.judged.View.{tree_along}
 use Rattle.check_report.proofs.leaves.+leaves.Goals as goal

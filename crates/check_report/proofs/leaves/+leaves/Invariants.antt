@@ -1,7 +1,7 @@
 use Rattle.std.proofs.Common.{◌≡◌, ◌+◌, ◌*◌, ◌++◌, drop, map}
 use Rattle.ir_types.specs.judged.Plain.{member_view}
 use Rattle.check_report.specs.Rows.{rows}
-use Rattle.judgement.specs.Leaves.{leaves, member_leaves, repeated}
+use Rattle.judgement.specs.judged.Leaves.{leaves, member_leaves, repeated}
 use Rattle.typing_forms.specs.judged.Resolutions.{types_view}
 use Rattle.typing_layout.specs.judged.View.{members_by, tree_along}
 use Rattle.check_report.proofs.leaves.+leaves.Given as goal

@@ -5,8 +5,8 @@ use Rattle.ir_items.specs.found.View.{module_view}
 use Rattle.check_report.proofs.Laid.{global_found}
 use Rattle.check_report.proofs.Reported.{each_more}
 use Rattle.check_report.specs.Lines.{described, leaf_report}
-use Rattle.spec_expressions.specs.Modules.{variable, variable_type}
-use Rattle.spec_expressions.specs.References.{item}
+use Rattle.spec_expressions.specs.judged.ModuleReferences.{variable, variable_type}
+use Rattle.spec_expressions.specs.judged.References.{item}
 use Rattle.spec_expressions.specs.declared.target.Target.TheVariants as target
 use Rattle.check_report.proofs.listing.leaf_report.Goals as goal
 

@@ -8,7 +8,7 @@ use Rattle.check_report.proofs.Reported.{buffer_described, counted_there}
 use Rattle.check_report.specs.Lines.{leaf_lines}
 use Rattle.check_report.specs.Paths.{parts_at, path_along}
 use Rattle.judgement.proofs.Buffers.{types_go_back}
-use Rattle.judgement.specs.Leaves.{leaves}
+use Rattle.judgement.specs.judged.Leaves.{leaves}
 use Rattle.typing_layout.specs.judged.View.{tree_along}
 use Rattle.check_report.proofs.listing.write_variable.Goals as goal
 

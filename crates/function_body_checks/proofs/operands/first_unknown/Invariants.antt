@@ -1,6 +1,6 @@
 use Rattle.std.proofs.Common.{◌≡◌, drop}
 use Rattle.ir_items.specs.found.View.{function_view}
-use Rattle.spec_expressions.specs.Operands.{these, looked_up}
+use Rattle.spec_expressions.specs.judged.Operands.{these, looked_up}
 use Rattle.function_body_checks.specs.Carried.{known, first_lacking}
 use Rattle.function_body_checks.proofs.operands.first_unknown.Given as goal
 

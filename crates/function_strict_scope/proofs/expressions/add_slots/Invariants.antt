@@ -1,5 +1,5 @@
 use Rattle.std.proofs.Common.{◌≡◌, ◌++◌, drop}
-use Rattle.spec_expressions.specs.Operands.{these, handles_of}
+use Rattle.spec_expressions.specs.judged.Operands.{these, handles_of}
 use Rattle.function_strict_scope.proofs.expressions.add_slots.Given as goal
 
 -- what was added with the rest is what all add

@@ -3,7 +3,7 @@ use Rattle.std.proofs.lemmas.Result.{IfErr-weaker, on_ok_weaker}
 use Rattle.ir_blocks.specs.found.View.{statement_view}
 use Rattle.ir_items.specs.found.View.{function_view}
 use Rattle.ir_items.specs.judged.Plain.{PlainFunction}
-use Rattle.spec_expressions.specs.Statements.{statement_range, statement_result}
+use Rattle.spec_expressions.specs.judged.StatementNames.{statement_range, statement_result}
 use Rattle.spec_statements.specs.judged.Tables.{introduced}
 use Rattle.function_strict_scope.proofs.Errors.{if_fault_then}
 use Rattle.function_strict_scope.proofs.Statements.{answer_new}

@@ -4,7 +4,7 @@ use Rattle.typing_errors.specs.declared.error.FunctionError.TheVariants.{Express
 use Rattle.std.proofs.lemmas.Option.{IfSome_then}
 use Rattle.ir_blocks.specs.found.View.{statement_view}
 use Rattle.ir_items.specs.found.View.{function_view}
-use Rattle.spec_expressions.specs.Statements.{statement_callee}
+use Rattle.spec_expressions.specs.judged.StatementNames.{statement_callee}
 use Rattle.spec_statements.specs.judged.Strict.{statement_needed}
 use Rattle.function_body_checks.proofs.Tables.{all_known, not_known}
 use Rattle.function_body_checks.specs.Carried.{known, first_lacking}

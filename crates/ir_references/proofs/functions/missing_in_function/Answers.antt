@@ -3,7 +3,7 @@ use Rattle.std.specs.Option.{MatchOption}
 use Rattle.ir_items.specs.found.View.{function_view, module_view}
 use Rattle.ir_references.specs.Faults.{function_missing, IsMissingFault}
 use Rattle.ir_references.proofs.FaultLaws.{missing_told}
-use Rattle.spec_expressions.specs.Conditions.{HandlesInRange}
+use Rattle.spec_expressions.specs.judged.FunctionHandles.{HandlesInRange}
 use Rattle.ir_references.proofs.functions.missing_in_function.Goals as goal
 
 pub returns : goal.returns

@@ -1,6 +1,6 @@
 use Rattle.std.proofs.Common.{◌≡◌, drop}
 use Rattle.ir_references.specs.First.{first_past}
-use Rattle.spec_expressions.specs.Operands.{these, handles_of}
+use Rattle.spec_expressions.specs.judged.Operands.{these, handles_of}
 use Rattle.ir_references.proofs.lists.given_past.Given as goal
 
 -- the first of the rest is the first of all

@@ -3,7 +3,7 @@ use Rattle.std.specs.Option.{MatchOption}
 use Rattle.ir_items.specs.found.View.{function_view}
 use Rattle.ir_references.specs.Faults.{IsForwardCallee}
 use Rattle.ir_references.proofs.FaultLaws.{callees_told}
-use Rattle.spec_expressions.specs.Conditions.{CalleesPrecede}
+use Rattle.spec_expressions.specs.judged.FunctionHandles.{CalleesPrecede}
 use Rattle.ir_references.proofs.order.forward_callee.Goals as goal
 
 pub returns : goal.returns

@@ -4,7 +4,7 @@ use Rattle.ir_types.specs.judged.ExpressionPlain.{expression_view}
 use Rattle.ir_items.specs.found.GlobalView.{values_of}
 use Rattle.ir_references.specs.Faults.{IsForwardOperand}
 use Rattle.ir_references.proofs.FaultLaws.{operands_told}
-use Rattle.spec_expressions.specs.Conditions.{OperandsPrecede}
+use Rattle.spec_expressions.specs.judged.FunctionHandles.{OperandsPrecede}
 use Rattle.ir_references.proofs.order.forward_operand.Goals as goal
 
 pub returns : goal.returns

@@ -3,7 +3,7 @@ use Rattle.std.specs.Option.{MatchOption}
 use Rattle.ir_items.specs.found.GlobalView.{values_of, node_view}
 use Rattle.ir_references.specs.Faults.{IsForwardParent}
 use Rattle.ir_references.proofs.FaultLaws.{parents_told}
-use Rattle.ir_proc.specs.found.Filters.{ParentsPrecede}
+use Rattle.ir_items.specs.found.Filters.{ParentsPrecede}
 use Rattle.ir_references.proofs.order.forward_parent.Goals as goal
 
 pub returns : goal.returns

@@ -1,8 +1,8 @@
 use Rattle.std.proofs.Common.{◌≡◌, ◌<◌, ℕ, Some, length, slice_get, subst, arith}
 use Rattle.std.specs.Option.{ForSome}
 use Rattle.ir_types.specs.judged.ExpressionPlain.{PlainExpression, expression_view}
-use Rattle.ir_proc.specs.judged.Bases.{expressions_of, base_of}
-use Rattle.ir_proc.proofs.Places.{plain_at}
+use Rattle.ir_items.specs.judged.Bases.{expressions_of, base_of}
+use Rattle.ir_items.proofs.Places.{plain_at}
 use Rattle.test_support.proofs.CheckLemmas.{UpTo, further, everywhere}
 use Rattle.test_support.proofs.checks.bases_precede.Goals as goal
 

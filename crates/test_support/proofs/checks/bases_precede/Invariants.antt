@@ -1,7 +1,7 @@
 use Rattle.std.proofs.Common.{◌<◌}
 use Rattle.std.specs.Option.{ForSome}
 use Rattle.ir_types.specs.judged.ExpressionPlain.{PlainExpression}
-use Rattle.ir_proc.specs.judged.Bases.{expressions_of, base_of}
+use Rattle.ir_items.specs.judged.Bases.{expressions_of, base_of}
 use Rattle.test_support.proofs.CheckLemmas.{UpTo}
 use Rattle.test_support.proofs.checks.bases_precede.Given as goal
 

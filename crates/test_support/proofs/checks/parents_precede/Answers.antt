@@ -2,8 +2,8 @@ use Rattle.std.proofs.Common.{◌≡◌, ◌<◌, ℕ, Some, length, slice_get, 
 use Rattle.std.specs.Option.{ForSome}
 use Rattle.ir_items.specs.judged.GlobalPlain.{PlainNode}
 use Rattle.ir_items.specs.found.GlobalView.{node_view}
-use Rattle.ir_proc.specs.found.Filters.{nodes_of}
-use Rattle.ir_proc.proofs.Places.{plain_at}
+use Rattle.ir_items.specs.found.Filters.{nodes_of}
+use Rattle.ir_items.proofs.Places.{plain_at}
 use Rattle.test_support.proofs.CheckLemmas.{UpTo, further, everywhere}
 use Rattle.test_support.proofs.checks.parents_precede.Goals as goal
 

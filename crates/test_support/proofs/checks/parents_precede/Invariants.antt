@@ -1,7 +1,7 @@
 use Rattle.std.proofs.Common.{◌<◌}
 use Rattle.std.specs.Option.{ForSome}
 use Rattle.ir_items.specs.judged.GlobalPlain.{PlainNode}
-use Rattle.ir_proc.specs.found.Filters.{nodes_of}
+use Rattle.ir_items.specs.found.Filters.{nodes_of}
 use Rattle.test_support.proofs.CheckLemmas.{UpTo}
 use Rattle.test_support.proofs.checks.parents_precede.Given as goal
 

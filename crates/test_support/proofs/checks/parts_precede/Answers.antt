@@ -2,9 +2,9 @@ use Rattle.std.proofs.Common.{◌≡◌, ◌<◌, ℕ, Some, length, slice_get, 
 use Rattle.std.specs.Option.{ForSome}
 use Rattle.std.specs.List.{All}
 use Rattle.ir_types.specs.judged.ExpressionPlain.{PlainExpression, expression_view}
-use Rattle.ir_proc.specs.judged.Bases.{expressions_of}
-use Rattle.ir_proc.specs.found.Flat.{parts_of}
-use Rattle.ir_proc.proofs.Places.{plain_at}
+use Rattle.ir_items.specs.judged.Bases.{expressions_of}
+use Rattle.ir_items.specs.found.Flat.{parts_of}
+use Rattle.ir_items.proofs.Places.{plain_at}
 use Rattle.test_support.proofs.CheckLemmas.{UpTo, further, everywhere}
 use Rattle.test_support.proofs.checks.parts_precede.Goals as goal
 

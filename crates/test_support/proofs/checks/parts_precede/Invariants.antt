@@ -2,8 +2,8 @@ use Rattle.std.proofs.Common.{◌<◌}
 use Rattle.std.specs.Option.{ForSome}
 use Rattle.std.specs.List.{All}
 use Rattle.ir_types.specs.judged.ExpressionPlain.{PlainExpression}
-use Rattle.ir_proc.specs.judged.Bases.{expressions_of}
-use Rattle.ir_proc.specs.found.Flat.{parts_of}
+use Rattle.ir_items.specs.judged.Bases.{expressions_of}
+use Rattle.ir_items.specs.found.Flat.{parts_of}
 use Rattle.test_support.proofs.CheckLemmas.{UpTo}
 use Rattle.test_support.proofs.checks.parts_precede.Given as goal
 

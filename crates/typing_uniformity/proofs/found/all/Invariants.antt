@@ -1,5 +1,5 @@
 use Rattle.std.proofs.Common.{◌≡◌, drop, map, None}
-use Rattle.spec_expressions.specs.judged.Operands.{operand}
+use Rattle.spec_expressions.specs.judged.OperandUses.{operand}
 use Rattle.spec_expressions.specs.declared.operand.Usage.TheVariants.{Read}
 use Rattle.typing_uniformity.specs.Facts.{find_all}
 use Rattle.typing_uniformity.proofs.found.all.Given as goal

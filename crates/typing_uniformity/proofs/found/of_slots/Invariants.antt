@@ -1,6 +1,6 @@
 use Rattle.std.proofs.Common.{◌≡◌, drop, None}
-use Rattle.spec_expressions.specs.judged.Operands.{operands_in}
-use Rattle.spec_expressions.specs.Operands.{these}
+use Rattle.spec_expressions.specs.judged.OperandUses.{operands_in}
+use Rattle.spec_expressions.specs.judged.Operands.{these}
 use Rattle.typing_uniformity.specs.Facts.{find_all}
 use Rattle.typing_uniformity.proofs.found.of_slots.Given as goal
 

@@ -1,6 +1,6 @@
 use Rattle.std.proofs.Common.{◌≡◌, ◌≤◌, Some, sym, ap, subst, arith}
 use Rattle.ir_items.specs.found.GlobalView.{node_view}
-use Rattle.ir_proc.specs.found.Filters.{nodes_of}
+use Rattle.ir_items.specs.found.Filters.{nodes_of}
 use Rattle.spec_expressions.specs.judged.Severity.{IsNearest}
 use Rattle.typing_uniformity.proofs.Nearest.{plain_at, ahead, ahead_before, found, passed}
 use Rattle.typing_uniformity.proofs.severity.nearest.Goals as goal

@@ -1,7 +1,7 @@
 -- What the rest of the search finds is what the whole search finds.
 use Rattle.std.proofs.Common.{Option}
 use Rattle.ir_kinds.specs.declared.diagnostics.Severity.{Severity}
-use Rattle.ir_proc.specs.found.Filters.{nodes_of}
+use Rattle.ir_items.specs.found.Filters.{nodes_of}
 use Rattle.typing_uniformity.proofs.Nearest.{ahead}
 use Rattle.spec_expressions.specs.judged.Severity.{IsNearest}
 use Rattle.typing_uniformity.proofs.severity.nearest.Given as goal

@@ -1,5 +1,5 @@
 use Rattle.ir_items.specs.found.GlobalView.{node_view}
-use Rattle.ir_proc.specs.found.Filters.{nodes_of}
+use Rattle.ir_items.specs.found.Filters.{nodes_of}
 use Rattle.typing_uniformity.proofs.Nearest.{plain_at, own_or_behind}
 use Rattle.typing_uniformity.proofs.severity.nearest_at.Goals as goal
 

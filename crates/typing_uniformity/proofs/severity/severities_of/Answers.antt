@@ -1,6 +1,6 @@
 use Rattle.std.proofs.Common.{Some, subst}
 use Rattle.ir_kinds.specs.declared.diagnostics.StandardFilterableTriggeringRule.TheVariants.{DerivativeUniformity}
-use Rattle.ir_proc.specs.found.Filters.{nodes_of}
+use Rattle.ir_items.specs.found.Filters.{nodes_of}
 use Rattle.spec_expressions.specs.judged.Severity.{IsNearest}
 use Rattle.typing_uniformity.proofs.Nearest.{one_more}
 use Rattle.typing_uniformity.proofs.severity.severities_of.Goals as goal

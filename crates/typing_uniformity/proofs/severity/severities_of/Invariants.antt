@@ -1,6 +1,6 @@
 -- What is known so far is that of the nodes before this one.
 use Rattle.std.proofs.Common.{◌≡◌, length}
-use Rattle.ir_proc.specs.found.Filters.{nodes_of}
+use Rattle.ir_items.specs.found.Filters.{nodes_of}
 use Rattle.typing_uniformity.specs.Nearest.{AreNearest}
 use Rattle.typing_uniformity.proofs.severity.severities_of.Given as goal
 

@@ -1,5 +1,5 @@
 use Rattle.std.proofs.Common.{◌≡◌, drop, map}
-use Rattle.spec_expressions.specs.judged.Operands.{operand}
+use Rattle.spec_expressions.specs.judged.OperandUses.{operand}
 use Rattle.spec_expressions.specs.declared.operand.Usage.TheVariants.{Read}
 use Rattle.typing_summaries.specs.Tallies.{counted, take_all}
 use Rattle.typing_summaries.proofs.counts.Counts.read_all.Given as goal

@@ -1,6 +1,6 @@
 use Rattle.std.proofs.Common.{◌≡◌, drop}
-use Rattle.spec_expressions.specs.judged.Operands.{operands_in}
-use Rattle.spec_expressions.specs.Operands.{these}
+use Rattle.spec_expressions.specs.judged.OperandUses.{operands_in}
+use Rattle.spec_expressions.specs.judged.Operands.{these}
 use Rattle.typing_summaries.specs.Tallies.{counted, take_all}
 use Rattle.typing_summaries.proofs.counts.Counts.take_slots.Given as goal
 

@@ -1,0 +1,172 @@
+//! What a composition of a vector comes to.
+ghost use Rattle.std.specs.Prelude.{◌≡◌, ◌<◌, ◌∷◌, [], ℕ, List, ◌++◌, length, reverse, replicate, take, IfOk, OnOk, MatchOption};
+ghost use Rattle.std.specs.List.{All};
+ghost use Rattle.ir_types.specs.judged.Plain.{inner_view};
+ghost use Rattle.ir_types.specs.judged.ExpressionPlain.{expression_view};
+ghost use Rattle.ir_items.specs.judged.Bases.{expressions_of};
+ghost use Rattle.ir_items.specs.found.Flat.{types_of, size_at, vector_size, parts_of, PartsPrecede, AreLeaves, IsFlattened};
+
+use crate::{Expression, IrType, TypeInner, key};
+use ir_arena::arena::Arena;
+use ir_arena::handle::Handle;
+use ir_sets::unique_arena::UniqueArena;
+use std::alloc::{AllocError, Global};
+use std::marker::Model;
+use std::vec;
+
+/// The handles that a composition comes to, in order. In a contract it is the list of those that are still to come.
+#[derive(Drop)]
+pub struct FlattenCompose {
+    handles: vec::IntoIter<Handle<key::Expression>>,
+}
+
+impl Model for FlattenCompose {
+    ghost use Rattle.std.specs.Prelude.{ℕ, List};
+    ghost use Rattle.std.specs.Vec.Iter.{into_iter_items};
+
+    ghost Value = { List ℕ };
+
+    ghost view = { λ f. into_iter_items f.handles };
+}
+
+impl FlattenCompose {
+    fn new(handles: Vec<Handle<key::Expression>>) -> Self
+        ensures { result ≡ handles.items }
+    {
+        FlattenCompose {
+            handles: handles.into_iter(),
+        }
+    }
+}
+
+impl Iterator for FlattenCompose {
+    ghost use Rattle.std.specs.Iterator.{YieldsFirst, item_count};
+
+    type Item = Handle<key::Expression>;
+
+    ghost next_gives = { YieldsFirst (λ f. f) };
+
+    ghost remaining = { item_count (λ f. f) };
+
+    fn next(&mut self) -> Option<Handle<key::Expression>> {
+        self.handles.next()
+    }
+}
+
+/// What a composition of type `ty` from `components` comes to (naga's `flatten_compose`). For a vector each
+/// `Compose` is replaced by its components and each `Splat` by its scalar, as often as it has components, at every
+/// depth, and what comes after as many as the vector has components is left out. For any other type it is `components`
+/// as they are. The parts of each expression come before it.
+///
+/// The memory is taken here, and none as the handles are gone over. The error is want of it.
+pub fn flatten_compose(
+    alloc: Global,
+    ty: Handle<key::IrType>,
+    components: &[Handle<key::Expression>],
+    expressions: &Arena<Expression, key::Expression>,
+    types: &UniqueArena<IrType, key::IrType>,
+) -> Result<FlattenCompose, AllocError>
+    requires type_in_arena { ty < length types.now }
+    requires in_arena { All (λ handle. handle < length expressions.now) components.now }
+    requires parts { PartsPrecede (expressions_of expressions.now) }
+    ensures { IfOk result (IsFlattened (expressions_of expressions.now) (size_at (types_of types.now) ty) components.now) }
+{
+    let size = vector_size(&types[ty].inner);
+    let handles = flatten(alloc, components, expressions, size)?;
+    Ok(FlattenCompose::new(handles))
+}
+
+// How many components a vector has.
+fn vector_size(inner: &TypeInner) -> Option<usize>
+    ensures { result ≡ vector_size (inner_view inner.now) }
+{
+    match *inner {
+        TypeInner::Vector { size, .. } => Some(size as usize),
+        _ => None,
+    }
+}
+
+// What the components of a vector of this size come to, or of what is no vector.
+fn flatten(
+    alloc: Global,
+    components: &[Handle<key::Expression>],
+    expressions: &Arena<Expression, key::Expression>,
+    size: Option<usize>,
+) -> Result<Vec<Handle<key::Expression>>, AllocError>
+    requires in_arena { All (λ handle. handle < length expressions.now) components.now }
+    requires parts { PartsPrecede (expressions_of expressions.now) }
+    ensures { IfOk result (λ flat. IsFlattened (expressions_of expressions.now) size components.now flat.items) }
+{
+    match size {
+        Some(size) => first_leaves(alloc, components, expressions, size),
+        None => Vec::from_slice(alloc, components),
+    }
+}
+
+// The first leaves of `components`, `most` of them or all.
+fn first_leaves(
+    alloc: Global,
+    components: &[Handle<key::Expression>],
+    expressions: &Arena<Expression, key::Expression>,
+    most: usize,
+) -> Result<Vec<Handle<key::Expression>>, AllocError>
+    requires in_arena { All (λ handle. handle < length expressions.now) components.now }
+    requires parts { PartsPrecede (expressions_of expressions.now) }
+    ensures { IfOk result (λ first. (leaves : List ℕ) × AreLeaves (expressions_of expressions.now) components.now leaves × (first.items ≡ take most leaves)) }
+{
+    let mut leaves = Vec::new(alloc);
+    // what is still to be taken apart, the next at the end
+    let mut ahead = Vec::new(alloc);
+    push_reversed(&mut ahead, components)?;
+    while leaves.len() < most {
+        let Some(handle) = ahead.pop() else { break };
+        take_apart(handle, &expressions[handle], &mut ahead, &mut leaves)?;
+    }
+    Ok(leaves)
+}
+
+// Puts the parts of the expression at `handle` ahead, or the handle among the leaves where it has none.
+fn take_apart(
+    handle: Handle<key::Expression>,
+    expression: &Expression,
+    ahead: &mut Vec<Handle<key::Expression>>,
+    leaves: &mut Vec<Handle<key::Expression>>,
+) -> Result<(), AllocError>
+    ensures { OnOk result (MatchOption (parts_of (expression_view expression.now)) ((ahead.new.items ≡ ahead.old.items) × (leaves.new.items ≡ leaves.old.items ++ handle ∷ [])) (λ parts. (ahead.new.items ≡ ahead.old.items ++ reverse parts) × (leaves.new.items ≡ leaves.old.items))) }
+{
+    match *expression {
+        Expression::Compose { ref components, .. } => push_reversed(ahead, components.as_slice()),
+        Expression::Splat { size, value } => push_times(ahead, value, size as usize),
+        _ => {
+            leaves.push(handle)?;
+            Ok(())
+        }
+    }
+}
+
+// Puts `parts` ahead, the first of them last.
+fn push_reversed(
+    ahead: &mut Vec<Handle<key::Expression>>,
+    parts: &[Handle<key::Expression>],
+) -> Result<(), AllocError>
+    ensures { OnOk result (ahead.new.items ≡ ahead.old.items ++ reverse parts.now) }
+{
+    for part in parts.iter().rev() {
+        ahead.push(*part)?;
+    }
+    Ok(())
+}
+
+// Puts `part` ahead so many times.
+fn push_times(
+    ahead: &mut Vec<Handle<key::Expression>>,
+    part: Handle<key::Expression>,
+    times: usize,
+) -> Result<(), AllocError>
+    ensures { OnOk result (ahead.new.items ≡ ahead.old.items ++ replicate times part) }
+{
+    for _ in 0..times {
+        ahead.push(part)?;
+    }
+    Ok(())
+}

@@ -1,5 +1,0 @@
-use Rattle.ir_proc.proofs.Chains.{one_origin}
-use Rattle.ir_proc.proofs.laws.one_origin.Goals as goal
-
-pub returns : goal.returns
-returns c = one_origin

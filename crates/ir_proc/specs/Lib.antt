@@ -1,2 +1,0 @@
-pub mod judged
-pub mod found

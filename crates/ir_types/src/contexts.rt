@@ -1,0 +1,22 @@
+//! Spans with their descriptions.
+
+ghost use Rattle.std.specs.Prelude.{◌≡◌, [], map, IsOk, IfOk};
+ghost use Rattle.ir_types.specs.found.Faults.{context_of};
+
+use crate::with_span::SpanContext;
+use std::alloc::{AllocError, Global};
+
+// The same spans with the same descriptions, in memory of their own. It fails where that is wanting.
+pub(crate) fn copy_contexts(
+    alloc: Global,
+    contexts: &[SpanContext],
+) -> Result<Vec<SpanContext>, AllocError>
+    ensures contexts { IfOk result (λ copy. map context_of copy.items ≡ map context_of contexts.now) }
+    ensures succeeds { contexts.now ≡ [] → IsOk result }
+{
+    let mut copy = Vec::with_capacity(alloc, contexts.len())?;
+    for context in contexts {
+        copy.push((context.0, String::from_str(alloc, &context.1)?))?;
+    }
+    Ok(copy)
+}

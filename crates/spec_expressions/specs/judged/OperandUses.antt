@@ -1,0 +1,39 @@
+-- The operands of expressions and of statements, each with the use that it makes of a global variable.
+use Rattle.std.specs.Prelude.{ℕ, List, map, filter_map, option_map, bit_or}
+use Rattle.ir_types.specs.judged.ExpressionPlain.{PlainExpression}
+use Rattle.ir_blocks.specs.judged.Plain.{PlainStatement}
+use Rattle.spec_expressions.specs.judged.Operands.{Operands, these, each_of, of_expression, of_statement}
+use Rattle.spec_expressions.specs.declared.operand.Slot.{Slot}
+use Rattle.spec_expressions.specs.declared.operand.Usage.{Usage}
+use Rattle.spec_expressions.specs.declared.operand.Usage.TheVariants.{Base, Read, Write, ReadWrite, Query, Atomic}
+use Rattle.spec_expressions.specs.declared.global_use.TheConstants.GlobalUse.{READ, WRITE, QUERY, ATOMIC}
+
+-- An expression as an operand, and the bits of the use that is made there of the global variable that its chain of
+-- accesses starts at, if it starts at one.
+pub record Operand : Type 0 where
+  pub handle : ℕ
+  pub use_bits : ℕ
+
+-- what is accessed says how its base is used
+abbrev pub bits_of : Usage → ℕ
+bits_of Base = 0
+bits_of Read = READ.0
+bits_of Write = WRITE.0
+bits_of ReadWrite = bit_or READ.0 WRITE.0
+bits_of Query = QUERY.0
+bits_of Atomic = ATOMIC.0
+
+abbrev pub operand : Usage → ℕ → Operand
+operand usage h = record { handle = h; use_bits = bits_of usage }
+
+-- those that are given
+abbrev pub operands_in : Operands → List Operand
+operands_in (these slots) = filter_map (λ (slot : Slot). option_map (operand slot.usage) slot.handle) slots
+operands_in (each_of when handles) = map (operand Read) handles
+
+abbrev pub expression_uses : PlainExpression → List Operand
+expression_uses x = operands_in (of_expression x)
+
+-- Those of the statement itself, and not of the statements inside it.
+abbrev pub statement_uses : PlainStatement → List Operand
+statement_uses s = operands_in (of_statement s)
