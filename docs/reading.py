@@ -114,8 +114,8 @@ def page(files):
     lines = ["# What the theorem rests on", "",
              "Written by `docs/reading.py`. Whoever wants to believe the theorem reads these definitions, from the top, and the first two"
              " columns of [JUDGEMENT.md](JUDGEMENT.md) beside them. They cite nothing else in `specs/`, and nothing in `proofs/` has to be"
-             " read. A crate that has other definitions keeps those to read in `specs/judged/`; what handles name (`spec_expressions`) and"
-             " what lies inside a buffer (`judgement`) stands in `specs/` itself. A file is listed where it is reached first.", ""]
+             " read. A crate that has other definitions keeps those to read in `specs/judged/`. A file is listed where it is reached"
+             " first.", ""]
     read, whole = set(), 0
     for title, root in ROOTS:
         order, types = reached(files, root)
