@@ -6,9 +6,9 @@ use Rattle.ir_blocks.specs.judged.Places.{Place, here, later, condition}
 use Rattle.ir_blocks.specs.judged.Places as at
 use Rattle.ir_blocks.specs.judged.Plain.{PlainStatement, emit, block, if_, switch, loop, break, continue, return, kill, operation, call, PlainBlock, stop, next, PlainCases, no_case, case}
 use Rattle.ir_blocks.specs.judged.Shapes.{Exit, breaks, continues, returns, kills, Part, inner, accepting, rejecting, case_at, loop_body, loop_continuing}
-use Rattle.function_body_checks.specs.declared.control.Allowed.{Allowed}
-use Rattle.function_body_checks.specs.declared.control.Wrong.{Wrong}
-use Rattle.function_body_checks.specs.declared.control.Wrong.TheVariants as wrong
+use Rattle.function_body_checks.specs.declared.allowed.Allowed.{Allowed}
+use Rattle.function_body_checks.specs.declared.allowed.Wrong.{Wrong}
+use Rattle.function_body_checks.specs.declared.allowed.Wrong.TheVariants as wrong
 
 pub record MayLeave : Type 0 where
   pub by_break : Bool

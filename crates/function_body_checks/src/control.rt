@@ -1,69 +1,78 @@
-//! How statements may leave their block.
+//! The walk over a body.
 
-ghost use Rattle.std.specs.Prelude.{◌≡◌};
-ghost use Rattle.function_body_checks.specs.Allowed.{view_of};
+ghost use Rattle.std.specs.Prelude.{MatchResult, map};
+ghost use Rattle.ir_blocks.specs.found.View.{statement_view, block_view, case_view, cases_of};
+ghost use Rattle.function_body_checks.specs.Allowed.{error_of, view_of, AllLeave, LeavesWithin, CasesLeave, LeavesIn, LeftBy, LeavesInCases};
 
-/// How a statement leaves its block where it may not. It is small, as what each statement is answered, where an error of
-/// functions is not.
-#[derive(Clone, Copy)]
-pub enum Wrong {
-    /// By a break.
-    Break,
-    /// By a continue.
-    Continue,
-    /// By a return.
-    Return,
+use crate::allowed::{Allowed, Wrong};
+use ir_blocks::plain_operation;
+use ir_items::{Block, Statement, SwitchCase};
+
+/// Whether the statements of a block, at any depth, leave it only as they may.
+#[cycle(walk)]
+pub fn check_block(allowed: Allowed, block: &Block) -> Result<(), Wrong>
+    ensures { MatchResult result (λ _. AllLeave (view_of allowed) (block_view block.now)) (λ e. LeavesIn (error_of e) (view_of allowed) (block_view block.now)) }
+{
+    for statement in block.as_slice() {
+        check_statement(allowed, statement)?;
+    }
+    Ok(())
 }
 
-/// How a statement may leave its block at a place: by the nearest loop or switch around it, and whether a continuing part lies
-/// between (naga's `ControlFlowAbility`).
-#[derive(Clone, Copy, Debug, PartialEq, Eq)]
-pub struct Allowed {
-    pub breaks: bool,
-    pub continues: bool,
-    pub returns: bool,
+// The same of a statement and of those inside it.
+#[cycle(walk)]
+fn check_statement(allowed: Allowed, statement: &Statement) -> Result<(), Wrong>
+    ensures { MatchResult result (λ _. LeavesWithin (view_of allowed) (statement_view statement.now)) (λ e. LeftBy (error_of e) (view_of allowed) (statement_view statement.now)) }
+{
+    match statement {
+        Statement::Block(block) => check_block(allowed, block),
+        Statement::If { accept, reject, .. } => {
+            check_block(allowed, accept)?;
+            check_block(allowed, reject)
+        }
+        Statement::Switch { cases, .. } => check_cases(allowed.in_case(), cases),
+        Statement::Loop {
+            body,
+            continuing,
+            ..
+        } => {
+            check_block(allowed.in_loop(), body)?;
+            check_block(allowed.in_continuing(), continuing)
+        }
+        Statement::Break => {
+            if allowed.breaks {
+                Ok(())
+            } else {
+                Err(Wrong::Break)
+            }
+        }
+        Statement::Continue => {
+            if allowed.continues {
+                Ok(())
+            } else {
+                Err(Wrong::Continue)
+            }
+        }
+        Statement::Return { .. } => {
+            if allowed.returns {
+                Ok(())
+            } else {
+                Err(Wrong::Return)
+            }
+        }
+        Statement::Emit(_) | Statement::Kill | Statement::Call { .. } | plain_operation!() => Ok(
+            (),
+        ),
+    }
 }
 
-impl Allowed {
-    ghost use Rattle.ir_blocks.specs.judged.Shapes.{case_at, loop_body, loop_continuing};
-    ghost use Rattle.function_body_checks.specs.Allowed.{in_body, inside};
-
-    /// In a function's body.
-    pub const BODY: Allowed = Allowed {
-        breaks: false,
-        continues: false,
-        returns: true,
-    };
-
-    /// In a case of a switch that stands at this place.
-    pub fn in_case(self) -> Allowed
-        ensures { view_of result ≡ inside (case_at 0) (view_of self) }
-    {
-        Allowed {
-            breaks: true,
-            ..self
-        }
+// The same of the cases of a switch.
+#[cycle(walk)]
+fn check_cases(allowed: Allowed, cases: &[SwitchCase]) -> Result<(), Wrong>
+    ensures { MatchResult result (λ _. CasesLeave (view_of allowed) (cases_of (map case_view cases.now))) (λ e. LeavesInCases (error_of e) (view_of allowed) (cases_of (map case_view cases.now))) }
+{
+    for case in cases {
+        check_block(allowed, &case.body)?;
     }
-
-    /// In the body of a loop that stands at this place.
-    pub fn in_loop(self) -> Allowed
-        ensures { view_of result ≡ inside loop_body (view_of self) }
-    {
-        Allowed {
-            breaks: true,
-            continues: true,
-            ..self
-        }
-    }
-
-    /// In the continuing part of a loop that stands at this place.
-    pub fn in_continuing(self) -> Allowed
-        ensures { view_of result ≡ inside loop_continuing (view_of self) }
-    {
-        Allowed {
-            breaks: false,
-            continues: false,
-            returns: false,
-        }
-    }
+    Ok(())
 }

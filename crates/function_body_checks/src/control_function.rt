@@ -5,8 +5,8 @@ ghost use Rattle.ir_blocks.specs.judged.Control.{ControlOK};
 ghost use Rattle.ir_blocks.specs.found.View.{block_view};
 ghost use Rattle.function_body_checks.specs.ControlFaults.{IsControlFault};
 
-use crate::control::{Allowed, Wrong};
-use crate::control_walk::check_block;
+use crate::allowed::{Allowed, Wrong};
+use crate::control::check_block;
 use ir_items::Block;
 use typing_errors::FunctionError;
 

@@ -8,24 +8,24 @@
 //! Whether the values of the cases of a switch differ, one is the default, and the last case doesn't fall through.
 #![tactic(auto)]
 
+mod allowed;
 mod always;
 mod answers;
 mod bringing;
-mod cases;
 mod control;
 mod control_function;
 pub mod control_laws;
-mod control_walk;
 mod error;
 mod function;
 pub mod laws;
 mod list;
 mod operands;
 mod statement;
+mod switch_cases;
 mod walk;
 
-pub use cases::cases_fault;
 pub use control_function::check_control;
 pub use function::check_scope;
 pub use list::ExpressionList;
 pub use operands::{is_known, unknown_operand, unknown_place};
+pub use switch_cases::cases_fault;

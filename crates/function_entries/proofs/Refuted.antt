@@ -30,7 +30,7 @@ use Rattle.spec_interface.specs.judged.Payloads.{space_at}
 use Rattle.spec_interface.specs.judged.Results.{AnswerOK}
 use Rattle.spec_interface.specs.judged.Stages.{StageOK, runs_in_workgroups}
 use Rattle.spec_interface.specs.judged.Uses.{is_reached}
-use Rattle.spec_interface.specs.judged.Variables.{VariableOK, VariablesOK}
+use Rattle.spec_interface.specs.judged.UsedVariables.{VariableOK, VariablesOK}
 use Rattle.spec_interface.specs.judged.Contexts.{VaryingContext, context_of}
 use Rattle.spec_interface.specs.judged.Varyings.{VaryingsOK, argument_varyings, mesh_varyings, result_varyings}
 use Rattle.spec_interface.specs.declared.varyings.Direction.TheVariants.{Input, Output, VertexOutput, PrimitiveOutput}

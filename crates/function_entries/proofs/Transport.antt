@@ -12,7 +12,7 @@ use Rattle.ir_flags.specs.declared.settings.ValidationFlags.{ValidationFlags}
 use Rattle.ir_items.specs.judged.GlobalPlain.{PlainGlobal}
 use Rattle.ir_items.specs.judged.Plain.{PlainEntry, PlainModule}
 use Rattle.spec_interface.specs.judged.Entries.{ConnectionsOK}
-use Rattle.spec_interface.specs.judged.Variables.{IsUsed, VariableOK, VariablesOK}
+use Rattle.spec_interface.specs.judged.UsedVariables.{IsUsed, VariableOK, VariablesOK}
 
 module _ (m : PlainModule) (e : PlainEntry) (U V : ℕ → ℕ → Type 0) (same : (g k : ℕ) → g < length m.globals → U g k ↔ V g k) where
   used_to : (g : ℕ) → g < length m.globals → IsUsed U g → IsUsed V g

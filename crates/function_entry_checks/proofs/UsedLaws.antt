@@ -17,7 +17,7 @@ use Rattle.ir_kinds.specs.declared.spaces.AddressSpace.TheVariants.{Immediate, T
 use Rattle.spec_expressions.specs.judged.Summaries.{HasUseBit, no_use}
 use Rattle.spec_interface.specs.judged.Payloads.{binding_at, space_at}
 use Rattle.spec_interface.specs.judged.Uses.{allowed_uses, is_reached}
-use Rattle.spec_interface.specs.judged.Variables.{BindingsApart, EachOK, IsUsed, OneImmediate, OwnPayloadOK, VariableOK, counted_inner}
+use Rattle.spec_interface.specs.judged.UsedVariables.{BindingsApart, EachOK, IsUsed, OneImmediate, OwnPayloadOK, VariableOK, counted_inner}
 
 below_or_here : (j n : ℕ) → j < n + 1 → (j < n) ⊎ (j ≡ n)
 below_or_here j n lt = elim (cases_eq j n) [ inl same ↦ inr same | inr differ ↦ inl (omega (arith, lt, differ)) ]

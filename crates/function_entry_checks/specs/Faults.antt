@@ -22,7 +22,7 @@ use Rattle.ir_kinds.specs.declared.stages.ShaderStage.TheVariants.{Fragment, Mes
 use Rattle.spec_interface.specs.judged.Payloads.{space_at, binding_at, has_payload}
 use Rattle.spec_interface.specs.judged.Stages.{runs_in_workgroups, stage_capability, SizeOK}
 use Rattle.spec_interface.specs.judged.Uses.{traces_rays, is_run_for_rays}
-use Rattle.spec_interface.specs.judged.Variables.{AllowsUses, IsUsed, least_payload}
+use Rattle.spec_interface.specs.judged.UsedVariables.{AllowsUses, IsUsed, least_payload}
 use Rattle.typing_layout.specs.judged.Layout.{size}
 use Rattle.typing_layout.specs.judged.View.{type_tree}
 use Rattle.function_varying_checks.specs.declared.error.VaryingError.{VaryingError}

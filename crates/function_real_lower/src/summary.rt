@@ -3,7 +3,7 @@
 ghost use Rattle.std.specs.Prelude.{◌≡◌, ℕ, List, IfOk, IfErr, length, map};
 ghost use Rattle.ir_items.specs.judged.Plain.{PlainFunction, PlainModule};
 ghost use Rattle.ir_items.specs.found.View.{function_view, module_view};
-ghost use Rattle.spec_expressions.specs.judged.Values.{AreStarts, OperandsPrecede};
+ghost use Rattle.spec_expressions.specs.judged.Values.{AreStarts, UsesPrecede};
 ghost use Rattle.spec_expressions.specs.judged.Summaries.{Summary};
 ghost use Rattle.spec_expressions.specs.judged.Context.{inside};
 ghost use Rattle.typing_infos.specs.Infos.{summary_of};
@@ -111,7 +111,7 @@ fn types_in(
     function: &Function,
     module: &Module,
 ) -> Result<Vec<TypeResolution>, TypingRefusal>
-    requires precede { OperandsPrecede (function_view function.now).expressions }
+    requires precede { UsesPrecede (function_view function.now).expressions }
     requires named { ItemsNamed (inside (module_view «module».now) (function_view function.now)) (function_view function.now).expressions }
     ensures ok { IfOk result (λ v. AreTypes (inside (module_view «module».now) (function_view function.now)) (function_view function.now).expressions v.items) }
     ensures fault { IfErr result (IsFirstUntyped (inside (module_view «module».now) (function_view function.now)) (function_view function.now).expressions) }
@@ -133,7 +133,7 @@ pub fn summarize(
     module: &Module,
     callees: &[FunctionInfo],
 ) -> Result<Summarized, SummaryError>
-    requires precede { OperandsPrecede (function_view function.now).expressions }
+    requires precede { UsesPrecede (function_view function.now).expressions }
     requires named { ItemsNamed (inside (module_view «module».now) (function_view function.now)) (function_view function.now).expressions }
     ensures ok { IfOk result (IsSummarized (module_view «module».now) (function_view function.now) (map summary_of callees.now)) }
     ensures fault { IfErr result (IsSummaryFault (module_view «module».now) (function_view function.now) (map summary_of callees.now)) }

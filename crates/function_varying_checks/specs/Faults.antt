@@ -17,7 +17,7 @@ use Rattle.typing_layout.specs.judged.View.{type_tree}
 use Rattle.spec_interface.specs.judged.BuiltIns.{AreRows, IsAhead, IsFree, IsOfType, OccursAt}
 use Rattle.spec_interface.specs.judged.Contexts.{VaryingContext}
 use Rattle.spec_interface.specs.judged.Locations.{NeedsInterpolation, counted, goes_with, kind_of, of_three}
-use Rattle.spec_interface.specs.judged.Rows.{built_in_row}
+use Rattle.spec_interface.specs.judged.BuiltInRows.{built_in_row}
 use Rattle.spec_interface.specs.judged.Varyings.{ShowsAt, built_in_of, canonical, location_of}
 use Rattle.spec_interface.specs.declared.rows.BuiltInRow.{BuiltInRow}
 use Rattle.spec_interface.specs.declared.rows.Exception.TheVariants.{NotAfterTasks, RowsOnly}

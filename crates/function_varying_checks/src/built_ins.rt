@@ -4,7 +4,7 @@ ghost use Rattle.std.specs.Prelude.{◌≡◌, ◌≤◌, ◌↔◌, ◌⊎◌, 
 ghost use Rattle.ir_flags.specs.Sets.{Has};
 ghost use Rattle.spec_interface.specs.judged.BuiltIns.{AreDistances, AreRows, BuiltInOK, ExceptionOK, IsAhead, IsCounted, IsFree, IsOfType, RowOK, OccursAt};
 ghost use Rattle.spec_interface.specs.judged.Contexts.{stage_set};
-ghost use Rattle.spec_interface.specs.judged.Rows.{built_in_row};
+ghost use Rattle.spec_interface.specs.judged.BuiltInRows.{built_in_row};
 ghost use Rattle.typing_forms.specs.judged.Resolutions.{types_view};
 ghost use Rattle.function_varying_checks.specs.Faults.{IsBuiltInFault};
 ghost use Rattle.function_varying_checks.specs.Rows.{IsExcepted, IsRowFault, IsTypeError};

@@ -12,7 +12,7 @@ use Rattle.ir_kinds.specs.declared.stages.ShaderStage.TheVariants.{Vertex, Fragm
 use Rattle.ir_types.specs.judged.Plain.{PlainType}
 use Rattle.spec_interface.specs.judged.BuiltIns.{AreRows, ExceptionOK, IsAhead}
 use Rattle.spec_interface.specs.judged.Contexts.{VaryingContext}
-use Rattle.spec_interface.specs.judged.Rows.{built_in_row}
+use Rattle.spec_interface.specs.judged.BuiltInRows.{built_in_row}
 use Rattle.spec_interface.specs.judged.Varyings.{BoundOK, VaryingsOK, mesh_varyings}
 use Rattle.spec_interface.specs.declared.rows.Exception.{Exception}
 use Rattle.spec_interface.specs.declared.rows.Exception.TheVariants as exception

@@ -14,7 +14,7 @@ use Rattle.typing_layout.specs.judged.View.{type_tree}
 use Rattle.spec_interface.specs.judged.BuiltIns.{BuiltInOK, ExceptionOK, IsFree, RowOK}
 use Rattle.spec_interface.specs.judged.Contexts.{VaryingContext}
 use Rattle.spec_interface.specs.judged.Locations.{NeedsInterpolation, InterpolationOK, LocationOK, PrimitiveOK, counted, kind_of}
-use Rattle.spec_interface.specs.judged.Rows.{built_in_row}
+use Rattle.spec_interface.specs.judged.BuiltInRows.{built_in_row}
 use Rattle.spec_interface.specs.judged.Varyings.{AreApart, BoundOK, VaryingsOK, built_in_of, canonical, location_of}
 use Rattle.spec_interface.specs.declared.rows.BuiltInRow.{BuiltInRow}
 use Rattle.spec_interface.specs.declared.rows.Exception.{Exception}

@@ -9,7 +9,7 @@ use Rattle.spec_expressions.specs.judged.Chains.{HasUse}
 use Rattle.spec_interface.specs.judged.Modules.{EntryAtOK}
 use Rattle.spec_interface.specs.judged.Payloads.{binding_at}
 use Rattle.spec_interface.specs.judged.Uses.{EntryUses}
-use Rattle.spec_interface.specs.judged.Variables.{IsUsed}
+use Rattle.spec_interface.specs.judged.UsedVariables.{IsUsed}
 use Rattle.judgement.proofs.Named.{used_bit}
 use Rattle.judgement.specs.judged.Reports.{IsEntryReport}
 

@@ -27,7 +27,7 @@ use Rattle.spec_interface.specs.judged.Modules.{AreStages, EntryAtOK, EntriesOK}
 use Rattle.spec_interface.specs.judged.Payloads.{PayloadOK}
 use Rattle.spec_interface.specs.judged.Stages.{StageOK}
 use Rattle.spec_interface.specs.judged.Uses.{OwnUse, EntryUses}
-use Rattle.spec_interface.specs.judged.Variables.{OwnPayloadOK, VariableOK, VariablesOK, IsUsed}
+use Rattle.spec_interface.specs.judged.UsedVariables.{OwnPayloadOK, VariableOK, VariablesOK, IsUsed}
 use Rattle.spec_statements.specs.judged.EarlierPayloads.{HasPayloadBefore}
 use Rattle.judgement_laws.specs.judged.Like.{LikeEntry, LikeModule}
 use Rattle.judgement_laws.proofs.Calls.{use_moves}

@@ -2,7 +2,7 @@
 use Rattle.std.specs.Prelude.{◌≡◌, ◌↔◌, ℕ, List, map}
 use Rattle.ir_types.specs.judged.ExpressionPlain.{PlainExpression}
 use Rattle.spec_expressions.specs.judged.OperandUses.{Operand, expression_uses}
-use Rattle.spec_expressions.specs.judged.Values.{OperandsPrecede as OperandsWithUsesPrecede}
+use Rattle.spec_expressions.specs.judged.Values.{UsesPrecede}
 use Rattle.spec_expressions.specs.judged.FunctionHandles.{OperandsPrecede}
 use Rattle.spec_expressions.specs.judged.ExpressionNames.{expression_operands}
 
@@ -15,4 +15,4 @@ SameOperands = (x : PlainExpression) → handles_of (expression_uses x) ≡ expr
 
 -- so the operands precede in the one sense exactly where they do in the other
 abbrev pub SameOrder : Type 0
-SameOrder = (expressions : List PlainExpression) → OperandsPrecede expressions ↔ OperandsWithUsesPrecede expressions
+SameOrder = (expressions : List PlainExpression) → OperandsPrecede expressions ↔ UsesPrecede expressions

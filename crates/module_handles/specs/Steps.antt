@@ -8,7 +8,7 @@ use Rattle.ir_items.specs.found.View.{module_view}
 use Rattle.ir_items.specs.declared.entries.EntryPoint.{EntryPoint}
 use Rattle.ir_items.specs.declared.functions.Function.{Function}
 use Rattle.ir_items.specs.declared.module.Module.{Module}
-use Rattle.spec_expressions.specs.judged.Values.{OperandsPrecede}
+use Rattle.spec_expressions.specs.judged.Values.{UsesPrecede}
 use Rattle.spec_expressions.specs.judged.Context.{Context, inside, outside, NamesItem}
 use Rattle.spec_expressions.specs.judged.ModuleHandles.{HandlesOK}
 use Rattle.typing_layout.specs.judged.Constness.{OriginsPrecede}
@@ -16,7 +16,7 @@ use Rattle.typing_layout.specs.judged.Constness.{OriginsPrecede}
 -- the items that expressions name are there, and their operands precede
 pub record ExpressionConditions (c : Context) (expressions : List PlainExpression) : Type 0 where
   pub items : (e : ℕ) (x : PlainExpression) → slice_get expressions e ≡ Some x → NamesItem c x
-  pub operands : OperandsPrecede expressions
+  pub operands : UsesPrecede expressions
 
 pub record AllExpressions (m : PlainModule) : Type 0 where
   pub globals : ExpressionConditions (outside m) m.global_expressions

@@ -1,7 +1,7 @@
 pub mod Stages
 pub mod Payloads
 pub mod Uses
-pub mod Variables
+pub mod UsedVariables
 pub mod Members
 pub mod Meshes
 pub mod Results
@@ -13,7 +13,7 @@ pub mod Handles
 pub mod Spaces
 pub mod Globals
 pub mod Contexts
-pub mod Rows
+pub mod BuiltInRows
 pub mod BuiltIns
 pub mod Locations
 pub mod Varyings

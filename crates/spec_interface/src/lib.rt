@@ -2,10 +2,10 @@
 //!
 //! The definitions stand in `specs/`. Which global variables a module may have: what each address space requires of a type
 //! (`Spaces.antt`), and what a variable has to meet (`Globals.antt`). Which varyings an entry point may have: the built-in
-//! values as a table (`Rows.antt`), what one built-in value requires (`BuiltIns.antt`) and one value at a location
+//! values as a table (`BuiltInRows.antt`), what one built-in value requires (`BuiltIns.antt`) and one value at a location
 //! (`Locations.antt`), which varyings an entry point has and what all of them together have to meet (`Varyings.antt`). Which
 //! entry points a module may have: what a stage requires beside the function (`Stages.antt`), the payload of tasks
-//! (`Payloads.antt`), what may be done with which global variables (`Uses.antt`, `Variables.antt`), what a mesh shader gives
+//! (`Payloads.antt`), what may be done with which global variables (`Uses.antt`, `UsedVariables.antt`), what a mesh shader gives
 //! (`Members.antt`, `Meshes.antt`), what is given to its function and returned by it (`Results.antt`), and all of an entry point
 //! (`Entries.antt`).
 //!

@@ -2,7 +2,7 @@
 
 ghost use Rattle.std.specs.Prelude.{◌≡◌, None, false};
 ghost use Rattle.ir_kinds.specs.declared.bindings.BuiltIn.TheVariants.{PrimitiveIndex};
-ghost use Rattle.spec_interface.specs.judged.Rows.{built_in_row, but, given, given_by, gives, gives_by, row, with_primitive};
+ghost use Rattle.spec_interface.specs.judged.BuiltInRows.{built_in_row, but, given, given_by, gives, gives_by, row, with_primitive};
 
 use crate::{BuiltInRow, BuiltInType, Exception};
 use ir_flags::{Capabilities as C, ShaderStages};

@@ -10,7 +10,7 @@ ghost use Rattle.ir_kinds.specs.declared.scalars.ScalarKind.TheVariants.{Float, 
 ghost use Rattle.ir_kinds.specs.declared.stages.ShaderStage.TheVariants.{ClosestHit, Fragment, Mesh, Miss, Task, Vertex};
 ghost use Rattle.spec_interface.specs.judged.BuiltIns.{IsFree, OccursAt};
 ghost use Rattle.spec_interface.specs.judged.Locations.{NeedsInterpolation, InterpolationOK, PrimitiveOK, goes_with};
-ghost use Rattle.spec_interface.specs.judged.Rows.{built_in_row};
+ghost use Rattle.spec_interface.specs.judged.BuiltInRows.{built_in_row};
 ghost use Rattle.spec_interface.specs.judged.Varyings.{canonical, location_of, varying, varyings_of};
 ghost use Rattle.spec_interface.specs.found.Worked.{bound_at, linear_at, small_types};
 ghost use Rattle.spec_interface.specs.declared.varyings.Bound.TheVariants.{BlendSources, BuiltIn, Location, NoMember, Nothing};

@@ -11,7 +11,7 @@ use Rattle.ir_types.specs.declared.expressions.Expression.TheVariants as x
 use Rattle.ir_items.specs.found.GlobalView.{values_of}
 use Rattle.spec_expressions.specs.judged.OperandUses.{Operand, operand, expression_uses}
 use Rattle.spec_expressions.specs.declared.operand.Usage.TheVariants.{Base, Query, Read}
-use Rattle.spec_expressions.specs.judged.Values.{OperandsPrecede}
+use Rattle.spec_expressions.specs.judged.Values.{UsesPrecede}
 use Rattle.spec_expressions.proofs.Members.{get-within}
 use Rattle.spec_expressions.specs.judged.Context.{Context}
 use Rattle.spec_expressions.specs.judged.Typing.{typing_operands, HasTypeAmong}
@@ -93,7 +93,7 @@ typing_taken (plain (x.SubgroupOperationResult t)) o h = elim h [ ]
 typing_taken (plain (x.CooperativeLoad c r ro d)) o h = elim h [ inl e ↦ (operand Read d.pointer, inl refl, e) | inr n ↦ elim n [ ] ]
 typing_taken (plain (x.CooperativeMultiplyAdd a b c)) o h = elim h [ inl e ↦ (operand Read c, inr (inr (inl refl)), e) | inr n ↦ elim n [ ] ]
 
-pub operands_below : (xs : List PlainExpression) → OperandsPrecede xs → (e : ℕ) (y : PlainExpression) → slice_get xs e ≡ Some y → OperandsBelow e y
+pub operands_below : (xs : List PlainExpression) → UsesPrecede xs → (e : ℕ) (y : PlainExpression) → slice_get xs e ≡ Some y → OperandsBelow e y
 operands_below xs precede e y at o among = let t = typing_taken y o among in subst (λ z. z < e) t.2 (precede e y t.0 at t.1)
 
 -- ---- one after the other

@@ -2,7 +2,7 @@
 
 ghost use Rattle.std.specs.Prelude.{◌≡◌, ◌<◌, ◌≤◌, [], IfOk, IfErr, length};
 ghost use Rattle.ir_items.specs.found.View.{module_view};
-ghost use Rattle.spec_expressions.specs.judged.Values.{OperandsPrecede};
+ghost use Rattle.spec_expressions.specs.judged.Values.{UsesPrecede};
 ghost use Rattle.spec_expressions.specs.judged.Context.{outside};
 ghost use Rattle.typing_infos.specs.Types.{ItemsNamed, TypedSoFar, AreTypes, IsFirstUntyped};
 ghost use Rattle.typing_errors.specs.Answers.{IsAnswer};
@@ -46,7 +46,7 @@ pub fn process_const_expression(
     types: &[TypeResolution],
 ) -> Result<TypeResolution, ResolveRefusal>
     requires within { handle < length (module_view «module».now).global_expressions }
-    requires precede { OperandsPrecede (module_view «module».now).global_expressions }
+    requires precede { UsesPrecede (module_view «module».now).global_expressions }
     requires named { ItemsNamed (outside (module_view «module».now)) (module_view «module».now).global_expressions }
     requires known { handle ≤ length types.now }
     requires typed { TypedSoFar (outside (module_view «module».now)) (module_view «module».now).global_expressions types.now }
@@ -70,7 +70,7 @@ pub fn const_expression_types(
     alloc: Global,
     module: &Module,
 ) -> Result<Vec<TypeResolution>, TypingRefusal>
-    requires precede { OperandsPrecede (module_view «module».now).global_expressions }
+    requires precede { UsesPrecede (module_view «module».now).global_expressions }
     requires named { ItemsNamed (outside (module_view «module».now)) (module_view «module».now).global_expressions }
     ensures ok { IfOk result (λ v. AreTypes (outside (module_view «module».now)) (module_view «module».now).global_expressions v.items) }
     ensures fault { IfErr result (IsFirstUntyped (outside (module_view «module».now)) (module_view «module».now).global_expressions) }

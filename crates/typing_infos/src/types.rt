@@ -3,7 +3,7 @@
 ghost use Rattle.std.specs.Prelude.{◌≡◌, ◌++◌, ◌∷◌, [], List, Err, IfOk, IfErr, OnOk, length, map, slice_index_or};
 ghost use Rattle.ir_types.specs.judged.ExpressionPlain.{PlainExpression, expression_view};
 ghost use Rattle.ir_items.specs.found.GlobalView.{values_of};
-ghost use Rattle.spec_expressions.specs.judged.Values.{OperandsPrecede};
+ghost use Rattle.spec_expressions.specs.judged.Values.{UsesPrecede};
 ghost use Rattle.spec_expressions.specs.judged.Context.{Context, NamesItem};
 ghost use Rattle.typing_infos.specs.Types.{ItemsNamed, AreTypes, IsFirstUntyped, OperandsBelow, Decided, DecidedAt, IsTypedBy};
 ghost use Rattle.typing_errors.specs.Answers.{IsAnswer};
@@ -117,7 +117,7 @@ pub fn types_of(
     context: &ResolveContext<'_>,
     expressions: &Arena<Expression, key::Expression>,
 ) -> Result<Vec<TypeResolution>, TypingRefusal>
-    requires precede { OperandsPrecede (map expression_view (values_of expressions.now)) }
+    requires precede { UsesPrecede (map expression_view (values_of expressions.now)) }
     requires named { ItemsNamed (context_view context.now) (map expression_view (values_of expressions.now)) }
     ensures ok { IfOk result (λ v. AreTypes (context_view context.now) (map expression_view (values_of expressions.now)) v.items) }
     ensures fault { IfErr result (IsFirstUntyped (context_view context.now) (map expression_view (values_of expressions.now))) }

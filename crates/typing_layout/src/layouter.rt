@@ -6,8 +6,8 @@ ghost use Rattle.typing_forms.specs.judged.Resolutions.{types_view};
 ghost use Rattle.typing_layout.specs.found.Held.{AreLayouts, IsRefusal};
 
 use crate::error::LayoutError;
-use crate::laid::layout_of;
 use crate::layout::TypeLayout;
+use crate::layout_of::layout_of;
 use ir_arena::handle::Handle;
 use ir_sets::unique_arena::UniqueArena;
 use ir_types::refusal::Refusal;

@@ -11,7 +11,7 @@ use Rattle.spec_expressions.specs.found.Found.{required_in}
 use Rattle.spec_expressions.proofs.FoundLaws.{asked_sound, asked_complete}
 use Rattle.typing_uniformity.specs.Requiring.{asks, AreNext, varies_of, required_of, look_of, required_view}
 use Rattle.typing_uniformity.specs.Uniform.{IsAnswer}
-use Rattle.typing_uniformity.specs.declared.fault.NonUniform.{NonUniform}
+use Rattle.typing_uniformity.specs.declared.body_fault.NonUniform.{NonUniform}
 use Rattle.typing_uniformity.proofs.Nexts.{is_look}
 
 none_of : (o : Option NonUniform) → o ≡ None → option_map required_view o ≡ None

@@ -12,7 +12,7 @@ use Rattle.ir_items.specs.found.GlobalView.{values_of}
 use Rattle.ir_items.specs.judged.Plain.{PlainFunction, PlainModule}
 use Rattle.spec_expressions.specs.judged.OperandUses.{Operand, operand, expression_uses}
 use Rattle.spec_expressions.specs.declared.operand.Usage.TheVariants.{Base}
-use Rattle.spec_expressions.specs.judged.Values.{inner_of, known_at, is_source, ComesFrom, itself, through, StartsAt, is_global, accessed, accessed_index, AreStarts, OperandsPrecede, IsExact}
+use Rattle.spec_expressions.specs.judged.Values.{inner_of, known_at, is_source, ComesFrom, itself, through, StartsAt, is_global, accessed, accessed_index, AreStarts, UsesPrecede, IsExact}
 use Rattle.typing_uniformity.specs.Facts.{or_known, find_all, source_if, source_of, start_of, sources_of, starts_of, AreSources}
 
 some_is : {X : Type 0} {x y : X} → Some x ≡ Some y → x ≡ y
@@ -116,7 +116,7 @@ comes_cases m f e s (through expression operand stands among comes) = inr (recor
 abbrev SourcesKnown : PlainModule → PlainFunction → List (Option ℕ) → Type 0
 SourcesKnown m f known = (e : ℕ) → e < length known → IsExact (known_at known e) (ComesFrom m f e)
 
-module _ (m : PlainModule) (f : PlainFunction) (precede : OperandsPrecede f.expressions) (known : List (Option ℕ)) (sources : SourcesKnown m f known) (expression : PlainExpression) (at : slice_get f.expressions (length known) ≡ Some expression) where
+module _ (m : PlainModule) (f : PlainFunction) (precede : UsesPrecede f.expressions) (known : List (Option ℕ)) (sources : SourcesKnown m f known) (expression : PlainExpression) (at : slice_get f.expressions (length known) ≡ Some expression) where
   exact_if : (b : Bool) → is_source m f expression ≡ b → IsExact (source_if b (length known) (find_all known (expression_uses expression) None)) (ComesFrom m f (length known))
   exact_if true is = record {
     found = λ s e. subst (ComesFrom m f (length known)) (some_is e) (itself expression at is);
@@ -146,7 +146,7 @@ module _ (m : PlainModule) (f : PlainFunction) (precede : OperandsPrecede f.expr
         (subst (λ z. IsExact z (ComesFrom m f (length known))) (sym (known_last known (source_of m f known (length known) expression))) (exact_if (is_source m f expression) refl)))
   ]
 
-sources_all : (m : PlainModule) (f : PlainFunction) → OperandsPrecede f.expressions → (entries : List (Expression × Span)) (known : List (Option ℕ)) (p : ℕ) → length known ≡ p → OccursFrom f.expressions p entries → SourcesKnown m f known
+sources_all : (m : PlainModule) (f : PlainFunction) → UsesPrecede f.expressions → (entries : List (Expression × Span)) (known : List (Option ℕ)) (p : ℕ) → length known ≡ p → OccursFrom f.expressions p entries → SourcesKnown m f known
     → SourcesKnown m f (sources_of m f known (handles_from p entries)) × (length (sources_of m f known (handles_from p entries)) ≡ p + length entries)
 sources_all m f precede [] known p len stands sources = (sources, len ∙ plus_zero p)
 sources_all m f precede (e ∷ rest) known p len stands sources =
@@ -160,7 +160,7 @@ sources_all m f precede (e ∷ rest) known p len stands sources =
 none_known : (m : PlainModule) (f : PlainFunction) → SourcesKnown m f []
 none_known m f e lt = absurd (omega (arith, lt))
 
-pub are_sources : (m : PlainModule) (f : PlainFunction) (entries : List (Expression × Span)) → f.expressions ≡ map expression_view (values_of entries) → OperandsPrecede f.expressions → AreSources m f (sources_of m f [] (handles_from 0 entries))
+pub are_sources : (m : PlainModule) (f : PlainFunction) (entries : List (Expression × Span)) → f.expressions ≡ map expression_view (values_of entries) → UsesPrecede f.expressions → AreSources m f (sources_of m f [] (handles_from 0 entries))
 are_sources m f entries is precede =
     let stands : OccursFrom f.expressions 0 entries = λ i. ap (slice_get f.expressions) (zero_plus i) ∙ ap (λ z. slice_get z i) is in
     let r = sources_all m f precede entries [] 0 refl stands (none_known m f) in
@@ -199,7 +199,7 @@ base_of_index b i c j e = cc (e)
 global_of : (g h : ℕ) → plain (x.GlobalVariable g) ≡ plain (x.GlobalVariable h) → g ≡ h
 global_of g h e = cc (e)
 
-one_start : (xs : List PlainExpression) (known : List (Option ℕ)) (precede : OperandsPrecede xs) (starts : StartsKnown xs known) (y : PlainExpression) (g : ℕ) → slice_get xs (length known) ≡ Some y → (start_of known y ≡ Some g) ↔ StartsAt xs (length known) g
+one_start : (xs : List PlainExpression) (known : List (Option ℕ)) (precede : UsesPrecede xs) (starts : StartsKnown xs known) (y : PlainExpression) (g : ℕ) → slice_get xs (length known) ≡ Some y → (start_of known y ≡ Some g) ↔ StartsAt xs (length known) g
 one_start xs known precede starts (plain (x.GlobalVariable h)) g at = (
   λ e. is_global (at ∙ ap (λ z. Some (plain (x.GlobalVariable z))) (some_is e)),
   λ s. elim (starts_cases xs (length known) g s) [
@@ -234,7 +234,7 @@ one_start xs known precede starts y g at = (
   λ s. absurd (no_start xs (length known) g y at (λ e. cc (e)) (λ base index e. cc (e)) (λ base index e. cc (e)) s),
 )
 
-start_more : (xs : List PlainExpression) (known : List (Option ℕ)) (precede : OperandsPrecede xs) (starts : StartsKnown xs known) (y : PlainExpression) → slice_get xs (length known) ≡ Some y → StartsKnown xs (known ++ start_of known y ∷ [])
+start_more : (xs : List PlainExpression) (known : List (Option ℕ)) (precede : UsesPrecede xs) (starts : StartsKnown xs known) (y : PlainExpression) → slice_get xs (length known) ≡ Some y → StartsKnown xs (known ++ start_of known y ∷ [])
 start_more xs known precede starts y at e g lt = elim (cases_lt e (length known)) [
   | inl before ↦ subst (λ z. (z ≡ Some g) ↔ StartsAt xs e g) (sym (known_before known (start_of known y) e before)) (starts e g before)
   | inr past ↦
@@ -244,7 +244,7 @@ start_more xs known precede starts y at e g lt = elim (cases_lt e (length known)
       (subst (λ z. (z ≡ Some g) ↔ StartsAt xs (length known) g) (sym (known_last known (start_of known y))) (one_start xs known precede starts y g at)))
 ]
 
-starts_all : (xs : List PlainExpression) → OperandsPrecede xs → (entries : List (Expression × Span)) (known : List (Option ℕ)) (p : ℕ) → length known ≡ p → OccursFrom xs p entries → StartsKnown xs known
+starts_all : (xs : List PlainExpression) → UsesPrecede xs → (entries : List (Expression × Span)) (known : List (Option ℕ)) (p : ℕ) → length known ≡ p → OccursFrom xs p entries → StartsKnown xs known
     → StartsKnown xs (starts_of known (handles_from p entries)) × (length (starts_of known (handles_from p entries)) ≡ p + length entries)
 starts_all xs precede [] known p len stands starts = (starts, len ∙ plus_zero p)
 starts_all xs precede (e ∷ rest) known p len stands starts =
@@ -262,7 +262,7 @@ starts_past xs e g none s = elim (starts_cases xs e g s) [
   | inr r ↦ elim r [ inl (base, index, is, t) ↦ none_some (sym none ∙ is) | inr (base, index, is, t) ↦ none_some (sym none ∙ is) ]
 ]
 
-pub are_starts : (entries : List (Expression × Span)) → OperandsPrecede (map expression_view (values_of entries)) → AreStarts (map expression_view (values_of entries)) (starts_of [] (handles_from 0 entries))
+pub are_starts : (entries : List (Expression × Span)) → UsesPrecede (map expression_view (values_of entries)) → AreStarts (map expression_view (values_of entries)) (starts_of [] (handles_from 0 entries))
 are_starts entries precede e g =
     let xs = map expression_view (values_of entries) in
     let all = starts_of [] (handles_from 0 entries) in
@@ -277,7 +277,7 @@ are_starts entries precede e g =
       )
     ]
 
-pub starts_length : (entries : List (Expression × Span)) → OperandsPrecede (map expression_view (values_of entries)) → length (starts_of [] (handles_from 0 entries)) ≡ length (map expression_view (values_of entries))
+pub starts_length : (entries : List (Expression × Span)) → UsesPrecede (map expression_view (values_of entries)) → length (starts_of [] (handles_from 0 entries)) ≡ length (map expression_view (values_of entries))
 starts_length entries precede =
     let xs = map expression_view (values_of entries) in
     (starts_all xs precede entries [] 0 refl (λ i. ap (slice_get xs) (zero_plus i)) (no_start_known xs)).1 ∙ (zero_plus (length entries) ∙ sym (length_views entries))

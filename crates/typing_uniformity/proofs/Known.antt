@@ -16,7 +16,7 @@ use Rattle.spec_expressions.specs.judged.Uniformity.{UniformityFault}
 use Rattle.spec_expressions.proofs.FoundLaws.{fault_as}
 use Rattle.typing_uniformity.specs.Requiring.{source_in, requirement_in as requirement_known, required_of, required_view}
 use Rattle.typing_uniformity.specs.Uniform.{VariesBy, IsAnswer as IsAnswerBy}
-use Rattle.typing_uniformity.specs.declared.fault.NonUniform.{NonUniform}
+use Rattle.typing_uniformity.specs.declared.body_fault.NonUniform.{NonUniform}
 use Rattle.typing_uniformity.specs.Faults.{IsAnswer}
 use Rattle.typing_uniformity.proofs.Severities.{one_severity}
 

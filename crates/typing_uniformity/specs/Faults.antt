@@ -5,7 +5,7 @@ use Rattle.ir_items.specs.judged.Plain.{PlainFunction, PlainModule}
 use Rattle.spec_expressions.specs.judged.Faults.{FunctionFault}
 use Rattle.spec_expressions.specs.judged.Uniformity.{Required}
 use Rattle.typing_uniformity.specs.Requiring.{required_view}
-use Rattle.typing_uniformity.specs.declared.fault.NonUniform.{NonUniform}
+use Rattle.typing_uniformity.specs.declared.body_fault.NonUniform.{NonUniform}
 
 -- what is answered of a function: a fault, or that there is none
 pub record IsAnswer (flags : ValidationFlags) (m : PlainModule) (f : PlainFunction) (found : Option NonUniform) : Type 0 where

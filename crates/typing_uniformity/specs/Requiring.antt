@@ -5,7 +5,7 @@ use Rattle.ir_kinds.specs.declared.diagnostics.Severity.TheVariants.{Off, Info, 
 use Rattle.spec_expressions.specs.declared.uniformity.Uniformity.{Uniformity}
 use Rattle.spec_expressions.specs.declared.uniformity.TheConstants.UniformityRequirements.{DERIVATIVE, IMPLICIT_LEVEL, COOP_OPS}
 use Rattle.spec_expressions.specs.judged.Uniformity.{Required}
-use Rattle.typing_uniformity.specs.declared.fault.NonUniform.{NonUniform}
+use Rattle.typing_uniformity.specs.declared.body_fault.NonUniform.{NonUniform}
 
 abbrev pub source_in : Option Uniformity → Option ℕ
 source_in None = None

@@ -6,7 +6,7 @@ use Rattle.ir_blocks.specs.judged.Plain.{PlainBlock}
 use Rattle.spec_expressions.specs.declared.uniformity.Uniformity.{Uniformity}
 use Rattle.spec_expressions.specs.judged.Uniformity.{Required, UniformityFault}
 use Rattle.typing_uniformity.specs.Requiring.{varies_of, required_of, required_view}
-use Rattle.typing_uniformity.specs.declared.fault.NonUniform.{NonUniform}
+use Rattle.typing_uniformity.specs.declared.body_fault.NonUniform.{NonUniform}
 
 -- the value of the expression is known to differ
 abbrev pub VariesBy : List Uniformity → ℕ → Type 0

@@ -4,7 +4,7 @@ ghost use Rattle.std.specs.Prelude.{◌≡◌, ◌++◌, ◌∷◌, [], OnOk, If
 ghost use Rattle.ir_arena.specs.judged.Handles.{handles_from};
 ghost use Rattle.ir_types.specs.judged.ExpressionPlain.{expression_view};
 ghost use Rattle.ir_items.specs.found.View.{function_view, module_view};
-ghost use Rattle.spec_expressions.specs.judged.Values.{AreStarts, OperandsPrecede, known_at};
+ghost use Rattle.spec_expressions.specs.judged.Values.{AreStarts, UsesPrecede, known_at};
 ghost use Rattle.typing_uniformity.specs.Facts.{source_if, source_of, start_of, sources_of, starts_of, AreUniformities};
 
 use crate::found::{known, source_below};
@@ -99,7 +99,7 @@ fn all_starts(
 /// What is known of each expression of a function. Requires that each operand comes before what has it. The error is out of
 /// memory.
 pub fn facts_of(alloc: Global, module: &Module, function: &Function) -> Result<Facts, AllocError>
-    requires { OperandsPrecede (function_view function.now).expressions }
+    requires { UsesPrecede (function_view function.now).expressions }
     ensures uniformities { IfOk result (λ f. AreUniformities (module_view «module».now) (function_view function.now) f.uniformities.items) }
     ensures starts { IfOk result (λ f. AreStarts (function_view function.now).expressions f.globals.items) }
 {

@@ -4,11 +4,11 @@
 //! Faults of uniformity of functions: what requires that all invocations arrive at it together, and stands where they may not.
 #![tactic(auto)]
 
-mod analysis_fault;
+mod body_fault;
 mod facts;
-mod fault;
+mod first_requiring;
 mod found;
-mod next;
+mod function_fault;
 mod requirements;
 mod requiring;
 mod severity;
@@ -16,7 +16,7 @@ mod sources;
 mod uniformities;
 mod walk;
 
-pub use analysis_fault::{uniformity_fault, uniformity_fault_by};
+pub use body_fault::{NonUniform, find_fault};
 pub use facts::{Facts, facts_of};
-pub use fault::{NonUniform, find_fault};
+pub use function_fault::{uniformity_fault, uniformity_fault_by};
 pub use severity::{derivative_severity, derivative_severity_by, severities_of};

@@ -4,7 +4,7 @@ ghost use Rattle.std.specs.Prelude.{◌≡◌, is_some, option_map, slice_get};
 ghost use Rattle.spec_expressions.specs.found.Found.{where_disrupted};
 ghost use Rattle.typing_uniformity.specs.Requiring.{varies_of, look_of, required_with, required_from, required_view};
 
-use crate::fault::NonUniform;
+use crate::body_fault::NonUniform;
 use ir_arena::handle::Handle;
 use ir_items::key;
 use spec_expressions::Uniformity;

@@ -8,7 +8,7 @@ ghost use Rattle.spec_expressions.specs.judged.Uniformity.{Required};
 ghost use Rattle.spec_expressions.specs.declared.uniformity.TheConstants.UniformityRequirements.{WORK_GROUP_BARRIER};
 ghost use Rattle.typing_uniformity.specs.Requiring.{varies_of, look_of, required_view};
 
-use crate::fault::NonUniform;
+use crate::body_fault::NonUniform;
 use crate::requiring::Requiring;
 use ir_arena::handle::Handle;
 use ir_items::{Block, Statement, SwitchCase, key};

@@ -159,8 +159,8 @@ abbrev pub AreStarts : List PlainExpression → List (Option ℕ) → Type 0
 AreStarts expressions globals = (e g : ℕ) → (known_at globals e ≡ Some g) ↔ StartsAt expressions e g
 
 -- each operand stands before what has it
-abbrev pub OperandsPrecede : List PlainExpression → Type 0
-OperandsPrecede expressions =
+abbrev pub UsesPrecede : List PlainExpression → Type 0
+UsesPrecede expressions =
     (e : ℕ) (expression : PlainExpression) (operand : Operand) → slice_get expressions e ≡ Some expression → IsAmong operand (expression_uses expression)
     → operand.handle < e
 

@@ -9,7 +9,7 @@ use Rattle.ir_types.specs.judged.Plain.{PlainType}
 use Rattle.ir_types.specs.declared.types.ArraySize.{ArraySize}
 use Rattle.ir_types.specs.declared.types.ArraySize.TheVariants as size
 use Rattle.spec_interface.specs.judged.Contexts.{VaryingContext, stage_set}
-use Rattle.spec_interface.specs.judged.Rows.{built_in_row}
+use Rattle.spec_interface.specs.judged.BuiltInRows.{built_in_row}
 use Rattle.spec_interface.specs.declared.rows.BuiltInRow.{BuiltInRow}
 use Rattle.spec_interface.specs.declared.rows.BuiltInType.{BuiltInType}
 use Rattle.spec_interface.specs.declared.rows.BuiltInType.TheVariants.{Value, Distances}

@@ -10,7 +10,7 @@ use Rattle.spec_interface.specs.judged.Payloads.{PayloadOK}
 use Rattle.spec_interface.specs.judged.Results.{AnswerOK}
 use Rattle.spec_interface.specs.judged.Stages.{StageOK}
 use Rattle.spec_interface.specs.judged.Uses.{EntryUses}
-use Rattle.spec_interface.specs.judged.Variables.{VariablesOK}
+use Rattle.spec_interface.specs.judged.UsedVariables.{VariablesOK}
 use Rattle.spec_statements.specs.judged.Functions.{Reading, FunctionOK, AllowsStage}
 use Rattle.spec_interface.specs.judged.Contexts.{stage_set}
 use Rattle.spec_interface.specs.judged.Varyings.{ArgumentsOK, ResultOK}

@@ -8,7 +8,7 @@ use Rattle.module_globals.proofs.SizeLemmas.{many_variables}
 use Rattle.ir_items.specs.found.GlobalView.{global_view}
 use Rattle.ir_items.specs.found.View.{entry_view, module_view}
 use Rattle.spec_expressions.specs.judged.Summaries.{HasUseBit}
-use Rattle.spec_interface.specs.judged.Variables.{VariableOK}
+use Rattle.spec_interface.specs.judged.UsedVariables.{VariableOK}
 use Rattle.function_entry_checks.proofs.variables.check_each.Goals.{then-kinds-ne0+in-Ok, else-kinds-ne0}
 use Rattle.function_entry_checks.proofs.variables.check_each.Goals as goal
 
