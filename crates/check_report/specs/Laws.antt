@@ -5,7 +5,7 @@ use Rattle.typing_infos.specs.declared.function_info.FunctionInfo.{FunctionInfo}
 use Rattle.ir_items.specs.judged.Plain.{PlainEntry, PlainModule}
 use Rattle.check_report.specs.Reported.{IsEntryInfo}
 use Rattle.typing_rules.specs.judged.Laws.{IsAmong}
-use Rattle.spec_expressions.specs.judged.Chains.{HasUse, HasPair}
+use Rattle.spec_expressions.specs.judged.CallChains.{HasUse, HasPair}
 use Rattle.spec_expressions.specs.judged.Summaries.{HasUseBit}
 use Rattle.spec_interface.specs.judged.Uses.{EntryUses}
 

@@ -9,7 +9,7 @@ use Rattle.ir_items.specs.judged.GlobalPlain.{PlainGlobal}
 use Rattle.ir_items.specs.judged.Plain.{PlainEntry, PlainModule}
 use Rattle.typing_infos.specs.declared.info.ModuleInfo.{ModuleInfo}
 use Rattle.typing_rules.specs.judged.Laws.{IsAmong}
-use Rattle.spec_expressions.specs.judged.Chains.{HasPair}
+use Rattle.spec_expressions.specs.judged.CallChains.{HasPair}
 use Rattle.judgement.specs.judged.Lines.{pair_line, entry_lines}
 use Rattle.judgement.specs.judged.Reports.{AreUses, pair_cmp, IsEntryReport}
 use Rattle.typing_forms.specs.judged.Order.{TypesGoBack}

@@ -5,7 +5,8 @@ ghost use Rattle.function_interface.specs.Analysis.{IsFaultBefore, IsKept, IsRef
 ghost use Rattle.function_interface.specs.Question.{question};
 ghost use Rattle.ir_items.specs.found.View.{function_view, module_view};
 ghost use Rattle.ir_items.specs.found.Filters.{ParentsPrecede};
-ghost use Rattle.spec_expressions.specs.judged.FunctionHandles.{AritiesMatch, HandlesInRange, OperandsPrecede};
+ghost use Rattle.spec_expressions.specs.judged.FunctionHandles.{HandlesInRange, OperandsPrecede};
+ghost use Rattle.spec_expressions.specs.judged.Arities.{AritiesMatch};
 
 use crate::arities::check_arities;
 use crate::lower::Lower;

@@ -12,7 +12,7 @@ use Rattle.ir_references.proofs.FirstLaws.{place_found}
 use Rattle.ir_references.specs.First.{first_in}
 use Rattle.typing_rules.specs.judged.Laws.{IsAmong}
 use Rattle.spec_expressions.proofs.Members.{among-cases}
-use Rattle.spec_expressions.specs.judged.Chains.{Discards}
+use Rattle.spec_expressions.specs.judged.CallChains.{Discards}
 use Rattle.spec_expressions.specs.judged.Effects.{Effect, takes, samples, runs, discards, sampling_at, expression_effects, expressions_effects, leaving_effects, effects_in, effects_of}
 use Rattle.spec_expressions.specs.judged.OperandUses.{Operand, expression_uses}
 use Rattle.spec_expressions.specs.judged.Summaries.{Summary, CallsOne, IsJoined}

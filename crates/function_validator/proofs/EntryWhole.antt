@@ -24,7 +24,7 @@ use Rattle.ir_items.specs.judged.Plain.{PlainEntry, PlainModule}
 use Rattle.ir_kinds.specs.declared.stages.ShaderStage.{ShaderStage}
 use Rattle.ir_kinds.specs.declared.stages.ShaderStage.TheVariants.{Vertex, Fragment, Compute, Mesh, Task, RayGeneration, AnyHit, ClosestHit, Miss}
 use Rattle.typing_rules.specs.judged.Laws.{IsAmong}
-use Rattle.spec_expressions.specs.judged.Chains.{HasUse, HasPair, MayKill}
+use Rattle.spec_expressions.specs.judged.CallChains.{HasUse, HasPair, MayKill}
 use Rattle.spec_expressions.specs.judged.Summaries.{HasUseBit, IsSummary, Summary}
 use Rattle.spec_interface.specs.judged.Entries.{ConnectionsOK}
 use Rattle.spec_interface.specs.judged.Uses.{EntryUses}

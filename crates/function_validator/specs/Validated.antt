@@ -6,7 +6,7 @@ use Rattle.ir_flags.specs.declared.stages.ShaderStages.{ShaderStages}
 use Rattle.ir_flags.specs.declared.settings.Settings.{Settings}
 use Rattle.ir_items.specs.judged.Plain.{PlainEntry, PlainModule}
 use Rattle.typing_rules.specs.judged.Laws.{IsAmong}
-use Rattle.spec_expressions.specs.judged.Chains.{HasUse, HasPair, MayKill}
+use Rattle.spec_expressions.specs.judged.CallChains.{HasUse, HasPair, MayKill}
 use Rattle.spec_expressions.specs.judged.Summaries.{Summary, HasUseBit}
 use Rattle.spec_interface.specs.judged.Entries.{EntryOK}
 use Rattle.spec_interface.specs.judged.Uses.{EntryUses}

@@ -10,7 +10,7 @@ ghost use Rattle.ir_flags.specs.Sets.{Has};
 ghost use Rattle.ir_items.specs.found.View.{entry_view, module_view};
 ghost use Rattle.ir_items.specs.declared.entries.MeshStageInfo.{MeshStageInfo};
 ghost use Rattle.ir_items.specs.found.Filters.{ParentsPrecede};
-ghost use Rattle.spec_expressions.specs.judged.Chains.{HasUse};
+ghost use Rattle.spec_expressions.specs.judged.CallChains.{HasUse};
 ghost use Rattle.spec_expressions.specs.judged.Summaries.{CalleesKnown};
 ghost use Rattle.spec_expressions.specs.judged.FunctionHandles.{HandlesInRange, OperandsPrecede};
 ghost use Rattle.spec_interface.specs.judged.Contexts.{stage_set};

@@ -10,7 +10,7 @@ use Rattle.ir_types.specs.judged.ExpressionPlain.{PlainExpression, plain}
 use Rattle.ir_types.specs.declared.expressions.Expression.TheVariants as x
 use Rattle.ir_items.specs.judged.Plain.{PlainFunction, PlainModule}
 use Rattle.typing_rules.specs.judged.Laws.{IsAmong}
-use Rattle.spec_expressions.specs.judged.Chains.{end_of, UsesDirectly, HasUse}
+use Rattle.spec_expressions.specs.judged.CallChains.{end_of, UsesDirectly, HasUse}
 use Rattle.spec_expressions.specs.judged.Effects.{Effect, takes, samples, runs, discards, sampling_at, expression_effects, expressions_effects, leaving_effects, statement_effects, effects_in, effects_inside, effects_in_cases, effects_of}
 use Rattle.spec_expressions.specs.judged.OperandUses.{Operand, bits_of, operand, operands_in, expression_uses, statement_uses}
 use Rattle.spec_expressions.specs.judged.Operands.{Operands, these, each_of, of_expression, of_statement}

@@ -6,7 +6,7 @@ use Rattle.std.proofs.lemmas.Bool.{cases_eq, eqb-true}
 use Rattle.std.proofs.lemmas.Nat.Bits.{bit_at_lowest, bit_at-suc, bit_at-zero}
 use Rattle.ir_items.specs.judged.Plain.{PlainFunction, PlainModule}
 use Rattle.spec_expressions.specs.declared.global_use.GlobalUse.{GlobalUse}
-use Rattle.spec_expressions.specs.judged.Chains.{Step, Calls, IsChain, end_of, Reaches, UsesDirectly, Names, HasUse}
+use Rattle.spec_expressions.specs.judged.CallChains.{Step, Calls, IsChain, end_of, Reaches, UsesDirectly, Names, HasUse}
 use Rattle.spec_expressions.specs.judged.Summaries.{no_use}
 use Rattle.spec_expressions.specs.judged.Values.{StartsAt, is_global, accessed, accessed_index}
 use Rattle.judgement.specs.found.ReportLaws.{NamedAreReported}

@@ -20,7 +20,7 @@ pub fn alone()
 
 /// The leaves of elements, one after the other: as many as the array has, one where an override says how many, and of an array
 /// without a length as many as the buffer has.
-#[tactic(auto, unfolding(crate::specs::Leaves::repeated))]
+#[tactic(auto, unfolding(crate::specs::judged::Leaves::repeated))]
 pub fn elements()
     ensures so_many { leaves 1 (array (atomic (unsigned 4)) (Constant 2) 8) ≡ leaf (0 ∷ []) 0 4 4 ∷ leaf (1 ∷ []) 8 4 4 ∷ [] }
     ensures by_an_override { leaves 2 (array (atomic (unsigned 4)) (Pending 7) 8) ≡ leaf (0 ∷ []) 0 4 4 ∷ [] }
@@ -30,7 +30,7 @@ pub fn elements()
 {}
 
 /// The leaves of members, and of what they hold.
-#[tactic(auto, unfolding(crate::specs::Leaves::repeated))]
+#[tactic(auto, unfolding(crate::specs::judged::Leaves::repeated))]
 pub fn members()
     ensures apart { leaves 1 (struct (member (scalar (floating 4)) None 0 (member (vector Quad (floating 4)) None 16 no_members)) 32)
         ≡ leaf (0 ∷ []) 0 4 4 ∷ leaf (1 ∷ []) 16 16 16 ∷ [] }

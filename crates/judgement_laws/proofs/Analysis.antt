@@ -5,7 +5,7 @@ use Rattle.ir_blocks.specs.judged.Plain.{PlainBlock}
 use Rattle.ir_items.specs.judged.Plain.{PlainFunction, PlainEntry, PlainModule}
 use Rattle.ir_types.specs.judged.ExpressionPlain.{PlainExpression, compose, plain}
 use Rattle.typing_rules.specs.judged.Laws.{IsAmong}
-use Rattle.spec_expressions.specs.judged.Chains.{place}
+use Rattle.spec_expressions.specs.judged.CallChains.{place}
 use Rattle.spec_expressions.specs.judged.Effects.{samples}
 use Rattle.spec_expressions.specs.judged.Summaries.{IsWrongArgument}
 use Rattle.spec_expressions.specs.judged.Values.{is_source, ComesFrom, itself, through, NonUniform}

@@ -5,7 +5,7 @@ use Rattle.ir_items.specs.judged.GlobalPlain.{PlainGlobal}
 use Rattle.ir_items.specs.judged.Plain.{PlainEntry, PlainModule}
 use Rattle.ir_kinds.specs.declared.bindings.ResourceBinding.{ResourceBinding}
 use Rattle.judgement_laws.specs.Laws.{IsReported, BindingsDiffer}
-use Rattle.spec_expressions.specs.judged.Chains.{HasUse}
+use Rattle.spec_expressions.specs.judged.CallChains.{HasUse}
 use Rattle.spec_interface.specs.judged.Modules.{EntryAtOK}
 use Rattle.spec_interface.specs.judged.Payloads.{binding_at}
 use Rattle.spec_interface.specs.judged.Uses.{EntryUses}

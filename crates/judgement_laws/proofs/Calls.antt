@@ -7,7 +7,7 @@ use Rattle.typing_rules.specs.judged.Laws.{IsAmong}
 use Rattle.spec_expressions.specs.judged.Pairs.{SamplingPair}
 use Rattle.spec_expressions.specs.declared.sampling.GlobalOrArgument.{GlobalOrArgument}
 use Rattle.spec_expressions.specs.judged.Effects.{takes, samples, runs, expressions_effects, effects_of}
-use Rattle.spec_expressions.specs.judged.Chains.{place, Step, Calls, end_of, IsChain, seen_through, bound, Reaches, UsesDirectly, Names, IsUnusedFrom, HasUse, HasPair}
+use Rattle.spec_expressions.specs.judged.CallChains.{place, Step, Calls, end_of, IsChain, seen_through, bound, Reaches, UsesDirectly, Names, IsUnusedFrom, HasUse, HasPair}
 use Rattle.spec_expressions.specs.judged.Values.{StartsAt}
 use Rattle.judgement_laws.specs.judged.Like.{LikeFunction, LikeModule}
 use Rattle.judgement_laws.proofs.Likeness.{function_back, module_back}

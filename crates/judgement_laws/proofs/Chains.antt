@@ -13,7 +13,7 @@ use Rattle.ir_types.specs.declared.expressions.Expression.TheVariants.{GlobalVar
 use Rattle.ir_items.specs.judged.Plain.{PlainFunction, PlainModule}
 use Rattle.typing_rules.specs.judged.Laws.{IsAmong}
 use Rattle.spec_expressions.proofs.Members.{among-left, among-right, get-among}
-use Rattle.spec_expressions.specs.judged.Chains.{place, Step, Calls, IsChain, end_of, argument_means, seen_through, bound, Reaches, Names, HasPair}
+use Rattle.spec_expressions.specs.judged.CallChains.{place, Step, Calls, IsChain, end_of, argument_means, seen_through, bound, Reaches, Names, HasPair}
 use Rattle.spec_expressions.specs.judged.Effects.{Effect, takes, samples as sampling, runs, sampling_at, expression_effects, expressions_effects, statement_effects, effects_in, effects_inside, effects_in_cases, effects_of}
 use Rattle.spec_expressions.specs.judged.OperandUses.{expression_uses, statement_uses}
 use Rattle.spec_expressions.specs.judged.FunctionHandles.{HandlesInRange}

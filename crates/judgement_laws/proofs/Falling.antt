@@ -4,7 +4,7 @@ use Rattle.ir_items.specs.judged.Plain.{PlainEntry, PlainFunction, PlainModule}
 use Rattle.module_handles.proofs.Whole.{order_gives_conditions}
 use Rattle.judgement_laws.specs.Laws.{BeginsAt, at_function, at_entry, AreRun, Rise, Falls, CallsFall}
 use Rattle.spec_expressions.proofs.Members.{among-get}
-use Rattle.spec_expressions.specs.judged.Chains.{Step, Calls, IsChain, end_of}
+use Rattle.spec_expressions.specs.judged.CallChains.{Step, Calls, IsChain, end_of}
 use Rattle.spec_expressions.specs.judged.Effects.{runs, effects_of}
 use Rattle.spec_statements.proofs.CallLaws.{calls_precede}
 use Rattle.spec_expressions.specs.judged.FunctionHandles.{CalleesPrecede}

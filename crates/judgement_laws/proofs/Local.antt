@@ -3,7 +3,7 @@ use Rattle.std.proofs.Common.{◌≡◌, inl, inr, ◌<◌, ℕ, List, [], ◌�
 use Rattle.spec_expressions.specs.judged.Pairs.{SamplingPair}
 use Rattle.spec_expressions.specs.declared.sampling.GlobalOrArgument.TheVariants.{Global}
 use Rattle.ir_items.specs.judged.Plain.{PlainEntry, PlainFunction, PlainModule}
-use Rattle.spec_expressions.specs.judged.Chains.{Step, Calls, IsChain, end_of, Reaches, IsUnusedFrom, UsesDirectly, HasUse, HasPair}
+use Rattle.spec_expressions.specs.judged.CallChains.{Step, Calls, IsChain, end_of, Reaches, IsUnusedFrom, UsesDirectly, HasUse, HasPair}
 use Rattle.spec_expressions.specs.judged.Effects.{effects_of}
 use Rattle.judgement.proofs.OneReport.{one_entry_report}
 use Rattle.judgement.specs.judged.Reports.{IsEntryReport}

@@ -9,7 +9,7 @@ use Rattle.ir_types.specs.judged.ExpressionPlain.{PlainExpression, compose, plai
 use Rattle.ir_types.specs.declared.expressions.Expression.{Expression}
 use Rattle.ir_types.specs.declared.expressions.Expression.TheVariants as x
 use Rattle.typing_rules.specs.declared.rules.Rule.{Rule}
-use Rattle.typing_rules.specs.judged.Tables.{table}
+use Rattle.typing_rules.specs.judged.MathTable.{table}
 use Rattle.typing_forms.specs.judged.Forms.{form_of_type}
 use Rattle.typing_forms.specs.declared.form.Form.{Form}
 use Rattle.spec_expressions.specs.judged.Context.{Context}

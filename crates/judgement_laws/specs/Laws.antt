@@ -9,7 +9,7 @@ use Rattle.ir_flags.specs.declared.settings.TheConstants.ValidationFlags.{BINDIN
 use Rattle.ir_flags.specs.declared.settings.Settings.{Settings}
 use Rattle.ir_items.specs.judged.Plain.{PlainEntry, PlainFunction, PlainModule}
 use Rattle.ir_kinds.specs.declared.bindings.ResourceBinding.{ResourceBinding}
-use Rattle.spec_expressions.specs.judged.Chains.{Step, IsChain, end_of}
+use Rattle.spec_expressions.specs.judged.CallChains.{Step, IsChain, end_of}
 use Rattle.spec_expressions.specs.judged.Effects.{runs, effects_of}
 use Rattle.spec_expressions.specs.judged.Summaries.{no_use}
 use Rattle.spec_interface.specs.judged.Modules.{EntriesOK}

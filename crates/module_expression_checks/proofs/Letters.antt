@@ -3,7 +3,7 @@ use Rattle.std.proofs.Common.{◌≡◌, ◌<◌, ◌≤◌, ◌+◌, ◌⊎◌,
 use Rattle.module_expression_checks.specs.Letters.{MayStand, StandBelow}
 use Rattle.ir_kinds.specs.declared.scalars.SwizzleComponent.{SwizzleComponent}
 use Rattle.ir_kinds.specs.declared.scalars.VectorSize.{VectorSize}
-use Rattle.spec_statements.specs.judged.Compositions.{AreComponents}
+use Rattle.spec_statements.specs.judged.Swizzles.{AreComponents}
 
 below_or_same : (h k : ℕ) → h < k + 1 → (h < k) ⊎ (h ≡ k)
 below_or_same h k lt = search rules

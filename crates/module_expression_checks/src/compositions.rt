@@ -5,9 +5,9 @@ ghost use Rattle.module_context.specs.Refused.{IsRefused};
 ghost use Rattle.module_context.specs.OperandView.{scene_in, types_in};
 ghost use Rattle.module_expression_checks.specs.Faults.{IsBadComposition};
 ghost use Rattle.module_expression_checks.specs.Letters.{MayStand};
-ghost use Rattle.spec_statements.specs.judged.Compositions.{AreComponents, SwizzleOK};
+ghost use Rattle.spec_statements.specs.judged.Swizzles.{AreComponents, SwizzleOK};
 ghost use Rattle.spec_statements.specs.judged.Scene.{form_at};
-ghost use Rattle.spec_expressions.specs.judged.ConstantCompositions.{ComposeOK};
+ghost use Rattle.spec_expressions.specs.judged.Components.{ComposeOK};
 
 use ir_arena::handle::Handle;
 use ir_kinds::{SwizzleComponent, VectorSize};

@@ -5,7 +5,7 @@ ghost use Rattle.module_context.specs.Refused.{IsRefused};
 ghost use Rattle.module_context.specs.OperandView.{types_in, IsKnown};
 ghost use Rattle.module_expression_checks.specs.Faults.{IsBadLiteral};
 ghost use Rattle.spec_statements.specs.judged.Literals.{ZeroOK};
-ghost use Rattle.spec_expressions.specs.judged.ConstantLiterals.{LiteralOK};
+ghost use Rattle.spec_expressions.specs.judged.LiteralScalars.{LiteralOK};
 
 use ir_arena::handle::Handle;
 use ir_flags::Capabilities;

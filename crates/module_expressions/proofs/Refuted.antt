@@ -14,7 +14,7 @@ use Rattle.spec_statements.specs.judged.Access.{literal_in}
 use Rattle.spec_statements.specs.judged.Checks.{CheckOf}
 use Rattle.spec_statements.specs.judged.Expressions.{RequiredOf}
 use Rattle.spec_statements.specs.judged.Scene.{Scene}
-use Rattle.spec_expressions.specs.judged.ConstantLiterals.{LiteralOK}
+use Rattle.spec_expressions.specs.judged.LiteralScalars.{LiteralOK}
 
 -- what is required of a literal
 asked_literal : (s : Scene) (e : Expression) (value : Literal) → literal_in e ≡ Some value → CheckOf s e → LiteralOK s.capabilities value

@@ -24,7 +24,7 @@ use Rattle.spec_expressions.specs.judged.Loads.{global_if, local_if}
 use Rattle.spec_expressions.specs.judged.Maths.{arguments, concluded, math_of, taking}
 use Rattle.ir_kinds.specs.judged.Maths.{argument_count}
 use Rattle.ir_kinds.specs.declared.maths.MathFunction.{MathFunction}
-use Rattle.typing_rules.specs.judged.Tables.{table}
+use Rattle.typing_rules.specs.judged.MathTable.{table}
 use Rattle.typing_rules.specs.judged.Types.{inner_of}
 use Rattle.spec_expressions.specs.judged.Results.{result_of}
 use Rattle.spec_expressions.specs.judged.Typing.{HasTypeAmong, has}

@@ -5,7 +5,7 @@ ghost use Rattle.ir_items.specs.found.View.{module_view};
 ghost use Rattle.module_validator.specs.Faults.{IsRefusal};
 ghost use Rattle.module_validator.specs.Reported.{IsInfoOf};
 ghost use Rattle.typing_layout.specs.judged.Widths.{ScalarOK};
-ghost use Rattle.spec_expressions.specs.judged.ConstantLiterals.{LiteralOK};
+ghost use Rattle.spec_expressions.specs.judged.LiteralScalars.{LiteralOK};
 ghost use Rattle.judgement.specs.judged.ModuleSteps.{ModuleOK};
 ghost use Rattle.typing_layout.specs.Faults.{IsWidthFault};
 ghost use Rattle.module_type_checks.specs.Widths.{IsLiteralFault};

@@ -16,7 +16,7 @@ use Rattle.ir_flags.specs.declared.settings.Settings.{Settings}
 use Rattle.ir_items.specs.judged.Plain.{PlainEntry, PlainFunction, PlainModule}
 use Rattle.module_handles.proofs.Whole.{order_gives_conditions}
 use Rattle.function_real_lower.specs.Readings.{reading_of, faults_of}
-use Rattle.spec_expressions.specs.judged.Chains.{HasUse}
+use Rattle.spec_expressions.specs.judged.CallChains.{HasUse}
 use Rattle.spec_expressions.specs.judged.Summaries.{Summary, AreSummaries, CalleesKnown}
 use Rattle.spec_interface.proofs.OneStages.{all_agree, allows_other}
 use Rattle.spec_interface.specs.judged.Entries.{EntryOK}

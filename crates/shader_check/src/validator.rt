@@ -16,7 +16,7 @@ ghost use Rattle.ir_items.specs.found.GlobalView.{global_view};
 ghost use Rattle.ir_items.specs.found.View.{entry_view, function_view, module_view};
 ghost use Rattle.ir_items.specs.declared.entries.MeshStageInfo.{MeshStageInfo};
 ghost use Rattle.ir_items.specs.found.Filters.{ParentsPrecede};
-ghost use Rattle.spec_expressions.specs.judged.Chains.{HasUse};
+ghost use Rattle.spec_expressions.specs.judged.CallChains.{HasUse};
 ghost use Rattle.spec_expressions.specs.judged.Summaries.{CalleesKnown, IsJoined, IsSummary};
 ghost use Rattle.spec_interface.specs.judged.Globals.{VariableBy};
 ghost use Rattle.spec_statements.specs.judged.ExpressionStages.{all_stages};

@@ -6,7 +6,7 @@ use Rattle.spec_expressions.specs.declared.global_use.TheConstants.GlobalUse.{QU
 use Rattle.spec_expressions.specs.declared.sampling.GlobalOrArgument.{GlobalOrArgument}
 use Rattle.spec_expressions.specs.declared.sampling.GlobalOrArgument.TheVariants.{Global, Argument}
 use Rattle.spec_expressions.specs.judged.Pairs.{SamplingPair}
-use Rattle.spec_expressions.specs.judged.Chains.{place, Step, Calls, IsChain, end_of, bound, argument_means, seen_through, Reaches, UsesDirectly, Names, IsUnusedFrom, HasUse, Samples, HasPair}
+use Rattle.spec_expressions.specs.judged.CallChains.{place, Step, Calls, IsChain, end_of, bound, argument_means, seen_through, Reaches, UsesDirectly, Names, IsUnusedFrom, HasUse, Samples, HasPair}
 use Rattle.spec_expressions.specs.judged.Summaries.{ComesUp}
 
 pub end_of-append : (f : PlainFunction) (s : Step) (rest : List Step) → end_of f (rest ++ s ∷ []) ≡ end_of s.function rest

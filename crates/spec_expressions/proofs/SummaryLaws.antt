@@ -9,7 +9,7 @@ use Rattle.typing_rules.specs.judged.Laws.{IsAmong}
 use Rattle.spec_expressions.specs.declared.global_use.TheConstants.GlobalUse.{QUERY}
 use Rattle.spec_expressions.specs.judged.Pairs.{SamplingPair}
 use Rattle.spec_expressions.specs.judged.Effects.{Effect, takes, samples, runs, discards, effects_of}
-use Rattle.spec_expressions.specs.judged.Chains.{place, Step, Calls, Reaches, UsesDirectly, Names, IsUnusedFrom, HasUse, Samples, HasPair, Discards, MayKill}
+use Rattle.spec_expressions.specs.judged.CallChains.{place, Step, Calls, Reaches, UsesDirectly, Names, IsUnusedFrom, HasUse, Samples, HasPair, Discards, MayKill}
 use Rattle.spec_expressions.specs.judged.Summaries.{Summary, no_use, HasBit, IsSummary, CallsOne, ComesUp, JoinsUse, IsJoined, KnownCallee, CalleesKnown, AreSummaries, CallsBelow, AgreeOnCallees}
 use Rattle.spec_expressions.proofs.Members.{among-get, get-among, get-within}
 use Rattle.spec_expressions.proofs.ChainLaws.{reaches-from_call, reaches-here, reaches-cases, CalleeReaches, use-from_call, pair-from_call, pair-here, pair-cases, CalleePair}

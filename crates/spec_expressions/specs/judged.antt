@@ -1,8 +1,9 @@
 pub mod Access
-pub mod Chains
+pub mod Arities
+pub mod CallChains
 pub mod Compositions
-pub mod ConstantCompositions
-pub mod ConstantLiterals
+pub mod Components
+pub mod LiteralScalars
 pub mod Constants
 pub mod Context
 pub mod Conversions

@@ -26,7 +26,7 @@ pub mod Variables
 pub mod Visible
 pub mod Access
 pub mod Checks
-pub mod Compositions
+pub mod Swizzles
 pub mod Conversions
 pub mod CooperativeMatrices
 pub mod Derivatives

@@ -11,7 +11,7 @@ use Rattle.typing_rules.specs.declared.rules.ConstructorSize.{ConstructorSize}
 use Rattle.typing_rules.specs.declared.rules.Rule.{Rule}
 use Rattle.typing_rules.specs.declared.rules.ValueType.{ValueType}
 use Rattle.typing_rules.specs.judged.Ranks.{rank_if, accepts, accepts_if, accepts_inner, is_abstract_kind, is_concrete}
-use Rattle.typing_rules.specs.judged.Tables.{arguments_of, rule_of, row, rules_over}
+use Rattle.typing_rules.specs.judged.MathTable.{arguments_of, rule_of, row, rules_over}
 use Rattle.typing_rules.specs.judged.Types.{constructor_place, listed, value_type_of}
 use Rattle.typing_rules.specs.found.Bits.{marks}
 use Rattle.typing_rules.specs.found.Members.{scalars, scalars_in, sizes, sizes_in}

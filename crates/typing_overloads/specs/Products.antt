@@ -8,7 +8,7 @@ use Rattle.typing_rules.specs.declared.rules.ConstructorSize.TheVariants as size
 use Rattle.typing_rules.specs.declared.rules.Rule.{Rule}
 use Rattle.typing_rules.specs.declared.rules.ValueType.{ValueType}
 use Rattle.typing_rules.specs.judged.Ranks.{is_abstract_kind}
-use Rattle.typing_rules.specs.judged.Tables.{i32, u32, column_size, row_size, rules_over}
+use Rattle.typing_rules.specs.judged.MathTable.{i32, u32, column_size, row_size, rules_over}
 use Rattle.typing_rules.specs.judged.Types.{value_type}
 use Rattle.typing_rules.specs.found.Members.{scalars_in, sizes_in}
 use Rattle.typing_overloads.specs.declared.required.Required.{Required}

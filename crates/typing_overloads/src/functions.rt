@@ -7,9 +7,9 @@ ghost use Rattle.typing_overloads.specs.Products.{rules_of};
 
 use crate::any::AnyOverloadSet;
 use crate::list::List;
+use crate::math_table::row_of;
 use crate::product::Product;
 use crate::regular::Regular;
-use crate::rows::row_of;
 use ir_kinds::MathFunction;
 use std::alloc::{AllocError, Global};
 use typing_rules::{ConstructorSet, Pattern, ScalarSet};
@@ -66,7 +66,7 @@ pub trait MathFunctionExt: Sized {
 }
 
 impl MathFunctionExt for MathFunction {
-    ghost use Rattle.typing_rules.specs.judged.Tables as tables;
+    ghost use Rattle.typing_rules.specs.judged.MathTable as tables;
 
     ghost table = { tables.table };
 

@@ -4,11 +4,11 @@
 mod any;
 mod functions;
 mod list;
+mod math_table;
 mod overload_set;
 mod product;
 mod regular;
 mod required;
-mod rows;
 mod rule_lists;
 
 pub use any::AnyOverloadSet;

@@ -1,7 +1,7 @@
 //! What the rules of a pattern require at each place, and which of them take a type there.
 
 ghost use Rattle.std.specs.Prelude.{◌≡◌, ◌==◌, is_some, length, map, slice_get};
-ghost use Rattle.typing_rules.specs.judged.Tables.{column_size, row_size};
+ghost use Rattle.typing_rules.specs.judged.MathTable.{column_size, row_size};
 ghost use Rattle.typing_rules.specs.judged.Types.{constructor_place};
 ghost use Rattle.typing_forms.specs.judged.Ranks.{rank};
 ghost use Rattle.typing_rules.specs.found.Bits.{marks};

@@ -2,7 +2,7 @@
 
 ghost use Rattle.std.specs.Prelude.{◌≡◌, IfOk, Some};
 ghost use Rattle.ir_types.specs.judged.Plain.{inner_view};
-ghost use Rattle.typing_rules.specs.judged.Tables.{table};
+ghost use Rattle.typing_rules.specs.judged.MathTable.{table};
 ghost use Rattle.typing_rules.specs.judged.Types.{value_type_of};
 ghost use Rattle.spec_expressions.specs.judged.Maths.{value_of, taking, concluded, math_of, math_type};
 ghost use Rattle.typing_overloads.specs.Either.{any_rules};

@@ -7,7 +7,7 @@ use Rattle.ir_kinds.specs.declared.maths.MathFunction.{MathFunction}
 use Rattle.ir_kinds.specs.declared.maths.MathFunction.TheVariants as math
 use Rattle.typing_rules.specs.declared.rules.Rule.{Rule}
 use Rattle.typing_rules.specs.judged.Laws.{arity, ArgumentCounts}
-use Rattle.typing_rules.specs.judged.Tables.{table}
+use Rattle.typing_rules.specs.judged.MathTable.{table}
 
 abbrev all_counted : ℕ → List Rule → Bool
 all_counted n rules = list_all (λ rule. arity rule == n) rules

@@ -1,4 +1,4 @@
 pub mod Laws
 pub mod Ranks
-pub mod Tables
+pub mod MathTable
 pub mod Types

@@ -2,7 +2,7 @@
 
 ghost use Rattle.std.specs.Prelude.{◌≡◌};
 ghost use Rattle.typing_rules.specs.judged.Types.{value_type};
-ghost use Rattle.typing_rules.specs.judged.Tables.{vector_size, column_size, row_size, transposed, arguments_of, conclusion_of, rule_of};
+ghost use Rattle.typing_rules.specs.judged.MathTable.{vector_size, column_size, row_size, transposed, arguments_of, conclusion_of, rule_of};
 
 use crate::rules::{Arguments, Conclusion, ConstructorSize, Rule, ValueType};
 use ir_kinds::{PredeclaredType, Scalar, VectorSize};

@@ -2,7 +2,7 @@
 
 ghost use Rattle.std.specs.Prelude.{◌≡◌, ◌++◌, [], ◌∷◌, sum};
 ghost use Rattle.ir_kinds.specs.judged.Scalars.{boolean, abstract_int, abstract_float};
-ghost use Rattle.typing_rules.specs.judged.Tables.{numbers, floats, integers, vectors};
+ghost use Rattle.typing_rules.specs.judged.MathTable.{numbers, floats, integers, vectors};
 ghost use Rattle.typing_rules.specs.found.Bits.{one_bits, IsRisingFrom, ArePowersOfTwo, MembersByBits};
 ghost use Rattle.typing_rules.specs.found.Members.{scalars, scalars_in, sizes, sizes_in};
 

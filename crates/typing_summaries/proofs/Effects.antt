@@ -5,7 +5,7 @@ use Rattle.ir_types.specs.declared.expressions.Expression.TheVariants as x
 use Rattle.ir_blocks.specs.judged.Plain.{PlainStatement, emit, block, if_, switch, loop, break, continue, return, kill, operation, call, PlainBlock, stop, next, PlainCases, no_case, case}
 use Rattle.spec_expressions.specs.judged.OperandUses.{Operand, expression_uses, statement_uses}
 use Rattle.spec_expressions.specs.judged.Effects.{Effect, takes, samples, runs, discards, sampling_at, expression_effects, expressions_effects, leaving_effects, statement_effects, effects_in, effects_inside, effects_in_cases}
-use Rattle.spec_expressions.specs.judged.Chains.{place}
+use Rattle.spec_expressions.specs.judged.CallChains.{place}
 use Rattle.typing_summaries.specs.Tallies.{Counted, Paired, Known, Tallied, take_one, take_all, pair_one, sample_one, count_all, expression_done, expressions_done, join_summary, leave, statement_done, done_in, done_inside, done_in_cases}
 
 abbrev pub do_one : Known → Effect → Tallied → Tallied

@@ -8,7 +8,7 @@ use Rattle.spec_expressions.specs.declared.sampling.GlobalOrArgument.{GlobalOrAr
 use Rattle.spec_expressions.specs.declared.sampling.GlobalOrArgument.TheVariants.{Global, Argument}
 use Rattle.spec_expressions.specs.judged.Pairs.{SamplingPair, pair_eq}
 use Rattle.typing_infos.specs.Marks.{EachOnce, marks_of}
-use Rattle.spec_expressions.specs.judged.Chains.{place, seen_through}
+use Rattle.spec_expressions.specs.judged.CallChains.{place, seen_through}
 use Rattle.typing_summaries.specs.Fronts.{BeginsWith}
 use Rattle.typing_summaries.specs.Pairings.{Paired, pair_one, passed_for, pass_up, pass_all_up}
 use Rattle.typing_summaries.specs.Passed.{PassesOn, PassesAllOn}

@@ -9,7 +9,7 @@ use Rattle.spec_expressions.specs.declared.sampling.GlobalOrArgument.{GlobalOrAr
 use Rattle.spec_expressions.specs.declared.sampling.GlobalOrArgument.TheVariants.{Global, Argument}
 use Rattle.spec_expressions.specs.judged.Pairs.{SamplingPair, pair_eq}
 use Rattle.typing_summaries.proofs.Equal.{pair_same}
-use Rattle.spec_expressions.specs.judged.Chains.{place, seen_through, argument_means}
+use Rattle.spec_expressions.specs.judged.CallChains.{place, seen_through, argument_means}
 use Rattle.spec_expressions.specs.judged.Summaries.{ComesUp, IsWrongArgument}
 use Rattle.spec_expressions.proofs.Members.{among-left, among-right, among-cases}
 use Rattle.typing_summaries.specs.Tallies.{Paired, with_pair, with_wrong, first_wrong, part_wrong, pair_one, passed_for, pass_up, pass_all_up}

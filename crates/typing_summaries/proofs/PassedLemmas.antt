@@ -17,15 +17,15 @@ use Rattle.typing_summaries.proofs.Marked.{is_marked}
 use Rattle.typing_infos.specs.Infos.{summary_of}
 use Rattle.typing_infos.specs.Marks.{marks_of}
 use Rattle.typing_infos.specs.declared.function_info.FunctionInfo.{FunctionInfo}
-use Rattle.spec_expressions.specs.judged.Chains.{place, seen_through, argument_means}
+use Rattle.spec_expressions.specs.judged.CallChains.{place, seen_through, argument_means}
 use Rattle.spec_expressions.specs.judged.Summaries.{Summary}
 use Rattle.spec_expressions.proofs.Members.{among-cases}
 use Rattle.typing_summaries.specs.Joined.{IsKept, IsWrong, IsCovered, AreJoined}
 use Rattle.typing_summaries.specs.Parts.{parts_of, AllStand}
 use Rattle.typing_summaries.specs.Tallies.{Known, Paired, with_pair, with_wrong, first_wrong, part_wrong, pair_one, passed_for, pass_up, pass_all_up}
-use Rattle.typing_summaries.specs.declared.passed.Passed.{Passed}
+use Rattle.typing_summaries.specs.declared.joined.Passed.{Passed}
 use Rattle.spec_expressions.specs.contracts.sampling.GlobalOrArgumentPartialEq as each
-use Rattle.typing_summaries.specs.contracts.passed.PassedPartialEq as impl
+use Rattle.typing_summaries.specs.contracts.joined.PassedPartialEq as impl
 use Rattle.typing_summaries.proofs.PairLemmas.{some_is, none_some}
 use Rattle.typing_summaries.proofs.PartLemmas.{same_means, part_means}
 

@@ -9,7 +9,7 @@ use Rattle.spec_expressions.specs.declared.global_use.GlobalUse.{GlobalUse}
 use Rattle.spec_expressions.specs.judged.Pairs.{SamplingPair}
 use Rattle.spec_expressions.specs.judged.OperandUses.{Operand}
 use Rattle.spec_expressions.specs.judged.Effects.{Effect, takes, samples, runs, discards, places_of}
-use Rattle.spec_expressions.specs.judged.Chains.{place}
+use Rattle.spec_expressions.specs.judged.CallChains.{place}
 use Rattle.spec_expressions.specs.judged.Values.{known_at}
 use Rattle.spec_expressions.specs.judged.Summaries.{Summary, no_use, HasUseBit, HasBit}
 use Rattle.typing_summaries.specs.Tallies.{Known, Tallied, bumped, join_summary}

@@ -15,7 +15,7 @@ use Rattle.spec_expressions.specs.judged.Pairs.{SamplingPair}
 use Rattle.spec_expressions.specs.judged.OperandUses.{Operand}
 use Rattle.spec_expressions.specs.judged.Effects.{Effect, takes, samples, runs, discards, expressions_effects, effects_in, effects_of, places_of}
 use Rattle.spec_expressions.specs.judged.Values.{StartsAt, AreStarts}
-use Rattle.spec_expressions.specs.judged.Chains.{place, UsesDirectly, Names, Samples, Discards}
+use Rattle.spec_expressions.specs.judged.CallChains.{place, UsesDirectly, Names, Samples, Discards}
 use Rattle.spec_expressions.specs.judged.Summaries.{Summary, no_use, HasUseBit, HasBit, CallsOne, ComesUp, JoinsUse, IsJoined, IsWrongArgument, IsFormFault}
 use Rattle.typing_summaries.specs.Tallies.{Known, Tallied, queried, name_one, name_all, nothing_tallied, expressions_done, done_in, named, whole_tally}
 use Rattle.typing_summaries.specs.Tallied.{summary_in, IsTally}

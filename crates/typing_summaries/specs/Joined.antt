@@ -6,11 +6,11 @@ use Rattle.ir_types.specs.judged.ExpressionPlain.{PlainExpression}
 use Rattle.spec_expressions.specs.declared.sampling.GlobalOrArgument.{GlobalOrArgument}
 use Rattle.spec_expressions.specs.judged.Pairs.{SamplingPair, pair_eq}
 use Rattle.typing_infos.specs.Marks.{marks_of}
-use Rattle.spec_expressions.specs.judged.Chains.{place, seen_through}
+use Rattle.spec_expressions.specs.judged.CallChains.{place, seen_through}
 use Rattle.spec_expressions.specs.judged.Summaries.{Summary}
 use Rattle.typing_summaries.specs.Parts.{parts_of}
 use Rattle.typing_summaries.specs.Tallies.{Known, Paired}
-use Rattle.typing_summaries.specs.declared.passed.Passed.{Passed}
+use Rattle.typing_summaries.specs.declared.joined.Passed.{Passed}
 
 -- a summary of the callee is kept, with these pairs
 pub record IsKept (k : Known) (callee : ℕ) (pairs : List SamplingPair) : Type 0 where

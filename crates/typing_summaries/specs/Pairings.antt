@@ -6,7 +6,7 @@ use Rattle.ir_types.specs.declared.expressions.Expression.TheVariants.{ImageSamp
 use Rattle.spec_expressions.specs.declared.sampling.GlobalOrArgument.{GlobalOrArgument}
 use Rattle.spec_expressions.specs.declared.sampling.GlobalOrArgument.TheVariants.{Global, Argument}
 use Rattle.spec_expressions.specs.judged.Pairs.{SamplingPair, pair_eq}
-use Rattle.spec_expressions.specs.judged.Chains.{place, seen_through}
+use Rattle.spec_expressions.specs.judged.CallChains.{place, seen_through}
 use Rattle.typing_summaries.specs.Listed.{listed}
 use Rattle.typing_summaries.specs.declared.pairs.Sampled.{Sampled}
 

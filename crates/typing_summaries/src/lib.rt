@@ -4,10 +4,10 @@
 
 mod counts;
 mod expressions;
+mod joined;
 mod list;
 mod operands;
 mod pairs;
-mod passed;
 mod places;
 mod samples;
 mod tally;

@@ -4,7 +4,7 @@ ghost use Rattle.std.specs.Prelude.{◌≡◌, ℕ, Some, IfOk, IsTrue, OnOk, No
 ghost use Rattle.ir_types.specs.judged.ExpressionPlain.{expression_view};
 ghost use Rattle.ir_items.specs.found.GlobalView.{values_of};
 ghost use Rattle.typing_infos.specs.Marks.{EachOnce};
-ghost use Rattle.spec_expressions.specs.judged.Chains.{place, seen_through};
+ghost use Rattle.spec_expressions.specs.judged.CallChains.{place, seen_through};
 ghost use Rattle.std.specs.Prelude.{map};
 ghost use Rattle.typing_summaries.specs.Pairings.{Paired, paired, with_pair, with_wrong, first_wrong, part_wrong, pair_one, passed_for, pass_up, pass_all_up};
 ghost use Rattle.typing_summaries.specs.Passed.{PassesOn, PassesAllOn};

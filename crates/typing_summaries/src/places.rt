@@ -4,7 +4,7 @@ ghost use Rattle.std.specs.Prelude.{◌≡◌, Some, map, slice_get, option_map}
 ghost use Rattle.std.specs.Option.{option_copied};
 ghost use Rattle.ir_types.specs.judged.ExpressionPlain.{expression_view};
 ghost use Rattle.ir_items.specs.found.GlobalView.{values_of};
-ghost use Rattle.spec_expressions.specs.judged.Chains.{place, base_denotes, denotes};
+ghost use Rattle.spec_expressions.specs.judged.CallChains.{place, base_denotes, denotes};
 
 use ir_arena::arena::Arena;
 use ir_arena::handle::Handle;

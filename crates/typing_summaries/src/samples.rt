@@ -3,7 +3,7 @@
 ghost use Rattle.std.specs.Prelude.{◌≡◌, Some, map, OnOk};
 ghost use Rattle.ir_types.specs.judged.ExpressionPlain.{expression_view};
 ghost use Rattle.ir_items.specs.found.GlobalView.{values_of};
-ghost use Rattle.spec_expressions.specs.judged.Chains.{place};
+ghost use Rattle.spec_expressions.specs.judged.CallChains.{place};
 ghost use Rattle.typing_summaries.specs.Pairings.{paired, sample_one};
 
 use crate::pairs::{Part, Sampled};

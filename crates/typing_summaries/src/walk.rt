@@ -5,7 +5,7 @@ ghost use Rattle.ir_blocks.specs.found.View.{statement_view, block_view, case_vi
 ghost use Rattle.typing_summaries.specs.Joined.{AreJoined};
 ghost use Rattle.typing_summaries.specs.Tallies.{Known, known, tallied, join_summary, leave, statement_done, done_in, done_inside, done_in_cases};
 
-use crate::passed::{Joined, join_pairs};
+use crate::joined::{Joined, join_pairs};
 use crate::tally::{Context, Tally};
 use indexmap::IndexSet;
 use ir_arena::handle::Handle;

@@ -1,7 +1,7 @@
 -- What is known of reports.
 use Rattle.std.specs.Prelude.{◌≡◌, ◌↔◌, ◌<◌, ℕ, List, false, IsTrue, length, slice_index_or}
 use Rattle.ir_items.specs.judged.Plain.{PlainEntry, PlainModule}
-use Rattle.spec_expressions.specs.judged.Chains.{Names, Reaches}
+use Rattle.spec_expressions.specs.judged.CallChains.{Names, Reaches}
 use Rattle.spec_expressions.specs.judged.Summaries.{no_use}
 use Rattle.spec_expressions.specs.judged.ModuleHandles.{HandlesOK}
 use Rattle.judgement.specs.judged.Lines.{is_own, is_used}

@@ -7,7 +7,7 @@ use Rattle.spec_expressions.specs.declared.global_use.GlobalUse.{GlobalUse}
 use Rattle.spec_expressions.specs.declared.sampling.GlobalOrArgument.TheVariants.{Global}
 use Rattle.ir_items.specs.judged.Plain.{PlainEntry, PlainModule}
 use Rattle.typing_rules.specs.judged.Laws.{IsAmong}
-use Rattle.spec_expressions.specs.judged.Chains.{HasUse, HasPair}
+use Rattle.spec_expressions.specs.judged.CallChains.{HasUse, HasPair}
 use Rattle.spec_expressions.specs.judged.Summaries.{HasUseBit}
 use Rattle.judgement.specs.judged.Lines.{buffers, is_own, entry_lines}
 

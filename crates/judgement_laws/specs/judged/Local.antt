@@ -1,7 +1,7 @@
 -- What a report says of an entry point depends on what that reaches alone.
 use Rattle.std.specs.Prelude.{◌≡◌, ℕ, List, Some, slice_get}
 use Rattle.ir_items.specs.judged.Plain.{PlainEntry, PlainFunction, PlainModule}
-use Rattle.spec_expressions.specs.judged.Chains.{Step, IsChain, end_of}
+use Rattle.spec_expressions.specs.judged.CallChains.{Step, IsChain, end_of}
 use Rattle.spec_expressions.specs.judged.Effects.{effects_of, runs}
 use Rattle.judgement.specs.judged.Reports.{IsEntryReport, IsReport}
 use Rattle.judgement_laws.specs.judged.Lines.{HasLines}

@@ -4,7 +4,7 @@ use Rattle.std.specs.Int.{bit_at}
 use Rattle.ir_items.specs.judged.Plain.{PlainFunction, PlainModule}
 use Rattle.spec_expressions.specs.declared.global_use.TheConstants.GlobalUse.{QUERY}
 use Rattle.spec_expressions.specs.judged.Pairs.{SamplingPair}
-use Rattle.spec_expressions.specs.judged.Chains.{place, Step, Calls, UsesDirectly, Names, IsUnusedFrom, HasUse, Samples, HasPair, Discards, MayKill}
+use Rattle.spec_expressions.specs.judged.CallChains.{place, Step, Calls, UsesDirectly, Names, IsUnusedFrom, HasUse, Samples, HasPair, Discards, MayKill}
 use Rattle.spec_expressions.specs.judged.Summaries.{Summary, ComesUp, IsJoined, IsSummary, CalleesKnown, AreSummaries, CallsBelow, AgreeOnCallees}
 
 -- A use is the function's own or that of a callee, or is QUERY of a global variable that the function names while nothing

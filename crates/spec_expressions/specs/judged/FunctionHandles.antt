@@ -1,7 +1,5 @@
 -- When the handles of a function are in order. That filters come after their parents is `ParentsPrecede` of `ir_items`.
-use Rattle.std.specs.Prelude.{◌≡◌, ℕ, ◌<◌, List, length, Option, Some, All, slice_get}
-use Rattle.ir_blocks.specs.judged.Places.{Place, OccursAt}
-use Rattle.ir_blocks.specs.judged.Plain.{call}
+use Rattle.std.specs.Prelude.{◌≡◌, ℕ, ◌<◌, List, Some, All, slice_get}
 use Rattle.ir_types.specs.judged.ExpressionPlain.{PlainExpression}
 use Rattle.ir_items.specs.judged.Plain.{PlainFunction, PlainModule}
 use Rattle.spec_expressions.specs.judged.ExpressionNames.{expression_operands}
@@ -21,8 +19,3 @@ OperandsPrecede expressions =
 -- module.
 abbrev pub CalleesPrecede : (before : ℕ) → PlainFunction → Type 0
 CalleesPrecede before f = (site : Site) (callee : ℕ) → Names f site (item (Function callee)) → callee < before
-
--- each function that is called is there and has as many arguments as it is passed
-abbrev pub AritiesMatch : PlainModule → PlainFunction → Type 0
-AritiesMatch m f = (p : Place) (callee : ℕ) (arguments : List ℕ) (result : Option ℕ) → OccursAt f.body p (call callee arguments result)
-    → (g : PlainFunction) × (slice_get m.functions callee ≡ Some g) × (length arguments ≡ length g.arguments)

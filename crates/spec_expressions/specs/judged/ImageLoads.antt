@@ -1,4 +1,4 @@
--- Texels of images, and what is required of images.
+-- The types of texels of images, and of what images are queried for.
 use Rattle.std.specs.Prelude.{ℕ, Result, Ok, Err}
 use Rattle.ir_kinds.specs.declared.images.ImageClass.{ImageClass}
 use Rattle.ir_kinds.specs.declared.images.ImageClass.TheVariants.{Sampled, Depth, External, Storage}

@@ -9,7 +9,7 @@ use Rattle.typing_rules.specs.declared.rules.ConstructorSize.TheVariants as size
 use Rattle.typing_rules.specs.declared.rules.Rule.{Rule}
 use Rattle.typing_rules.specs.declared.rules.ValueType.{ValueType}
 use Rattle.typing_rules.specs.judged.Ranks.{accepts_if}
-use Rattle.typing_rules.specs.judged.Tables.{table}
+use Rattle.typing_rules.specs.judged.MathTable.{table}
 use Rattle.typing_rules.specs.judged.Types.{value_type}
 use Rattle.spec_expressions.specs.judged.Given.{given_type}
 use Rattle.spec_expressions.specs.judged.Context.{Context}

@@ -10,7 +10,7 @@ use Rattle.spec_expressions.specs.declared.sampling.GlobalOrArgument.{GlobalOrAr
 use Rattle.spec_expressions.specs.declared.sampling.GlobalOrArgument.TheVariants.{Argument}
 use Rattle.spec_expressions.specs.judged.Pairs.{SamplingPair}
 use Rattle.spec_expressions.specs.judged.Effects.{samples, runs, effects_of}
-use Rattle.spec_expressions.specs.judged.Chains.{place, seen_through, UsesDirectly, Names, HasUse, Samples, HasPair, Discards, MayKill}
+use Rattle.spec_expressions.specs.judged.CallChains.{place, seen_through, UsesDirectly, Names, HasUse, Samples, HasPair, Discards, MayKill}
 
 -- The use of each global variable of the module, the pairs, and whether the fragment may be ended.
 pub record Summary : Type 0 where

@@ -7,7 +7,7 @@ use Rattle.ir_blocks.specs.judged.Plain.{PlainStatement}
 use Rattle.ir_items.specs.judged.Plain.{PlainArgument, PlainFunction, PlainModule}
 use Rattle.spec_expressions.specs.declared.sampling.GlobalOrArgument.TheVariants.{Global}
 use Rattle.typing_forms.specs.judged.Forms.{form_of_type}
-use Rattle.spec_expressions.specs.judged.Chains.{Reaches, Names, HasPair}
+use Rattle.spec_expressions.specs.judged.CallChains.{Reaches, Names, HasPair}
 use Rattle.spec_expressions.specs.judged.Typing.{HasType}
 use Rattle.spec_statements.specs.judged.ExpressionStages.{stages_of}
 use Rattle.spec_statements.specs.judged.Scope.{PreEmitted}

@@ -5,7 +5,7 @@ use Rattle.spec_expressions.specs.judged.Faults.{FunctionFault}
 use Rattle.ir_flags.specs.declared.settings.ValidationFlags.{ValidationFlags}
 use Rattle.ir_items.specs.judged.Plain.{PlainFunction, PlainModule}
 use Rattle.typing_rules.specs.judged.Laws.{IsAmong}
-use Rattle.spec_expressions.specs.judged.Chains.{place, Step, Calls, HasPair}
+use Rattle.spec_expressions.specs.judged.CallChains.{place, Step, Calls, HasPair}
 use Rattle.spec_expressions.specs.judged.Effects.{samples, effects_of}
 use Rattle.spec_expressions.specs.judged.Summaries.{IsWrongArgument}
 use Rattle.spec_expressions.specs.judged.Uniformity.{Required}

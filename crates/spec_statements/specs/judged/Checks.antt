@@ -3,14 +3,14 @@ use Rattle.std.specs.Prelude.{slice_get}
 use Rattle.ir_types.specs.declared.expressions.Expression.{Expression}
 use Rattle.ir_types.specs.declared.expressions.Expression.TheVariants as x
 use Rattle.spec_statements.specs.judged.Access.{AccessOK, AccessIndexOK}
-use Rattle.spec_statements.specs.judged.Compositions.{SwizzleOK}
+use Rattle.spec_statements.specs.judged.Swizzles.{SwizzleOK}
 use Rattle.spec_statements.specs.judged.Conversions.{AsOK}
 use Rattle.spec_statements.specs.judged.CooperativeMatrices.{CooperativeLoadOK, MultiplyAddOK}
 use Rattle.spec_statements.specs.judged.Derivatives.{DerivativeOK}
 use Rattle.spec_statements.specs.judged.ImageLoads.{ImageLoadOK, ImageQueryOK}
 use Rattle.spec_statements.specs.judged.ImageSamples.{ImageSampleOK}
 use Rattle.spec_statements.specs.judged.Literals.{ZeroOK}
-use Rattle.spec_expressions.specs.judged.ConstantLiterals.{LiteralOK}
+use Rattle.spec_expressions.specs.judged.LiteralScalars.{LiteralOK}
 use Rattle.spec_statements.specs.judged.Loads.{LoadOK, ArrayLengthOK}
 use Rattle.spec_statements.specs.judged.Maths.{MathOK}
 use Rattle.spec_statements.specs.judged.Operators.{UnaryOK, BinaryOK}

@@ -7,7 +7,7 @@ use Rattle.typing_rules.specs.declared.rules.Rule.{Rule}
 use Rattle.typing_rules.specs.declared.rules.ValueType.{ValueType}
 use Rattle.typing_rules.specs.judged.Types.{value_type_of, listed}
 use Rattle.typing_rules.specs.judged.Ranks.{rank_at, accepts_inner, is_concrete}
-use Rattle.typing_rules.specs.judged.Tables.{table}
+use Rattle.typing_rules.specs.judged.MathTable.{table}
 
 -- what is required of rules: that they take an argument of this type at a place, or no abstract argument
 pub data Demand : Type 0 where

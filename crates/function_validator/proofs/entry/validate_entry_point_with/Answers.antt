@@ -3,7 +3,7 @@ use Rattle.function_validator.proofs.EntryWhole.{by_stage, by_function, by_paylo
 use Rattle.function_validator.specs.EntryFaults.{IsRefusedAs, IsUnconnected}
 use Rattle.function_interface.specs.Question.{question}
 use Rattle.ir_items.specs.found.View.{entry_view, module_view}
-use Rattle.spec_expressions.specs.judged.Chains.{HasUse}
+use Rattle.spec_expressions.specs.judged.CallChains.{HasUse}
 use Rattle.spec_expressions.specs.judged.Summaries.{HasUseBit}
 use Rattle.spec_interface.specs.judged.Uses.{EntryUses}
 use Rattle.function_validator.proofs.entry.validate_entry_point_with.Goals as goal

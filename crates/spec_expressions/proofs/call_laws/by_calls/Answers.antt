@@ -1,5 +1,5 @@
 use Rattle.std.proofs.Common.{inl, inr}
-use Rattle.spec_expressions.specs.judged.Chains.{UsesDirectly, Names, IsUnusedFrom, Discards}
+use Rattle.spec_expressions.specs.judged.CallChains.{UsesDirectly, Names, IsUnusedFrom, Discards}
 use Rattle.spec_expressions.proofs.ChainLaws.{reaches-here, reaches-from_call, reaches-cases, use-from_call, pair-here, pair-from_call, pair-cases}
 use Rattle.spec_expressions.proofs.call_laws.by_calls.Goals as goal
 

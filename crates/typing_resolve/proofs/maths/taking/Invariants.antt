@@ -1,5 +1,5 @@
 use Rattle.std.proofs.Common.{◌≡◌, drop}
-use Rattle.typing_rules.specs.judged.Tables.{table}
+use Rattle.typing_rules.specs.judged.MathTable.{table}
 use Rattle.spec_expressions.specs.judged.Maths.{taking}
 use Rattle.typing_overloads.specs.Either.{any_rules}
 use Rattle.typing_resolve.proofs.maths.taking.Given as goal

@@ -1,7 +1,7 @@
 use Rattle.std.proofs.Common.{◌≡◌, map}
 use Rattle.ir_types.specs.judged.ExpressionPlain.{expression_view}
 use Rattle.ir_items.specs.found.GlobalView.{values_of}
-use Rattle.spec_expressions.specs.judged.Chains.{place}
+use Rattle.spec_expressions.specs.judged.CallChains.{place}
 use Rattle.typing_summaries.proofs.Joining.{all_same}
 use Rattle.typing_summaries.proofs.pairs.passes_all_on.Goals as goal
 

@@ -1,5 +1,5 @@
 use Rattle.std.proofs.Common.{◌≡◌, ◌++◌}
-use Rattle.typing_rules.specs.judged.Tables.{rules_over}
+use Rattle.typing_rules.specs.judged.MathTable.{rules_over}
 use Rattle.typing_rules.specs.found.Members.{scalars_in}
 use Rattle.typing_overloads.specs.Products.{rules_of}
 use Rattle.typing_overloads.proofs.product.Product.add_to.Given as goal

@@ -2,7 +2,7 @@ use Rattle.std.proofs.Common.{◌≡◌, drop, map}
 use Rattle.ir_blocks.specs.found.View.{statements_view, case_view, cases_of}
 use Rattle.ir_items.specs.found.View.{function_view}
 use Rattle.function_body_checks.proofs.Walks.{Leads, LeadsCases}
-use Rattle.function_body_checks.proofs.walk.+walk.Given as goal
+use Rattle.function_body_checks.proofs.scope.+walk.Given as goal
 
 -- the rest leads to the whole
 abbrev pub invariant-check_block-loop-statement : goal.invariant-check_block-loop-statement

@@ -4,7 +4,7 @@ ghost use Rattle.std.specs.Prelude.{◌≡◌, ◌⊎◌, IfOk, IsTrue, OnOk, ma
 ghost use Rattle.ir_types.specs.judged.ExpressionPlain.{expression_view};
 ghost use Rattle.ir_items.specs.found.GlobalView.{values_of};
 ghost use Rattle.typing_infos.specs.Marks.{marks_of};
-ghost use Rattle.spec_expressions.specs.judged.Chains.{place};
+ghost use Rattle.spec_expressions.specs.judged.CallChains.{place};
 ghost use Rattle.typing_summaries.specs.Parts.{part_if, parts_of, Stands, AllStand};
 ghost use Rattle.typing_summaries.specs.Joined.{IsKept, IsWrong, AreJoined};
 ghost use Rattle.typing_summaries.specs.Tallies.{known, paired, pass_all_up};

@@ -2,7 +2,7 @@ use Rattle.std.proofs.Common.{◌≡◌, ◌∙◌, sym, ap, subst}
 use Rattle.typing_summaries.specs.Joined.{AreJoined}
 use Rattle.typing_summaries.specs.Tallies.{Paired, known, paired, pass_all_up}
 use Rattle.typing_summaries.proofs.PassedLemmas.{few_joined}
-use Rattle.typing_summaries.proofs.passed.join_pairs.Goals as goal
+use Rattle.typing_summaries.proofs.joined.join_pairs.Goals as goal
 
 pub returns-in_ok-pass_all_up-in-None-clause-joined : goal.returns-in_ok-pass_all_up-in-None-clause-joined
 returns-in_ok-pass_all_up-in-None-clause-joined c =

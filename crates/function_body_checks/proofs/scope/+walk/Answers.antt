@@ -9,7 +9,7 @@ use Rattle.ir_blocks.specs.found.View.{statement_view, block_view, case_view, ca
 use Rattle.ir_items.specs.found.View.{function_view}
 use Rattle.function_body_checks.proofs.Walks.{if_fine, if_answered, if_wrong, switch_fine, loop_scope, loop_answered, loop_wrong}
 use Rattle.function_body_checks.specs.Carried.{FaultWithin, IfFault, IsFaultHere}
-use Rattle.function_body_checks.proofs.walk.+walk.Goals as goal
+use Rattle.function_body_checks.proofs.scope.+walk.Goals as goal
 
 pub check_statement-returns-in_ok-check_inner-in-If-clause-fine : goal.check_statement-returns-in_ok-check_inner-in-If-clause-fine
 check_statement-returns-in_ok-check_inner-in-If-clause-fine t c =

@@ -1,7 +1,7 @@
 -- Of each argument before this number it is so.
 use Rattle.std.proofs.Common.{ℕ, ◌<◌}
 use Rattle.typing_summaries.specs.Parts.{Stands}
-use Rattle.typing_summaries.proofs.passed.all_stand.Given as goal
+use Rattle.typing_summaries.proofs.joined.all_stand.Given as goal
 
 abbrev pub invariant-loop-number : goal.invariant-loop-number
 invariant-loop-number l = (n : ℕ) → n < l.number → Stands l.marks l.parts n

@@ -4,9 +4,9 @@ use Rattle.indexmap.specs.IndexSet.{insert_key}
 use Rattle.typing_summaries.specs.Joined.{IsWrong, AreJoined}
 use Rattle.typing_summaries.specs.Parts.{AllStand}
 use Rattle.typing_summaries.specs.Tallies.{Paired, known, paired}
-use Rattle.typing_summaries.specs.declared.passed.Passed.{Passed}
+use Rattle.typing_summaries.specs.declared.joined.Passed.{Passed}
 use Rattle.typing_summaries.proofs.PassedLemmas.{passed_eq, adds_nothing, one_joined, none_joined, was_there}
-use Rattle.typing_summaries.proofs.passed.join_table.Goals as goal
+use Rattle.typing_summaries.proofs.joined.join_table.Goals as goal
 
 pub returns-then-settled-clause-pairs : goal.returns-then-settled-clause-pairs
 returns-then-settled-clause-pairs c =

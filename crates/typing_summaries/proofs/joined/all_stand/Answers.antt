@@ -1,6 +1,6 @@
 use Rattle.std.proofs.Common.{arith, below_more}
 use Rattle.std.proofs.lemmas.Option.{slice_get_within}
-use Rattle.typing_summaries.proofs.passed.all_stand.Goals as goal
+use Rattle.typing_summaries.proofs.joined.all_stand.Goals as goal
 
 pub loop-number-preserved : goal.loop-number-preserved
 loop-number-preserved c = below_more _ _ c.loop-number.invariant (c.stands.ensures c.if-not-stands.false)

@@ -2,7 +2,7 @@ use Rattle.std.proofs.Common.{true≢false, sym, ◌∙◌}
 use Rattle.ir_items.specs.found.View.{function_view}
 use Rattle.function_body_checks.proofs.FaultLaws.{reported_in_body, scope_fine, each_once, is_asked, all_answers, if_fault_then}
 use Rattle.function_body_checks.specs.Faults.{IsScopeFault}
-use Rattle.function_body_checks.proofs.function.check_scope.Goals as goal
+use Rattle.function_body_checks.proofs.scope_function.check_scope.Goals as goal
 
 pub returns-in-Ok-clause-scope : goal.returns-in-Ok-clause-scope
 returns-in-Ok-clause-scope c =

@@ -2,9 +2,9 @@
 use Rattle.std.proofs.Common.{◌≡◌, ◌++◌, drop, map}
 use Rattle.ir_types.specs.judged.ExpressionPlain.{expression_view}
 use Rattle.ir_items.specs.found.GlobalView.{values_of}
-use Rattle.spec_expressions.specs.judged.Chains.{place}
+use Rattle.spec_expressions.specs.judged.CallChains.{place}
 use Rattle.typing_summaries.specs.Parts.{parts_of}
-use Rattle.typing_summaries.proofs.passed.parts_of.Given as goal
+use Rattle.typing_summaries.proofs.joined.parts_of.Given as goal
 
 abbrev pub invariant-loop-index : goal.invariant-loop-index
 invariant-loop-index l =
