@@ -5,6 +5,7 @@ use Rattle.typing_errors.specs.declared.expressions.ExpressionError.{ExpressionE
 use Rattle.module_expression_checks.specs.Faults.{IsBadLiteral, IsBadComposition}
 use Rattle.ir_types.specs.judged.ExpressionPlain.{PlainExpression, compose, plain}
 use Rattle.ir_types.specs.declared.expressions.Expression.{Expression}
+use Rattle.ir_types.specs.declared.expressions.Expression.TheVariants as x
 use Rattle.ir_kinds.specs.declared.values.Literal.{Literal}
 use Rattle.spec_statements.specs.judged.Access.{literal_in}
 use Rattle.spec_statements.specs.judged.Checks.{CheckOf}
@@ -25,3 +26,11 @@ pub record IsExpressionFault (s : Scene) (handle : ℕ) (e : ExpressionError) : 
   pub expression : PlainExpression
   pub at : slice_get s.expressions handle ≡ Some expression
   pub fault : IsFaultOf s expression e
+
+-- the expression looks at an image, and what is required of it is met
+abbrev pub ImageOK : Scene → PlainExpression → Type 0
+ImageOK s (plain (x.ImageSample image sampler gather coordinate array_index offset level depth_ref clamp_to_edge)) =
+    CheckOf s (x.ImageSample image sampler gather coordinate array_index offset level depth_ref clamp_to_edge)
+ImageOK s (plain (x.ImageLoad image coordinate array_index sample level)) = CheckOf s (x.ImageLoad image coordinate array_index sample level)
+ImageOK s (plain (x.ImageQuery image query)) = CheckOf s (x.ImageQuery image query)
+ImageOK s _ = ⊥

@@ -2,7 +2,8 @@
 
 ghost use Rattle.std.specs.Prelude.{◌<◌, length, MatchResult};
 ghost use Rattle.module_context.specs.OperandView.{scene_in, IsKnown};
-ghost use Rattle.module_expressions.specs.Faults.{IsFaultOf, IsExpressionFault};
+ghost use Rattle.module_context.specs.Refused.{IsRefused};
+ghost use Rattle.module_expressions.specs.Faults.{ImageOK, IsFaultOf, IsExpressionFault};
 ghost use Rattle.ir_types.specs.judged.ExpressionPlain.{expression_view};
 ghost use Rattle.spec_statements.specs.judged.Expressions.{RequiredOf, ExpressionOK};
 ghost use Rattle.spec_statements.specs.judged.ExpressionStages.{IsRunBy};
@@ -11,7 +12,7 @@ use crate::stages::expression_stages;
 use crate::{check_image_load, check_image_query, check_image_sample};
 use ir_arena::handle::Handle;
 use ir_flags::ShaderStages;
-use ir_types::{Expression, key};
+use ir_types::{Expression as E, key};
 use module_context::{CheckContext, ListedStages};
 use module_expression_checks::{
     check_access, check_access_index, check_array_length, check_as, check_atomic_result,
@@ -22,32 +23,15 @@ use module_expression_checks::{
 use spec_statements::Sampling;
 use typing_errors::ExpressionError;
 
-// Whether what is required of an expression is met.
-fn check_expression(
-    context: &CheckContext<'_>,
-    expression: &Expression,
-) -> Result<(), ExpressionError>
+// Whether an expression looks at an image, and what is required of it is met.
+fn check_image(context: &CheckContext<'_>, expression: &E) -> Result<(), ExpressionError>
     requires { IsKnown context.now }
     ensures { MatchResult result
-        (λ _. RequiredOf (scene_in context.now) (expression_view expression.now))
-        (IsFaultOf (scene_in context.now) (expression_view expression.now)) }
+        (λ _. ImageOK (scene_in context.now) (expression_view expression.now))
+        (IsRefused (ImageOK (scene_in context.now) (expression_view expression.now))) }
 {
     match *expression {
-        Expression::Literal(value) => check_literal(context.capabilities, value),
-        Expression::ZeroValue(ty) => check_zero(context, ty),
-        Expression::Compose {
-            ref ty,
-            ref components,
-        } => check_compose(context, *ty, components.as_slice()),
-        Expression::Access { base, index } => check_access(context, base, index),
-        Expression::AccessIndex { base, index } => check_access_index(context, base, index),
-        Expression::Swizzle {
-            size,
-            vector,
-            pattern,
-        } => check_swizzle(context, size, vector, pattern),
-        Expression::Load { pointer } => check_load(context, pointer),
-        Expression::ImageSample {
+        E::ImageSample {
             image,
             sampler,
             gather,
@@ -70,46 +54,75 @@ fn check_expression(
             };
             check_image_sample(context, image, &by)
         }
-        Expression::ImageLoad {
+        E::ImageLoad {
             image,
             coordinate,
             array_index,
             sample,
             level,
         } => check_image_load(context, image, coordinate, array_index, sample, level),
-        Expression::ImageQuery { image, query } => check_image_query(context, image, query),
-        Expression::Unary { op, expr } => check_unary(context, op, expr),
-        Expression::Binary { op, left, right } => check_binary(context, op, left, right),
-        Expression::Select {
+        E::ImageQuery { image, query } => check_image_query(context, image, query),
+        _ => Err(ExpressionError::Other),
+    }
+}
+
+// Whether what is required of an expression is met.
+fn check_expression(context: &CheckContext<'_>, expression: &E) -> Result<(), ExpressionError>
+    requires { IsKnown context.now }
+    ensures { MatchResult result
+        (λ _. RequiredOf (scene_in context.now) (expression_view expression.now))
+        (IsFaultOf (scene_in context.now) (expression_view expression.now)) }
+{
+    match *expression {
+        E::Literal(value) => check_literal(context.capabilities, value),
+        E::ZeroValue(ty) => check_zero(context, ty),
+        E::Compose {
+            ref ty,
+            ref components,
+        } => check_compose(context, *ty, components.as_slice()),
+        E::Access { base, index } => check_access(context, base, index),
+        E::AccessIndex { base, index } => check_access_index(context, base, index),
+        E::Swizzle {
+            size,
+            vector,
+            pattern,
+        } => check_swizzle(context, size, vector, pattern),
+        E::Load { pointer } => check_load(context, pointer),
+        E::ImageSample { .. } | E::ImageLoad { .. } | E::ImageQuery { .. } => check_image(
+            context, expression,
+        ),
+        E::Unary { op, expr } => check_unary(context, op, expr),
+        E::Binary { op, left, right } => check_binary(context, op, left, right),
+        E::Select {
             condition,
             accept,
             reject,
         } => check_select(context, condition, accept, reject),
-        Expression::Derivative { expr, .. } => check_derivative(context, expr),
-        Expression::Relational { fun, argument } => check_relational(context, fun, argument),
-        Expression::As {
+        E::Derivative { expr, .. } => check_derivative(context, expr),
+        E::Relational { fun, argument } => check_relational(context, fun, argument),
+        E::As {
             expr,
             kind,
             convert,
         } => check_as(context, expr, kind, convert),
-        Expression::AtomicResult { ty, comparison } => check_atomic_result(context, ty, comparison),
-        Expression::WorkGroupUniformLoadResult { ty } => check_uniform_load(context, ty),
-        Expression::ArrayLength(array) => check_array_length(context, array),
-        Expression::RayQueryVertexPositions { query, .. } => check_vertex_positions(context, query),
-        Expression::RayQueryGetIntersection { query, .. } => check_intersection(context, query),
-        Expression::CooperativeLoad { block, .. } => check_cooperative_load(context, block.stride),
-        Expression::CooperativeMultiplyAdd { a, b, c } => check_multiply_add(context, a, b, c),
-        Expression::Constant(_)
-        | Expression::Override(_)
-        | Expression::Splat { .. }
-        | Expression::FunctionArgument(_)
-        | Expression::GlobalVariable(_)
-        | Expression::LocalVariable(_)
-        | Expression::Math { .. }
-        | Expression::CallResult(_)
-        | Expression::RayQueryProceedResult
-        | Expression::SubgroupBallotResult
-        | Expression::SubgroupOperationResult { .. } => Ok(()),
+        E::AtomicResult { ty, comparison } => check_atomic_result(context, ty, comparison),
+        E::WorkGroupUniformLoadResult { ty } => check_uniform_load(context, ty),
+        E::ArrayLength(array) => check_array_length(context, array),
+        E::RayQueryVertexPositions { query, .. } => check_vertex_positions(context, query),
+        E::RayQueryGetIntersection { query, .. } => check_intersection(context, query),
+        E::CooperativeLoad { block, .. } => check_cooperative_load(context, block.stride),
+        E::CooperativeMultiplyAdd { a, b, c } => check_multiply_add(context, a, b, c),
+        E::Constant(_)
+        | E::Override(_)
+        | E::Splat { .. }
+        | E::FunctionArgument(_)
+        | E::GlobalVariable(_)
+        | E::LocalVariable(_)
+        | E::Math { .. }
+        | E::CallResult(_)
+        | E::RayQueryProceedResult
+        | E::SubgroupBallotResult
+        | E::SubgroupOperationResult { .. } => Ok(()),
     }
 }
 
