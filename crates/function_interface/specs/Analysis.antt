@@ -19,7 +19,7 @@ use Rattle.typing_errors.specs.Answers.{form_given}
 use Rattle.function_interface.specs.Arities.{IsArityFault}
 use Rattle.function_interface.specs.Question.{Question}
 use Rattle.ir_items.specs.judged.Plain.{PlainFunction, PlainModule}
-use Rattle.spec_expressions.specs.judged.Arities.{AritiesMatch}
+use Rattle.spec_expressions.specs.judged.CallArities.{AritiesMatch}
 
 -- What a lower layer says is wrong with a function: which faults its analysis finds, and which it finds at an expression.
 pub record Faults : Type 1 where

@@ -4,7 +4,7 @@ ghost use Rattle.std.specs.Prelude.{MatchResult};
 ghost use Rattle.function_interface.specs.Arities.{IsArityFault};
 ghost use Rattle.ir_items.specs.found.View.{function_view, module_view};
 ghost use Rattle.spec_expressions.specs.judged.FunctionHandles.{HandlesInRange};
-ghost use Rattle.spec_expressions.specs.judged.Arities.{AritiesMatch};
+ghost use Rattle.spec_expressions.specs.judged.CallArities.{AritiesMatch};
 
 use ir_items::{Function, Module};
 use module_handles::arity_fault;

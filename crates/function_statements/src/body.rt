@@ -4,7 +4,7 @@ ghost use Rattle.std.specs.Prelude.{MatchResult};
 ghost use Rattle.ir_blocks.specs.judged.Places.{Place, OccursAt};
 ghost use Rattle.ir_blocks.specs.judged.Plain.{PlainStatement};
 ghost use Rattle.ir_items.specs.judged.Bases.{BasesPrecede};
-ghost use Rattle.spec_expressions.specs.judged.Arities.{AritiesMatch};
+ghost use Rattle.spec_expressions.specs.judged.CallArities.{AritiesMatch};
 ghost use Rattle.spec_statements.specs.judged.Statements.{StatementOK};
 ghost use Rattle.function_statements.specs.Faults.{IsBodyRefusal};
 

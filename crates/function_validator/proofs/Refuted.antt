@@ -16,7 +16,7 @@ use Rattle.ir_flags.specs.declared.settings.Settings.{Settings}
 use Rattle.ir_items.specs.judged.Plain.{PlainFunction, PlainModule}
 use Rattle.function_statements.proofs.OperationRefuted.{faults_refute_lem as by_ray}
 use Rattle.function_body_checks.proofs.Refuted.{faults_refute_lem as by_scope}
-use Rattle.spec_expressions.specs.judged.Arities.{AritiesMatch}
+use Rattle.spec_expressions.specs.judged.CallArities.{AritiesMatch}
 use Rattle.spec_statements.specs.judged.BlockContext.{BlockContext}
 use Rattle.spec_statements.specs.judged.Functions.{Reading, AreFormsBy, BodyOK, FunctionOK, block_context}
 use Rattle.spec_statements.specs.judged.Interfaces.{InterfaceOK}

@@ -8,7 +8,7 @@ use Rattle.ir_items.specs.judged.Plain.{PlainFunction, PlainModule}
 use Rattle.typing_rules.specs.judged.Laws.{IsAmong}
 use Rattle.spec_expressions.specs.judged.Summaries.{Summary, IsJoined, HasUseBit}
 use Rattle.spec_statements.specs.judged.ExpressionStages.{all_stages}
-use Rattle.spec_expressions.specs.judged.Arities.{AritiesMatch}
+use Rattle.spec_expressions.specs.judged.CallArities.{AritiesMatch}
 use Rattle.spec_statements.specs.judged.BlockContext.{BlockContext}
 use Rattle.spec_statements.specs.judged.Functions.{Reading, AreFormsBy, FunctionOK, AllowsStage, block_context}
 use Rattle.typing_forms.specs.declared.form.Form.{Form}

@@ -8,7 +8,7 @@ ghost use Rattle.ir_flags.specs.Sets.{Has};
 ghost use Rattle.ir_flags.specs.declared.settings.TheConstants.ValidationFlags.{STRICT_SCOPE};
 ghost use Rattle.ir_items.specs.found.View.{function_view};
 ghost use Rattle.ir_items.specs.judged.Bases.{BasesPrecede};
-ghost use Rattle.spec_expressions.specs.judged.Arities.{AritiesMatch};
+ghost use Rattle.spec_expressions.specs.judged.CallArities.{AritiesMatch};
 ghost use Rattle.spec_statements.specs.judged.Scope.{ScopeOK};
 ghost use Rattle.spec_statements.specs.judged.Strict.{StrictOK};
 ghost use Rattle.function_statement_checks.specs.View.{context_view, IsKnown};

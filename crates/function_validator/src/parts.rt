@@ -10,7 +10,7 @@ ghost use Rattle.ir_flags.specs.declared.settings.TheConstants.ValidationFlags.{
 ghost use Rattle.ir_blocks.specs.judged.Places.{Place};
 ghost use Rattle.spec_statements.specs.judged.Results.{AnswersBy};
 ghost use Rattle.ir_items.specs.judged.Bases.{BasesPrecede};
-ghost use Rattle.spec_expressions.specs.judged.Arities.{AritiesMatch};
+ghost use Rattle.spec_expressions.specs.judged.CallArities.{AritiesMatch};
 ghost use Rattle.function_statement_checks.specs.View.{context_view, IsKnown};
 
 use crate::answers::check_answers;

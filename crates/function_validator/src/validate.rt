@@ -11,7 +11,7 @@ ghost use Rattle.ir_items.specs.found.Filters.{ParentsPrecede};
 ghost use Rattle.spec_expressions.specs.judged.Summaries.{CalleesKnown, HasUseBit, IsJoined, IsSummary};
 ghost use Rattle.spec_statements.specs.judged.ExpressionStages.{all_stages};
 ghost use Rattle.spec_expressions.specs.judged.FunctionHandles.{HandlesInRange, OperandsPrecede};
-ghost use Rattle.spec_expressions.specs.judged.Arities.{AritiesMatch};
+ghost use Rattle.spec_expressions.specs.judged.CallArities.{AritiesMatch};
 ghost use Rattle.spec_statements.specs.judged.Functions.{FunctionOK, AllowsStage, block_context};
 ghost use Rattle.spec_statements.specs.judged.Payloads.{IsPayloadAfter};
 ghost use Rattle.function_statement_checks.specs.Descriptors.{AreDescriptors};

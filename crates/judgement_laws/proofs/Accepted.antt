@@ -20,7 +20,7 @@ use Rattle.typing_forms.specs.declared.form.Form.TheVariants as form
 use Rattle.typing_forms.specs.judged.Forms.{form_of_type}
 use Rattle.spec_expressions.specs.judged.Typing.{HasType}
 use Rattle.spec_expressions.specs.judged.FunctionHandles.{HandlesInRange}
-use Rattle.spec_expressions.specs.judged.Arities.{AritiesMatch}
+use Rattle.spec_expressions.specs.judged.CallArities.{AritiesMatch}
 use Rattle.spec_expressions.specs.judged.Order.{a_function, function_on_callee}
 use Rattle.spec_expressions.specs.judged.References.{done, operand, item, range, statement_reads, statement_answers, statement_emits, statement_calls}
 use Rattle.spec_expressions.specs.judged.StatementNames.{operation_result, statement_result, statement_range}

@@ -10,7 +10,7 @@ use Rattle.ir_flags.specs.declared.settings.Settings.{Settings}
 use Rattle.ir_items.specs.judged.Plain.{PlainFunction, PlainModule}
 use Rattle.typing_forms.specs.declared.form.Form.{Form}
 use Rattle.spec_expressions.specs.judged.Context.{inside}
-use Rattle.spec_expressions.specs.judged.Arities.{AritiesMatch}
+use Rattle.spec_expressions.specs.judged.CallArities.{AritiesMatch}
 use Rattle.spec_statements.specs.judged.ExpressionStages.{all_stages}
 use Rattle.spec_statements.specs.judged.Functions.{AreFormsBy, block_context, BodyOK, FunctionOK, AllowsStage}
 use Rattle.spec_statements.specs.judged.Payloads.{HasPayload}

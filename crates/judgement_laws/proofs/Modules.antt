@@ -8,7 +8,7 @@ use Rattle.ir_items.specs.judged.GlobalPlain.{PlainGlobal}
 use Rattle.ir_items.specs.judged.Plain.{PlainFunction, PlainEntry, PlainModule}
 use Rattle.typing_forms.specs.declared.form.Form.{Form}
 use Rattle.typing_layout.specs.declared.constness.ExpressionKind.{ExpressionKind}
-use Rattle.spec_expressions.specs.judged.Components.{ComponentsOK}
+use Rattle.spec_expressions.specs.judged.Compose.{ComponentsOK}
 use Rattle.spec_expressions.specs.judged.Constants.{ConstantOK}
 use Rattle.spec_expressions.specs.judged.Context.{outside}
 use Rattle.spec_expressions.specs.judged.GlobalExpressions.{Required, of_literal, of_composition, of_value, to_work_out, required_of, IsMet, GlobalExpressionOK}

@@ -3,7 +3,7 @@ use Rattle.std.proofs.Common.{◌≡◌, inl, inr, ℕ, List, [], ◌∷◌, Non
 use Rattle.module_constants.specs.Laws.{CompositionRefuted, ComponentsRefuted}
 use Rattle.typing_errors.specs.declared.compose.ComposeError.TheVariants as compose
 use Rattle.typing_rules.specs.judged.Laws.{IsAmong}
-use Rattle.spec_expressions.specs.judged.Components.{IsMadeOf, ComposeOK}
+use Rattle.spec_expressions.specs.judged.Compose.{IsMadeOf, ComposeOK}
 use Rattle.spec_expressions.proofs.TypingLaws.{one_type}
 use Rattle.typing_forms.specs.declared.form.Form.{Form}
 use Rattle.typing_forms.specs.judged.Parts.{components_of}

@@ -5,7 +5,7 @@ use Rattle.module_constants.specs.Compositions.{in_32_bits}
 use Rattle.ir_types.specs.judged.Plain.{PlainMember, PlainType, member_view}
 use Rattle.ir_types.specs.declared.types.StructMember.{StructMember}
 use Rattle.module_constants.specs.Composed.{FitBelow, AllFit, IsMember}
-use Rattle.spec_expressions.specs.judged.Components.{scalars_in}
+use Rattle.spec_expressions.specs.judged.Compose.{scalars_in}
 use Rattle.typing_forms.specs.judged.Forms.{form_of_type}
 use Rattle.typing_forms.specs.declared.form.Form.{Form}
 

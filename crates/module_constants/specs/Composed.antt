@@ -7,7 +7,7 @@ use Rattle.ir_kinds.specs.declared.scalars.Scalar.{Scalar}
 use Rattle.ir_types.specs.judged.Plain.{PlainMember, PlainType}
 use Rattle.module_constants.specs.declared.components.Components.{Components}
 use Rattle.module_constants.specs.declared.components.Components.TheVariants.{Expressions, Types}
-use Rattle.spec_expressions.specs.judged.Components.{IsOfScalar, scalars_in}
+use Rattle.spec_expressions.specs.judged.Compose.{IsOfScalar, scalars_in}
 use Rattle.typing_forms.specs.judged.Forms.{form_of_type}
 use Rattle.typing_forms.specs.judged.Resolutions.{types_view}
 use Rattle.typing_forms.specs.declared.form.Form.{Form}

@@ -3,7 +3,7 @@ use Rattle.std.specs.Prelude.{◌≡◌, ◌≢◌, ℕ, List, Some, None, min, 
 use Rattle.typing_errors.specs.declared.compose.ComposeError.{ComposeError}
 use Rattle.typing_errors.specs.declared.compose.ComposeError.TheVariants as compose
 use Rattle.ir_types.specs.judged.Plain.{PlainInner, PlainType}
-use Rattle.spec_expressions.specs.judged.Components.{Fits, parts_given}
+use Rattle.spec_expressions.specs.judged.Compose.{Fits, parts_given}
 use Rattle.typing_forms.specs.judged.Resolutions.{inner_at}
 use Rattle.typing_forms.specs.declared.form.Form.{Form}
 use Rattle.typing_forms.specs.judged.Parts.{components_of}

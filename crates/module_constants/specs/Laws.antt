@@ -13,7 +13,7 @@ use Rattle.ir_flags.specs.declared.settings.Capabilities.{Capabilities}
 use Rattle.ir_items.specs.judged.Plain.{PlainModule}
 use Rattle.ir_kinds.specs.declared.values.Literal.{Literal}
 use Rattle.ir_types.specs.judged.Plain.{PlainType}
-use Rattle.spec_expressions.specs.judged.Components.{ComposeOK, ComponentsOK}
+use Rattle.spec_expressions.specs.judged.Compose.{ComposeOK, ComponentsOK}
 use Rattle.spec_expressions.specs.judged.Constants.{ConstantOK}
 use Rattle.spec_expressions.specs.judged.GlobalExpressions.{GlobalExpressionOK}
 use Rattle.spec_expressions.specs.judged.LiteralScalars.{LiteralOK}

@@ -5,7 +5,7 @@ ghost use Rattle.module_constants.specs.Compositions.{in_32_bits, IsComposeFault
 ghost use Rattle.ir_types.specs.judged.Plain.{PlainMember, inner_view, member_view};
 ghost use Rattle.typing_errors.specs.declared.compose.ComposeError.TheVariants as compose;
 ghost use Rattle.module_constants.specs.Composed.{AllFit, IsMisfit, IsOtherCount, AreWhole, AreNotWhole, IsForm, IsScalars, IsMember, forms_of};
-ghost use Rattle.spec_expressions.specs.judged.Components.{scalars_in, Fits, parts_given, ComposeOK};
+ghost use Rattle.spec_expressions.specs.judged.Compose.{scalars_in, Fits, parts_given, ComposeOK};
 ghost use Rattle.typing_forms.specs.judged.Forms.{form_of_type};
 ghost use Rattle.typing_forms.specs.judged.Resolutions.{types_view};
 ghost use Rattle.typing_errors.specs.Answers.{form_given};

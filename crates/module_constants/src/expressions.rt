@@ -7,7 +7,7 @@ ghost use Rattle.module_constants.specs.Required.{IsLate, IsUnmet};
 ghost use Rattle.module_constants.specs.Firsts.{AreAccepted, IsFirstRefused};
 ghost use Rattle.module_constants.specs.Known.{IsKnown, module_in};
 ghost use Rattle.module_constants.specs.Refusals.{IsExpressionRefused};
-ghost use Rattle.spec_expressions.specs.judged.Components.{ComponentsOK};
+ghost use Rattle.spec_expressions.specs.judged.Compose.{ComponentsOK};
 ghost use Rattle.spec_expressions.specs.judged.GlobalExpressions.{required_of, IsMet, MayWait, GlobalExpressionOK};
 ghost use Rattle.spec_expressions.specs.judged.LiteralScalars.{LiteralOK};
 ghost use Rattle.spec_expressions.specs.judged.Context.{outside};

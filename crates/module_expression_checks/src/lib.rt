@@ -4,7 +4,7 @@
 #![tactic(auto)]
 
 mod access;
-mod compositions;
+mod compose;
 mod conversions;
 mod cooperative_matrices;
 mod derivatives;
@@ -16,9 +16,10 @@ mod ray_queries;
 mod results;
 mod selections;
 mod shapes;
+mod swizzles;
 
 pub use access::{check_access, check_access_index};
-pub use compositions::{check_compose, check_swizzle};
+pub use compose::check_compose;
 pub use conversions::check_as;
 pub use cooperative_matrices::{check_cooperative_load, check_multiply_add};
 pub use derivatives::check_derivative;
@@ -30,3 +31,4 @@ pub use ray_queries::{check_intersection, check_vertex_positions, query_of};
 pub use results::{check_atomic_result, check_uniform_load};
 pub use selections::{check_relational, check_select};
 pub use shapes::{is_alone, is_of_value};
+pub use swizzles::check_swizzle;

@@ -3,7 +3,7 @@
 ghost use Rattle.std.specs.Prelude.{◌≡◌, ◌↔◌, IsTrue, MatchOption, option_map, slice_get};
 ghost use Rattle.ir_items.specs.found.View.{function_view, module_view};
 ghost use Rattle.ir_references.specs.First.{first_in};
-ghost use Rattle.spec_expressions.specs.judged.Arities.{AritiesMatch};
+ghost use Rattle.spec_expressions.specs.judged.CallArities.{AritiesMatch};
 ghost use Rattle.module_handles.specs.Tests.{arity_fault_of, count_of, wrong_count, PassesWrongCount};
 
 use ir_arena::handle::Handle;

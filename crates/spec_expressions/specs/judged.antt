@@ -1,9 +1,8 @@
 pub mod Access
-pub mod Arities
+pub mod CallArities
 pub mod CallChains
+pub mod Compose
 pub mod Compositions
-pub mod Components
-pub mod LiteralScalars
 pub mod Constants
 pub mod Context
 pub mod Conversions
@@ -19,6 +18,7 @@ pub mod GlobalExpressions
 pub mod ImageLoads
 pub mod ImageSamples
 pub mod ItemNames
+pub mod LiteralScalars
 pub mod Literals
 pub mod Loads
 pub mod Maths

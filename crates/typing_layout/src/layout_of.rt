@@ -1,4 +1,5 @@
-//! The layout of a type, from those of the types before it.
+//! The layout of a type, from those of the types before it: its alignment is found here, its size by `try_size` of
+//! `typing_forms`.
 //!
 //! What is said of a type here holds whatever the trees of the types that it names are, as long as their alignments are
 //! those of the layouts.

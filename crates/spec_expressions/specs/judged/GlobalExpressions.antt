@@ -5,7 +5,7 @@ use Rattle.ir_types.specs.declared.expressions.Expression.TheVariants as x
 use Rattle.ir_flags.specs.declared.settings.Capabilities.{Capabilities}
 use Rattle.ir_items.specs.judged.Plain.{PlainModule}
 use Rattle.ir_kinds.specs.declared.values.Literal.{Literal}
-use Rattle.spec_expressions.specs.judged.Components.{ComponentsOK}
+use Rattle.spec_expressions.specs.judged.Compose.{ComponentsOK}
 use Rattle.spec_expressions.specs.judged.LiteralScalars.{LiteralOK}
 use Rattle.spec_expressions.specs.judged.Context.{outside}
 use Rattle.typing_layout.specs.judged.Constness.{IsOfKind}

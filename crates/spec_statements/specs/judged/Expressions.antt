@@ -1,7 +1,7 @@
 -- What is required of an expression of any kind, beside its type.
 use Rattle.std.specs.Prelude.{◌≡◌, ℕ, Some, map, slice_get}
 use Rattle.ir_types.specs.judged.ExpressionPlain.{PlainExpression, compose, plain}
-use Rattle.spec_expressions.specs.judged.Components.{ComposeOK}
+use Rattle.spec_expressions.specs.judged.Compose.{ComposeOK}
 use Rattle.spec_statements.specs.judged.Checks.{CheckOf}
 use Rattle.spec_statements.specs.judged.Scene.{Scene, form_at}
 

@@ -2,7 +2,7 @@
 use Rattle.std.proofs.Common.{◌≡◌, map, take, sum}
 use Rattle.module_constants.specs.Compositions.{in_32_bits}
 use Rattle.module_constants.specs.Composed.{FitBelow, IsScalars, forms_of}
-use Rattle.spec_expressions.specs.judged.Components.{scalars_in}
+use Rattle.spec_expressions.specs.judged.Compose.{scalars_in}
 use Rattle.module_constants.proofs.compose.scalars_of_all.Given as goal
 
 abbrev pub invariant-loop-place : goal.invariant-loop-place

@@ -1,47 +1,19 @@
-//! Values that are composed, and components of vectors in another order.
+//! Components of vectors in another order.
 
-ghost use Rattle.std.specs.Prelude.{◌↔◌, IsTrue, MatchResult, map};
+ghost use Rattle.std.specs.Prelude.{◌↔◌, IsTrue, MatchResult};
 ghost use Rattle.module_context.specs.Refused.{IsRefused};
-ghost use Rattle.module_context.specs.OperandView.{scene_in, types_in};
-ghost use Rattle.module_expression_checks.specs.Faults.{IsBadComposition};
+ghost use Rattle.module_context.specs.OperandView.{scene_in};
 ghost use Rattle.module_expression_checks.specs.Letters.{MayStand};
 ghost use Rattle.spec_statements.specs.judged.Swizzles.{AreComponents, SwizzleOK};
 ghost use Rattle.spec_statements.specs.judged.Scene.{form_at};
-ghost use Rattle.spec_expressions.specs.judged.Components.{ComposeOK};
 
 use ir_arena::handle::Handle;
 use ir_kinds::{SwizzleComponent, VectorSize};
 use ir_types::key;
-use module_constants::{Components, check_composition};
 use module_context::{CheckContext, refused_unless, shaped_of};
 use spec_statements::Shape;
 use typing_errors::ExpressionError;
 use typing_forms::Form;
-
-/// Whether components make a value of a type (naga's `validate_compose`).
-///
-/// # Errors
-///
-/// [`ExpressionError::Compose`]: nothing of the type is composed, a component does not fit, or they are too few or too many;
-/// each is answered only where it occurs.
-pub fn check_compose(
-    context: &CheckContext<'_>,
-    ty: Handle<key::IrType>,
-    components: &[Handle<key::Expression>],
-) -> Result<(), ExpressionError>
-    ensures { MatchResult result
-        (λ _. ComposeOK (types_in context.now) ty (map (form_at (scene_in context.now).forms) components.now))
-        (IsBadComposition (types_in context.now) ty (map (form_at (scene_in context.now).forms) components.now)) }
-{
-    let parts = Components::Expressions {
-        forms: context.forms,
-        handles: components,
-    };
-    match check_composition(context.types, ty, &parts) {
-        Ok(()) => Ok(()),
-        Err(error) => Err(ExpressionError::Compose(error)),
-    }
-}
 
 // Whether a letter of a pattern for so many components is that of a component, where it counts.
 fn may_stand(size: VectorSize, place: usize, letter: SwizzleComponent, of: VectorSize) -> bool

@@ -1,6 +1,6 @@
 -- The letters that were passed may stand where they do.
 use Rattle.module_expression_checks.specs.Letters.{StandBelow}
-use Rattle.module_expression_checks.proofs.compositions.are_components.Given as goal
+use Rattle.module_expression_checks.proofs.swizzles.are_components.Given as goal
 
 abbrev pub invariant-loop-place : goal.invariant-loop-place
 invariant-loop-place l = StandBelow l.size l.pattern l.of l.place
