@@ -344,7 +344,7 @@ def control_rows():
     def call(to, arguments=(), result=None):
         return ["Call", to, list(arguments), result]
 
-    # what the request for this form names
+    # where a statement may not leave its block, and where it may
     yield "break in a continuing part", document([scalar("u32")], [function(loop([], [brk]))]), bad
     yield "continue in a continuing part", document([scalar("u32")], [function(loop([], [cont]))]), bad
     yield "return in a continuing part", document([scalar("u32")], [function(loop([], [ret]))]), bad

@@ -1,6 +1,5 @@
-//! Whether statements meet the rules of their kinds: barriers, stores, calls, choices and what is emitted; and what all
-//! checks look at, those of expressions too ([`CheckContext`]): the types of a function's expressions, what these are made
-//! of, and how an expression is refused.
+//! Whether statements meet the rules of their kinds: barriers, stores, calls, choices and what is emitted; and what these
+//! checks look at beside what those of expressions do (`CheckContext` of `module_context`).
 #![tactic(auto)]
 
 mod barriers;

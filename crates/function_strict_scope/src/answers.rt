@@ -4,6 +4,7 @@ ghost use Rattle.std.specs.Prelude.{◌≡◌, ℕ, List, IfErr, OnOk, slice_get
 ghost use Rattle.ir_blocks.specs.judged.Places.{statement as spot};
 ghost use Rattle.ir_blocks.specs.found.View.{statement_view};
 ghost use Rattle.ir_items.specs.found.View.{function_view};
+ghost use Rattle.spec_expressions.specs.judged.StatementNames.{ray_result};
 ghost use Rattle.function_strict_scope.specs.Tables.{proceeds_by, ballots_by, is_proceed, is_ballot};
 ghost use Rattle.function_strict_scope.specs.Walked.{AnswerKindOK, IfFault, IsFaultHere};
 
@@ -11,17 +12,47 @@ use crate::error::StrictError;
 use ir_arena::handle::Handle;
 use ir_items::{Expression, Function, RayQueryFunction, Statement, key};
 
-// What denotes the answer of a `Proceed`.
-fn proceeds_by(statement: &Statement) -> Option<Handle<key::Expression>>
-    ensures { result ≡ proceeds_by (statement_view statement.now) }
+// What denotes the answers of a statement, where they are to be of a kind of their own.
+#[derive(Clone, Copy)]
+struct Answers {
+    // That of a `Proceed`.
+    proceed: Option<Handle<key::Expression>>,
+    // That of a ballot.
+    ballot: Option<Handle<key::Expression>>,
+}
+
+// None.
+const NONE: Answers = Answers {
+    proceed: None,
+    ballot: None,
+};
+
+// What denotes the answer of a step of a ray query, where that is a `Proceed`.
+fn proceed_of(fun: &RayQueryFunction) -> Option<Handle<key::Expression>>
+    ensures { result ≡ ray_result fun.now }
+{
+    match fun {
+        RayQueryFunction::Proceed { result: answer } => Some(*answer),
+        RayQueryFunction::Initialize { .. }
+        | RayQueryFunction::GenerateIntersection { .. }
+        | RayQueryFunction::ConfirmIntersection
+        | RayQueryFunction::Terminate => None,
+    }
+}
+
+// What denotes the answers of a statement.
+fn answers_of(statement: &Statement) -> Answers
+    ensures proceed { result.proceed ≡ proceeds_by (statement_view statement.now) }
+    ensures ballot { result.ballot ≡ ballots_by (statement_view statement.now) }
 {
     match statement {
-        Statement::RayQuery { fun, .. } => match fun {
-            RayQueryFunction::Proceed { result: answer } => Some(*answer),
-            RayQueryFunction::Initialize { .. }
-            | RayQueryFunction::GenerateIntersection { .. }
-            | RayQueryFunction::ConfirmIntersection
-            | RayQueryFunction::Terminate => None,
+        Statement::RayQuery { fun, .. } => Answers {
+            proceed: proceed_of(fun),
+            ..NONE
+        },
+        Statement::SubgroupBallot { result: answer, .. } => Answers {
+            ballot: Some(*answer),
+            ..NONE
         },
         Statement::Emit(_)
         | Statement::Block(_)
@@ -40,42 +71,10 @@ fn proceeds_by(statement: &Statement) -> Option<Handle<key::Expression>>
         | Statement::Atomic { .. }
         | Statement::ImageAtomic { .. }
         | Statement::WorkGroupUniformLoad { .. }
-        | Statement::SubgroupBallot { .. }
         | Statement::SubgroupCollectiveOperation { .. }
         | Statement::SubgroupGather { .. }
         | Statement::CooperativeStore { .. }
-        | Statement::RayPipelineFunction(_) => None,
-    }
-}
-
-// What denotes the answer of a ballot.
-fn ballots_by(statement: &Statement) -> Option<Handle<key::Expression>>
-    ensures { result ≡ ballots_by (statement_view statement.now) }
-{
-    match statement {
-        Statement::SubgroupBallot { result: answer, .. } => Some(*answer),
-        Statement::Emit(_)
-        | Statement::Block(_)
-        | Statement::If { .. }
-        | Statement::Switch { .. }
-        | Statement::Loop { .. }
-        | Statement::Break
-        | Statement::Continue
-        | Statement::Return { .. }
-        | Statement::Kill
-        | Statement::Call { .. }
-        | Statement::ControlBarrier(_)
-        | Statement::MemoryBarrier(_)
-        | Statement::Store { .. }
-        | Statement::ImageStore { .. }
-        | Statement::Atomic { .. }
-        | Statement::ImageAtomic { .. }
-        | Statement::WorkGroupUniformLoad { .. }
-        | Statement::RayQuery { .. }
-        | Statement::SubgroupCollectiveOperation { .. }
-        | Statement::SubgroupGather { .. }
-        | Statement::CooperativeStore { .. }
-        | Statement::RayPipelineFunction(_) => None,
+        | Statement::RayPipelineFunction(_) => NONE,
     }
 }
 
@@ -106,12 +105,13 @@ pub fn check_answer(function: &Function, statement: &Statement) -> Result<(), St
     ensures kind { OnOk result (AnswerKindOK (function_view function.now) (statement_view statement.now)) }
     ensures fault { IfErr result (λ r. IfFault r (λ e. (sure : List ℕ) → IsFaultHere (function_view function.now) (spot (statement_view statement.now)) sure e)) }
 {
-    if let Some(handle) = proceeds_by(statement) {
+    let answers = answers_of(statement);
+    if let Some(handle) = answers.proceed {
         if !is_proceed_result(function, handle) {
             return Err(StrictError::OtherAnswer(handle));
         }
     }
-    if let Some(handle) = ballots_by(statement) {
+    if let Some(handle) = answers.ballot {
         if !is_ballot_result(function, handle) {
             return Err(StrictError::OtherAnswer(handle));
         }

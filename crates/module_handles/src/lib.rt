@@ -8,8 +8,8 @@
 //! [`arity_fault`], which tells the first call that fails the last.
 //!
 //! What a module whose handles are in order gives to the typing of expressions, to their kinds and to the analysis of
-//! functions, as they require it. That types go back, filters come after their parents, and callees precede is a law of
-//! `module_handles`.
+//! functions, as they require it ([`order_laws`]); that types go back, filters come after their parents, and callees precede
+//! ([`laws`]).
 #![tactic(auto)]
 
 mod arities;

@@ -1,6 +1,6 @@
 //! The typing of a shader's expressions from one place: the types that expressions are given as and their canonical
 //! forms of `typing_forms`, which says too what types are built of and which of them are equivalent, layouts of types and
-//! kinds of expressions of `typing_layout`, the rules of math functions of `typing_rules`, sets of scalars and of shapes of
+//! kinds of expressions of `typing_layout`, the rules of math functions and sets of scalars and of shapes of
 //! `typing_rules`, overload sets of `typing_overloads`, the types of expressions of `typing_resolve`, which are those that
 //! `spec_expressions` defines, those of all expressions of a list and comparing types of `typing_infos`, what the
 //! analysis of a function requires of `module_handles`, and what is kept of a function of `function_real_lower`, with its errors.
