@@ -46,13 +46,15 @@ pub(crate) fn explained_on(alloc: Global, document: &[u8]) -> Option<Explained>
     ensures object { IfSome result (λ found. IsObjectText found.finding (string_bytes found.text)) }
 {
     match explain(alloc, Requested::Report, document) {
-        Ok(explanation) => match explanation.json(alloc) {
-            Ok(text) => Some(Explained {
-                finding: explanation.finding(),
-                text,
-            }),
-            Err(_) => None,
-        },
+        Ok(explanation) => {
+            let finding = explanation.finding();
+            let object = explanation.json(alloc);
+            drop(explanation);
+            match object {
+                Ok(text) => Some(Explained { finding, text }),
+                Err(_) => None,
+            }
+        }
         Err(_) => None,
     }
 }
