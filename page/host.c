@@ -1,6 +1,7 @@
-/* What the program `checker` takes from its host, where the host is a page: a heap, one document to read, and room for what it
- * writes. `room` takes a document's length and answers where its bytes go, `judge` runs the program over them with `--json` and answers
- * its status, and `text` with `text_length` is what it wrote. */
+/* What the program `checker` takes from its host, where the host is a page: a heap, one input to read, and room for what it
+ * writes. `room` takes the input's length and answers where its bytes go, `judge` runs the program over them and answers its status,
+ * and `text` with `text_length` is what it wrote. What `judge` takes says what the input is and what is written: 0 a document and what
+ * `--json` says of it, 1 a module of SPIR-V and the same, 2 a module of SPIR-V and the document that it stands for. */
 
 typedef unsigned long size;
 typedef long offset;
@@ -26,6 +27,7 @@ extern int check_main(void);
 static size top;
 static struct block *freed[CLASSES];
 static unsigned char *document, *written;
+static int wanted;
 static size document_length, document_read, written_length, written_room;
 static int error;
 
@@ -110,15 +112,23 @@ offset lseek(int file, offset to, int whence) {
     return -1;
 }
 
+/* The arguments: the program's name, and the words of what is wanted. */
+static const char *const words[3][3] = {{"shader", "--json", 0}, {"shader", "--json", "--spirv"}, {"shader", "--document", "--spirv"}};
+
 offset rattle_arg(size index, unsigned char *to, size n) {
-    if (index > 1) {
+    const char *word = index < 3 ? words[wanted][index] : 0;
+    size length = 0;
+    if (!word) {
         return -1;
     }
-    if (n < 6) {
+    while (word[length]) {
+        length++;
+    }
+    if (n < length) {
         return -2;
     }
-    __builtin_memcpy(to, index ? "--json" : "shader", 6);
-    return 6;
+    __builtin_memcpy(to, word, length);
+    return length;
 }
 
 offset rattle_env(const unsigned char *name, unsigned char *to, size n) {
@@ -144,7 +154,7 @@ offset __sysv_signal(int signal, offset to) {
     return 0;
 }
 
-/* Where the bytes of a document of this length go, or 0; what was written before is gone. */
+/* Where the bytes of an input of this length go, or 0; what was written before is gone. */
 unsigned char *room(size length) {
     top = round16((size)&__heap_base);
     for (int class = 0; class < CLASSES; class++) {
@@ -155,9 +165,10 @@ unsigned char *room(size length) {
     return document;
 }
 
-/* Runs the program over the document: 0 for accepted, 1 for refused, 2 where there is no memory. */
-int judge(void) {
+/* Runs the program over the input: 0 for accepted, 1 for refused, 2 where there is no memory, 3 for a module that was not read. */
+int judge(int what) {
     struct tried got = rattle_alloc(4096, 1);
+    wanted = what < 0 || what > 2 ? 0 : what;
     document_read = written_length = 0;
     written_room = got.ok ? 4096 : 0;
     written = got.place;

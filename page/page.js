@@ -1,27 +1,43 @@
-// Judges the document in the page while it is typed, and shows the answer. MODULE and EXAMPLES are those of out/module.js.
+// Judges the document in the page while it is typed, or a module of SPIR-V out of a file, and shows the answer. MODULE, EXAMPLES and
+// SPIRV_EXAMPLES are those of out/module.js.
 "use strict";
 
 const $ = (name) => document.getElementById(name);
-const bytes = typeof MODULE === "undefined" ? null : Uint8Array.from(atob(MODULE), (it) => it.charCodeAt(0));
+const bytes = typeof MODULE === "undefined" ? null : decoded(MODULE);
 let module = null;
 let program = null;
 
-// The answer of the program on a document: its object, or why there is none.
-async function judged(text) {
-    const input = new TextEncoder().encode(text);
+// What the program is run for, as host.c numbers it.
+const DOCUMENT = 0;
+const SPIRV = 1;
+const TRANSLATED = 2;
+
+// What the program writes on an input and its status, or why there is neither.
+async function run(input, what) {
     try {
         module ??= await WebAssembly.compile(bytes);
         program ??= (await WebAssembly.instantiate(module, {})).exports;
         const room = program.room(BigInt(input.length));
         if (room === 0n && input.length > 0) throw new Error("no memory");
         new Uint8Array(program.memory.buffer).set(input, Number(room));
-        if (program.judge() === 2) throw new Error("no memory");
+        const status = program.judge(what);
+        if (status === 2) throw new Error("no memory");
         const found = new Uint8Array(program.memory.buffer, Number(program.text()), Number(program.text_length()));
-        return { text: new TextDecoder().decode(found) };
+        return { text: new TextDecoder().decode(found), status };
     } catch (error) {
         program = null;
         return { fault: String(error.message ?? error) };
     }
+}
+
+// A document with a line for each item of its lists.
+function inLines(text) {
+    let depth = 0;
+    return text.replace(/"(?:[^"\\]|\\.)*"|[[\],]/g, (it) => {
+        if (it === "[") depth++;
+        if (it === "]") depth--;
+        return it === "," && depth <= 2 ? `,\n${" ".repeat(depth)}` : it;
+    });
 }
 
 // The end of the JSON value that begins at a place of a text, or what stands at an index of it: [start, end].
@@ -116,18 +132,33 @@ function showFound(found) {
     $("item").textContent = found.verdict === "refused" ? `at the step ${item}` : "";
     $("path").textContent = found.path ?? "";
     $("path").onclick = () => show(found.steps ?? []);
-    $("reason").textContent = found.path && found.text.startsWith(found.path) ? found.text.slice(found.path.length).replace(/^: /, "") : (found.text ?? "");
+    const text = found.path && found.text.startsWith(found.path) ? found.text.slice(found.path.length).replace(/^: /, "") : (found.text ?? "");
+    const from = found.spirv ? ` (${found.spirv.opcode}${found.spirv.name ? ` "${found.spirv.name}"` : ""} at word ${found.spirv.word})` : "";
+    $("reason").textContent = text + from;
     showReport(found);
 }
 
-// Judges what stands in the page. ./try-page reads the answer from the page.
-async function judge() {
-    const text = $("document").value;
-    const answer = await judged(text);
-    if (text !== $("document").value) return;
+// Shows an answer. ./try-page reads it from the page.
+function showAnswer(answer) {
     showFound(answer.fault ? { verdict: "no verdict", text: `This browser gave no answer: ${answer.fault}` } : JSON.parse(answer.text));
     $("answer").dataset.text = answer.text ?? "";
     $("answer").dispatchEvent(new Event("judged"));
+}
+
+// Judges what stands in the page.
+async function judge() {
+    const text = $("document").value;
+    const answer = await run(new TextEncoder().encode(text), DOCUMENT);
+    if (text === $("document").value) showAnswer(answer);
+}
+
+// Judges a module of SPIR-V, and puts the document that it stands for into the page, if it could be read.
+async function putModule(input) {
+    clearTimeout(waiting);
+    const answer = await run(input, SPIRV);
+    const translated = answer.fault || answer.status === 3 ? { text: "" } : await run(input, TRANSLATED);
+    $("document").value = inLines(translated.text ?? "");
+    showAnswer(answer);
 }
 
 let waiting = 0;
@@ -141,18 +172,33 @@ function put(text) {
     judge();
 }
 
+// The bytes of what is written in base 64.
+function decoded(text) {
+    return Uint8Array.from(atob(text), (it) => it.charCodeAt(0));
+}
+
+function putExample(name) {
+    if (name in SPIRV_EXAMPLES) putModule(decoded(SPIRV_EXAMPLES[name]));
+    else put(EXAMPLES[name] ?? "");
+}
+
+async function putFile(file) {
+    if (file.name.endsWith(".spv")) putModule(new Uint8Array(await file.arrayBuffer()));
+    else put(await file.text());
+}
+
 function begin() {
     if (!bytes) {
         showFound({ verdict: "no verdict", text: "The module is not there: ./build-page makes it." });
         return;
     }
-    for (const name of Object.keys(EXAMPLES)) $("examples").append(made("option", name));
-    $("examples").onchange = () => put(EXAMPLES[$("examples").value] ?? "");
+    for (const name of [...Object.keys(EXAMPLES), ...Object.keys(SPIRV_EXAMPLES)]) $("examples").append(made("option", name));
+    $("examples").onchange = () => putExample($("examples").value);
     $("document").oninput = judgeSoon;
-    $("file").onchange = async () => put(await $("file").files[0].text());
+    $("file").onchange = () => putFile($("file").files[0]);
     const [name, shown] = decodeURIComponent(location.hash.slice(1)).split("!");
-    $("examples").value = name in EXAMPLES ? name : "shader-vertex-and-fragment-lit-texture";
-    put(EXAMPLES[$("examples").value]);
+    $("examples").value = name in EXAMPLES || name in SPIRV_EXAMPLES ? name : "shader-vertex-and-fragment-lit-texture";
+    putExample($("examples").value);
     if (shown === "show") $("answer").addEventListener("judged", () => $("path").click(), { once: true });
 }
 
