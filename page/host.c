@@ -1,7 +1,7 @@
 /* What the program `checker` takes from its host, where the host is a page: a heap, one input to read, and room for what it
  * writes. `room` takes the input's length and answers where its bytes go, `judge` runs the program over them and answers its status,
  * and `text` with `text_length` is what it wrote. What `judge` takes says what the input is and what is written: 0 a document and what
- * `--json` says of it, 1 a module of SPIR-V and the same, 2 a module of SPIR-V and the document that it stands for. */
+ * `--json` says of it, 1 a module of SPIR-V and the same, 2 a module of SPIR-V and the document that it says. */
 
 typedef unsigned long size;
 typedef long offset;

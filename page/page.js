@@ -152,7 +152,7 @@ async function judge() {
     if (text === $("document").value) showAnswer(answer);
 }
 
-// Judges a module of SPIR-V, and puts the document that it stands for into the page, if it could be read.
+// Judges a module of SPIR-V, and puts the document that it says into the page, if it could be read.
 async function putModule(input) {
     clearTimeout(waiting);
     const answer = await run(input, SPIRV);
