@@ -145,18 +145,24 @@ function showAnswer(answer) {
     $("answer").dispatchEvent(new Event("judged"));
 }
 
+// How many inputs were judged: the answer on any but the last is not shown.
+let turns = 0;
+
 // Judges what stands in the page.
 async function judge() {
     const text = $("document").value;
+    const turn = ++turns;
     const answer = await run(new TextEncoder().encode(text), DOCUMENT);
-    if (text === $("document").value) showAnswer(answer);
+    if (turn === turns && text === $("document").value) showAnswer(answer);
 }
 
 // Judges a module of SPIR-V, and puts the document that it says into the page, if it could be read.
 async function putModule(input) {
     clearTimeout(waiting);
+    const turn = ++turns;
     const answer = await run(input, SPIRV);
     const translated = answer.fault || answer.status === 3 ? { text: "" } : await run(input, TRANSLATED);
+    if (turn !== turns) return;
     $("document").value = inLines(translated.text ?? "");
     showAnswer(answer);
 }
@@ -183,6 +189,7 @@ function putExample(name) {
 }
 
 async function putFile(file) {
+    if (!file) return;
     if (file.name.endsWith(".spv")) putModule(new Uint8Array(await file.arrayBuffer()));
     else put(await file.text());
 }
