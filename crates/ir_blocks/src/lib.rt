@@ -1,5 +1,5 @@
-// Statements and the blocks that hold them: the calls of a block, and returns at the ends of a body. It hands on the
-// types and the expressions.
+//! Statements and the blocks that hold them: the calls of a block, and returns at the ends of a body. It hands on the
+//! types and the expressions.
 #![tactic(auto)]
 
 mod blocks;

@@ -5,7 +5,7 @@ use Rattle.ir_blocks.specs.judged.Plain.{call, stop}
 use Rattle.spec_statements.proofs.AnswerLaws.{by_held}
 use Rattle.spec_statements.proofs.ScopeLaws.{none_held}
 use Rattle.spec_statements.specs.judged.Results.{AnswersBy, DenotesResult, of_call, of_atomic, AnsweredOnce}
-use Rattle.judgement_laws.specs.Worked.{one, over_answer}
+use Rattle.judgement_laws.specs.found.Worked.{one, over_answer}
 
 pub none_answers : {A : Type 0} (p : Place) (e : ℕ) → AnswersBy stop p e → A
 none_answers p e by = none_held e (by_held p stop e by)

@@ -10,7 +10,7 @@ use Rattle.ir_flags.specs.Sets.{Has}
 use Rattle.ir_flags.specs.declared.settings.TheConstants.ValidationFlags.{BLOCKS, EXPRESSIONS}
 use Rattle.ir_flags.specs.declared.settings.Settings.{Settings}
 use Rattle.ir_items.specs.judged.Plain.{PlainFunction, PlainModule}
-use Rattle.judgement_laws.specs.Laws.{IsCallOf, IsOperationOf, OccursOnce, EachAnswered, AnsweredByOne}
+use Rattle.judgement_laws.specs.found.AcceptedLaws.{IsCallOf, IsOperationOf, OccursOnce, EachAnswered, AnsweredByOne}
 use Rattle.spec_statements.specs.judged.ModuleFunctions.{FunctionAtOK}
 use Rattle.ir_kinds.specs.declared.scalars.Scalar.{Scalar}
 use Rattle.spec_expressions.specs.judged.Operands.{compared}

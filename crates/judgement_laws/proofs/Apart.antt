@@ -4,7 +4,7 @@ use Rattle.std.proofs.lemmas.Option.{slice_get_within}
 use Rattle.ir_items.specs.judged.GlobalPlain.{PlainGlobal}
 use Rattle.ir_items.specs.judged.Plain.{PlainEntry, PlainModule}
 use Rattle.ir_kinds.specs.declared.bindings.ResourceBinding.{ResourceBinding}
-use Rattle.judgement_laws.specs.Laws.{IsReported, BindingsDiffer}
+use Rattle.judgement_laws.specs.found.AcceptedLaws.{IsReported, BindingsDiffer}
 use Rattle.spec_expressions.specs.judged.CallChains.{HasUse}
 use Rattle.spec_interface.specs.judged.Modules.{EntryAtOK}
 use Rattle.spec_interface.specs.judged.Payloads.{binding_at}

@@ -2,7 +2,7 @@
 use Rattle.std.proofs.Common.{◌≡◌, ◌<◌, ◌++◌, ℕ, List, [], ◌∷◌, Some, length, slice_get}
 use Rattle.ir_items.specs.judged.Plain.{PlainEntry, PlainFunction, PlainModule}
 use Rattle.module_handles.proofs.Whole.{order_gives_conditions}
-use Rattle.judgement_laws.specs.Laws.{BeginsAt, at_function, at_entry, AreRun, Rise, Falls, CallsFall}
+use Rattle.judgement_laws.specs.found.AcceptedLaws.{BeginsAt, at_function, at_entry, AreRun, Rise, Falls, CallsFall}
 use Rattle.spec_expressions.proofs.Members.{among-get}
 use Rattle.spec_expressions.specs.judged.CallChains.{Step, Calls, IsChain, end_of}
 use Rattle.spec_expressions.specs.judged.Effects.{runs, effects_of}

@@ -8,7 +8,7 @@ use Rattle.judgement.specs.declared.finding.Finding.TheVariants.{Accepted, Refus
 use Rattle.judgement.specs.declared.finding.Step.TheVariants.{Layout, «Type», Typing, Expression, Constant, Override, Global, Function, Entry}
 use Rattle.judgement.specs.judged.ModuleSteps as step
 use Rattle.judgement_laws.specs.judged.Like.{HasNoResult, LikeModule}
-use Rattle.judgement_laws.specs.found.Laws.{ReturnsKeepFinding, AreJudgedAlike, ReturnsDontMatter}
+use Rattle.judgement_laws.specs.found.ReturnLaws.{ReturnsKeepFinding, AreJudgedAlike, ReturnsDontMatter}
 use Rattle.judgement_laws.proofs.Entries.{entries_move, first_entry_moves}
 use Rattle.judgement_laws.proofs.Functions.{functions_move, first_function_moves}
 use Rattle.judgement_laws.proofs.Handles.{handles_move}

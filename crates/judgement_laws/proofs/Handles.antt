@@ -13,7 +13,7 @@ use Rattle.spec_expressions.specs.judged.Order as order
 use Rattle.spec_expressions.specs.judged.Order.{Ordered, NamesType, DependsOn, IsBefore}
 use Rattle.spec_expressions.specs.judged.ModuleHandles.{HandlesOK}
 use Rattle.judgement_laws.specs.judged.Like.{Matched, LikeFunction, LikeEntry, LikeModule}
-use Rattle.judgement_laws.specs.found.Laws.{ReturnsKeepHandles}
+use Rattle.judgement_laws.specs.found.ReturnLaws.{ReturnsKeepHandles}
 use Rattle.judgement_laws.proofs.Likeness.{function_back, module_back, over_like, like_returned}
 use Rattle.judgement_laws.proofs.Named.{names_move}
 use Rattle.judgement_laws.proofs.Calls.{same_expressions}

@@ -5,7 +5,7 @@ use Rattle.ir_items.specs.judged.Plain.{PlainEntry, PlainModule}
 use Rattle.judgement.specs.judged.Lines.{buffers, is_own, entry_lines}
 use Rattle.judgement.specs.judged.Reports.{AreUses, ArePairs, IsEntryReport, IsReport}
 use Rattle.judgement_laws.specs.judged.Like.{LikeEntry, LikeModule}
-use Rattle.judgement_laws.specs.found.Laws.{ReturnsKeepReport}
+use Rattle.judgement_laws.specs.found.ReturnLaws.{ReturnsKeepReport}
 use Rattle.judgement_laws.proofs.Likeness.{function_back, module_back, like_returned}
 use Rattle.judgement_laws.proofs.Calls.{use_moves, pair_moves}
 

@@ -1,3 +1,6 @@
 pub mod Accepted
+pub mod AcceptedLaws
 pub mod Alike
-pub mod Laws
+pub mod ReturnLaws
+pub mod RunExamples
+pub mod Worked

@@ -2,7 +2,7 @@
 //!
 //! The functions do nothing: their contracts are the laws.
 
-ghost use Rattle.judgement_laws.specs.Laws.{CallsFall, BindingsDiffer, AnsweredByOne};
+ghost use Rattle.judgement_laws.specs.found.AcceptedLaws.{CallsFall, BindingsDiffer, AnsweredByOne};
 
 /// Each chain of calls that begins at a function or an entry point of a module whose handles are in order runs functions of
 /// strictly falling index. So there is no cycle of calls, and a chain has at most as many calls as the module has functions.

@@ -3,7 +3,7 @@
 //! The functions do nothing: their contracts are the laws.
 
 ghost use Rattle.judgement_laws.specs.found.Alike.{CompletedAlike};
-ghost use Rattle.judgement_laws.specs.found.Laws.{ReturnsKeepFinding, ReturnsKeepHandles, ReturnsKeepReport, ReturnsDontMatter};
+ghost use Rattle.judgement_laws.specs.found.ReturnLaws.{ReturnsKeepFinding, ReturnsKeepHandles, ReturnsKeepReport, ReturnsDontMatter};
 
 /// All of a body is in the body completed with returns, at the same places, and the other way round, but for returns without a
 /// value at open ends; and both have the same effects in the same order.

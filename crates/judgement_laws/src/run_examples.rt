@@ -8,7 +8,7 @@ ghost use Rattle.spec_runs.specs.judged.Good.{DepthOK, TypesOK, LiveOK, FallsOK,
 ghost use Rattle.spec_runs.specs.judged.Machine.{trace_of};
 ghost use Rattle.spec_runs.specs.judged.Scoping.{checked_operands};
 ghost use Rattle.spec_runs.specs.found.Worked.{module_of, calling, skipping, breaking, using_too_early};
-ghost use Rattle.judgement_laws.specs.RunExamples.{answered, continuing, nested};
+ghost use Rattle.judgement_laws.specs.found.RunExamples.{answered, continuing, nested};
 
 /// A continue skips what is left of its loop's body at the top level, in its own turn.
 pub fn skips()

@@ -19,7 +19,7 @@ ghost use Rattle.spec_statements.specs.judged.Strict.{InStrictScope};
 ghost use Rattle.spec_statements.specs.judged.Stores.{StoreOK};
 ghost use Rattle.spec_statements.specs.judged.Subgroups.{BallotOK};
 ghost use Rattle.spec_statements.specs.judged.Switches.{SwitchOK};
-ghost use Rattle.judgement_laws.specs.Worked.{one, two, use_of, over_truths, over_answer, first_answered, storing, calling, answering, allowing};
+ghost use Rattle.judgement_laws.specs.found.Worked.{one, two, use_of, over_truths, over_answer, first_answered, storing, calling, answering, allowing};
 ghost use Rattle.typing_forms.specs.declared.form.Form.TheVariants as form;
 
 /// What is in scope where.

@@ -6,7 +6,7 @@ ghost use Rattle.ir_types.specs.judged.Plain.{PlainType};
 ghost use Rattle.typing_layout.specs.judged.Flags.{HasFlag, Constructible};
 ghost use Rattle.typing_layout.specs.judged.Tree.{Tree};
 ghost use Rattle.typing_layout.specs.judged.View.{type_tree};
-ghost use Rattle.typing_layout.specs.Infos.{HasInfo};
+ghost use Rattle.typing_layout.specs.found.Infos.{HasInfo};
 
 use bitflags::Flags;
 use ir_arena::handle::Handle;

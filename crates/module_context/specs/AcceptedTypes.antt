@@ -4,7 +4,7 @@ use Rattle.ir_flags.specs.declared.settings.Capabilities.{Capabilities}
 use Rattle.ir_types.specs.judged.Plain.{PlainType}
 use Rattle.typing_layout.specs.judged.Rules.{TypeOK}
 use Rattle.typing_layout.specs.judged.View.{type_tree}
-use Rattle.typing_layout.specs.Infos.{HasInfo}
+use Rattle.typing_layout.specs.found.Infos.{HasInfo}
 use Rattle.typing_layout.specs.declared.info.TypeInfo.{TypeInfo}
 
 -- the type at a handle is accepted, and this is reported of it

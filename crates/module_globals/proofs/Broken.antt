@@ -9,7 +9,7 @@ use Rattle.typing_layout.specs.judged.Parts.{Part, Everywhere, EverywhereIn, Som
 use Rattle.typing_layout.specs.judged.Layout.{alignment}
 use Rattle.typing_layout.specs.judged.Tree.{Tree, scalar, vector, matrix, cooperative_matrix, atomic, pointer, value_pointer, array, struct, image, sampler, acceleration_structure, ray_query, binding_array, Members, no_members, member}
 use Rattle.typing_layout.specs.judged.View.{type_tree}
-use Rattle.typing_layout.specs.BufferFaults.{BreaksStorage, BreaksUniform, IsBroken, IsUnfit, IsBadStride, IsBadSpan, IsBadOffset, IsNearAfter}
+use Rattle.typing_layout.specs.found.BufferFaults.{BreaksStorage, BreaksUniform, IsBroken, IsUnfit, IsBadStride, IsBadSpan, IsBadOffset, IsNearAfter}
 use Rattle.typing_layout.specs.declared.type_error.Disalignment.{Disalignment}
 use Rattle.typing_layout.specs.declared.type_error.Disalignment.TheVariants as fault
 use Rattle.typing_layout.specs.declared.type_error.ImmediateError.{ImmediateError}

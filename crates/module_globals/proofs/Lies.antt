@@ -18,8 +18,8 @@ use Rattle.typing_layout.specs.judged.Buffers.{IsStorage, IsUniform, uniform_ali
 use Rattle.typing_layout.specs.judged.Immediates.{FitsImmediates}
 use Rattle.spec_interface.specs.judged.Spaces.{LiesIn, counted, is_storage}
 use Rattle.typing_layout.specs.judged.Layout.{alignment}
-use Rattle.typing_layout.specs.BufferFaults.{BreaksStorage, BreaksUniform, IsBroken, IsUnfit}
-use Rattle.typing_layout.specs.Infos.{HasInfo}
+use Rattle.typing_layout.specs.found.BufferFaults.{BreaksStorage, BreaksUniform, IsBroken, IsUnfit}
+use Rattle.typing_layout.specs.found.Infos.{HasInfo}
 use Rattle.typing_layout.specs.declared.type_error.Disalignment.{Disalignment}
 use Rattle.typing_layout.specs.declared.type_error.ImmediateError.{ImmediateError}
 use Rattle.typing_layout.specs.declared.info.TypeInfo.{TypeInfo}

@@ -11,7 +11,7 @@ use Rattle.module_globals.specs.Faults.{required_bits}
 use Rattle.typing_layout.specs.judged.Flags.{TypeFlag, bit, among, Data, Sized, Copy, IoShareable, HostShareable, CreationResolved, Argument, Constructible}
 use Rattle.spec_interface.specs.judged.Spaces.{required, HasAll}
 use Rattle.typing_layout.specs.judged.Tree.{Tree}
-use Rattle.typing_layout.specs.Infos.{AreFlags}
+use Rattle.typing_layout.specs.found.Infos.{AreFlags}
 use Rattle.typing_layout.specs.declared.type_flags.TypeFlags.{TypeFlags}
 
 by_flags : (P : TypeFlag → Type 0) → P Data → P Sized → P Copy → P IoShareable → P HostShareable → P CreationResolved → P Argument → P Constructible → (f : TypeFlag) → P f

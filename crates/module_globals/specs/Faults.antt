@@ -22,8 +22,8 @@ use Rattle.spec_interface.specs.judged.Spaces.{array_base, counted, array_capabi
 use Rattle.typing_layout.specs.judged.Layout.{size}
 use Rattle.typing_layout.specs.judged.Tree.{Tree}
 use Rattle.typing_layout.specs.judged.View.{type_tree}
-use Rattle.typing_layout.specs.BufferFaults.{BreaksStorage, BreaksUniform, IsBroken, IsUnfit}
-use Rattle.typing_layout.specs.Infos.{AreFlags}
+use Rattle.typing_layout.specs.found.BufferFaults.{BreaksStorage, BreaksUniform, IsBroken, IsUnfit}
+use Rattle.typing_layout.specs.found.Infos.{AreFlags}
 use Rattle.typing_layout.specs.declared.type_error.Disalignment.{Disalignment}
 use Rattle.typing_forms.specs.judged.Forms.{form_of_type}
 use Rattle.typing_forms.specs.declared.form.Form.{Form}

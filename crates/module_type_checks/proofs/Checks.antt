@@ -10,7 +10,7 @@ use Rattle.module_type_checks.proofs.Known.{tree_of}
 use Rattle.module_type_checks.specs.Checked.{IsInnerOK, AreMembersOK, AreMembersRefused, IsTypeFault}
 use Rattle.module_type_checks.specs.Known.{types_in, IsKnown}
 use Rattle.module_type_checks.specs.declared.context.TypeContext.{TypeContext}
-use Rattle.typing_layout.specs.Faults.{IsInnerFault}
+use Rattle.typing_layout.specs.found.Faults.{IsInnerFault}
 use Rattle.typing_layout.specs.declared.type_error.TypeError.{TypeError}
 use Rattle.typing_forms.specs.judged.Order.{named_types}
 use Rattle.typing_forms.specs.judged.Resolutions.{inner_at}

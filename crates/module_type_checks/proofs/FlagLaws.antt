@@ -17,7 +17,7 @@ use Rattle.module_type_checks.specs.Known.{tree_in}
 use Rattle.module_type_checks.specs.Placed.{parts_in, part_of, IsPlaced, IsBefore, AtPlace, Below}
 use Rattle.module_type_checks.specs.declared.context.TypeContext.{TypeContext}
 use Rattle.module_type_checks.specs.declared.members.Placed.{Placed}
-use Rattle.typing_layout.specs.Infos.{AreFlags}
+use Rattle.typing_layout.specs.found.Infos.{AreFlags}
 use Rattle.typing_layout.specs.declared.type_flags.TypeFlags.{TypeFlags}
 
 pub array_are : (base new : TypeFlags) (mask : ℕ) (n : ArraySize) → new.0 ≡ bit_and base.0 mask → AreOf mask (array_flags n) → (t : Tree) (stride : ℕ) → AreFlags base t → AreFlags new (array t n stride)

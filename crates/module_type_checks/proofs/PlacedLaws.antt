@@ -10,7 +10,7 @@ use Rattle.module_type_checks.specs.Known.{tree_in, types_in, AreFacts}
 use Rattle.module_type_checks.specs.Placed.{parts_in, part_of, IsPlaced, IsBefore, end_after, PlacedOK}
 use Rattle.module_type_checks.specs.declared.context.TypeContext.{TypeContext}
 use Rattle.module_type_checks.specs.declared.members.Placed.{Placed}
-use Rattle.typing_layout.specs.MemberFaults.{EndsPast}
+use Rattle.typing_layout.specs.found.MemberFaults.{EndsPast}
 use Rattle.module_type_checks.proofs.Places.{plain_at, part_at, many_parts, many_plain, before_is}
 
 pub placed_at : (c : TypeContext) (ms : List StructMember) (k : ℕ) (m : StructMember) (placed : Placed) → k < length ms → m ≡ get_or ms k m → placed.ty ≡ m.ty → placed.offset ≡ m.offset

@@ -7,7 +7,7 @@ use Rattle.ir_kinds.specs.declared.scalars.ScalarKind.{ScalarKind}
 use Rattle.ir_kinds.specs.declared.scalars.ScalarKind.TheVariants.{Sint, Uint, Float, AbstractInt, AbstractFloat}
 use Rattle.ir_kinds.specs.declared.scalars.ScalarKind.TheVariants as kind
 use Rattle.typing_layout.specs.judged.Widths.{IsWidthAllowed, IsKindAllowed, IsAtomicInteger, IsAtomicKind}
-use Rattle.typing_layout.specs.Faults.{IsNoWidth, IsNoScalar, RequiresFor, KindRequires, Lacks, IsWidthFault, IsNoAtomic, LacksAtomic, LacksWideAtomics, IsAtomicFault}
+use Rattle.typing_layout.specs.found.Faults.{IsNoWidth, IsNoScalar, RequiresFor, KindRequires, Lacks, IsWidthFault, IsNoAtomic, LacksAtomic, LacksWideAtomics, IsAtomicFault}
 use Rattle.typing_layout.specs.declared.type_error.TypeError.{TypeError}
 use Rattle.typing_layout.specs.declared.type_error.TypeError.TheVariants as error
 use Rattle.typing_layout.specs.declared.type_error.WidthError.{WidthError}

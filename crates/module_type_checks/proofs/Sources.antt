@@ -5,7 +5,7 @@ use Rattle.ir_types.specs.declared.types.StructMember.{StructMember}
 use Rattle.typing_layout.specs.judged.Blends.{source_at, HasSource, LocationOK, BlendOK}
 use Rattle.typing_layout.specs.judged.Flags.{blend_source}
 use Rattle.module_type_checks.specs.Blends.{AreLocated, IsLocationFaultIn, IsSoleBelow, IsSole, IsOnlyType, IsCollision, PairOK, IsPairFault, SourcesOK}
-use Rattle.typing_layout.specs.BlendFaults.{IsTwice, IsAbsent, IsAlone, IsSource, IsVaryingFault}
+use Rattle.typing_layout.specs.found.BlendFaults.{IsTwice, IsAbsent, IsAlone, IsSource, IsVaryingFault}
 use Rattle.ir_flags.specs.Sets.{Has}
 use Rattle.ir_flags.specs.declared.settings.TheConstants.Capabilities.{DUAL_SOURCE_BLENDING}
 use Rattle.typing_layout.specs.judged.Blends.{location_of}

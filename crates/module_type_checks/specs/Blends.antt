@@ -5,7 +5,7 @@ use Rattle.typing_layout.specs.judged.Blends.{location_of, source_at, LocationOK
 use Rattle.typing_layout.specs.judged.Flags.{HasFlag, IoShareable, blend_source}
 use Rattle.module_type_checks.specs.Known.{types_in, tree_in}
 use Rattle.module_type_checks.specs.declared.context.TypeContext.{TypeContext}
-use Rattle.typing_layout.specs.BlendFaults.{IsTwice, IsAbsent}
+use Rattle.typing_layout.specs.found.BlendFaults.{IsTwice, IsAbsent}
 use Rattle.typing_layout.specs.declared.type_error.VaryingError.{VaryingError}
 use Rattle.typing_layout.specs.declared.type_error.VaryingError.TheVariants as varying
 use Rattle.typing_forms.specs.judged.Resolutions.{inner_at}

@@ -8,9 +8,9 @@ use Rattle.typing_layout.specs.judged.View.{tree_by}
 use Rattle.module_type_checks.specs.Known.{types_in, tree_in}
 use Rattle.module_type_checks.specs.Placed.{parts_in}
 use Rattle.module_type_checks.specs.declared.context.TypeContext.{TypeContext}
-use Rattle.typing_layout.specs.BlendFaults.{IsBlendFault}
-use Rattle.typing_layout.specs.Faults.{IsInnerFault}
-use Rattle.typing_layout.specs.MemberFaults.{IsStructFault}
+use Rattle.typing_layout.specs.found.BlendFaults.{IsBlendFault}
+use Rattle.typing_layout.specs.found.Faults.{IsInnerFault}
+use Rattle.typing_layout.specs.found.MemberFaults.{IsStructFault}
 use Rattle.typing_layout.specs.declared.type_error.TypeError.{TypeError}
 use Rattle.typing_forms.specs.judged.Resolutions.{inner_at}
 

@@ -1,7 +1,7 @@
 -- Why the vertices of what rays hit are not returned.
 use Rattle.std.specs.Prelude.{Bool}
 use Rattle.ir_flags.specs.declared.settings.Capabilities.{Capabilities}
-use Rattle.typing_layout.specs.Faults.{LacksVertices}
+use Rattle.typing_layout.specs.found.Faults.{LacksVertices}
 use Rattle.typing_layout.specs.declared.type_error.TypeError.{TypeError}
 use Rattle.typing_layout.specs.declared.type_error.TypeError.TheVariants as error
 

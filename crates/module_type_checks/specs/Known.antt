@@ -8,7 +8,7 @@ use Rattle.typing_layout.specs.judged.Tree.{Tree}
 use Rattle.typing_layout.specs.judged.View.{type_tree}
 use Rattle.module_type_checks.specs.declared.context.TypeContext.{TypeContext}
 use Rattle.module_type_checks.specs.declared.facts.Facts.{Facts}
-use Rattle.typing_layout.specs.Infos.{HasInfo}
+use Rattle.typing_layout.specs.found.Infos.{HasInfo}
 use Rattle.typing_layout.specs.declared.info.TypeInfo.{TypeInfo}
 use Rattle.typing_forms.specs.judged.Order.{TypesGoBack}
 use Rattle.typing_forms.specs.judged.Resolutions.{types_view}

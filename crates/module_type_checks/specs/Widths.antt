@@ -4,7 +4,7 @@ use Rattle.ir_flags.specs.declared.settings.Capabilities.{Capabilities}
 use Rattle.ir_kinds.specs.judged.Values.{literal_scalar}
 use Rattle.ir_kinds.specs.declared.scalars.Scalar.{Scalar}
 use Rattle.ir_kinds.specs.declared.values.Literal.{Literal}
-use Rattle.typing_layout.specs.Faults.{IsNoWidth, RequiresFor, Lacks, IsWidthFault, LacksWideAtomics}
+use Rattle.typing_layout.specs.found.Faults.{IsNoWidth, RequiresFor, Lacks, IsWidthFault, LacksWideAtomics}
 use Rattle.typing_layout.specs.declared.type_error.LiteralError.{LiteralError}
 use Rattle.typing_layout.specs.declared.type_error.LiteralError.TheVariants as literal_error
 use Rattle.typing_layout.specs.declared.type_error.TypeError.{TypeError}

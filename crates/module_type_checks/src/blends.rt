@@ -6,7 +6,7 @@ ghost use Rattle.typing_layout.specs.judged.Blends.{HasSource, LocationOK, Blend
 ghost use Rattle.typing_layout.specs.judged.Flags.{HasFlag, IoShareable, blend_source};
 ghost use Rattle.module_type_checks.specs.Blends.{AreLocated, IsLocationFault, IsLocationFaultIn, IsSole, IsSoleBelow, IsCollision, IsOnlyType, PairOK, IsPairFault, SourcesOK};
 ghost use Rattle.module_type_checks.specs.Known.{IsKnown, types_in, tree_in};
-ghost use Rattle.typing_layout.specs.BlendFaults.{IsAbsent, IsVaryingFault, IsBlendFault};
+ghost use Rattle.typing_layout.specs.found.BlendFaults.{IsAbsent, IsVaryingFault, IsBlendFault};
 
 use crate::{TypeContext, facts_of, type_at};
 use bitflags::Flags;

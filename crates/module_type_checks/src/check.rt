@@ -5,7 +5,7 @@ ghost use Rattle.ir_types.specs.judged.Plain.{inner_view, member_view};
 ghost use Rattle.typing_layout.specs.judged.Rules.{TypeOK};
 ghost use Rattle.module_type_checks.specs.Checked.{IsInnerOK, AreMembersOK, AreMembersRefused, IsTypeFault};
 ghost use Rattle.module_type_checks.specs.Known.{IsKnown, types_in};
-ghost use Rattle.typing_layout.specs.Faults.{IsInnerFault};
+ghost use Rattle.typing_layout.specs.found.Faults.{IsInnerFault};
 ghost use Rattle.typing_forms.specs.judged.Order.{named_types};
 
 use crate::blends::check_blend;

@@ -9,7 +9,7 @@ ghost use Rattle.typing_layout.specs.judged.Tree.{Tree, array, struct};
 ghost use Rattle.typing_layout.specs.judged.View.{members_by};
 ghost use Rattle.module_type_checks.specs.Known.{IsKnown, tree_in};
 ghost use Rattle.module_type_checks.specs.Placed.{parts_in, AtPlace};
-ghost use Rattle.typing_layout.specs.Infos.{AreFlags};
+ghost use Rattle.typing_layout.specs.found.Infos.{AreFlags};
 
 use crate::{TypeContext, has_source, member_at, member_before};
 use ir_kinds::{AddressSpace, ScalarKind};

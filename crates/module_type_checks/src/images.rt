@@ -3,7 +3,7 @@
 ghost use Rattle.std.specs.Prelude.{MatchResult};
 ghost use Rattle.typing_layout.specs.judged.Images.{ImageOK, VerticesOK, StructureOK, QueryOK};
 ghost use Rattle.module_type_checks.specs.Images.{IsVerticesFault};
-ghost use Rattle.typing_layout.specs.Faults.{IsImageFault, IsStructureFault, IsQueryFault};
+ghost use Rattle.typing_layout.specs.found.Faults.{IsImageFault, IsStructureFault, IsQueryFault};
 
 use bitflags::Flags;
 use ir_flags::Capabilities;

@@ -7,7 +7,7 @@ ghost use Rattle.typing_layout.specs.judged.Parts.{before};
 ghost use Rattle.typing_layout.specs.judged.Structs.{StructOK};
 ghost use Rattle.module_type_checks.specs.Known.{IsKnown, types_in, tree_in};
 ghost use Rattle.module_type_checks.specs.Placed.{parts_in, IsPlaced, IsBefore, end_after, PlacedOK};
-ghost use Rattle.typing_layout.specs.MemberFaults.{IsStructFault};
+ghost use Rattle.typing_layout.specs.found.MemberFaults.{IsStructFault};
 
 use crate::context::TypeContext;
 use crate::facts::{Facts, facts_of};

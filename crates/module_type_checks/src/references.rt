@@ -8,7 +8,7 @@ ghost use Rattle.typing_layout.specs.judged.Rules.{IsStorageSpace, PointerOK, Ar
 ghost use Rattle.typing_layout.specs.judged.Tree.{Tree};
 ghost use Rattle.typing_layout.specs.judged.View.{tree_by};
 ghost use Rattle.module_type_checks.specs.Known.{IsKnown, tree_in, types_in};
-ghost use Rattle.typing_layout.specs.Faults.{IsPointerFault, IsArrayFault, IsBindingArrayFault};
+ghost use Rattle.typing_layout.specs.found.Faults.{IsPointerFault, IsArrayFault, IsBindingArrayFault};
 
 use crate::{TypeContext, facts_of, type_at};
 use bitflags::Flags;

@@ -6,7 +6,7 @@ ghost use Rattle.ir_kinds.specs.judged.Values.{literal_scalar};
 ghost use Rattle.typing_layout.specs.judged.Rules.{CooperativeOK};
 ghost use Rattle.typing_layout.specs.judged.Widths.{ScalarOK, AtomicOK, IsWidthAllowed, IsAtomicInteger};
 ghost use Rattle.module_type_checks.specs.Widths.{IsWideFault, IsLiteralFault, IsAtomicIntegerFault};
-ghost use Rattle.typing_layout.specs.Faults.{IsWidthFault, IsScalarFault, IsMatrixFault, IsCooperativeFault, IsAtomicFault};
+ghost use Rattle.typing_layout.specs.found.Faults.{IsWidthFault, IsScalarFault, IsMatrixFault, IsCooperativeFault, IsAtomicFault};
 
 use bitflags::Flags;
 use ir_flags::Capabilities;

@@ -18,7 +18,7 @@ use Rattle.module_type_checks.specs.Placed.{parts_in, part_of, IsPlaced, IsBefor
 use Rattle.module_type_checks.specs.declared.context.TypeContext.{TypeContext}
 use Rattle.module_type_checks.specs.declared.facts.Facts.{Facts}
 use Rattle.module_type_checks.specs.declared.members.Placed.{Placed}
-use Rattle.typing_layout.specs.BufferFaults.{IsBadStride, IsBadSpan, IsBadOffset, IsNearAfter, IsBroken, IsUnfit}
+use Rattle.typing_layout.specs.found.BufferFaults.{IsBadStride, IsBadSpan, IsBadOffset, IsNearAfter, IsBroken, IsUnfit}
 use Rattle.typing_layout.specs.declared.type_error.Disalignment.{Disalignment}
 use Rattle.typing_layout.specs.declared.type_error.ImmediateError.{ImmediateError}
 use Rattle.typing_layout.specs.declared.type_error.ImmediateError.TheVariants as immediate

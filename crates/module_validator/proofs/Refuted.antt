@@ -27,9 +27,9 @@ use Rattle.module_type_checks.specs.Checked.{IsTypeFault, IsInnerOK}
 use Rattle.module_type_checks.specs.Known.{types_in, tree_in, IsKnown}
 use Rattle.module_type_checks.specs.Placed.{part_of}
 use Rattle.module_type_checks.specs.declared.context.TypeContext.{TypeContext}
-use Rattle.typing_layout.specs.BlendFaults.{IsSource, IsVaryingFault, IsBlendFault}
-use Rattle.typing_layout.specs.Faults.{IsScalarFault, IsMatrixFault, IsCooperativeFault, IsPointerFault, IsArrayFault, IsBindingArrayFault, IsImageFault, IsStructureFault, IsQueryFault, IsInnerFault, IsPending}
-use Rattle.typing_layout.specs.MemberFaults.{IsMemberFault, IsStructFault}
+use Rattle.typing_layout.specs.found.BlendFaults.{IsSource, IsVaryingFault, IsBlendFault}
+use Rattle.typing_layout.specs.found.Faults.{IsScalarFault, IsMatrixFault, IsCooperativeFault, IsPointerFault, IsArrayFault, IsBindingArrayFault, IsImageFault, IsStructureFault, IsQueryFault, IsInnerFault, IsPending}
+use Rattle.typing_layout.specs.found.MemberFaults.{IsMemberFault, IsStructFault}
 use Rattle.typing_layout.specs.declared.type_error.TypeError.{TypeError}
 use Rattle.typing_layout.specs.declared.type_error.TypeError.TheVariants as error
 use Rattle.typing_layout.specs.declared.type_error.VaryingError.{VaryingError}

@@ -19,8 +19,8 @@ use Rattle.module_type_checks.proofs.Known.{tree_of}
 use Rattle.module_type_checks.specs.Known.{types_in, tree_in, IsKnown, AreFacts}
 use Rattle.module_type_checks.specs.declared.context.TypeContext.{TypeContext}
 use Rattle.module_type_checks.specs.declared.facts.Facts.{Facts}
-use Rattle.typing_layout.specs.BufferFaults.{IsUnfit}
-use Rattle.typing_layout.specs.Infos.{AreFlags}
+use Rattle.typing_layout.specs.found.BufferFaults.{IsUnfit}
+use Rattle.typing_layout.specs.found.Infos.{AreFlags}
 use Rattle.typing_layout.specs.declared.type_error.ImmediateError.{ImmediateError}
 use Rattle.typing_layout.specs.declared.type_error.ImmediateError.TheVariants as immediate
 use Rattle.typing_layout.specs.declared.type_flags.TypeFlags.{TypeFlags}

@@ -7,7 +7,7 @@ use Rattle.ir_flags.specs.declared.settings.Capabilities.{Capabilities}
 use Rattle.ir_types.specs.judged.Plain.{PlainInner, PlainType}
 use Rattle.module_validator.specs.declared.validate.InvalidType.{InvalidType}
 use Rattle.typing_layout.specs.judged.Rules.{TypeOK}
-use Rattle.typing_layout.specs.Faults.{IsInnerFault}
+use Rattle.typing_layout.specs.found.Faults.{IsInnerFault}
 use Rattle.typing_layout.specs.declared.type_error.TypeError.{TypeError}
 use Rattle.typing_forms.specs.judged.Resolutions.{inner_at}
 

@@ -9,7 +9,7 @@ ghost use Rattle.typing_layout.specs.judged.View.{tree_by};
 ghost use Rattle.module_type_checks.specs.Known.{IsKnown, tree_in};
 ghost use Rattle.module_type_checks.specs.Placed.{parts_in, AtPlace};
 ghost use Rattle.module_validator.specs.Layouts.{IsScalarFit, IsScalarUnfit};
-ghost use Rattle.typing_layout.specs.BufferFaults.{IsUnfit};
+ghost use Rattle.typing_layout.specs.found.BufferFaults.{IsUnfit};
 
 use ir_arena::handle::Handle;
 use ir_kinds::Scalar;

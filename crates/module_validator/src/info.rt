@@ -9,8 +9,8 @@ ghost use Rattle.typing_layout.specs.judged.Layout.{alignment};
 ghost use Rattle.typing_layout.specs.judged.Tree.{array};
 ghost use Rattle.typing_layout.specs.judged.View.{tree_by};
 ghost use Rattle.module_type_checks.specs.Known.{IsKnown, tree_in, types_in};
-ghost use Rattle.typing_layout.specs.BufferFaults.{BreaksStorage, BreaksUniform, IsBroken};
-ghost use Rattle.typing_layout.specs.Infos.{AreFlags, HasInfo};
+ghost use Rattle.typing_layout.specs.found.BufferFaults.{BreaksStorage, BreaksUniform, IsBroken};
+ghost use Rattle.typing_layout.specs.found.Infos.{AreFlags, HasInfo};
 ghost use Rattle.typing_forms.specs.judged.Order.{named_types};
 ghost use Rattle.typing_forms.specs.judged.Resolutions.{inner_at};
 

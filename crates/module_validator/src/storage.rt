@@ -7,8 +7,8 @@ ghost use Rattle.typing_layout.specs.judged.Buffers.{IsStorage};
 ghost use Rattle.typing_layout.specs.judged.Layout.{alignment};
 ghost use Rattle.module_type_checks.specs.Known.{IsKnown, tree_in, types_in};
 ghost use Rattle.module_type_checks.specs.Placed.{parts_in, AtPlace};
-ghost use Rattle.typing_layout.specs.BufferFaults.{BreaksStorage, IsBroken};
-ghost use Rattle.typing_layout.specs.Infos.{AreFlags};
+ghost use Rattle.typing_layout.specs.found.BufferFaults.{BreaksStorage, IsBroken};
+ghost use Rattle.typing_layout.specs.found.Infos.{AreFlags};
 
 use bitflags::Flags;
 use ir_arena::handle::Handle;

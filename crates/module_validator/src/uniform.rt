@@ -8,8 +8,8 @@ ghost use Rattle.typing_layout.specs.judged.Parts.{before};
 ghost use Rattle.typing_layout.specs.judged.Layout.{alignment};
 ghost use Rattle.module_type_checks.specs.Known.{IsKnown, tree_in, types_in};
 ghost use Rattle.module_type_checks.specs.Placed.{parts_in, AtPlace, IsPlaced};
-ghost use Rattle.typing_layout.specs.BufferFaults.{BreaksUniform, IsBroken};
-ghost use Rattle.typing_layout.specs.Infos.{AreFlags};
+ghost use Rattle.typing_layout.specs.found.BufferFaults.{BreaksUniform, IsBroken};
+ghost use Rattle.typing_layout.specs.found.Infos.{AreFlags};
 
 use crate::Broken;
 use bitflags::Flags;

@@ -7,7 +7,7 @@ ghost use Rattle.module_validator.specs.Reported.{IsInfoOf};
 ghost use Rattle.typing_layout.specs.judged.Widths.{ScalarOK};
 ghost use Rattle.spec_expressions.specs.judged.LiteralScalars.{LiteralOK};
 ghost use Rattle.judgement.specs.judged.ModuleSteps.{ModuleOK};
-ghost use Rattle.typing_layout.specs.Faults.{IsWidthFault};
+ghost use Rattle.typing_layout.specs.found.Faults.{IsWidthFault};
 ghost use Rattle.module_type_checks.specs.Widths.{IsLiteralFault};
 
 use crate::{ModuleError, check_handles, check_values, expression_types, lay_out, type_infos};

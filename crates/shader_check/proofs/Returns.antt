@@ -10,7 +10,7 @@ use Rattle.judgement.specs.judged.Steps.{IsPrepared}
 use Rattle.judgement.specs.declared.finding.Finding.{Finding}
 use Rattle.judgement.specs.declared.finding.Finding.TheVariants.{Accepted, RefusedDocument, RefusedHandles, Refused}
 use Rattle.judgement_laws.specs.judged.Like.{HasNoResult}
-use Rattle.judgement_laws.specs.found.Laws.{AreJudgedAlike}
+use Rattle.judgement_laws.specs.found.ReturnLaws.{AreJudgedAlike}
 use Rattle.judgement_laws.proofs.Finding.{returns_dont_matter}
 use Rattle.shader_check.specs.judged.Theorem.{FindsIn, Finds, JudgedDocument, Judged, IsReportOn, IsReportedOf, IsReported, with_returns, ReturnsDontShow}
 

@@ -1,5 +1,10 @@
+pub mod BlendFaults
+pub mod BufferFaults
+pub mod Faults
+pub mod FlagWords
 pub mod Held
+pub mod Infos
 pub mod Kinds
 pub mod Laid
-pub mod FlagWords
+pub mod MemberFaults
 pub mod TreeLaws

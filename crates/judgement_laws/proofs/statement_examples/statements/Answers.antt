@@ -5,7 +5,7 @@ use Rattle.spec_statements.specs.judged.Shapes.{IsIntegerScalar}
 use Rattle.judgement_laws.proofs.statement_examples.statements.Goals as goal
 use Rattle.spec_statements.specs.judged.BlockContext.{form_at}
 use Rattle.spec_statements.specs.judged.Stores.{itself}
-use Rattle.judgement_laws.specs.Worked.{calling, given_first}
+use Rattle.judgement_laws.specs.found.Worked.{calling, given_first}
 use Rattle.typing_forms.specs.judged.Forms.{form_of_type}
 use Rattle.typing_forms.specs.declared.form.Form.TheVariants as form
 

@@ -4,7 +4,7 @@ use Rattle.ir_blocks.specs.judged.Plain.{emit, if_, loop, continue, PlainBlock, 
 use Rattle.ir_items.specs.judged.Plain.{PlainFunction}
 use Rattle.spec_statements.proofs.ScopeLaws.{none_held}
 use Rattle.spec_statements.proofs.StrictLaws.{strict_by_walk_lem}
-use Rattle.judgement_laws.specs.Worked.{one, two, over_truths}
+use Rattle.judgement_laws.specs.found.Worked.{one, two, over_truths}
 use Rattle.judgement_laws.proofs.statement_examples.strict_scope.Goals as goal
 
 abbrev turning : PlainBlock → PlainFunction

@@ -9,7 +9,7 @@ use Rattle.ir_types.specs.judged.Plain.{inner_view}
 use Rattle.module_constants.proofs.FlagLemmas.{info_at}
 use Rattle.module_globals.specs.Contexts.{module_of}
 use Rattle.typing_layout.specs.judged.View.{type_tree}
-use Rattle.typing_layout.specs.Infos.{HasInfo}
+use Rattle.typing_layout.specs.found.Infos.{HasInfo}
 use Rattle.typing_forms.specs.judged.Resolutions.{inner_at}
 use Rattle.module_globals.proofs.globals.check_lies.Goals as goal
 

@@ -7,7 +7,7 @@ use Rattle.module_constants.proofs.FlagLemmas.{info_at}
 use Rattle.module_globals.specs.Contexts.{module_of}
 use Rattle.spec_interface.specs.judged.Spaces.{space_capability, required, HasAll}
 use Rattle.typing_layout.specs.judged.View.{type_tree}
-use Rattle.typing_layout.specs.Infos.{AreFlags}
+use Rattle.typing_layout.specs.found.Infos.{AreFlags}
 use Rattle.typing_forms.specs.judged.Resolutions.{inner_at}
 use Rattle.module_globals.proofs.globals.check_needs.Goals.{in-Some+else-not-contains, in_default}
 use Rattle.module_globals.proofs.globals.check_needs.Goals as goal

@@ -1,7 +1,7 @@
 use Rattle.std.proofs.Common.{sym, subst}
 use Rattle.module_validator.proofs.WholeLaws.{array_at, array_immediates}
 use Rattle.module_type_checks.specs.Known.{tree_in}
-use Rattle.typing_layout.specs.Infos.{AreFlags}
+use Rattle.typing_layout.specs.found.Infos.{AreFlags}
 use Rattle.module_validator.proofs.info.info_of_array.Goals as goal
 
 pub uniform_of_array-requires : goal.uniform_of_array-requires

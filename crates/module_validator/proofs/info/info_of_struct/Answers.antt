@@ -1,7 +1,7 @@
 use Rattle.std.proofs.Common.{sym, subst, map}
 use Rattle.ir_types.specs.judged.Plain.{member_view}
 use Rattle.module_validator.proofs.LayoutLaws.{struct_at}
-use Rattle.typing_layout.specs.Infos.{AreFlags}
+use Rattle.typing_layout.specs.found.Infos.{AreFlags}
 use Rattle.module_validator.proofs.info.info_of_struct.Goals as goal
 
 pub uniform_of_struct-requires-clause-flags : goal.uniform_of_struct-requires-clause-flags

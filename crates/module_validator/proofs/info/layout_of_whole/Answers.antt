@@ -3,7 +3,7 @@ use Rattle.module_validator.proofs.LayoutLaws.{broken_here}
 use Rattle.module_validator.proofs.WholeLaws.{whole_storage, whole_uniform, whole_alignment}
 use Rattle.typing_layout.specs.judged.Flags.{HasFlag, HostShareable}
 use Rattle.module_type_checks.specs.Known.{tree_in}
-use Rattle.typing_layout.specs.BufferFaults.{BreaksStorage, BreaksUniform}
+use Rattle.typing_layout.specs.found.BufferFaults.{BreaksStorage, BreaksUniform}
 use Rattle.typing_layout.specs.declared.type_error.Disalignment.TheVariants as fault
 use Rattle.module_validator.proofs.info.layout_of_whole.Goals as goal
 

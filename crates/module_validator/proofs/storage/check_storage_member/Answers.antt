@@ -3,7 +3,7 @@ use Rattle.ir_types.specs.judged.Plain.{member_view}
 use Rattle.module_validator.proofs.LayoutLaws.{broken_part, broken_here, bad_offset, storage_part}
 use Rattle.typing_layout.specs.judged.Layout.{alignment}
 use Rattle.module_type_checks.specs.Known.{types_in, tree_in}
-use Rattle.typing_layout.specs.BufferFaults.{BreaksStorage, IsBroken}
+use Rattle.typing_layout.specs.found.BufferFaults.{BreaksStorage, IsBroken}
 use Rattle.typing_layout.specs.declared.type_error.Disalignment.TheVariants as fault
 use Rattle.module_validator.proofs.storage.check_storage_member.Goals as goal
 

@@ -1,7 +1,7 @@
 use Rattle.std.proofs.Common.{◌≡◌, true≢false, sym, ◌∙◌}
 use Rattle.module_validator.proofs.LayoutLaws.{broken_here, bad_stride, storage_array}
 use Rattle.typing_layout.specs.judged.Layout.{alignment}
-use Rattle.typing_layout.specs.BufferFaults.{BreaksStorage}
+use Rattle.typing_layout.specs.found.BufferFaults.{BreaksStorage}
 use Rattle.typing_layout.specs.declared.type_error.Disalignment.TheVariants as fault
 use Rattle.module_validator.proofs.storage.storage_of_array.Goals as goal
 

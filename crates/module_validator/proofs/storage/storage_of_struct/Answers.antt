@@ -7,7 +7,7 @@ use Rattle.typing_layout.specs.judged.Flags.{HasFlag, HostShareable}
 use Rattle.module_type_checks.proofs.Places.{below_more, below_all}
 use Rattle.module_type_checks.specs.Known.{tree_in}
 use Rattle.module_type_checks.specs.Placed.{parts_in}
-use Rattle.typing_layout.specs.BufferFaults.{BreaksStorage}
+use Rattle.typing_layout.specs.found.BufferFaults.{BreaksStorage}
 use Rattle.typing_layout.specs.declared.type_error.Disalignment.TheVariants as fault
 use Rattle.module_validator.proofs.storage.storage_of_struct.Goals as goal
 

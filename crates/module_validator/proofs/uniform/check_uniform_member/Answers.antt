@@ -2,7 +2,7 @@ use Rattle.std.proofs.Common.{map, rules}
 use Rattle.ir_types.specs.judged.Plain.{member_view}
 use Rattle.module_validator.proofs.LayoutLaws.{broken_part}
 use Rattle.module_type_checks.specs.Known.{types_in, tree_in}
-use Rattle.typing_layout.specs.BufferFaults.{BreaksUniform, IsBroken}
+use Rattle.typing_layout.specs.found.BufferFaults.{BreaksUniform, IsBroken}
 use Rattle.module_validator.proofs.uniform.check_uniform_member.Goals as goal
 
 pub returns-in-Err : goal.returns-in-Err

@@ -21,8 +21,8 @@ use Rattle.ir_types.specs.declared.types.TypeInner.TheVariants as inner
 use Rattle.typing_layout.specs.judged.Flags.{HasFlag, Data, Sized}
 use Rattle.typing_layout.specs.judged.Rules.{IsStorageSpace, BindingArrayOK}
 use Rattle.typing_layout.specs.judged.View.{type_tree}
-use Rattle.typing_layout.specs.BlendFaults.{IsBlendFault}
-use Rattle.typing_layout.specs.MemberFaults.{IsStructFault}
+use Rattle.typing_layout.specs.found.BlendFaults.{IsBlendFault}
+use Rattle.typing_layout.specs.found.MemberFaults.{IsStructFault}
 use Rattle.typing_layout.specs.declared.type_error.TypeError.{TypeError}
 use Rattle.typing_layout.specs.declared.type_error.TypeError.TheVariants as error
 use Rattle.typing_layout.specs.declared.type_error.WidthError.{WidthError}

@@ -7,7 +7,7 @@ use Rattle.typing_layout.specs.judged.Flags.{TypeFlag, bit, HasFlag}
 use Rattle.typing_layout.specs.judged.Immediates.{FitsImmediates}
 use Rattle.typing_layout.specs.judged.Layout.{alignment}
 use Rattle.typing_layout.specs.judged.Tree.{Tree}
-use Rattle.typing_layout.specs.BufferFaults.{BreaksStorage, BreaksUniform, IsBroken, IsUnfit}
+use Rattle.typing_layout.specs.found.BufferFaults.{BreaksStorage, BreaksUniform, IsBroken, IsUnfit}
 use Rattle.typing_layout.specs.declared.type_flags.TypeFlags.{TypeFlags}
 use Rattle.typing_layout.specs.declared.info.TypeInfo.{TypeInfo}
 
