@@ -2,7 +2,8 @@
 """Writes READING.md: which definitions the theorem rests on, in the order in which to read them.
 
 It begins at the names below, and goes from each definition to those that it cites, as its file imports them. With --check it
-writes nothing, says whether the page is as it would be written, and ends with status 1 where it isn't.
+writes nothing, and ends with status 1 where the page is not as it would be written, where two of the definitions have one
+name, or where JUDGEMENT.md cites a name that nothing has.
 """
 import re
 import sys
@@ -11,6 +12,7 @@ from pathlib import Path
 TOP = Path(__file__).resolve().parent.parent
 CRATES = TOP / "crates"
 PAGE = TOP / "docs/READING.md"
+PROSE = TOP / "docs/JUDGEMENT.md"
 # where a reader begins: what the program writes for any bytes, and what is promised of a document that is accepted
 ROOTS = [("What is written", "IsExpected"), ("What is promised of what is accepted", "SoundText")]
 FIRST = ("shader_check", "judged.Theorem")
@@ -110,6 +112,23 @@ def reached(files, root):
     return order, types
 
 
+def shared(files):
+    """The names that several of the definitions have."""
+    names = {}
+    for _, root in ROOTS:
+        for crate, module, name in reached(files, root)[0]:
+            names.setdefault(name, set()).add(f"{crate}/{module}")
+    return {name: places for name, places in names.items() if len(places) > 1}
+
+
+def unknown():
+    """The names that JUDGEMENT.md cites, and that stand nowhere in the crates."""
+    there = set()
+    for path in [*CRATES.glob("*/specs/**/*.antt"), *CRATES.glob("*/proofs/**/*.antt"), *CRATES.glob("*/src/**/*.rt")]:
+        there |= set(re.findall(r"[^\s(){},;:→×⊎≡≤<λ¬=]+", path.read_text()))
+    return [name for name in sorted(set(re.findall(r"`([A-Za-z_]+)`", PROSE.read_text()))) if name not in there]
+
+
 def page(files):
     lines = ["# What the theorem rests on", "",
              "Written by `docs/reading.py`. Whoever wants to believe the theorem reads these definitions, from the top, and the first two"
@@ -137,12 +156,14 @@ def page(files):
 
 
 def main():
-    text = page(load())
+    files = load()
+    text = page(files)
     if "--check" in sys.argv[1:]:
-        if PAGE.read_text() != text:
-            print("READING.md is not as it would be written")
-            sys.exit(1)
-        return
+        wrong = [] if PAGE.read_text() == text else ["READING.md is not as it would be written"]
+        wrong += [f"{name} stands in {', '.join(sorted(places))}" for name, places in sorted(shared(files).items())]
+        wrong += [f"JUDGEMENT.md cites {name}, which nothing is called" for name in unknown()]
+        print("\n".join(wrong), end="\n" if wrong else "")
+        sys.exit(1 if wrong else 0)
     PAGE.write_text(text)
     print(text.rstrip().split("\n")[-1])
 

@@ -9,7 +9,7 @@ use Rattle.ir_items.specs.judged.GlobalPlain.{PlainGlobal}
 use Rattle.ir_items.specs.found.GlobalView.{values_of}
 use Rattle.ir_types.specs.judged.Plain.{PlainInner, plain, PlainType}
 use Rattle.ir_types.specs.declared.types.TypeInner.TheVariants as inner
-use Rattle.spec_interface.specs.judged.Spaces.{array_base, counted}
+use Rattle.spec_interface.specs.judged.Spaces.{array_base, effective_type}
 use Rattle.judgement.specs.judged.Lines.{is_buffer, buffer_line, buffer_of}
 use Rattle.typing_layout.specs.judged.Layout.{size, alignment}
 use Rattle.typing_layout.specs.judged.View.{type_tree}
@@ -31,17 +31,17 @@ counted_by : (types : List PlainType) → TypesGoBack types → (type : ℕ) →
 counted_by types back type within None e = within
 counted_by types back type within (Some base) e = let before = base_before types back type base (inner_at types type) refl e in omega (arith, before, within)
 
-pub counted_there : (types : List PlainType) → TypesGoBack types → (type : ℕ) → type < length types → counted types type < length types
+pub counted_there : (types : List PlainType) → TypesGoBack types → (type : ℕ) → type < length types → effective_type types type < length types
 counted_there types back type within = counted_by types back type within (array_base (inner_at types type)) refl
 
 -- a buffer's line tells the layout
-pub buffer_told : (types : List PlainType) (number : ℕ) (v : PlainGlobal) (type : ℕ) (l : TypeLayout) → is_buffer v.space ≡ true → type ≡ counted types v.ty → IsLayoutOf (type_tree types type) l
+pub buffer_told : (types : List PlainType) (number : ℕ) (v : PlainGlobal) (type : ℕ) (l : TypeLayout) → is_buffer v.space ≡ true → type ≡ effective_type types v.ty → IsLayoutOf (type_tree types type) l
     → buffer_line number l.size l.alignment ≡ buffer_of types number v
 buffer_told types number v type l buffer counts is =
-    let here : IsLayoutOf (type_tree types (counted types v.ty)) l = subst (λ t. IsLayoutOf (type_tree types t) l) counts is in
+    let here : IsLayoutOf (type_tree types (effective_type types v.ty)) l = subst (λ t. IsLayoutOf (type_tree types t) l) counts is in
     ap (λ n. buffer_line number n l.alignment) here.size
-    ∙ (ap (λ n. buffer_line number (size (type_tree types (counted types v.ty))) n) here.alignment
-    ∙ sym (ap (λ b. if b then buffer_line number (size (type_tree types (counted types v.ty))) (alignment (type_tree types (counted types v.ty))) else []) buffer))
+    ∙ (ap (λ n. buffer_line number (size (type_tree types (effective_type types v.ty))) n) here.alignment
+    ∙ sym (ap (λ b. if b then buffer_line number (size (type_tree types (effective_type types v.ty))) (alignment (type_tree types (effective_type types v.ty))) else []) buffer))
 
 -- the variable that an arena has at a place is the module's
 pub global_found : {T View : Type 0} (view : T → View) (entries : List (T × Span)) (h : ℕ) (v : T) → Some v ≡ value_at entries h → slice_get (map view (values_of entries)) h ≡ Some (view v)

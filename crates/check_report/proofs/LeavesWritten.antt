@@ -2,15 +2,14 @@
 use Rattle.std.proofs.Common.{◌≡◌, ◌≢◌, ◌<◌, ◌+◌, ◌-◌, ◌*◌, ℕ, zero, suc, List, [], ◌∷◌, ◌++◌, Option, Some, None, map, length, get_or, drop, slice_get, option_map, string_bytes, codes, true, false, true≢false, ◌==◌, refl, ap, sym, subst, ◌∙◌, arith, add-one, append_assoc, append-nil}
 use Rattle.std.proofs.lemmas.Bool.{eqb-true}
 use Rattle.std.proofs.lemmas.Option.{slice_get-map}
-use Rattle.ir_types.specs.judged.Plain.{PlainMember, PlainInner, PlainType, member_view}
+use Rattle.ir_types.specs.judged.Plain.{PlainMember, PlainType, member_view}
 use Rattle.ir_types.specs.declared.types.StructMember.{StructMember}
 use Rattle.check_report.proofs.Listed.{repeated_last, split_at}
 use Rattle.check_report.specs.Lines.{leaf_line, leaf_lines, path_word}
-use Rattle.check_report.specs.Paths.{dot_after, named, numbered, parts_at, parts_found, parts_of_found, to_element, to_found, to_member, path_along}
-use Rattle.judgement.specs.judged.Leaves.{Leaf, leaf, inside, leaves, member_leaves, repeated}
-use Rattle.typing_forms.specs.judged.Resolutions.{inner_at}
+use Rattle.check_report.specs.Paths.{dot_after, named, numbered, parts_at, parts_of_found, to_element, to_found, to_member, path_along}
+use Rattle.judgement.specs.judged.Leaves.{Leaf, leaf, leaf_inside, leaves, member_leaves, repeated}
 use Rattle.typing_layout.specs.judged.Tree.{Tree}
-use Rattle.typing_layout.specs.judged.View.{members_by, tree_by, tree_along}
+use Rattle.typing_layout.specs.judged.View.{members_by}
 
 lines_append : (text : List ℕ → List ℕ) (start : ℕ) (xs ys : List Leaf) → leaf_lines text start (xs ++ ys) ≡ leaf_lines text start xs ++ leaf_lines text start ys
 lines_append text start [] ys = refl
@@ -19,11 +18,11 @@ lines_append text start (x ∷ xs) ys =
     ap (λ r. line ++ r) (lines_append text start xs ys) ∙ sym (append_assoc line (leaf_lines text start xs) (leaf_lines text start ys))
 
 -- of the leaves of a part, as those of the whole
-lines_inside : (text : List ℕ → List ℕ) (start part offset : ℕ) (xs : List Leaf) → leaf_lines text start (map (inside part offset) xs) ≡ leaf_lines (λ p. text (part ∷ p)) (start + offset) xs
+lines_inside : (text : List ℕ → List ℕ) (start part offset : ℕ) (xs : List Leaf) → leaf_lines text start (map (leaf_inside part offset) xs) ≡ leaf_lines (λ p. text (part ∷ p)) (start + offset) xs
 lines_inside text start part offset [] = refl
 lines_inside text start part offset (x ∷ xs) =
     let e : start + (offset + x.first) ≡ start + offset + x.first = omega arith in
-    ap (λ f. leaf_line (text (part ∷ x.path)) f x.length x.alignment ++ leaf_lines text start (map (inside part offset) xs)) e
+    ap (λ f. leaf_line (text (part ∷ x.path)) f x.length x.alignment ++ leaf_lines text start (map (leaf_inside part offset) xs)) e
     ∙ ap (λ r. leaf_line (text (part ∷ x.path)) (start + offset + x.first) x.length x.alignment ++ r) (lines_inside text start part offset xs)
 
 -- ---- elements
@@ -34,10 +33,10 @@ pub one_element_more : (types : List PlainType) (before path : List ℕ) (base s
     → after ≡ old ++ leaf_lines (path_along types before (numbered base)) start (repeated (place + 1) 0 stride ls)
 one_element_more types before path base start place stride ls out old after p is q =
     let text : List ℕ → List ℕ = path_along types before (numbered base) in
-    let e : repeated (place + 1) 0 stride ls ≡ repeated place 0 stride ls ++ map (inside (0 + place) ((0 + place) * stride)) ls = ap (λ j. repeated j 0 stride ls) (add-one place) ∙ repeated_last place 0 stride ls in
+    let e : repeated (place + 1) 0 stride ls ≡ repeated place 0 stride ls ++ map (leaf_inside (0 + place) ((0 + place) * stride)) ls = ap (λ j. repeated j 0 stride ls) (add-one place) ∙ repeated_last place 0 stride ls in
     let z : 0 + place ≡ place = omega arith in
-    let here : leaf_lines text start (map (inside (0 + place) ((0 + place) * stride)) ls) ≡ leaf_lines (path_along types path (parts_at types base)) (start + place * stride) ls =
-    ap (λ j. leaf_lines text start (map (inside j (j * stride)) ls)) z
+    let here : leaf_lines text start (map (leaf_inside (0 + place) ((0 + place) * stride)) ls) ≡ leaf_lines (path_along types path (parts_at types base)) (start + place * stride) ls =
+    ap (λ j. leaf_lines text start (map (leaf_inside j (j * stride)) ls)) z
     ∙ lines_inside text start place (place * stride) ls
     ∙ ap (λ b. leaf_lines (path_along types b (parts_at types base)) (start + place * stride) ls) (sym is) in
     let f : leaf_lines text start (repeated (place + 1) 0 stride ls) ≡ leaf_lines text start (repeated place 0 stride ls) ++ leaf_lines (path_along types path (parts_at types base)) (start + place * stride) ls =
@@ -66,13 +65,13 @@ one_member_more types tree members place start m before path out after all lt is
     let rest : List ℕ = leaf_lines text start (member_leaves 1 (place + 1) (members_by tree (map member_view (drop (place + 1) members)))) in
     let next : suc place ≡ place + 1 = omega arith in
     let at : slice_get ms place ≡ Some (member_view m) = slice_get-map member_view members place ∙ ap (option_map member_view) (got members place m lt is) in
-    let one : leaf_lines text start (map (inside place m.offset) (leaves 1 (tree m.ty))) ≡ leaf_lines (path_along types path (parts_at types m.ty)) (start + m.offset) (leaves 1 (tree m.ty)) =
+    let one : leaf_lines text start (map (leaf_inside place m.offset) (leaves 1 (tree m.ty))) ≡ leaf_lines (path_along types path (parts_at types m.ty)) (start + m.offset) (leaves 1 (tree m.ty)) =
     lines_inside text start place m.offset (leaves 1 (tree m.ty))
     ∙ ap (λ o. leaf_lines (path_along types (to_found before o place) (parts_of_found types o)) (start + m.offset) (leaves 1 (tree m.ty))) at
     ∙ ap (λ b. leaf_lines (path_along types b (parts_at types m.ty)) (start + m.offset) (leaves 1 (tree m.ty))) (sym named_so) in
     let here : leaf_lines text start (member_leaves 1 place (members_by tree (map member_view (drop place members)))) ≡ leaf_lines (path_along types path (parts_at types m.ty)) (start + m.offset) (leaves 1 (tree m.ty)) ++ rest =
     ap (λ l. leaf_lines text start (member_leaves 1 place (members_by tree l))) (split_at members place m lt is)
-    ∙ lines_append text start (map (inside place m.offset) (leaves 1 (tree m.ty))) _
+    ∙ lines_append text start (map (leaf_inside place m.offset) (leaves 1 (tree m.ty))) _
     ∙ ap (λ r. r ++ leaf_lines text start (member_leaves 1 (suc place) (members_by tree (map member_view (drop (place + 1) members))))) one
     ∙ ap (λ n. leaf_lines (path_along types path (parts_at types m.ty)) (start + m.offset) (leaves 1 (tree m.ty)) ++ leaf_lines text start (member_leaves 1 n (members_by tree (map member_view (drop (place + 1) members))))) next in
     ap (λ o. o ++ rest) q ∙ append_assoc out _ rest ∙ ap (λ r. out ++ r) (sym here) ∙ p

@@ -5,7 +5,7 @@ use Rattle.ir_types.specs.judged.Plain.{PlainInner, PlainType, member_view}
 use Rattle.ir_types.specs.declared.types.StructMember.{StructMember}
 use Rattle.check_report.specs.Rows.{row, rows}
 use Rattle.check_report.specs.declared.leaves.Leaf.{Leaf}
-use Rattle.judgement.specs.judged.Leaves.{Leaf as Place, inside, leaves, member_leaves, repeated}
+use Rattle.judgement.specs.judged.Leaves.{Leaf as Place, leaf_inside, leaves, member_leaves, repeated}
 use Rattle.typing_forms.specs.judged.Resolutions.{inner_at}
 use Rattle.typing_layout.specs.judged.Tree.{Tree}
 use Rattle.typing_layout.specs.judged.View.{members_by, tree_by, tree_found, tree_along}
@@ -14,27 +14,27 @@ rows_append : (start : ℕ) (xs ys : List Place) → rows start (xs ++ ys) ≡ r
 rows_append start [] ys = refl
 rows_append start (x ∷ xs) ys = ap (λ r. row start x ∷ r) (rows_append start xs ys)
 
-rows_inside : (start part offset : ℕ) (xs : List Place) → rows start (map (inside part offset) xs) ≡ rows (start + offset) xs
+rows_inside : (start part offset : ℕ) (xs : List Place) → rows start (map (leaf_inside part offset) xs) ≡ rows (start + offset) xs
 rows_inside start part offset [] = refl
 rows_inside start part offset (x ∷ xs) =
     let e : start + (offset + x.first) ≡ start + offset + x.first = omega arith in
-    let one : row start (inside part offset x) ≡ row (start + offset) x = ap (λ f. let l : Leaf = record { first = f; len = x.length; alignment = x.alignment } in l) e in
-    ap (λ r. r ∷ rows start (map (inside part offset) xs)) one ∙ ap (λ r. row (start + offset) x ∷ r) (rows_inside start part offset xs)
+    let one : row start (leaf_inside part offset x) ≡ row (start + offset) x = ap (λ f. let l : Leaf = record { first = f; len = x.length; alignment = x.alignment } in l) e in
+    ap (λ r. r ∷ rows start (map (leaf_inside part offset) xs)) one ∙ ap (λ r. row (start + offset) x ∷ r) (rows_inside start part offset xs)
 
 -- ---- elements
 
-pub repeated_last : (n part stride : ℕ) (ls : List Place) → repeated (suc n) part stride ls ≡ repeated n part stride ls ++ map (inside (part + n) ((part + n) * stride)) ls
+pub repeated_last : (n part stride : ℕ) (ls : List Place) → repeated (suc n) part stride ls ≡ repeated n part stride ls ++ map (leaf_inside (part + n) ((part + n) * stride)) ls
 unfolding repeated
-repeated_last zero part stride ls = append-nil _ ∙ (let e : part ≡ part + 0 = omega arith in ap (λ j. map (inside j (j * stride)) ls) e)
+repeated_last zero part stride ls = append-nil _ ∙ (let e : part ≡ part + 0 = omega arith in ap (λ j. map (leaf_inside j (j * stride)) ls) e)
 repeated_last (suc n) part stride ls =
     let e : suc part + n ≡ part + suc n = omega arith in
-    ap (λ r. map (inside part (part * stride)) ls ++ r) (repeated_last n (suc part) stride ls ∙ ap (λ j. repeated n (suc part) stride ls ++ map (inside j (j * stride)) ls) e)
-    ∙ sym (append_assoc (map (inside part (part * stride)) ls) (repeated n (suc part) stride ls) _)
+    ap (λ r. map (leaf_inside part (part * stride)) ls ++ r) (repeated_last n (suc part) stride ls ∙ ap (λ j. repeated n (suc part) stride ls ++ map (leaf_inside j (j * stride)) ls) e)
+    ∙ sym (append_assoc (map (leaf_inside part (part * stride)) ls) (repeated n (suc part) stride ls) _)
 
 pub one_element_more : (out old after : List Leaf) (start place stride : ℕ) (ls : List Place) → out ≡ old ++ rows start (repeated place 0 stride ls) → after ≡ out ++ rows (start + place * stride) ls
     → after ≡ old ++ rows start (repeated (place + 1) 0 stride ls)
 one_element_more out old after start place stride ls p q =
-    let e : repeated (place + 1) 0 stride ls ≡ repeated place 0 stride ls ++ map (inside (0 + place) ((0 + place) * stride)) ls = ap (λ j. repeated j 0 stride ls) (add-one place) ∙ repeated_last place 0 stride ls in
+    let e : repeated (place + 1) 0 stride ls ≡ repeated place 0 stride ls ++ map (leaf_inside (0 + place) ((0 + place) * stride)) ls = ap (λ j. repeated j 0 stride ls) (add-one place) ∙ repeated_last place 0 stride ls in
     let z : 0 + place ≡ place = omega arith in
     let f : rows start (repeated (place + 1) 0 stride ls) ≡ rows start (repeated place 0 stride ls) ++ rows (start + place * stride) ls =
     ap (rows start) e
@@ -67,7 +67,7 @@ one_member_more tree members place start m out after all lt is p q =
     let next : suc place ≡ place + 1 = omega arith in
     let here : rows start (member_leaves 1 place (members_by tree (map member_view (drop place members)))) ≡ rows (start + m.offset) (leaves 1 (tree m.ty)) ++ rest =
     ap (λ ms. rows start (member_leaves 1 place (members_by tree ms))) (split_at members place m lt is)
-    ∙ rows_append start (map (inside place m.offset) (leaves 1 (tree m.ty))) _
+    ∙ rows_append start (map (leaf_inside place m.offset) (leaves 1 (tree m.ty))) _
     ∙ ap (λ r. r ++ rows start (member_leaves 1 (suc place) (members_by tree (map member_view (drop (place + 1) members))))) (rows_inside start place m.offset (leaves 1 (tree m.ty)))
     ∙ ap (λ n. rows (start + m.offset) (leaves 1 (tree m.ty)) ++ rows start (member_leaves 1 n (members_by tree (map member_view (drop (place + 1) members))))) next in
     ap (λ o. o ++ rest) q ∙ append_assoc out _ rest ∙ ap (λ r. out ++ r) (sym here) ∙ p

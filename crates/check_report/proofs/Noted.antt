@@ -4,7 +4,8 @@ use Rattle.spec_expressions.specs.declared.sampling.GlobalOrArgument.TheVariants
 use Rattle.ir_items.specs.judged.Plain.{PlainEntry}
 use Rattle.check_report.specs.Laws.{NotedIsReported}
 use Rattle.spec_interface.specs.judged.Uses.{OwnUse}
-use Rattle.judgement.specs.judged.Lines.{is_at, is_own, mesh_output}
+use Rattle.judgement.specs.judged.Lines.{is_at, is_own}
+use Rattle.spec_interface.specs.judged.Uses.{mesh_output}
 use Rattle.std.proofs.lemmas.Bool.{eq-eqb}
 
 at_itself : (own : Option ℕ) (g : ℕ) → own ≡ Some g → is_at own g ≡ true

@@ -10,7 +10,7 @@ use Rattle.check_report.specs.Lines.{described, leaf_lines, leaves_of}
 use Rattle.check_report.specs.Paths.{parts_at, path_along}
 use Rattle.judgement.specs.judged.BufferLaws.{buffer_type}
 use Rattle.judgement.specs.judged.Leaves.{leaves}
-use Rattle.spec_interface.specs.judged.Spaces.{array_base, counted}
+use Rattle.spec_interface.specs.judged.Spaces.{array_base, effective_type}
 use Rattle.judgement.specs.judged.Lines.{each_from, is_buffer, buffer_line}
 use Rattle.typing_forms.specs.judged.Order.{TypesGoBack}
 use Rattle.typing_forms.specs.judged.Resolutions.{inner_at}
@@ -34,15 +34,15 @@ counted_by : (types : List PlainType) → TypesGoBack types → (type : ℕ) →
 counted_by types back type within None e = within
 counted_by types back type within (Some base) e = let before = base_before types back type base (inner_at types type) refl e in omega (arith, before, within)
 
-pub counted_there : (types : List PlainType) → TypesGoBack types → (type : ℕ) → type < length types → counted types type < length types
+pub counted_there : (types : List PlainType) → TypesGoBack types → (type : ℕ) → type < length types → effective_type types type < length types
 counted_there types back type within = counted_by types back type within (array_base (inner_at types type)) refl
 
 -- what is written of a buffer is what describes it
 pub buffer_described : (types : List PlainType) → TypesGoBack types → (number : ℕ) (v : PlainGlobal) (ty many step : ℕ) (l : TypeLayout) (old middle after : List ℕ) → is_buffer v.space ≡ true
-    → ty ≡ counted types v.ty → many ≡ length types → IsLayoutOf (type_tree types ty) l → step ≡ l.alignment → middle ≡ old ++ buffer_line number l.size step
+    → ty ≡ effective_type types v.ty → many ≡ length types → IsLayoutOf (type_tree types ty) l → step ≡ l.alignment → middle ≡ old ++ buffer_line number l.size step
     → after ≡ middle ++ leaf_lines (path_along types [] (parts_at types ty)) 0 (leaves 1 (tree_along types many ty)) → after ≡ old ++ described types number v
 buffer_described types back number v ty many step l old middle after buffer counts is laid steps first second =
-    let t = counted types v.ty in
+    let t = effective_type types v.ty in
     let here : IsLayoutOf (type_tree types t) l = subst (λ h. IsLayoutOf (type_tree types h) l) counts laid in
     let line : List ℕ = buffer_line number (size (buffer_type types v)) (alignment (buffer_type types v)) in
     let e : buffer_line number l.size step ≡ line = ap (λ n. buffer_line number l.size n) steps ∙ ap (λ n. buffer_line number n l.alignment) here.size ∙ ap (λ n. buffer_line number (size (buffer_type types v)) n) here.alignment in

@@ -6,7 +6,7 @@ use Rattle.ir_types.specs.judged.Plain.{PlainType}
 use Rattle.check_report.specs.Paths.{path_along, parts_at}
 use Rattle.judgement.specs.judged.BufferLaws.{buffer_type}
 use Rattle.judgement.specs.judged.Leaves.{Leaf, leaves}
-use Rattle.spec_interface.specs.judged.Spaces.{counted}
+use Rattle.spec_interface.specs.judged.Spaces.{effective_type}
 use Rattle.judgement.specs.judged.Lines.{each_from, is_buffer, buffer_line}
 use Rattle.typing_layout.specs.judged.Layout.{size, alignment}
 
@@ -26,7 +26,7 @@ leaf_lines text start (l ∷ ls) = leaf_line (text l.path) (start + l.first) l.l
 
 -- of the leaves of a global variable, which has one element where it is an array without a length
 abbrev pub leaves_of : List PlainType → PlainGlobal → List ℕ
-leaves_of types v = leaf_lines (path_along types [] (parts_at types (counted types v.ty))) 0 (leaves 1 (buffer_type types v))
+leaves_of types v = leaf_lines (path_along types [] (parts_at types (effective_type types v.ty))) 0 (leaves 1 (buffer_type types v))
 
 -- of a global variable, where it is a buffer: its line of the report, and after it those of its leaves
 abbrev pub described : List PlainType → (number : ℕ) → PlainGlobal → List ℕ

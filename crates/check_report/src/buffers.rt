@@ -5,7 +5,7 @@ ghost use Rattle.ir_items.specs.found.GlobalView.{global_view};
 ghost use Rattle.ir_items.specs.found.View.{module_view};
 ghost use Rattle.ir_types.specs.judged.Plain.{inner_view};
 ghost use Rattle.check_report.specs.Reported.{AreLaid, IsReported};
-ghost use Rattle.spec_interface.specs.judged.Spaces.{array_base, counted};
+ghost use Rattle.spec_interface.specs.judged.Spaces.{array_base, effective_type};
 ghost use Rattle.judgement.specs.judged.Lines.{is_buffer, buffer_of, buffers};
 
 use crate::lines::write_buffer;
@@ -46,7 +46,7 @@ fn array_base(inner: &TypeInner) -> Option<Handle<key::IrType>>
 // The type whose layout is reported: of a binding array that of its elements.
 fn counted(module: &Module, ty: Handle<key::IrType>) -> Handle<key::IrType>
     requires { ty < length (module_view «module».now).types }
-    ensures { result ≡ counted (module_view «module».now).types ty }
+    ensures { result ≡ effective_type (module_view «module».now).types ty }
 {
     array_base(&module.types[ty].inner).unwrap_or(ty)
 }

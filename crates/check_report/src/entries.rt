@@ -3,7 +3,8 @@
 ghost use Rattle.std.specs.Prelude.{◌≡◌, ◌++◌, OnOk, length, string_bytes};
 ghost use Rattle.ir_items.specs.found.View.{entry_view, module_view};
 ghost use Rattle.check_report.specs.Reported.{IsReported, Tells, AreLinesOf, AreEntryLines};
-ghost use Rattle.judgement.specs.judged.Lines.{each_from, mesh_output, is_at, is_own, global_line, variable_lines};
+ghost use Rattle.judgement.specs.judged.Lines.{each_from, is_at, is_own, global_line, variable_lines};
+ghost use Rattle.spec_interface.specs.judged.Uses.{mesh_output};
 
 use crate::lines::{is_used, write_global, write_head, write_own};
 use crate::pairs::write_samples;

@@ -3,7 +3,7 @@
 ghost use Rattle.std.specs.Prelude.{◌≡◌, ◌<◌, IfOk, length};
 ghost use Rattle.ir_items.specs.found.View.{module_view};
 ghost use Rattle.check_report.specs.Rows.{AreLaid, AreLeavesOf};
-ghost use Rattle.spec_interface.specs.judged.Spaces.{counted};
+ghost use Rattle.spec_interface.specs.judged.Spaces.{effective_type};
 ghost use Rattle.spec_expressions.specs.judged.ModuleHandles.{HandlesOK};
 ghost use Rattle.typing_forms.specs.judged.Resolutions.{types_view};
 
@@ -20,7 +20,7 @@ pub(crate) fn counted(
     types: &UniqueArena<IrType, key::IrType>,
     ty: Handle<key::IrType>,
 ) -> Handle<key::IrType>
-    ensures { result ≡ counted (types_view types.now) ty }
+    ensures { result ≡ effective_type (types_view types.now) ty }
 {
     match inner_of(types, ty) {
         Some(TypeInner::BindingArray { base, .. }) => *base,

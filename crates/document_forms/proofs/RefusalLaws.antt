@@ -3,7 +3,7 @@ use Rattle.std.proofs.Common.{◌≡◌, ◌≢◌, List, ◌∷◌, ◌++◌, m
 use Rattle.serde_json.specs.Data.{Data, Items, item}
 use Rattle.document_forms.specs.found.Answers.{Answers}
 use Rattle.document_forms.specs.found.Decide.{each}
-use Rattle.document_forms.specs.found.Refusals.{IsRefused, NoneTaken}
+use Rattle.document_forms.specs.found.Refusals.{NoneTaken}
 use Rattle.document_forms.specs.declared.error.ReadError.{ReadError}
 use Rattle.document_forms.specs.declared.error.ReadError.TheVariants.{Memory}
 

@@ -1,6 +1,6 @@
 // Diagnostic filters.
 ghost use Rattle.std.specs.Prelude.{◌≡◌, ℕ, List, Option, map, option_map};
-ghost use Rattle.ir_items.specs.judged.GlobalPlain.{PlainRule, PlainNode};
+ghost use Rattle.ir_items.specs.judged.GlobalPlain.{PlainRule, PlainFilterNode};
 ghost use Rattle.ir_items.specs.found.GlobalView.{rule_view, node_view};
 ghost use Rattle.document_items.specs.found.Items.{a_rule, a_filter, the_filters};
 
@@ -58,7 +58,7 @@ pub struct FilterForm;
 impl Form for FilterForm {
     type Item = DiagnosticFilterNode;
 
-    ghost Plain = { PlainNode };
+    ghost Plain = { PlainFilterNode };
 
     ghost view = { node_view };
 
@@ -85,7 +85,7 @@ impl Form for FiltersForm {
         Option<Handle<key::DiagnosticFilterNode>>,
     );
 
-    ghost Plain = { List PlainNode × Option ℕ };
+    ghost Plain = { List PlainFilterNode × Option ℕ };
 
     ghost view = { λ t. (map node_view (map (λ e. e.0) t.0), t.1) };
 

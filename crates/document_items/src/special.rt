@@ -2,7 +2,7 @@
 ghost use Rattle.std.specs.Prelude.{◌≡◌, ℕ, List, option_map};
 ghost use Rattle.serde_json.specs.View.{view as data_of};
 ghost use Rattle.ir_kinds.specs.declared.predeclared.PredeclaredType.{PredeclaredType};
-ghost use Rattle.ir_items.specs.judged.GlobalPlain.{PlainSpecial};
+ghost use Rattle.ir_items.specs.judged.GlobalPlain.{PlainSpecialTypes};
 ghost use Rattle.ir_items.specs.found.GlobalView.{special_view};
 ghost use Rattle.document_items.specs.found.Special.{a_predeclared, a_pair, the_pairs, the_special};
 
@@ -111,7 +111,7 @@ pub struct SpecialForm;
 impl Form for SpecialForm {
     type Item = SpecialTypes;
 
-    ghost Plain = { PlainSpecial };
+    ghost Plain = { PlainSpecialTypes };
 
     ghost view = { special_view };
 

@@ -11,7 +11,7 @@ use Rattle.ir_kinds.specs.declared.images.StorageFormat.{StorageFormat}
 use Rattle.ir_kinds.specs.declared.images.StorageFormat.TheVariants as format
 use Rattle.ir_kinds.specs.declared.scalars.VectorSize.TheVariants.{Quad}
 use Rattle.function_atomic_checks.specs.StorageImages.{format_of}
-use Rattle.spec_statements.specs.judged.StorageImages.{IsWritten, IsExtremum, IsDoneAtTexels, FormatAllows, wide, unsigned, signed}
+use Rattle.spec_statements.specs.judged.StorageImages.{IsWritten, IsMinOrMax, IsDoneAtTexels, FormatAllows, wide, unsigned, signed}
 use Rattle.typing_forms.specs.declared.form.Form.{Form}
 use Rattle.typing_forms.specs.declared.form.Form.TheVariants as form
 
@@ -29,7 +29,7 @@ texel_written (class.Storage own access) of value is fits = let e = some_is own 
 
 -- ---- operations
 
-pub wide_allowed : (k : Capabilities) (done : AtomicFunction) → Has k.0 TEXTURE_INT64_ATOMIC.0 → IsExtremum done → FormatAllows k done format.R64Uint
+pub wide_allowed : (k : Capabilities) (done : AtomicFunction) → Has k.0 TEXTURE_INT64_ATOMIC.0 → IsMinOrMax done → FormatAllows k done format.R64Uint
 wide_allowed k done capable does = wide capable does
 
 pub unsigned_allowed : (k : Capabilities) (done : AtomicFunction) → Has k.0 TEXTURE_ATOMIC.0 → IsDoneAtTexels done → FormatAllows k done format.R32Uint

@@ -13,8 +13,8 @@ use Rattle.typing_errors.specs.declared.atomics.AtomicError.TheVariants as fault
 use Rattle.ir_blocks.specs.declared.operations.AtomicFunction.{AtomicFunction}
 use Rattle.ir_flags.specs.declared.settings.Capabilities.{Capabilities}
 use Rattle.ir_kinds.specs.declared.scalars.Scalar.{Scalar}
-use Rattle.spec_expressions.specs.judged.Operands.{compared}
-use Rattle.spec_statements.specs.judged.Atomics.{changed_scalar, WideOK, FloatOK, ScalarAllows, AtomicAnswer, declared_answer, AnswerOK, AtomicResultOK, AtomicChangeOK, AtomicStatementOK}
+use Rattle.spec_expressions.specs.judged.Operands.{comparand}
+use Rattle.spec_statements.specs.judged.Atomics.{changed_scalar, Int64AtomicOK, Float32AtomicOK, ScalarAllows, AtomicAnswer, declared_answer, AtomicAnswerOK, AtomicResultOK, AtomicChangeOK, AtomicStatementOK}
 use Rattle.spec_statements.specs.judged.BlockContext.{BlockContext, form_at}
 use Rattle.spec_statements.specs.judged.UniformLoads.{UniformLoadStatementOK}
 use Rattle.typing_forms.specs.declared.form.Form.{Form}
@@ -22,23 +22,23 @@ use Rattle.typing_forms.specs.declared.form.Form.{Form}
 -- ---- which scalars are changed how
 
 missing_refuted : (k : Capabilities) (pointer : Form) (done : AtomicFunction) (result : Option ℕ) (lacks : Capabilities)
-    → IsMissingWide k pointer done result lacks → WideOK k pointer done result → ⊥
+    → IsMissingWide k pointer done result lacks → Int64AtomicOK k pointer done result → ⊥
 missing_refuted k pointer done result lacks wrong (inl all) = wrong.0 all
 missing_refuted k pointer done result lacks (none, inl wrong) (inr some) = wrong.1 some.1
 missing_refuted k pointer done result lacks (none, inr wrong) (inr some) = wrong.2 some.0
 
-wide_refuted : (k : Capabilities) (pointer : Form) (done : AtomicFunction) (result : Option ℕ) (e : AtomicError) → IsWideFault k pointer done result e → WideOK k pointer done result → ⊥
+wide_refuted : (k : Capabilities) (pointer : Form) (done : AtomicFunction) (result : Option ℕ) (e : AtomicError) → IsWideFault k pointer done result e → Int64AtomicOK k pointer done result → ⊥
 wide_refuted k pointer done result (fault.MissingCapability lacks) wrong ok = missing_refuted k pointer done result lacks wrong ok
 wide_refuted k pointer done result _ wrong ok = wrong
 
-float_refuted : (k : Capabilities) (pointer : Form) (done : AtomicFunction) (e : AtomicError) → IsFloatFault k pointer done e → FloatOK k pointer done → ⊥
+float_refuted : (k : Capabilities) (pointer : Form) (done : AtomicFunction) (e : AtomicError) → IsFloatFault k pointer done e → Float32AtomicOK k pointer done → ⊥
 float_refuted k pointer done (fault.MissingCapability lacks) wrong ok = wrong.1 ok.capable
 float_refuted k pointer done (fault.InvalidOperator fun) wrong ok = wrong.1 ok.done_so
 float_refuted k pointer done (fault.InvalidAddressSpace space) wrong ok = wrong.1 ok.stored
 float_refuted k pointer done _ wrong ok = wrong
 
 -- what is required of an integer of eight bytes
-wide_asked : (k : Capabilities) (s : Scalar) (pointer : Form) (done : AtomicFunction) (result : Option ℕ) → IsWide s → ScalarAllows k s pointer done result → WideOK k pointer done result
+wide_asked : (k : Capabilities) (s : Scalar) (pointer : Form) (done : AtomicFunction) (result : Option ℕ) → IsWide s → ScalarAllows k s pointer done result → Int64AtomicOK k pointer done result
 wide_asked k s pointer done result (inl is) ok = ok.signed_wide is
 wide_asked k s pointer done result (inr is) ok = ok.unsigned_wide is
 
@@ -49,20 +49,20 @@ scalar_refuted k s pointer done result e (inr wrong) ok = float_refuted k pointe
 
 -- ---- what is answered
 
-plain_refuted : (c : BlockContext) (s : Scalar) (result : ℕ) (answer : AtomicAnswer) (e : AtomicError) → IsPlainFault c s result answer e → AnswerOK c s None answer → ⊥
+plain_refuted : (c : BlockContext) (s : Scalar) (result : ℕ) (answer : AtomicAnswer) (e : AtomicError) → IsPlainFault c s result answer e → AtomicAnswerOK c s None answer → ⊥
 plain_refuted c s result answer (fault.ResultTypeMismatch x) wrong ok = wrong.1 ok.0
 plain_refuted c s result answer (fault.ResultExpressionExchange x) wrong ok = true≢false (sym wrong.1 ∙ ok.1)
 plain_refuted c s result answer _ wrong ok = wrong
 
 exchange_refuted : (c : BlockContext) (s : Scalar) (compare result : ℕ) (answer : AtomicAnswer) (e : AtomicError)
-    → IsExchangeFault c s compare result answer e → AnswerOK c s (Some compare) answer → ⊥
+    → IsExchangeFault c s compare result answer e → AtomicAnswerOK c s (Some compare) answer → ⊥
 exchange_refuted c s compare result answer (fault.InvalidOperand x) wrong ok = wrong.1 ok.0
 exchange_refuted c s compare result answer (fault.ResultTypeMismatch x) wrong ok = wrong.1 ok.1
 exchange_refuted c s compare result answer (fault.ResultExpressionNotExchange x) wrong ok = true≢false (sym ok.2 ∙ wrong.1)
 exchange_refuted c s compare result answer _ wrong ok = wrong
 
 declared_refuted : (c : BlockContext) (s : Scalar) (compare : Option ℕ) (result : ℕ) (e : AtomicError) (answer : AtomicAnswer)
-    → IsDeclaredFault c s compare result answer e → AnswerOK c s compare answer → ⊥
+    → IsDeclaredFault c s compare result answer e → AtomicAnswerOK c s compare answer → ⊥
 declared_refuted c s None result e answer wrong ok = plain_refuted c s result answer e wrong ok
 declared_refuted c s (Some compare) result e answer wrong ok = exchange_refuted c s compare result answer e wrong ok
 
@@ -78,7 +78,7 @@ answer_refuted : (c : BlockContext) (s : Scalar) (done : AtomicFunction) (result
 answer_refuted c s done None e wrong ok = unanswered_refuted c s done e wrong ok
 answer_refuted c s done (Some result) e (inl wrong) ok = other_refuted c s done result e wrong ok
 answer_refuted c s done (Some result) e (inr wrong) ok =
-    both (option_and_then declared_answer (slice_get c.f.expressions result)) _ _ (declared_refuted c s (compared done) result e) wrong ok
+    both (option_and_then declared_answer (slice_get c.f.expressions result)) _ _ (declared_refuted c s (comparand done) result e) wrong ok
 
 -- ---- the whole
 

@@ -5,7 +5,7 @@ use Rattle.ir_flags.specs.declared.settings.Capabilities.{Capabilities}
 use Rattle.ir_kinds.specs.judged.Scalars.{floating, signed, unsigned}
 use Rattle.ir_kinds.specs.declared.scalars.Scalar.{Scalar}
 use Rattle.ir_kinds.specs.declared.scalars.ScalarKind.TheVariants as kind
-use Rattle.spec_statements.specs.judged.Atomics.{WideOK, FloatOK, ScalarAllows}
+use Rattle.spec_statements.specs.judged.Atomics.{Int64AtomicOK, Float32AtomicOK, ScalarAllows}
 use Rattle.typing_forms.specs.declared.form.Form.{Form}
 use Rattle.typing_forms.specs.declared.form.Form.TheVariants as form
 
@@ -27,12 +27,12 @@ wide_float s (inr e) f = unsigned_float s e f
 -- ---- what they allow
 
 pub wide_allows : (k : Capabilities) (s : Scalar) (pointer : Form) (done : AtomicFunction) (result : Option ℕ)
-    → (s ≡ signed 8) ⊎ (s ≡ unsigned 8) → WideOK k pointer done result → ScalarAllows k s pointer done result
+    → (s ≡ signed 8) ⊎ (s ≡ unsigned 8) → Int64AtomicOK k pointer done result → ScalarAllows k s pointer done result
 wide_allows k s pointer done result is wide =
     record { signed_wide = λ e. wide; unsigned_wide = λ e. wide; float = λ e. absurd (wide_float s is e) }
 
 pub float_allows : (k : Capabilities) (s : Scalar) (pointer : Form) (done : AtomicFunction) (result : Option ℕ)
-    → s ≡ floating 4 → FloatOK k pointer done → ScalarAllows k s pointer done result
+    → s ≡ floating 4 → Float32AtomicOK k pointer done → ScalarAllows k s pointer done result
 float_allows k s pointer done result is float =
     record { signed_wide = λ e. absurd (signed_float s e is); unsigned_wide = λ e. absurd (unsigned_float s e is); float = λ e. float }
 

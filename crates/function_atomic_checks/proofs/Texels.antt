@@ -27,7 +27,7 @@ use Rattle.ir_items.specs.judged.Bases.{base_of, global_of}
 use Rattle.spec_statements.specs.judged.Shapes.{ExactlyIf, picture_of}
 use Rattle.spec_statements.specs.declared.shapes.Picture.{Picture}
 use Rattle.spec_statements.specs.judged.BlockContext.{BlockContext, form_at}
-use Rattle.spec_statements.specs.judged.StorageImages.{resource_of, written_image, picture_in, changed_image, IsTexelOf, IsWritten, ImageStoreOK, IsExtremum, IsDoneAtTexels, FormatAllows, wide, unsigned, signed, IsChangedBy, IsChanged, ImageAtomicOK}
+use Rattle.spec_statements.specs.judged.StorageImages.{resource_of, written_image, picture_in, changed_image, IsTexelOf, IsWritten, ImageStoreOK, IsMinOrMax, IsDoneAtTexels, FormatAllows, wide, unsigned, signed, IsChangedBy, IsChanged, ImageAtomicOK}
 use Rattle.spec_statements.specs.judged.Variables.{variable_at, accessed_at}
 use Rattle.typing_forms.specs.judged.Forms.{form_of_type}
 use Rattle.typing_forms.specs.declared.form.Form.{Form}
@@ -152,7 +152,7 @@ store_refuted c image coordinate array_index value e (inr wrong) ok = misfit_ref
 
 -- ---- what is changed atomically
 
-wide_refuted : (k : Capabilities) (done : AtomicFunction) (e : FunctionError) → IsWideFault k done e → Has k.0 TEXTURE_INT64_ATOMIC.0 → IsExtremum done → ⊥
+wide_refuted : (k : Capabilities) (done : AtomicFunction) (e : FunctionError) → IsWideFault k done e → Has k.0 TEXTURE_INT64_ATOMIC.0 → IsMinOrMax done → ⊥
 wide_refuted k done (error.MissingCapability missing) wrong capable does = wrong.1 capable
 wide_refuted k done (error.InvalidImageAtomicFunction fun) wrong capable does = wrong.1 does
 wide_refuted k done _ wrong capable does = wrong

@@ -11,8 +11,8 @@ use Rattle.ir_flags.specs.declared.settings.TheConstants.Capabilities.{SHADER_FL
 use Rattle.ir_kinds.specs.judged.Scalars.{floating, signed, unsigned}
 use Rattle.ir_kinds.specs.declared.scalars.Scalar.{Scalar}
 use Rattle.spec_statements.specs.judged.ExpressionResults.{IsExchangeOf}
-use Rattle.spec_expressions.specs.judged.Operands.{compared}
-use Rattle.spec_statements.specs.judged.Atomics.{changed_scalar, IsInStorage, IsStorageMinMaxWithoutResult, IsDoneWithFloats, AtomicAnswer, declared_answer, MayBeUnanswered}
+use Rattle.spec_expressions.specs.judged.Operands.{comparand}
+use Rattle.spec_statements.specs.judged.Atomics.{changed_scalar, IsInStorage, IsStorageMinMaxWithoutResult, IsDoneWithFloats, AtomicAnswer, declared_answer, MayOmitResult}
 use Rattle.spec_statements.specs.judged.BlockContext.{BlockContext, form_at}
 use Rattle.spec_statements.specs.judged.Stores.{pointer_space}
 use Rattle.typing_forms.specs.judged.Forms.{form_of_type}
@@ -70,13 +70,13 @@ IsOtherFault c result (fault.InvalidResultExpression e) = (e ≡ result) × (opt
 IsOtherFault c result _ = ⊥
 
 abbrev pub IsUnansweredFault : AtomicFunction → AtomicError → Type 0
-IsUnansweredFault done fault.MissingReturnValue = ¬ MayBeUnanswered done
+IsUnansweredFault done fault.MissingReturnValue = ¬ MayOmitResult done
 IsUnansweredFault done _ = ⊥
 
 abbrev pub IsAnswerFault : BlockContext → Scalar → AtomicFunction → (result : Option ℕ) → AtomicError → Type 0
 IsAnswerFault c s done None e = IsUnansweredFault done e
 IsAnswerFault c s done (Some result) e = IsOtherFault c result e
-    ⊎ IsSomeAnd (option_and_then declared_answer (slice_get c.f.expressions result)) (λ answer. IsDeclaredFault c s (compared done) result answer e)
+    ⊎ IsSomeAnd (option_and_then declared_answer (slice_get c.f.expressions result)) (λ answer. IsDeclaredFault c s (comparand done) result answer e)
 
 -- ---- the whole
 

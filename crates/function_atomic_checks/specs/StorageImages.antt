@@ -22,11 +22,11 @@ use Rattle.ir_kinds.specs.declared.images.StorageFormat.TheVariants as format
 use Rattle.ir_kinds.specs.declared.scalars.VectorSize.TheVariants.{Quad}
 use Rattle.ir_types.specs.judged.Plain.{PlainInner, plain, PlainType, inner_view}
 use Rattle.ir_types.specs.declared.types.TypeInner.TheVariants as inner
-use Rattle.spec_statements.specs.judged.ImageLoads.{IsTexel}
+use Rattle.spec_statements.specs.judged.ImageLoads.{IsTexelCoordinate}
 use Rattle.spec_statements.specs.judged.Shapes.{ExactlyIf, IsIntegerScalar, picture_of}
 use Rattle.spec_statements.specs.declared.shapes.Picture.{Picture}
 use Rattle.spec_statements.specs.judged.BlockContext.{BlockContext, form_at}
-use Rattle.spec_statements.specs.judged.StorageImages.{resource_of, written_image, picture_in, changed_image, IsExtremum, IsDoneAtTexels}
+use Rattle.spec_statements.specs.judged.StorageImages.{resource_of, written_image, picture_in, changed_image, IsMinOrMax, IsDoneAtTexels}
 use Rattle.spec_statements.specs.judged.Variables.{variable_at, accessed_at}
 use Rattle.typing_forms.specs.judged.Forms.{form_of_type}
 use Rattle.typing_forms.specs.judged.Resolutions.{inner_at}
@@ -63,7 +63,7 @@ IsChangedImageFault c image _ = ⊥
 
 abbrev pub IsTexelFault : BlockContext → Picture → (coordinate : ℕ) → (array_index : Option ℕ) → ExpressionError → Type 0
 IsTexelFault c picture coordinate array_index (fault.InvalidImageCoordinateType dim e) =
-    (dim ≡ picture.dim) × (e ≡ coordinate) × ¬ IsTexel picture.dim (form_at c coordinate)
+    (dim ≡ picture.dim) × (e ≡ coordinate) × ¬ IsTexelCoordinate picture.dim (form_at c coordinate)
 IsTexelFault c picture coordinate array_index fault.InvalidImageArrayIndex = ¬ ExactlyIf picture.arrayed array_index (λ layer. Unit {0})
 IsTexelFault c picture coordinate array_index (fault.InvalidImageArrayIndexType e) = (array_index ≡ Some e) × ¬ IsIntegerScalar (form_at c e)
 IsTexelFault c picture coordinate array_index _ = ⊥
@@ -147,7 +147,7 @@ IsImageStoreRefusal c image coordinate array_index value (refusal.Fault f) =
 
 abbrev pub IsWideFault : Capabilities → AtomicFunction → FunctionError → Type 0
 IsWideFault capabilities done (error.MissingCapability missing) = (missing ≡ TEXTURE_INT64_ATOMIC) × ¬ Has capabilities.0 TEXTURE_INT64_ATOMIC.0
-IsWideFault capabilities done (error.InvalidImageAtomicFunction fun) = (fun ≡ done) × ¬ IsExtremum done
+IsWideFault capabilities done (error.InvalidImageAtomicFunction fun) = (fun ≡ done) × ¬ IsMinOrMax done
 IsWideFault capabilities done _ = ⊥
 
 abbrev pub IsNarrowFault : Capabilities → AtomicFunction → FunctionError → Type 0

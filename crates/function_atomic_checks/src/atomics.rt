@@ -6,10 +6,11 @@ ghost use Rattle.ir_types.specs.judged.Plain.{inner_view};
 ghost use Rattle.function_atomic_checks.specs.Atomics.{IsWide, IsWideFault, IsFloatFault, IsScalarFault, IsPlainFault, IsExchangeFault, IsAnswerFault, IsChangeFault, IsAtomicFault};
 ghost use Rattle.function_atomic_checks.specs.View.{answer_view};
 ghost use Rattle.spec_statements.specs.judged.ExpressionResults.{IsExchangeOf};
-ghost use Rattle.spec_expressions.specs.judged.Operands.{compared};
-ghost use Rattle.spec_statements.specs.judged.Atomics.{atomic_of, changed_scalar, IsStorage, IsInStorage, IsStorageMinMaxWithoutResult, WideOK, IsDoneWithFloats, FloatOK, ScalarAllows, declared_answer, AnswerOK, MayBeUnanswered, AtomicResultOK, AtomicChangeOK, AtomicStatementOK};
+ghost use Rattle.spec_expressions.specs.judged.Operands.{comparand};
+ghost use Rattle.typing_layout.specs.judged.Rules.{IsStorageSpace};
+ghost use Rattle.spec_statements.specs.judged.Atomics.{atomic_of, changed_scalar, IsInStorage, IsStorageMinMaxWithoutResult, Int64AtomicOK, IsDoneWithFloats, Float32AtomicOK, ScalarAllows, declared_answer, AtomicAnswerOK, MayOmitResult, AtomicResultOK, AtomicChangeOK, AtomicStatementOK};
 ghost use Rattle.spec_statements.specs.judged.BlockContext.{form_at};
-ghost use Rattle.spec_statements.specs.judged.StorageImages.{IsExtremum};
+ghost use Rattle.spec_statements.specs.judged.StorageImages.{IsMinOrMax};
 ghost use Rattle.spec_statements.specs.judged.Stores.{pointer_space};
 ghost use Rattle.typing_forms.specs.judged.Resolutions.{inner_at};
 
@@ -122,7 +123,7 @@ fn is_wide(scalar: Scalar) -> bool
 
 // Whether a space is that of storage buffers.
 const fn is_storage(space: AddressSpace) -> bool
-    ensures { IsTrue result ↔ IsStorage space }
+    ensures { IsTrue result ↔ IsStorageSpace space }
 {
     match space {
         AddressSpace::Storage { .. } => true,
@@ -150,7 +151,7 @@ fn is_in_storage(pointer: &Form) -> bool
 
 /// Whether what stays is the least or the greatest.
 pub(crate) const fn is_extremum(fun: &AtomicFunction) -> bool
-    ensures { IsTrue result ↔ IsExtremum fun.now }
+    ensures { IsTrue result ↔ IsMinOrMax fun.now }
 {
     match *fun {
         AtomicFunction::Min | AtomicFunction::Max => true,
@@ -182,7 +183,7 @@ fn check_wide(
     answer: &Option<Handle<key::Expression>>,
 ) -> Result<(), AtomicError>
     ensures { MatchResult result
-        (λ _. WideOK capabilities pointer.now fun.now answer.now)
+        (λ _. Int64AtomicOK capabilities pointer.now fun.now answer.now)
         (IsWideFault capabilities pointer.now fun.now answer.now) }
 {
     if capabilities.contains(Capabilities::SHADER_INT64_ATOMIC_ALL_OPS) {
@@ -224,7 +225,7 @@ fn check_float(
 ) -> Result<(), AtomicError>
     requires { pointer_space pointer.now ≡ Some space }
     ensures { MatchResult result
-        (λ _. FloatOK capabilities pointer.now fun.now)
+        (λ _. Float32AtomicOK capabilities pointer.now fun.now)
         (IsFloatFault capabilities pointer.now fun.now) }
 {
     if !capabilities.contains(Capabilities::SHADER_FLOAT32_ATOMIC) {
@@ -319,7 +320,7 @@ fn check_plain<C: StatementContext>(
     declared: &DeclaredAnswer,
 ) -> Result<(), AtomicError>
     ensures { MatchResult result
-        (λ _. AnswerOK (C.seen context.now) scalar None (answer_view declared.now))
+        (λ _. AtomicAnswerOK (C.seen context.now) scalar None (answer_view declared.now))
         (IsPlainFault (C.seen context.now) scalar answer (answer_view declared.now)) }
 {
     if !are_same(context.form_of(declared.ty), Form::Scalar(scalar)) {
@@ -340,7 +341,7 @@ fn check_exchange<C: StatementContext>(
     declared: &DeclaredAnswer,
 ) -> Result<(), AtomicError>
     ensures { MatchResult result
-        (λ _. AnswerOK (C.seen context.now) scalar (Some compare) (answer_view declared.now))
+        (λ _. AtomicAnswerOK (C.seen context.now) scalar (Some compare) (answer_view declared.now))
         (IsExchangeFault (C.seen context.now) scalar compare answer (answer_view declared.now)) }
 {
     if !are_same(context.form_at(compare), Form::Scalar(scalar)) {
@@ -357,7 +358,7 @@ fn check_exchange<C: StatementContext>(
 
 // What a value is compared with before it is replaced.
 const fn compared(fun: &AtomicFunction) -> Option<Handle<key::Expression>>
-    ensures { result ≡ compared fun.now }
+    ensures { result ≡ comparand fun.now }
 {
     match *fun {
         AtomicFunction::Exchange { compare } => compare,
@@ -373,7 +374,7 @@ const fn compared(fun: &AtomicFunction) -> Option<Handle<key::Expression>>
 
 // Whether nothing need be answered.
 const fn may_be_unanswered(fun: &AtomicFunction) -> bool
-    ensures { IsTrue result ↔ MayBeUnanswered fun.now }
+    ensures { IsTrue result ↔ MayOmitResult fun.now }
 {
     match *fun {
         AtomicFunction::Exchange { compare } => match compare {

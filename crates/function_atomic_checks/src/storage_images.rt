@@ -5,7 +5,7 @@ ghost use Rattle.ir_kinds.specs.declared.images.StorageFormat.TheVariants.{R32Si
 ghost use Rattle.ir_types.specs.judged.Plain.{inner_view, plain};
 ghost use Rattle.ir_types.specs.declared.types.TypeInner.TheVariants.{Image, ValuePointer};
 ghost use Rattle.function_atomic_checks.specs.StorageImages.{IsElementFault, IsWrittenImageFault, IsChangedImageFault, IsTexelFault, format_of, IsPlaceFault, IsMisfit, matrix_inner, inner_of_form, IsValueFault, IsImageStoreRefusal, IsFormatFault, IsStorageFault, IsChangeFault, IsImageAtomicFault};
-ghost use Rattle.spec_statements.specs.judged.ImageLoads.{IsTexel};
+ghost use Rattle.spec_statements.specs.judged.ImageLoads.{IsTexelCoordinate};
 ghost use Rattle.spec_statements.specs.judged.Shapes.{picture_of};
 ghost use Rattle.spec_statements.specs.judged.BlockContext.{form_at};
 ghost use Rattle.spec_statements.specs.judged.StorageImages.{resource_of, written_image, picture_in, changed_image, IsTexelOf, ImageStoreOK, IsDoneAtTexels, FormatAllows, IsChangedBy, IsChanged, ImageAtomicOK};
@@ -133,7 +133,7 @@ fn check_layer<C: StatementContext>(
     coordinate: Handle<key::Expression>,
     array_index: &Option<Handle<key::Expression>>,
 ) -> Result<(), ExpressionError>
-    requires { IsTexel picture.now.dim (form_at (C.seen context.now) coordinate) }
+    requires { IsTexelCoordinate picture.now.dim (form_at (C.seen context.now) coordinate) }
     ensures { MatchResult result
         (λ _. IsTexelOf (C.seen context.now) picture.now coordinate array_index.now)
         (IsTexelFault (C.seen context.now) picture.now coordinate array_index.now) }

@@ -3,7 +3,7 @@ use Rattle.std.proofs.Common.{◌≡◌, zero, suc, ℕ, inl, inr, false, List, 
 use Rattle.typing_errors.specs.declared.error.FunctionError.{FunctionError}
 use Rattle.typing_errors.specs.declared.error.FunctionError.TheVariants as error
 use Rattle.ir_blocks.specs.judged.Control.{breaks_in, continues_in, returns_in, may_leave, parts_around, ControlOK}
-use Rattle.ir_blocks.specs.judged.Places.{Place, here, later, condition, spot_at, OccursAt, statement}
+use Rattle.ir_blocks.specs.judged.Places.{Place, here, later, condition, OccursAt, statement}
 use Rattle.ir_blocks.specs.judged.Places as at
 use Rattle.ir_blocks.specs.judged.Plain.{PlainStatement, emit, block, if_, switch, loop, break, continue, return, kill, operation, call, PlainBlock, stop, next, PlainCases, no_case, case}
 use Rattle.ir_blocks.specs.judged.Shapes.{Exit, breaks, continues, returns, kills, exit_of, shape_of, Part, inner, accepting, rejecting, case_at, loop_body, loop_continuing, case_body, part_of}

@@ -5,7 +5,7 @@ ghost use Rattle.ir_blocks.specs.found.View.{statement_view};
 ghost use Rattle.ir_types.specs.judged.ExpressionPlain.{expression_view};
 ghost use Rattle.ir_items.specs.found.View.{function_view};
 ghost use Rattle.function_body_checks.specs.Carried.{holds, pre_known, known, first_lacking, place_lacking};
-ghost use Rattle.spec_expressions.specs.judged.Operands.{these, is_looked_up, looked_up, of_statement};
+ghost use Rattle.spec_expressions.specs.judged.Operands.{these, is_looked_up, looked_up, statement_slots};
 ghost use Rattle.spec_statements.specs.judged.Scope.{is_pre_emitted};
 
 use crate::list::ExpressionList;
@@ -137,7 +137,7 @@ pub fn unknown_operand(
     strict: bool,
     statement: &Statement,
 ) -> Option<Handle<key::Expression>>
-    ensures { result ≡ first_lacking (known (function_view function.now) scope.now) (looked_up strict (of_statement (statement_view statement.now))) }
+    ensures { result ≡ first_lacking (known (function_view function.now) scope.now) (looked_up strict (statement_slots (statement_view statement.now))) }
 {
     let unknown = Unknown {
         function,

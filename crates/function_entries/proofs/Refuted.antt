@@ -27,10 +27,10 @@ use Rattle.spec_interface.specs.judged.Entries.{ConnectionsOK}
 use Rattle.spec_interface.specs.judged.Members.{members_at}
 use Rattle.spec_interface.specs.judged.Meshes.{MeshOK}
 use Rattle.spec_interface.specs.judged.Payloads.{space_at}
-use Rattle.spec_interface.specs.judged.Results.{AnswerOK}
+use Rattle.spec_interface.specs.judged.Results.{StageResultOK}
 use Rattle.spec_interface.specs.judged.Stages.{StageOK, runs_in_workgroups}
 use Rattle.spec_interface.specs.judged.Uses.{is_reached}
-use Rattle.spec_interface.specs.judged.UsedVariables.{VariableOK, VariablesOK}
+use Rattle.spec_interface.specs.judged.UsedVariables.{UsedVariableOK, VariablesOK}
 use Rattle.spec_interface.specs.judged.Contexts.{VaryingContext, context_of}
 use Rattle.spec_interface.specs.judged.Varyings.{VaryingsOK, argument_varyings, mesh_varyings, result_varyings}
 use Rattle.spec_interface.specs.declared.varyings.Direction.TheVariants.{Input, Output, VertexOutput, PrimitiveOutput}
@@ -96,7 +96,7 @@ no_output c type error.InvalidMeshOutputType struct ok fault = fault struct
 no_output c type (error.Result e) struct ok fault = fault_refutes c (mesh_varyings c.types type) fault.0 e fault.1 ok
 no_output c type _ struct ok fault = absurd fault
 
-no_answer : (types : List PlainType) (stage : ShaderStage) (r : Option FunctionResult) (x : EntryPointError) → AnswerOK types stage r → IsAnswerFault types stage r x → ⊥
+no_answer : (types : List PlainType) (stage : ShaderStage) (r : Option FunctionResult) (x : EntryPointError) → StageResultOK types stage r → IsAnswerFault types stage r x → ⊥
 no_answer types stage r error.MissingVertexOutputPosition ok fault = fault.1 (ok.vertex fault.0)
 no_answer types stage r error.WrongTaskShaderEntryResult ok fault = fault.1 (ok.task fault.0)
 no_answer types stage r error.UnexpectedMeshShaderEntryResult ok fault = not_some_by r (ok.mesh fault.0) fault.1
@@ -107,7 +107,7 @@ no_answer types stage r _ ok fault = absurd fault
 reached_by : (stage : ShaderStage) (s : AddressSpace) (t : AddressSpace) → s ≡ t → IsTrue (is_reached stage s) → is_reached stage t ≡ false → ⊥
 reached_by stage s t same is not = true≢false (sym is ∙ (ap (is_reached stage) same ∙ not))
 
-module _ (m : PlainModule) (e : PlainEntry) (g : ℕ) (v : PlainGlobal) (Uses : (k : ℕ) → Type 0) (ok : VariableOK m e g v Uses) where
+module _ (m : PlainModule) (e : PlainEntry) (g : ℕ) (v : PlainGlobal) (Uses : (k : ℕ) → Type 0) (ok : UsedVariableOK m e g v Uses) where
   no_payload_use : (x : EntryPointError) → IsPayloadUseFault m e g v x → ⊥
   no_payload_use error.WrongTaskPayloadUsed fault = fault.1 (ok.payload fault.0).own
   no_payload_use (error.TaskPayloadTooSmall bytes) fault = (let le = (ok.payload fault.0).bytes in let is = fault.1 in let lt = fault.2 in omega (arith, le, is, lt))

@@ -12,7 +12,7 @@ use Rattle.ir_flags.specs.declared.settings.ValidationFlags.{ValidationFlags}
 use Rattle.ir_items.specs.judged.GlobalPlain.{PlainGlobal}
 use Rattle.ir_items.specs.judged.Plain.{PlainEntry, PlainModule}
 use Rattle.spec_interface.specs.judged.Entries.{ConnectionsOK}
-use Rattle.spec_interface.specs.judged.UsedVariables.{IsUsed, VariableOK, VariablesOK}
+use Rattle.spec_interface.specs.judged.UsedVariables.{IsUsed, UsedVariableOK, VariablesOK}
 
 module _ (m : PlainModule) (e : PlainEntry) (U V : ℕ → ℕ → Type 0) (same : (g k : ℕ) → g < length m.globals → U g k ↔ V g k) where
   used_to : (g : ℕ) → g < length m.globals → IsUsed U g → IsUsed V g
@@ -21,7 +21,7 @@ module _ (m : PlainModule) (e : PlainEntry) (U V : ℕ → ℕ → Type 0) (same
   used_back : (g : ℕ) → g < length m.globals → IsUsed V g → IsUsed U g
   used_back g lt used = (used.0, (same g used.0 lt).1 used.1)
 
-  variable_to : (g : ℕ) (v : PlainGlobal) → g < length m.globals → VariableOK m e g v (U g) → VariableOK m e g v (V g)
+  variable_to : (g : ℕ) (v : PlainGlobal) → g < length m.globals → UsedVariableOK m e g v (U g) → UsedVariableOK m e g v (V g)
   variable_to g v lt ok = record { payload = ok.payload; reached = ok.reached; allowed = λ k used. ok.allowed k ((same g k lt).1 used) }
 
   pub variables_to : (flags : ValidationFlags) → VariablesOK flags m e U → VariablesOK flags m e V

@@ -7,7 +7,7 @@ ghost use Rattle.function_entries.specs.VaryingFaults.{IsAnswerFault, IsArgument
 ghost use Rattle.ir_items.specs.found.View.{module_view};
 ghost use Rattle.ir_kinds.specs.declared.bindings.BuiltIn.TheVariants.{Position};
 ghost use Rattle.spec_interface.specs.judged.Members.{members_at};
-ghost use Rattle.spec_interface.specs.judged.Results.{AnswerOK, GivesTaskSize};
+ghost use Rattle.spec_interface.specs.judged.Results.{StageResultOK, GivesTaskSize};
 ghost use Rattle.spec_interface.specs.judged.Varyings.{HasBlendSources, HasBuiltIn, VaryingsOK, argument_varyings, mesh_varyings, result_varyings};
 ghost use Rattle.function_varyings.specs.Known.{IsShownBy};
 
@@ -134,7 +134,7 @@ fn check_answer(
 ) -> Result<(), EntryPointError>
     requires { IsTrue positioned ↔ HasBuiltIn (result_varyings (module_view «module».now).types answer.now) (Position false) }
     ensures { MatchResult result
-        (λ _. AnswerOK (module_view «module».now).types stage answer.now)
+        (λ _. StageResultOK (module_view «module».now).types stage answer.now)
         (IsAnswerFault (module_view «module».now).types stage answer.now) }
 {
     match stage {
@@ -178,7 +178,7 @@ pub(crate) fn check_result(
         let answer = (entry_in context.now).function.result in
         let stage = (entry_in context.now).stage in
         MatchResult result
-        (λ blended. VaryingsOK (varying_context context.now Direction.Output) (result_varyings types answer) × AnswerOK types stage answer
+        (λ blended. VaryingsOK (varying_context context.now Direction.Output) (result_varyings types answer) × StageResultOK types stage answer
         × (IsTrue blended ↔ HasBlendSources (result_varyings types answer)))
         (IsRefusedFor (λ x. IsGivenFault (varying_context context.now Direction.Output) (result_varyings types answer) x ⊎ IsAnswerFault types stage answer x)) }
 {

@@ -17,7 +17,7 @@ use Rattle.ir_kinds.specs.declared.spaces.AddressSpace.TheVariants.{Immediate, T
 use Rattle.spec_expressions.specs.judged.Summaries.{HasUseBit, no_use}
 use Rattle.spec_interface.specs.judged.Payloads.{binding_at, space_at}
 use Rattle.spec_interface.specs.judged.Uses.{allowed_uses, is_reached}
-use Rattle.spec_interface.specs.judged.UsedVariables.{BindingsApart, EachOK, IsUsed, OneImmediate, OwnPayloadOK, VariableOK, counted_inner}
+use Rattle.spec_interface.specs.judged.UsedVariables.{BindingsApart, EachOK, IsUsed, OneImmediate, OwnPayloadOK, UsedVariableOK, effective_inner}
 
 below_or_here : (j n : ℕ) → j < n + 1 → (j < n) ⊎ (j ≡ n)
 below_or_here j n lt = elim (cases_eq j n) [ inl same ↦ inr same | inr differ ↦ inl (omega (arith, lt, differ)) ]
@@ -77,15 +77,15 @@ module _ (m : PlainModule) (uses : List GlobalUse) (g : ℕ) (u : GlobalUse) (to
 -- ---- one
 
 module _ (m : PlainModule) (e : PlainEntry) (g : ℕ) (v : PlainGlobal) where
-  pub variable_allowed : (kinds : ℕ) (allowed : GlobalUse) → (v.space ≡ TaskPayload → OwnPayloadOK m e g v) → IsTrue (is_reached e.stage v.space) → allowed ≡ allowed_uses e.stage v.space (counted_inner m v)
-      → Has allowed.0 kinds → VariableOK m e g v (λ k. bit_at kinds k ≡ 1)
+  pub variable_allowed : (kinds : ℕ) (allowed : GlobalUse) → (v.space ≡ TaskPayload → OwnPayloadOK m e g v) → IsTrue (is_reached e.stage v.space) → allowed ≡ allowed_uses e.stage v.space (effective_inner m v)
+      → Has allowed.0 kinds → UsedVariableOK m e g v (λ k. bit_at kinds k ≡ 1)
   variable_allowed kinds allowed payload reached is has = record {
     payload = payload;
     reached = reached;
     allowed = λ k one. ap (λ (u : GlobalUse). bit_at u.0 k) (sym is) ∙ within_all allowed.0 kinds has k one;
   }
 
-  pub variable_not_allowed : (kinds allowed : GlobalUse) → allowed ≡ allowed_uses e.stage v.space (counted_inner m v) → (Has allowed.0 kinds.0 → ⊥) → IsVariableFault m e g v (λ k. bit_at kinds.0 k ≡ 1) (error.InvalidGlobalUsage g kinds)
+  pub variable_not_allowed : (kinds allowed : GlobalUse) → allowed ≡ allowed_uses e.stage v.space (effective_inner m v) → (Has allowed.0 kinds.0 → ⊥) → IsVariableFault m e g v (λ k. bit_at kinds.0 k ≡ 1) (error.InvalidGlobalUsage g kinds)
   variable_not_allowed kinds allowed is has = of_uses (
     refl,
     (λ k. ((λ one. one), (λ one. one))),
@@ -96,18 +96,18 @@ module _ (m : PlainModule) (e : PlainEntry) (g : ℕ) (v : PlainGlobal) where
 
 -- those before an index are as they may be used
 abbrev pub EachBelow : PlainModule → PlainEntry → (ℕ → ℕ → Type 0) → (n : ℕ) → Type 0
-EachBelow m e Uses n = (g : ℕ) (v : PlainGlobal) → g < n → slice_get m.globals g ≡ Some v → IsUsed Uses g → VariableOK m e g v (Uses g)
+EachBelow m e Uses n = (g : ℕ) (v : PlainGlobal) → g < n → slice_get m.globals g ≡ Some v → IsUsed Uses g → UsedVariableOK m e g v (Uses g)
 
 module _ (m : PlainModule) (e : PlainEntry) (Uses : ℕ → ℕ → Type 0) (n : ℕ) (below : EachBelow m e Uses n) where
-  pub each_more : ((v : PlainGlobal) → slice_get m.globals n ≡ Some v → IsUsed Uses n → VariableOK m e n v (Uses n)) → EachBelow m e Uses (n + 1)
+  pub each_more : ((v : PlainGlobal) → slice_get m.globals n ≡ Some v → IsUsed Uses n → UsedVariableOK m e n v (Uses n)) → EachBelow m e Uses (n + 1)
   each_more here g v lt at used = elim (below_or_here g n lt) [
     | inl before ↦ below g v before at used
-    | inr same ↦ subst (λ h. VariableOK m e h v (Uses h)) (sym same) (here v (subst (λ h. slice_get m.globals h ≡ Some v) same at) (subst (λ h. IsUsed Uses h) same used))
+    | inr same ↦ subst (λ h. UsedVariableOK m e h v (Uses h)) (sym same) (here v (subst (λ h. slice_get m.globals h ≡ Some v) same at) (subst (λ h. IsUsed Uses h) same used))
   ]
 
-  pub each_at : (h : ℕ) (w : PlainGlobal) → h ≡ n → slice_get m.globals h ≡ Some w → VariableOK m e h w (Uses h) → EachBelow m e Uses (n + 1)
+  pub each_at : (h : ℕ) (w : PlainGlobal) → h ≡ n → slice_get m.globals h ≡ Some w → UsedVariableOK m e h w (Uses h) → EachBelow m e Uses (n + 1)
   each_at h w same there ok =
-      each_more (λ v at used. subst (λ k. VariableOK m e k v (Uses k)) same (subst (λ x. VariableOK m e h x (Uses h)) (some_is (sym there ∙ (ap (slice_get m.globals) same ∙ at))) ok))
+      each_more (λ v at used. subst (λ k. UsedVariableOK m e k v (Uses k)) same (subst (λ x. UsedVariableOK m e h x (Uses h)) (some_is (sym there ∙ (ap (slice_get m.globals) same ∙ at))) ok))
 
   pub each_unused : (h : ℕ) → h ≡ n → (IsUsed Uses h → ⊥) → EachBelow m e Uses (n + 1)
   each_unused h same unused = each_more (λ v at used. absurd (unused (subst (λ k. IsUsed Uses k) (sym same) used)))

@@ -21,7 +21,7 @@ use Rattle.ir_kinds.specs.declared.stages.ShaderStage.{ShaderStage}
 use Rattle.ir_kinds.specs.declared.stages.ShaderStage.TheVariants.{Fragment, Mesh, Task}
 use Rattle.spec_interface.specs.judged.Payloads.{space_at, binding_at, has_payload}
 use Rattle.spec_interface.specs.judged.Stages.{runs_in_workgroups, stage_capability, SizeOK}
-use Rattle.spec_interface.specs.judged.Uses.{traces_rays, is_run_for_rays}
+use Rattle.spec_interface.specs.judged.Uses.{traces_rays, sees_incoming_payload}
 use Rattle.spec_interface.specs.judged.UsedVariables.{AllowsUses, IsUsed, least_payload}
 use Rattle.typing_layout.specs.judged.Layout.{size}
 use Rattle.typing_layout.specs.judged.View.{type_tree}
@@ -89,7 +89,7 @@ IsPayloadUseFault m e g v _ = ⊥
 -- the stage has no payloads of rays that lie so
 abbrev pub IsReachFault : ShaderStage → AddressSpace → EntryPointError → Type 0
 IsReachFault stage space (error.RayPayloadInInvalidStage s) = (s ≡ stage) × (space ≡ RayPayload) × (traces_rays stage ≡ false)
-IsReachFault stage space (error.IncomingRayPayloadInInvalidStage s) = (s ≡ stage) × (space ≡ IncomingRayPayload) × (is_run_for_rays stage ≡ false)
+IsReachFault stage space (error.IncomingRayPayloadInInvalidStage s) = (s ≡ stage) × (space ≡ IncomingRayPayload) × (sees_incoming_payload stage ≡ false)
 IsReachFault stage space _ = ⊥
 
 -- it is used as it may not be

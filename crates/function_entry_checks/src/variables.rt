@@ -9,7 +9,7 @@ ghost use Rattle.ir_kinds.specs.declared.spaces.AddressSpace.TheVariants.{Immedi
 ghost use Rattle.spec_expressions.specs.judged.Summaries.{HasUseBit};
 ghost use Rattle.spec_interface.specs.judged.Payloads.{space_at};
 ghost use Rattle.spec_interface.specs.judged.Uses.{is_reached};
-ghost use Rattle.spec_interface.specs.judged.UsedVariables.{EachOK, IsUsed, OneImmediate, OwnPayloadOK, VariableOK, VariablesOK};
+ghost use Rattle.spec_interface.specs.judged.UsedVariables.{EachOK, IsUsed, OneImmediate, OwnPayloadOK, UsedVariableOK, VariablesOK};
 ghost use Rattle.typing_layout.specs.judged.Layout.{size};
 ghost use Rattle.typing_layout.specs.judged.View.{type_tree};
 
@@ -107,7 +107,7 @@ fn check_variable(
     kinds: GlobalUse,
 ) -> Result<(), EntryPointError>
     ensures { MatchResult result
-        (λ _. VariableOK (module_view «module».now) (entry_view entry.now) global (global_view variable.now) (λ k. bit_at kinds.0 k ≡ 1))
+        (λ _. UsedVariableOK (module_view «module».now) (entry_view entry.now) global (global_view variable.now) (λ k. bit_at kinds.0 k ≡ 1))
         (IsVariableFault (module_view «module».now) (entry_view entry.now) global (global_view variable.now) (λ k. bit_at kinds.0 k ≡ 1)) }
 {
     match check_own_payload(module, entry, global, variable) {

@@ -18,7 +18,6 @@ use Rattle.module_handles.proofs.OrderedTypes.{order_gives_types}
 use Rattle.function_real_lower.specs.Made.{types_of}
 use Rattle.function_real_lower.specs.Readings.{reading_of, faults_of}
 use Rattle.spec_expressions.specs.judged.Summaries.{Summary}
-use Rattle.spec_statements.specs.judged.ExpressionStages.{all_stages}
 use Rattle.spec_expressions.specs.judged.Typing.{HasType}
 use Rattle.spec_expressions.specs.judged.FunctionHandles.{HandlesInRange}
 use Rattle.spec_expressions.specs.judged.ModuleHandles.{HandlesOK}

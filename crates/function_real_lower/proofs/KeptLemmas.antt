@@ -2,7 +2,7 @@
 use Rattle.std.proofs.Common.{◌≡◌, false, List, length, refl, sym, ap, ◌∙◌, subst}
 use Rattle.std.specs.List.{flat_map}
 use Rattle.bitflags.specs.Sets.{known_bits}
-use Rattle.ir_flags.specs.Words.{shader_stages}
+use Rattle.ir_flags.specs.Words.{shader_stage_bits}
 use Rattle.ir_items.specs.judged.Plain.{PlainFunction, PlainModule}
 use Rattle.spec_expressions.specs.judged.Summaries.{Summary, IsJoined}
 use Rattle.typing_infos.specs.Infos.{summary_of, key_of}
@@ -26,7 +26,7 @@ module _ (m : PlainModule) (f : PlainFunction) (summaries : List Summary) (s : S
   }
 
   pub kept_is : info.expressions.items ≡ infos_from s.uniformities.items s.tally.counts.counts.items s.globals.items 0 s.types.items
-      → info.sampling_set.items ≡ flat_map key_of (listed s.tally.sampled.pairs) → info.available_stages.0 ≡ known_bits shader_stages → info.dual_source_blending ≡ false
+      → info.sampling_set.items ≡ flat_map key_of (listed s.tally.sampled.pairs) → info.available_stages.0 ≡ known_bits shader_stage_bits → info.dual_source_blending ≡ false
       → IsFunctionInfo m f summaries info
   kept_is expressions keys stages blending = record {
     expressions = infos_are s.uniformities.items s.tally.counts.counts.items s.globals.items m f summaries s.types.items (tallied s.tally) is.types is.uniformities is.starts is.tally refl info.expressions.items expressions;

@@ -2,7 +2,7 @@
 use Rattle.std.specs.Prelude.{◌≡◌, ◌↔◌, ℕ, ◌-◌, ◌^◌, min, false, List, Some, length, slice_get}
 use Rattle.std.specs.List.{flat_map}
 use Rattle.bitflags.specs.Sets.{known_bits}
-use Rattle.ir_flags.specs.Words.{shader_stages}
+use Rattle.ir_flags.specs.Words.{shader_stage_bits}
 use Rattle.ir_items.specs.judged.Plain.{PlainFunction, PlainModule}
 use Rattle.typing_uniformity.specs.Facts.{IsUniformity}
 use Rattle.spec_expressions.specs.declared.expression_info.ExpressionInfo.{ExpressionInfo}
@@ -34,5 +34,5 @@ pub record IsFunctionInfo (m : PlainModule) (f : PlainFunction) (summaries : Lis
   pub globals : length info.uses.items ≡ length m.globals
   pub joined : IsJoined (length m.globals) f summaries (summary_of info)
   pub sampling_set : info.sampling_set.items ≡ flat_map key_of info.sampling.items
-  pub available_stages : info.available_stages.0 ≡ known_bits shader_stages
+  pub available_stages : info.available_stages.0 ≡ known_bits shader_stage_bits
   pub dual_source_blending : info.dual_source_blending ≡ false

@@ -16,7 +16,7 @@ use Rattle.function_statements.specs.RayQueries.{IsStartFault, IsDistanceFault, 
 use Rattle.spec_statements.specs.judged.ExpressionRayQueries.{query_of}
 use Rattle.spec_statements.specs.judged.BlockContext.{BlockContext, form_at}
 use Rattle.spec_statements.specs.judged.RayPipelines.{TraceOK, RayPipelineOK}
-use Rattle.spec_statements.specs.judged.RayQueries.{structure_of, local_type_at, StepOK, RayQueryOK}
+use Rattle.spec_statements.specs.judged.RayQueries.{structure_of, local_type_at, RayStepOK, RayQueryOK}
 use Rattle.typing_forms.specs.judged.Resolutions.{inner_at}
 
 -- ---- what is there
@@ -37,18 +37,18 @@ module _ {A : Type 0} where
 -- ---- queries
 
 start_refuted : (c : BlockContext) (query : ℕ) (vertices : Bool) (structure descriptor : ℕ) (e : FunctionError)
-    → IsStartFault c query vertices structure descriptor e → StepOK c vertices (ray.Initialize structure descriptor) → ⊥
+    → IsStartFault c query vertices structure descriptor e → RayStepOK c vertices (ray.Initialize structure descriptor) → ⊥
 start_refuted c query vertices structure descriptor (error.InvalidAccelerationStructure x) wrong ok = missing _ _ wrong.1 ok.0
 start_refuted c query vertices structure descriptor (error.MissingAccelerationStructureVertexReturn x asked) wrong ok =
     both (structure_of (form_at c structure)) _ _ (λ given never gives. never gives) wrong.2 ok.0
 start_refuted c query vertices structure descriptor (error.InvalidRayDescriptor x) wrong ok = wrong.1 ok.1
 start_refuted c query vertices structure descriptor _ wrong ok = wrong
 
-distance_refuted : (c : BlockContext) (vertices : Bool) (hit_t : ℕ) (e : FunctionError) → IsDistanceFault c hit_t e → StepOK c vertices (ray.GenerateIntersection hit_t) → ⊥
+distance_refuted : (c : BlockContext) (vertices : Bool) (hit_t : ℕ) (e : FunctionError) → IsDistanceFault c hit_t e → RayStepOK c vertices (ray.GenerateIntersection hit_t) → ⊥
 distance_refuted c vertices hit_t (error.InvalidHitDistanceType x) wrong ok = wrong.1 ok
 distance_refuted c vertices hit_t _ wrong ok = wrong
 
-step_refuted : (c : BlockContext) (query : ℕ) (vertices : Bool) (fun : RayQueryFunction) (e : FunctionError) → IsStepFault c query vertices fun e → StepOK c vertices fun → ⊥
+step_refuted : (c : BlockContext) (query : ℕ) (vertices : Bool) (fun : RayQueryFunction) (e : FunctionError) → IsStepFault c query vertices fun e → RayStepOK c vertices fun → ⊥
 step_refuted c query vertices (ray.Initialize structure descriptor) e wrong ok = start_refuted c query vertices structure descriptor e wrong ok
 step_refuted c query vertices (ray.GenerateIntersection hit_t) e wrong ok = distance_refuted c vertices hit_t e wrong ok
 step_refuted c query vertices (ray.Proceed result) e wrong ok = wrong

@@ -5,7 +5,7 @@ use Rattle.typing_errors.specs.declared.error.FunctionError.TheVariants as error
 use Rattle.ir_blocks.specs.declared.operations.RayQueryFunction.{RayQueryFunction}
 use Rattle.ir_blocks.specs.declared.operations.RayQueryFunction.TheVariants as ray
 use Rattle.spec_statements.specs.judged.ExpressionRayQueries.{query_of}
-use Rattle.spec_statements.specs.judged.Shapes.{IsMadeOf, IsAlone, IsFloating}
+use Rattle.spec_statements.specs.judged.Shapes.{IsMadeOf, IsScalarShape, IsFloating}
 use Rattle.spec_statements.specs.judged.BlockContext.{BlockContext, form_at}
 use Rattle.spec_statements.specs.judged.RayQueries.{structure_of, IsRayDescriptor, local_type_at, GivesVertices}
 use Rattle.typing_forms.specs.judged.Resolutions.{inner_at}
@@ -20,7 +20,7 @@ IsStartFault c query vertices structure descriptor (error.InvalidRayDescriptor e
 IsStartFault c query vertices structure descriptor _ = ⊥
 
 abbrev pub IsDistanceFault : BlockContext → (hit_t : ℕ) → FunctionError → Type 0
-IsDistanceFault c hit_t (error.InvalidHitDistanceType e) = (e ≡ hit_t) × ¬ IsMadeOf IsAlone IsFloating (form_at c hit_t)
+IsDistanceFault c hit_t (error.InvalidHitDistanceType e) = (e ≡ hit_t) × ¬ IsMadeOf IsScalarShape IsFloating (form_at c hit_t)
 IsDistanceFault c hit_t _ = ⊥
 
 abbrev pub IsStepFault : BlockContext → (query : ℕ) → (vertices : Bool) → RayQueryFunction → FunctionError → Type 0

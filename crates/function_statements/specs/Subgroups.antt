@@ -12,10 +12,10 @@ use Rattle.ir_flags.specs.declared.stages.TheConstants.SubgroupOperationSet.{BAL
 use Rattle.ir_kinds.specs.judged.Scalars.{boolean, unsigned}
 use Rattle.ir_kinds.specs.declared.subgroups.CollectiveOperation.{CollectiveOperation}
 use Rattle.ir_kinds.specs.declared.subgroups.SubgroupOperation.{SubgroupOperation}
-use Rattle.spec_statements.specs.judged.Shapes.{IsOfValue, IsMadeOf, shaped_of}
+use Rattle.spec_statements.specs.judged.Shapes.{IsScalarOrVector, IsMadeOf, shaped_of}
 use Rattle.spec_expressions.specs.judged.Operands.{gather_index}
 use Rattle.spec_statements.specs.judged.BlockContext.{BlockContext, form_at}
-use Rattle.spec_statements.specs.judged.Subgroups.{collective_needs, gather_needs, AnswersAs, IsNumber, TakesShape, GoesOver, IndexIsKnown}
+use Rattle.spec_statements.specs.judged.Subgroups.{collective_needs, gather_needs, AnswersAs, IsSubgroupNumber, TakesShape, GoesOver, IndexIsKnown}
 use Rattle.typing_forms.specs.declared.form.Form.TheVariants as form
 
 -- ---- what is needed
@@ -65,7 +65,7 @@ IsCollectiveFault c done over argument result e = IsOperationFault c (collective
 -- the index is no `u32`, or what is gathered is no number
 abbrev pub IsBadOperand : BlockContext → GatherMode → (argument e : ℕ) → Type 0
 IsBadOperand c how argument e =
-    ((gather_index how ≡ Some e) × ¬ (form_at c e ≡ form.Scalar (unsigned 4))) ⊎ ((e ≡ argument) × ¬ IsMadeOf IsOfValue IsNumber (form_at c argument))
+    ((gather_index how ≡ Some e) × ¬ (form_at c e ≡ form.Scalar (unsigned 4))) ⊎ ((e ≡ argument) × ¬ IsMadeOf IsScalarOrVector IsSubgroupNumber (form_at c argument))
 
 abbrev pub IsBadGather : BlockContext → GatherMode → (argument result : ℕ) → SubgroupError → Type 0
 IsBadGather c how argument result (fault.InvalidOperand e) = IsBadOperand c how argument e

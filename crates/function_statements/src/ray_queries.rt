@@ -5,8 +5,8 @@ ghost use Rattle.ir_blocks.specs.declared.operations.RayQueryFunction.TheVariant
 ghost use Rattle.ir_types.specs.judged.ExpressionPlain.{expression_view};
 ghost use Rattle.function_statements.specs.RayQueries.{IsStartFault, IsStepFault, IsRayQueryFault};
 ghost use Rattle.spec_statements.specs.judged.ExpressionRayQueries.{query_of};
-ghost use Rattle.spec_statements.specs.judged.Shapes.{IsMadeOf, IsAlone, IsFloating};
-ghost use Rattle.spec_statements.specs.judged.RayQueries.{local_of, local_type_at, GivesVertices, StepOK, RayQueryOK};
+ghost use Rattle.spec_statements.specs.judged.Shapes.{IsMadeOf, IsScalarShape, IsFloating};
+ghost use Rattle.spec_statements.specs.judged.RayQueries.{local_of, local_type_at, GivesVertices, RayStepOK, RayQueryOK};
 ghost use Rattle.typing_forms.specs.judged.Resolutions.{inner_at};
 
 use crate::rays::{is_ray_descriptor, structure_of};
@@ -76,7 +76,7 @@ fn check_start<C: StatementContext>(
 ) -> Result<(), FunctionError>
     requires { C.known context.now }
     ensures { MatchResult result
-        (λ _. StepOK (C.seen context.now) vertices (Initialize structure descriptor))
+        (λ _. RayStepOK (C.seen context.now) vertices (Initialize structure descriptor))
         (IsStartFault (C.seen context.now) query vertices structure descriptor) }
 {
     match structure_of(context.form_at(structure)) {
@@ -98,7 +98,7 @@ fn check_start<C: StatementContext>(
 
 // Whether a type is that of a distance: one float.
 fn is_distance(of: Form) -> bool
-    ensures { IsTrue result ↔ IsMadeOf IsAlone IsFloating of }
+    ensures { IsTrue result ↔ IsMadeOf IsScalarShape IsFloating of }
 {
     match shaped_of(of) {
         Some(shaped) => is_alone(shaped.shape) && is_floating(shaped.scalar.kind),
@@ -115,7 +115,7 @@ fn check_step<C: StatementContext>(
 ) -> Result<(), FunctionError>
     requires { C.known context.now }
     ensures { MatchResult result
-        (λ _. StepOK (C.seen context.now) vertices fun.now)
+        (λ _. RayStepOK (C.seen context.now) vertices fun.now)
         (IsStepFault (C.seen context.now) query vertices fun.now) }
 {
     match *fun {

@@ -5,10 +5,10 @@ ghost use Rattle.ir_types.specs.judged.ExpressionPlain.{expression_view};
 ghost use Rattle.ir_flags.specs.declared.stages.TheConstants.SubgroupOperationSet.{BALLOT};
 ghost use Rattle.ir_kinds.specs.judged.Scalars.{unsigned};
 ghost use Rattle.function_statements.specs.Subgroups.{IsOperationFault, IsBallotFault, IsCollectiveFault, IsGatherFault};
-ghost use Rattle.spec_statements.specs.judged.Shapes.{IsOfValue, IsMadeOf, shaped_of};
+ghost use Rattle.spec_statements.specs.judged.Shapes.{IsScalarOrVector, IsMadeOf, shaped_of};
 ghost use Rattle.spec_expressions.specs.judged.Operands.{gather_index};
 ghost use Rattle.spec_statements.specs.judged.BlockContext.{form_at};
-ghost use Rattle.spec_statements.specs.judged.Subgroups.{collective_needs, gather_needs, HasOperation, answered_type, AnswersAs, BallotOK, IsNumber, TakesShape, IsScanned, GoesOver, CollectiveOK, IndexIsKnown, GatherOK};
+ghost use Rattle.spec_statements.specs.judged.Subgroups.{collective_needs, gather_needs, HasOperation, answered_type, AnswersAs, BallotOK, IsSubgroupNumber, TakesShape, IsScanned, GoesOver, CollectiveOK, IndexIsKnown, GatherOK};
 
 use bitflags::Flags;
 use function_statement_checks::StatementContext;
@@ -161,7 +161,7 @@ pub fn check_ballot<C: StatementContext>(
 
 // Whether a kind of scalar is one of integers or floats.
 const fn is_number(kind: ScalarKind) -> bool
-    ensures { IsTrue result ↔ IsNumber kind }
+    ensures { IsTrue result ↔ IsSubgroupNumber kind }
 {
     match kind {
         ScalarKind::Sint | ScalarKind::Uint | ScalarKind::Float => true,
@@ -335,7 +335,7 @@ fn unknown_index<C: StatementContext>(
 
 // Whether values of a type are taken from other invocations: scalars and vectors of numbers.
 fn is_gathered(of: Form) -> bool
-    ensures { IsTrue result ↔ IsMadeOf IsOfValue IsNumber of }
+    ensures { IsTrue result ↔ IsMadeOf IsScalarOrVector IsSubgroupNumber of }
 {
     match shaped_of(of) {
         Some(shaped) => is_of_value(shaped.shape) && is_number(shaped.scalar.kind),

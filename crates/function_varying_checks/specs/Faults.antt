@@ -14,9 +14,9 @@ use Rattle.ir_kinds.specs.declared.stages.ShaderStage.TheVariants.{Fragment}
 use Rattle.ir_types.specs.judged.Plain.{inner_view}
 use Rattle.typing_layout.specs.judged.Flags.{HasFlag, IoShareable}
 use Rattle.typing_layout.specs.judged.View.{type_tree}
-use Rattle.spec_interface.specs.judged.BuiltIns.{AreRows, IsAhead, IsFree, IsOfType, OccursAt}
+use Rattle.spec_interface.specs.judged.BuiltIns.{IsLinearWorkgroup, HasNoTaskPayload, IsFree, IsOfType, RowOccursAt}
 use Rattle.spec_interface.specs.judged.Contexts.{VaryingContext}
-use Rattle.spec_interface.specs.judged.Locations.{NeedsInterpolation, counted, goes_with, kind_of, of_three}
+use Rattle.spec_interface.specs.judged.Locations.{NeedsInterpolation, varying_type, sampling_fits, kind_of, of_three}
 use Rattle.spec_interface.specs.judged.BuiltInRows.{built_in_row}
 use Rattle.spec_interface.specs.judged.Varyings.{ShowsAt, built_in_of, canonical, location_of}
 use Rattle.spec_interface.specs.declared.rows.BuiltInRow.{BuiltInRow}
@@ -41,11 +41,11 @@ Misses c r x = (r.capability ≡ Some x) × (¬ IsFree c.stage r.exception) × �
 
 -- it does not go this way at this stage, or not after a task
 abbrev pub IsAstray : VaryingContext → BuiltInRow → Type 0
-IsAstray c r = (¬ OccursAt c.direction c.stage r) ⊎ ((r.exception ≡ NotAfterTasks) × ¬ IsAhead c)
+IsAstray c r = (¬ RowOccursAt c.direction c.stage r) ⊎ ((r.exception ≡ NotAfterTasks) × ¬ HasNoTaskPayload c)
 
 abbrev pub IsBuiltInFault : VaryingContext → (type : ℕ) → BuiltIn → VaryingError → Type 0
 IsBuiltInFault c type b (error.UnsupportedCapability x) = Misses c (built_in_row b) x
-IsBuiltInFault c type b error.InvalidMultiDimensionalSubgroupBuiltIn = ((built_in_row b).exception ≡ RowsOnly) × ¬ AreRows c.sizes
+IsBuiltInFault c type b error.InvalidMultiDimensionalSubgroupBuiltIn = ((built_in_row b).exception ≡ RowsOnly) × ¬ IsLinearWorkgroup c.sizes
 IsBuiltInFault c type b (error.InvalidBuiltInStage d) = (d ≡ b) × IsAstray c (built_in_row b)
 IsBuiltInFault c type b (error.InvalidBuiltInType d i) = (d ≡ b) × (inner_at c.types type ≡ Some (inner_view i)) × ¬ IsOfType c.types (built_in_row b).ty type
 IsBuiltInFault c type b (error.InvalidType t) = (t ≡ type) × (inner_at c.types type ≡ None) × ¬ IsOfType c.types (built_in_row b).ty type
@@ -64,9 +64,9 @@ Lies c type l kind = NeedsInterpolation c.direction c.stage l.per_primitive × (
 
 abbrev pub IsLocationFault : VaryingContext → (type : ℕ) → Location → VaryingError → Type 0
 IsLocationFault c type l (error.InvalidType t) = (t ≡ type) × (l.interpolation ≢ Some PerVertex) × (kind_of (form_of_type c.types type) ≡ None)
-IsLocationFault c type l (error.NotIOShareableType t) = (counted c.types l.interpolation type ≡ Some t) × ¬ HasFlag IoShareable (type_tree c.types t)
+IsLocationFault c type l (error.NotIOShareableType t) = (varying_type c.types l.interpolation type ≡ Some t) × ¬ HasFlag IoShareable (type_tree c.types t)
 IsLocationFault c type l (error.InvalidInterpolationInStage i stage) = (i ≡ PerVertex) × (stage ≡ Fragment) × (l.interpolation ≡ Some PerVertex) × (c.stage ≢ Fragment)
-IsLocationFault c type l (error.InvalidInterpolationSamplingCombination i s) = (l.interpolation ≡ Some i) × (l.sampling ≡ Some s) × (goes_with i s ≡ false)
+IsLocationFault c type l (error.InvalidInterpolationSamplingCombination i s) = (l.interpolation ≡ Some i) × (l.sampling ≡ Some s) × (sampling_fits i s ≡ false)
 IsLocationFault c type l error.InvalidInterpolationForInteger = (Lies c type l Sint ⊎ Lies c type l Uint) × (l.interpolation ≢ Some PerVertex) × (l.interpolation ≢ Some Flat)
 IsLocationFault c type l error.MissingInterpolation = Lies c type l Float × (l.interpolation ≡ None)
 IsLocationFault c type l (error.UnsupportedCapability x) = Needs l x × ¬ Has c.capabilities.0 x.0

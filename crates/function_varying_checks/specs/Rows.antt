@@ -2,7 +2,7 @@
 use Rattle.std.specs.Prelude.{◌≡◌, ℕ, List, Some, None}
 use Rattle.ir_kinds.specs.declared.bindings.BuiltIn.{BuiltIn}
 use Rattle.ir_types.specs.judged.Plain.{PlainType, inner_view}
-use Rattle.spec_interface.specs.judged.BuiltIns.{AreRows, IsAhead, IsOfType}
+use Rattle.spec_interface.specs.judged.BuiltIns.{IsLinearWorkgroup, HasNoTaskPayload, IsOfType}
 use Rattle.spec_interface.specs.judged.Contexts.{VaryingContext}
 use Rattle.spec_interface.specs.declared.rows.BuiltInRow.{BuiltInRow}
 use Rattle.spec_interface.specs.declared.rows.Exception.{Exception}
@@ -17,13 +17,13 @@ use Rattle.function_varying_checks.specs.declared.built_ins.RowFault.TheVariants
 -- what a row says besides does not hold
 abbrev pub IsExcepted : VaryingContext → Exception → RowFault → Type 0
 IsExcepted c e (fault.Capability x) = ⊥
-IsExcepted c e fault.Rows = (e ≡ RowsOnly) × ¬ AreRows c.sizes
-IsExcepted c e fault.Stage = (e ≡ NotAfterTasks) × ¬ IsAhead c
+IsExcepted c e fault.Rows = (e ≡ RowsOnly) × ¬ IsLinearWorkgroup c.sizes
+IsExcepted c e fault.Stage = (e ≡ NotAfterTasks) × ¬ HasNoTaskPayload c
 IsExcepted c e fault.Type = ⊥
 
 abbrev pub IsRowFault : VaryingContext → (type : ℕ) → BuiltInRow → RowFault → Type 0
 IsRowFault c type r (fault.Capability x) = Misses c r x
-IsRowFault c type r fault.Rows = (r.exception ≡ RowsOnly) × ¬ AreRows c.sizes
+IsRowFault c type r fault.Rows = (r.exception ≡ RowsOnly) × ¬ IsLinearWorkgroup c.sizes
 IsRowFault c type r fault.Stage = IsAstray c r
 IsRowFault c type r fault.Type = ¬ IsOfType c.types r.ty type
 

@@ -12,7 +12,7 @@ use Rattle.ir_kinds.specs.declared.stages.ShaderStage.TheVariants.{Fragment}
 use Rattle.typing_layout.specs.judged.Flags.{HasFlag, IoShareable}
 use Rattle.typing_layout.specs.judged.View.{type_tree}
 use Rattle.spec_interface.specs.judged.Contexts.{VaryingContext}
-use Rattle.spec_interface.specs.judged.Locations.{NeedsInterpolation, IsValue, PrimitiveOK, VerticesOK, counted, goes_with}
+use Rattle.spec_interface.specs.judged.Locations.{NeedsInterpolation, IsVaryingValue, PerPrimitiveOK, PerVertexOK, varying_type, sampling_fits}
 use Rattle.spec_interface.specs.declared.varyings.Direction.{Direction}
 use Rattle.spec_interface.specs.declared.varyings.Direction.TheVariants.{Input, PrimitiveOutput}
 use Rattle.spec_interface.specs.declared.varyings.Location.{Location}
@@ -23,13 +23,13 @@ use Rattle.function_varying_checks.specs.declared.error.VaryingError.TheVariants
 -- the type that counts is there, and every vertex may give its own value, where each does
 pub record IsSpread (c : VaryingContext) (type : ℕ) (l : Location) (element : ℕ) : Type 0 where
   pub capable : IsTrue l.per_primitive → Has c.capabilities.0 MESH_SHADER.0
-  pub vertices : l.interpolation ≡ Some PerVertex → VerticesOK c
-  pub counts : counted c.types l.interpolation type ≡ Some element
+  pub vertices : l.interpolation ≡ Some PerVertex → PerVertexOK c
+  pub counts : varying_type c.types l.interpolation type ≡ Some element
 
 -- a value of the type that counts goes to the location by itself
 pub record IsKept (c : VaryingContext) (element : ℕ) (l : Location) : Type 0 where
   pub shared : HasFlag IoShareable (type_tree c.types element)
-  pub primitive : PrimitiveOK c.direction c.stage l.per_primitive
+  pub primitive : PerPrimitiveOK c.direction c.stage l.per_primitive
   pub alone : l.blend_src ≡ None
 
 abbrev pub IsPrimitiveFault : Direction → ShaderStage → (per_primitive : Bool) → VaryingError → Type 0
@@ -39,7 +39,7 @@ IsPrimitiveFault direction stage per_primitive _ = ⊥
 
 -- the place goes with the way in which the value is found
 abbrev pub AreCombined : Location → Type 0
-AreCombined l = (i : Interpolation) (s : Sampling) → l.interpolation ≡ Some i → l.sampling ≡ Some s → goes_with i s ≡ true
+AreCombined l = (i : Interpolation) (s : Sampling) → l.interpolation ≡ Some i → l.sampling ≡ Some s → sampling_fits i s ≡ true
 
 -- a value between vertices is not found as those of its kind are
 abbrev pub IsUnfound : ScalarKind → Option Interpolation → VaryingError → Type 0
@@ -48,4 +48,4 @@ IsUnfound kind i error.MissingInterpolation = (kind ≡ Float) × (i ≡ None)
 IsUnfound kind i _ = ⊥
 
 abbrev pub ValueOK : VaryingContext → (type : ℕ) → Location → Type 0
-ValueOK c type l = l.interpolation ≢ Some PerVertex → IsValue (NeedsInterpolation c.direction c.stage l.per_primitive) l.interpolation (form_of_type c.types type)
+ValueOK c type l = l.interpolation ≢ Some PerVertex → IsVaryingValue (NeedsInterpolation c.direction c.stage l.per_primitive) l.interpolation (form_of_type c.types type)

@@ -2,7 +2,7 @@
 
 ghost use Rattle.std.specs.Prelude.{◌≡◌, ◌≤◌, ◌↔◌, ◌⊎◌, ℕ, IfOk, IfSome, IsTrue, MatchOption, MatchResult};
 ghost use Rattle.ir_flags.specs.Sets.{Has};
-ghost use Rattle.spec_interface.specs.judged.BuiltIns.{AreDistances, AreRows, BuiltInOK, ExceptionOK, IsAhead, IsCounted, IsFree, IsOfType, RowOK, OccursAt};
+ghost use Rattle.spec_interface.specs.judged.BuiltIns.{AreDistances, IsLinearWorkgroup, BuiltInOK, ExceptionOK, HasNoTaskPayload, IsCounted, IsFree, IsOfType, RowOK, RowOccursAt};
 ghost use Rattle.spec_interface.specs.judged.Contexts.{stage_set};
 ghost use Rattle.spec_interface.specs.judged.BuiltInRows.{built_in_row};
 ghost use Rattle.typing_forms.specs.judged.Resolutions.{types_view};
@@ -63,7 +63,7 @@ fn has_stage(set: ShaderStages, stage: ShaderStage) -> bool
 
 // Whether a row says that it goes this way at a stage.
 fn occurs_at(direction: Direction, stage: ShaderStage, row: &BuiltInRow) -> bool
-    ensures { IsTrue result ↔ OccursAt direction stage row.now }
+    ensures { IsTrue result ↔ RowOccursAt direction stage row.now }
 {
     match direction {
         Direction::Input => has_stage(row.inputs, stage),
@@ -105,14 +105,14 @@ fn check_need(context: &VaryingContext<'_>, row: &BuiltInRow) -> Result<(), RowF
 
 /// Whether workgroups have one invocation in all ways but the first.
 pub fn are_rows(sizes: [u32; 3]) -> bool
-    ensures { IsTrue result ↔ AreRows sizes }
+    ensures { IsTrue result ↔ IsLinearWorkgroup sizes }
 {
     sizes[1] <= 1 && sizes[2] <= 1
 }
 
 /// Whether no task hands a mesh shader a payload.
 pub fn is_ahead(context: &VaryingContext<'_>) -> bool
-    ensures { IsTrue result ↔ IsAhead (context_view context.now) }
+    ensures { IsTrue result ↔ HasNoTaskPayload (context_view context.now) }
 {
     context.stage != ShaderStage::Mesh || context.task_payload.is_none()
 }

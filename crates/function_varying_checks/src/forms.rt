@@ -3,7 +3,7 @@
 ghost use Rattle.std.specs.Prelude.{◌≡◌, ◌<◌, ◌↔◌, IsTrue, length};
 ghost use Rattle.typing_layout.specs.judged.Flags.{HasFlag, IoShareable};
 ghost use Rattle.typing_layout.specs.judged.View.{type_tree};
-ghost use Rattle.spec_interface.specs.judged.BuiltIns.{array_of};
+ghost use Rattle.spec_interface.specs.judged.BuiltIns.{array_of_form};
 ghost use Rattle.spec_interface.specs.judged.Locations.{kind_of, of_three, three};
 ghost use Rattle.function_varying_checks.specs.View.{IsReported, context_view};
 
@@ -17,7 +17,7 @@ use typing_layout::TypeFlags;
 
 /// The elements of an array, and how many there are; `None` of anything else.
 pub(crate) fn array_of(form: &Form) -> Option<(Handle<key::IrType>, ArraySize)>
-    ensures { result ≡ array_of form.now }
+    ensures { result ≡ array_of_form form.now }
 {
     match form {
         Form::Array { base, size, .. } => Some((*base, *size)),

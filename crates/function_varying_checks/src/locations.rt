@@ -7,7 +7,7 @@ ghost use Rattle.ir_kinds.specs.declared.bindings.Interpolation.TheVariants.{Fla
 ghost use Rattle.ir_kinds.specs.declared.bindings.Sampling.TheVariants.{Center, Sample};
 ghost use Rattle.ir_kinds.specs.declared.stages.ShaderStage.TheVariants.{Fragment, Mesh, Vertex};
 ghost use Rattle.spec_interface.specs.judged.Contexts.{VaryingContext as PlainContext};
-ghost use Rattle.spec_interface.specs.judged.Locations.{NeedsInterpolation, InterpolationOK, LocationOK, PrimitiveOK, VerticesOK, counted, goes_with, is_of_vertex};
+ghost use Rattle.spec_interface.specs.judged.Locations.{NeedsInterpolation, InterpolationOK, LocationOK, PerPrimitiveOK, PerVertexOK, varying_type, sampling_fits, is_flat_sampling};
 ghost use Rattle.function_varying_checks.specs.Faults.{IsLocationFault};
 ghost use Rattle.function_varying_checks.specs.Steps.{AreCombined, IsKept, IsPrimitiveFault, IsSpread, IsUnfound, ValueOK};
 ghost use Rattle.function_varying_checks.specs.View.{IsReported, context_view};
@@ -71,7 +71,7 @@ fn check_mesh(context: &VaryingContext<'_>, at: &Location) -> Result<(), Varying
 // Whether every vertex may give its own value, where each does.
 fn check_vertices(context: &VaryingContext<'_>, at: &Location) -> Result<(), VaryingError>
     ensures { (ty : ℕ) → MatchResult result
-        (λ _. at.now.interpolation ≡ Some PerVertex → VerticesOK (context_view context.now))
+        (λ _. at.now.interpolation ≡ Some PerVertex → PerVertexOK (context_view context.now))
         (IsLocationFault (context_view context.now) ty at.now) }
 {
     if !is_per_vertex(at.interpolation) {
@@ -98,7 +98,7 @@ fn counted(
     ty: Handle<key::IrType>,
     interpolation: Option<Interpolation>,
 ) -> Option<Handle<key::IrType>>
-    ensures { result ≡ counted (context_view context.now).types interpolation ty }
+    ensures { result ≡ varying_type (context_view context.now).types interpolation ty }
 {
     match interpolation {
         Some(Interpolation::PerVertex) => of_three(&form_of_type(context.types, ty)),
@@ -140,7 +140,7 @@ fn check_primitive(
     per_primitive: bool,
 ) -> Result<(), VaryingError>
     ensures { MatchResult result
-        (λ _. PrimitiveOK direction stage per_primitive)
+        (λ _. PerPrimitiveOK direction stage per_primitive)
         (IsPrimitiveFault direction stage per_primitive) }
 {
     match direction {
@@ -176,7 +176,7 @@ fn check_kept(
     at: &Location,
 ) -> Result<(), VaryingError>
     requires told { IsReported context.now }
-    requires counts { counted (context_view context.now).types at.now.interpolation ty ≡ Some element }
+    requires counts { varying_type (context_view context.now).types at.now.interpolation ty ≡ Some element }
     ensures { MatchResult result
         (λ _. IsKept (context_view context.now) element at.now)
         (IsLocationFault (context_view context.now) ty at.now) }
@@ -196,7 +196,7 @@ fn check_kept(
 
 // Whether a place is one of a vertex.
 const fn is_of_vertex(sampling: Sampling) -> bool
-    ensures { result ≡ is_of_vertex sampling }
+    ensures { result ≡ is_flat_sampling sampling }
 {
     match sampling {
         Sampling::First | Sampling::Either => true,
@@ -206,7 +206,7 @@ const fn is_of_vertex(sampling: Sampling) -> bool
 
 // Whether a place goes with a way of finding a value.
 const fn goes_with(interpolation: Interpolation, sampling: Sampling) -> bool
-    ensures { result ≡ goes_with interpolation sampling }
+    ensures { result ≡ sampling_fits interpolation sampling }
 {
     match interpolation {
         Interpolation::Perspective | Interpolation::Linear => !is_of_vertex(sampling),

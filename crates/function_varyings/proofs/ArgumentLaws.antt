@@ -13,7 +13,7 @@ use Rattle.ir_kinds.specs.declared.bindings.BuiltIn.TheVariants.{Position, Baryc
 use Rattle.ir_sets.specs.Bits.{has_bit}
 use Rattle.ir_types.specs.judged.Plain.{PlainType}
 use Rattle.spec_interface.specs.judged.Contexts.{VaryingContext}
-use Rattle.spec_interface.specs.judged.Varyings.{AreApart, BoundOK, ShowsAt, VaryingsOK, argument_varyings, argument_varyings_from, bounds, built_in_of, canonical, location_of, varying, varyings_of}
+use Rattle.spec_interface.specs.judged.Varyings.{VaryingsApart, BoundOK, ShowsAt, VaryingsOK, argument_varyings, argument_varyings_from, bounds, built_in_of, canonical, location_of, varying, varyings_of}
 use Rattle.spec_interface.specs.declared.varyings.Bound.{Bound}
 use Rattle.spec_interface.specs.declared.varyings.Bound.TheVariants.{BuiltIn as built_in, Location as at_location, BlendSources, Nothing, NoMember}
 use Rattle.spec_interface.specs.declared.varyings.Varying.{Varying}
@@ -60,8 +60,8 @@ module _ (c : VaryingContext) (xs ys : List Varying) (left : VaryingsOK c xs) (r
     | inr rest ↦ right.each rest.0 v rest.2
   ]
 
-  module _ {A : Type 0} (shown : Bound → Option A) (lefts : AreApart shown xs) (rights : AreApart shown ys) (cross : (i j : ℕ) (x : A) → ShowsAt shown xs i x → ShowsAt shown ys j x → ⊥) where
-    apart_by : AreApart shown (xs ++ ys)
+  module _ {A : Type 0} (shown : Bound → Option A) (lefts : VaryingsApart shown xs) (rights : VaryingsApart shown ys) (cross : (i j : ℕ) (x : A) → ShowsAt shown xs i x → ShowsAt shown ys j x → ⊥) where
+    apart_by : VaryingsApart shown (xs ++ ys)
     apart_by first second x lt p q =
         elim (after xs ys first p.0 p.1) [
           | inl one ↦

@@ -10,7 +10,7 @@ use Rattle.ir_flags.specs.declared.settings.ValidationFlags.{ValidationFlags}
 use Rattle.ir_kinds.specs.declared.stages.ShaderStage.{ShaderStage}
 use Rattle.ir_kinds.specs.declared.stages.ShaderStage.TheVariants.{Vertex, Fragment, Compute, Mesh, Task, RayGeneration, AnyHit, ClosestHit, Miss}
 use Rattle.ir_types.specs.judged.Plain.{PlainType}
-use Rattle.spec_interface.specs.judged.BuiltIns.{AreRows, ExceptionOK, IsAhead}
+use Rattle.spec_interface.specs.judged.BuiltIns.{IsLinearWorkgroup, ExceptionOK, HasNoTaskPayload}
 use Rattle.spec_interface.specs.judged.Contexts.{VaryingContext}
 use Rattle.spec_interface.specs.judged.BuiltInRows.{built_in_row}
 use Rattle.spec_interface.specs.judged.Varyings.{BoundOK, VaryingsOK, mesh_varyings}
@@ -121,7 +121,7 @@ same_numbers w v s t e =
 -- ---- varyings that go one way
 
 -- the rules look at the stage, the direction, and what the way says besides
-module _ (c d : VaryingContext) (ahead : IsAhead c → IsAhead d) (rows : AreRows c.sizes → AreRows d.sizes) (flags : c.flags ≡ d.flags) (capabilities : c.capabilities ≡ d.capabilities)
+module _ (c d : VaryingContext) (ahead : HasNoTaskPayload c → HasNoTaskPayload d) (rows : IsLinearWorkgroup c.sizes → IsLinearWorkgroup d.sizes) (flags : c.flags ≡ d.flags) (capabilities : c.capabilities ≡ d.capabilities)
     (types : c.types ≡ d.types) (stage : c.stage ≡ d.stage) (direction : c.direction ≡ d.direction) where
   -- c, with what d has of all but the sizes and the payload
   abbrev between : VaryingContext
@@ -130,8 +130,8 @@ module _ (c d : VaryingContext) (ahead : IsAhead c → IsAhead d) (rows : AreRow
   to_between : c ≡ between
   to_between = λ i. record { flags = flags i; capabilities = capabilities i; types = types i; stage = stage i; sizes = c.sizes; payload = c.payload; direction = direction i }
 
-  ahead_between : IsAhead between → IsAhead d
-  ahead_between h = ahead (subst IsAhead (sym to_between) h)
+  ahead_between : HasNoTaskPayload between → HasNoTaskPayload d
+  ahead_between h = ahead (subst HasNoTaskPayload (sym to_between) h)
 
   besides : (x : Exception) → ExceptionOK between x → ExceptionOK d x
   besides exception.None h = tt

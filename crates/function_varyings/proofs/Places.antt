@@ -2,7 +2,7 @@
 use Rattle.std.proofs.Common.{◌≡◌, ◌⊎◌, inl, inr, ℕ, ◌+◌, ◌<◌, ◌≤◌, List, Option, Some, None, MatchOption, length, sym, ap, subst, ◌∙◌, slice_get, arith, rules}
 use Rattle.std.proofs.lemmas.Option.{slice_get_within}
 use Rattle.spec_interface.specs.judged.Contexts.{VaryingContext}
-use Rattle.spec_interface.specs.judged.Varyings.{AreApart, ShowsAt, VaryingsOK, built_in_of, location_of}
+use Rattle.spec_interface.specs.judged.Varyings.{VaryingsApart, ShowsAt, VaryingsOK, built_in_of, location_of}
 use Rattle.spec_interface.specs.declared.varyings.Bound.{Bound}
 use Rattle.spec_interface.specs.declared.varyings.Varying.{Varying}
 use Rattle.function_varyings.specs.Places.{IsFine, IsNew}
@@ -29,7 +29,7 @@ module _ {A : Type 0} (shown : Bound → Option A) (vs : List Varying) where
   shows_here place v x at shows = let same : shows.0 ≡ v = some_is _ _ (sym shows.1 ∙ at) in ap (λ (w : Varying). shown w.bound) (sym same) ∙ shows.2
 
   -- all places are new, so no two show the same
-  pub new_apart : ((place : ℕ) → place < length vs → IsNew shown vs place) → AreApart shown vs
+  pub new_apart : ((place : ℕ) → place < length vs → IsNew shown vs place) → VaryingsApart shown vs
   new_apart new first second x lt at_first at_second =
       new second (slice_get_within vs second (at_second.0) (at_second.1)) first x lt at_first at_second
 

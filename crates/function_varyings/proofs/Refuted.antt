@@ -13,9 +13,9 @@ use Rattle.typing_layout.specs.judged.Flags.{HasFlag, IoShareable}
 use Rattle.typing_layout.specs.judged.View.{type_tree}
 use Rattle.spec_interface.specs.judged.BuiltIns.{BuiltInOK, ExceptionOK, IsFree, RowOK}
 use Rattle.spec_interface.specs.judged.Contexts.{VaryingContext}
-use Rattle.spec_interface.specs.judged.Locations.{NeedsInterpolation, InterpolationOK, LocationOK, PrimitiveOK, counted, kind_of}
+use Rattle.spec_interface.specs.judged.Locations.{NeedsInterpolation, InterpolationOK, LocationOK, PerPrimitiveOK, varying_type, kind_of}
 use Rattle.spec_interface.specs.judged.BuiltInRows.{built_in_row}
-use Rattle.spec_interface.specs.judged.Varyings.{AreApart, BoundOK, VaryingsOK, built_in_of, canonical, location_of}
+use Rattle.spec_interface.specs.judged.Varyings.{VaryingsApart, BoundOK, VaryingsOK, built_in_of, canonical, location_of}
 use Rattle.spec_interface.specs.declared.rows.BuiltInRow.{BuiltInRow}
 use Rattle.spec_interface.specs.declared.rows.Exception.{Exception}
 use Rattle.spec_interface.specs.declared.rows.Exception.TheVariants.{NotAfterTasks, RowsOnly}
@@ -64,7 +64,7 @@ none_there : {A : Type 0} (o : Option A) → o ≡ None → IsSome o → ⊥
 none_there None is there = true≢false (sym there)
 none_there (Some x) is there = none_some x (sym is)
 
-unprimitive : (d : Direction) (s : ShaderStage) → PrimitiveOK d s true → d ≢ PrimitiveOutput → (d ≢ Input) ⊎ (s ≢ Fragment) → ⊥
+unprimitive : (d : Direction) (s : ShaderStage) → PerPrimitiveOK d s true → d ≢ PrimitiveOutput → (d ≢ Input) ⊎ (s ≢ Fragment) → ⊥
 unprimitive Input s ok other (inl differs) = differs refl
 unprimitive Input s ok other (inr differs) = differs (ok refl)
 unprimitive Output s ok other w = true≢false ok
@@ -72,7 +72,7 @@ unprimitive VertexOutput s ok other w = true≢false ok
 unprimitive PrimitiveOutput s ok other w = other refl
 
 module _ (c : VaryingContext) (type : ℕ) (l : Location) (ok : LocationOK c type l) where
-  element_is : (t : ℕ) → counted c.types l.interpolation type ≡ Some t → ok.element ≡ t
+  element_is : (t : ℕ) → varying_type c.types l.interpolation type ≡ Some t → ok.element ≡ t
   element_is t is = let e = sym ok.counts ∙ is in cc
 
   found : (kind : ScalarKind) → l.interpolation ≢ Some PerVertex → Lies c type l kind → InterpolationOK kind l.interpolation
@@ -101,10 +101,10 @@ module _ (c : VaryingContext) (type : ℕ) (l : Location) (ok : LocationOK c typ
   location_refuted error.MissingInterpolation w = none_there l.interpolation w.1 (found Float (none_is_one w.1) w.0)
   location_refuted (error.UnsupportedCapability x) w = w.1 (met x w.0)
   location_refuted error.BlendSrcNotOnStructMember w = none_there l.blend_src ok.alone w
-  location_refuted error.InvalidPerPrimitive w = unprimitive c.direction c.stage (subst (PrimitiveOK c.direction c.stage) w.0 ok.primitive) w.1 w.2
-  location_refuted error.MissingPerPrimitive w = true≢false (sym (subst (λ d. PrimitiveOK d c.stage l.per_primitive) w.1 ok.primitive) ∙ w.0)
+  location_refuted error.InvalidPerPrimitive w = unprimitive c.direction c.stage (subst (PerPrimitiveOK c.direction c.stage) w.0 ok.primitive) w.1 w.2
+  location_refuted error.MissingPerPrimitive w = true≢false (sym (subst (λ d. PerPrimitiveOK d c.stage l.per_primitive) w.1 ok.primitive) ∙ w.0)
   location_refuted error.PerVertexNotArrayOfThree w =
-      none_some ok.element (sym (subst (λ i. counted c.types i type ≡ None) (sym w.0) w.1) ∙ ok.counts)
+      none_some ok.element (sym (subst (λ i. varying_type c.types i type ≡ None) (sym w.0) w.1) ∙ ok.counts)
   location_refuted error.InvalidPerVertexSampling w = placed l.sampling refl w.1
     where
       placed : (s : Option Sampling) → l.sampling ≡ s → IsSome s → ⊥
@@ -141,7 +141,7 @@ shows_it (built_in type b) d is = ap (λ x. Some (canonical x)) (sym is)
 shows_it _ d is = absurd is
 
 module _ (c : VaryingContext) (vs : List Varying) (ok : VaryingsOK c vs) where
-  twice : {A : Type 0} (shown : Bound → Option A) → AreApart shown vs → (place : ℕ) (v : Varying) (x : A) → slice_get vs place ≡ Some v → shown v.bound ≡ Some x → ShowsBefore shown vs place x → ⊥
+  twice : {A : Type 0} (shown : Bound → Option A) → VaryingsApart shown vs → (place : ℕ) (v : Varying) (x : A) → slice_get vs place ≡ Some v → shown v.bound ≡ Some x → ShowsBefore shown vs place x → ⊥
   twice shown apart place v x at shows before = apart before.0 place x before.1 before.2 (v, at, shows)
 
   repeated_refuted : (place : ℕ) (v : Varying) (e : VaryingError) → slice_get vs place ≡ Some v → IsRepeated c vs place v.bound e → ⊥

@@ -11,7 +11,7 @@ use Rattle.ir_kinds.specs.declared.bindings.BuiltIn.TheVariants.{Position}
 use Rattle.ir_kinds.specs.declared.stages.ShaderStage.{ShaderStage}
 use Rattle.ir_kinds.specs.declared.stages.ShaderStage.TheVariants.{Vertex, Fragment, Compute, Mesh, Task, RayGeneration, AnyHit, ClosestHit, Miss}
 use Rattle.ir_types.specs.judged.Plain.{PlainType}
-use Rattle.spec_interface.specs.judged.BuiltIns.{AreRows, IsAhead}
+use Rattle.spec_interface.specs.judged.BuiltIns.{IsLinearWorkgroup, HasNoTaskPayload}
 use Rattle.spec_interface.specs.judged.Contexts.{VaryingContext}
 use Rattle.spec_interface.specs.judged.Varyings.{HasBlendSources, HasBuiltIn, VaryingsOK, mesh_varyings, varyings_of}
 use Rattle.spec_interface.specs.declared.varyings.Direction.{Direction}
@@ -55,8 +55,8 @@ number_of w s = digit s.blended + 2 * (digit s.positioned + 2 * (digit w.rows + 
 pub record IsWayOf (c : VaryingContext) (w : Way) : Type 0 where
   pub stage : w.stage ≡ c.stage
   pub direction : w.direction ≡ c.direction
-  pub ahead : IsTrue w.ahead ↔ IsAhead c
-  pub rows : IsTrue w.rows ↔ AreRows c.sizes
+  pub ahead : IsTrue w.ahead ↔ HasNoTaskPayload c
+  pub rows : IsTrue w.rows ↔ IsLinearWorkgroup c.sizes
 
 pub record IsShownBy (vs : List Varying) (s : Shown) : Type 0 where
   pub positioned : IsTrue s.positioned ↔ HasBuiltIn vs (Position false)

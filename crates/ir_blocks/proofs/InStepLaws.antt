@@ -6,7 +6,7 @@ use Rattle.ir_blocks.specs.judged.Shapes.{shape_of, Part, inner, accepting, reje
 use Rattle.ir_blocks.specs.judged.Places.{Place, here, later, inside, condition, OccursAt}
 use Rattle.ir_blocks.specs.found.Spans.{BlockSpans, spans, StatementSpans, no_spans, tail_of, case_spans, spans_in, span_at, InStep}
 use Rattle.ir_blocks.specs.found.Padded.{first_kept, padded}
-use Rattle.ir_blocks.specs.found.View.{block_of, within_of, cases_of, case_spans_of, PlainCase, statement_step, block_step, case_step, statement_spans_step, block_spans_step, case_spans_step, spans_over, statement_view, block_view, case_view, statement_spans, block_spans, case_block_spans, statements_of, spans_of, AlwaysInStep}
+use Rattle.ir_blocks.specs.found.View.{block_of, within_of, cases_of, case_spans_of, PlainCase, statement_step, block_step, case_step, statement_spans_step, block_spans_step, case_spans_step, spans_over, statement_view, block_view, case_view, statement_spans, block_spans, case_block_spans, statements_of, AlwaysInStep}
 use Rattle.ir_blocks.specs.declared.statements.Statement.{Statement}
 use Rattle.ir_blocks.specs.declared.statements.Statement.TheOpen.{Statement-F, Block-F, SwitchCase-F}
 use Rattle.ir_blocks.specs.declared.statements.Statement.TheFolds.{map-Statement, fold-roll-Statement, fold-roll-SwitchCase, ind-Block}

@@ -4,7 +4,7 @@ use Rattle.ir_kinds.specs.declared.values.SwitchValue.{SwitchValue}
 use Rattle.ir_blocks.specs.judged.Plain.{PlainStatement, emit, block, if_, switch, loop, break, continue, return, kill, operation, call, PlainBlock, stop, next, PlainCases, no_case, case}
 use Rattle.ir_blocks.specs.judged.Shapes.{shape_of, Part, inner, accepting, rejecting, case_at, loop_body, loop_continuing, case_body, part_of}
 use Rattle.ir_blocks.specs.judged.Places.{Place, here, later, inside, OccursAt}
-use Rattle.ir_blocks.specs.judged.Tails.{Ends, IsTailPart, goes_on, IsOpenEnd, empty, after_last, further, in_tail, case_heads, head_of, IsCompleted, ending, completed, finished, finished_cases}
+use Rattle.ir_blocks.specs.judged.Tails.{CaseEnds, IsTailPart, goes_on, IsOpenEnd, empty, after_last, further, in_tail, case_heads, head_of, IsCompleted, ending, completed, finished, finished_cases}
 use Rattle.ir_blocks.specs.found.View.{HoldsNoBlock}
 use Rattle.ir_blocks.proofs.TailLaws.{none_in_stop}
 
@@ -200,7 +200,7 @@ mutual
   one_finished (call function arguments result) t e tails others = simple_is t _ e tt
 
   cases_completed : (cs ds : PlainCases) → case_heads ds ≡ case_heads cs
-      → ((k : ℕ) → Ends cs k → IsCompleted (case_body cs k) (case_body ds k)) → ((k : ℕ) → (Ends cs k → ⊥) → Same (case_body cs k) (case_body ds k)) → ds ≡ finished_cases cs
+      → ((k : ℕ) → CaseEnds cs k → IsCompleted (case_body cs k) (case_body ds k)) → ((k : ℕ) → (CaseEnds cs k → ⊥) → Same (case_body cs k) (case_body ds k)) → ds ≡ finished_cases cs
   cases_completed no_case no_case e tails others = refl
   cases_completed no_case (case v c g more) e tails others = let x = e in cc
   cases_completed (case value body falls rest) no_case e tails others = let x = e in cc

@@ -6,7 +6,7 @@ use Rattle.ir_blocks.specs.judged.Plain.{PlainStatement, block, if_, switch, ret
 use Rattle.ir_blocks.specs.judged.Shapes.{shape_of, Part, inner, accepting, rejecting, case_at, loop_body, loop_continuing, case_body, part_of}
 use Rattle.ir_blocks.specs.judged.Places.{Place, here, later, inside, condition, OccursAt}
 use Rattle.ir_blocks.specs.found.Spans.{BlockSpans, spans, in_next, StatementSpans, no_block, in_block, in_sides, in_cases, in_loop, CaseSpans, no_more, in_case, no_spans, own_spans, within_spans, first_of, first_within, after_first, case_spans, spans_in, span_at, InStep}
-use Rattle.ir_blocks.specs.judged.Tails.{IsCompleted, Ends, IsTailPart, goes_on, IsOpenEnd, empty, after_last, further, in_tail, completed}
+use Rattle.ir_blocks.specs.judged.Tails.{IsCompleted, CaseEnds, IsTailPart, goes_on, IsOpenEnd, empty, after_last, further, in_tail, completed}
 use Rattle.ir_blocks.specs.found.TailSpans.{SpansCompleted, ending_span, ending_within, cases_within, completed_spans, finished_spans, finished_case_spans}
 use Rattle.ir_blocks.proofs.TailLaws.{added, kept, only, none_in_stop, is_completed}
 
@@ -48,7 +48,7 @@ whole (spans own within) = refl
 -- ---- parts of a finished statement
 
 case_span : (cs : PlainCases) (own : CaseSpans) (k : ℕ) → ((q : ℕ) → InStep (case_body cs q) (case_spans own q))
-    → (Ends cs k × (case_spans (finished_case_spans cs own) k ≡ completed_spans (case_body cs k) (case_spans own k))) ⊎ ((p : Place) → span_at p (case_spans (finished_case_spans cs own) k) ≡ span_at p (case_spans own k))
+    → (CaseEnds cs k × (case_spans (finished_case_spans cs own) k ≡ completed_spans (case_body cs k) (case_spans own k))) ⊎ ((p : Place) → span_at p (case_spans (finished_case_spans cs own) k) ≡ span_at p (case_spans own k))
 case_span no_case own k h = inr (λ p. nothing p (case_spans own k) (h k))
 case_span (case value body true rest) no_more zero h = inr (λ p. refl)
 case_span (case value body true rest) (in_case b bs) zero h = inr (λ p. refl)
@@ -57,7 +57,7 @@ case_span (case value body false rest) (in_case b bs) zero h = inl (refl, refl)
 case_span (case value body falls rest) no_more (suc k) h = case_span rest no_more k (λ q. h (suc q))
 case_span (case value body falls rest) (in_case b bs) (suc k) h = case_span rest bs k (λ q. h (suc q))
 
-case_span_tail : (cs : PlainCases) (own : CaseSpans) (k : ℕ) → Ends cs k → case_spans (finished_case_spans cs own) k ≡ completed_spans (case_body cs k) (case_spans own k)
+case_span_tail : (cs : PlainCases) (own : CaseSpans) (k : ℕ) → CaseEnds cs k → case_spans (finished_case_spans cs own) k ≡ completed_spans (case_body cs k) (case_spans own k)
 case_span_tail no_case own k h = absurd h
 case_span_tail (case value body falls rest) no_more zero h = subst (λ f. case_spans (finished_case_spans (case value body f rest) no_more) zero ≡ completed_spans body no_spans) (sym h) refl
 case_span_tail (case value body falls rest) (in_case b bs) zero h = subst (λ f. case_spans (finished_case_spans (case value body f rest) (in_case b bs)) zero ≡ completed_spans body b) (sym h) refl

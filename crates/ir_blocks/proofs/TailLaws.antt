@@ -3,12 +3,12 @@ use Rattle.std.proofs.Common.{◌≡◌, ◌⊎◌, inl, inr, ℕ, zero, suc, Bo
 use Rattle.ir_blocks.specs.judged.Plain.{PlainStatement, emit, block, if_, switch, loop, break, continue, return, kill, operation, call, PlainBlock, stop, next, PlainCases, no_case, case}
 use Rattle.ir_blocks.specs.judged.Shapes.{shape_of, Part, inner, accepting, rejecting, case_at, case_body, part_of}
 use Rattle.ir_blocks.specs.judged.Places.{Place, here, later, inside, condition, spot_at, OccursAt}
-use Rattle.ir_blocks.specs.judged.Tails.{Ends, IsTailPart, goes_on, IsOpenEnd, empty, after_last, further, in_tail, case_heads, head_of, IsCompleted, ending, completed, finished, finished_cases}
+use Rattle.ir_blocks.specs.judged.Tails.{CaseEnds, IsTailPart, goes_on, IsOpenEnd, empty, after_last, further, in_tail, case_heads, head_of, IsCompleted, ending, completed, finished, finished_cases}
 
 -- ---- parts of a finished statement
 
 -- a case that ends is completed, and any other stays
-case_either : (cs : PlainCases) (k : ℕ) → (Ends cs k × (case_body (finished_cases cs) k ≡ completed (case_body cs k))) ⊎ (case_body (finished_cases cs) k ≡ case_body cs k)
+case_either : (cs : PlainCases) (k : ℕ) → (CaseEnds cs k × (case_body (finished_cases cs) k ≡ completed (case_body cs k))) ⊎ (case_body (finished_cases cs) k ≡ case_body cs k)
 case_either no_case k = inr refl
 case_either (case value body true rest) zero = inr refl
 case_either (case value body false rest) zero = inl (refl, refl)
@@ -33,7 +33,7 @@ part_either kill part = inr refl
 part_either (operation a) part = inr refl
 part_either (call function arguments result) part = inr refl
 
-case_tail : (cs : PlainCases) (k : ℕ) → Ends cs k → case_body (finished_cases cs) k ≡ completed (case_body cs k)
+case_tail : (cs : PlainCases) (k : ℕ) → CaseEnds cs k → case_body (finished_cases cs) k ≡ completed (case_body cs k)
 case_tail no_case k h = absurd h
 case_tail (case value body falls rest) zero h = subst (λ f. case_body (finished_cases (case value body f rest)) zero ≡ completed body) (sym h) refl
 case_tail (case value body falls rest) (suc k) h = case_tail rest k h

@@ -5,7 +5,7 @@ use Rattle.std.specs.Int.{bit_at}
 use Rattle.std.specs.Int.RustNames.{bit_and, bit_or}
 use Rattle.bitflags.specs.Sets.{known_from, known_bits}
 use Rattle.ir_flags.specs.Sets.{IsWithin}
-use Rattle.ir_flags.specs.Words.{storage_access, barrier, memory_decorations, shader_stages, subgroup_operations, validation_flags, capabilities}
+use Rattle.ir_flags.specs.Words.{storage_access_bits, barrier_bits, memory_decoration_bits, shader_stage_bits, subgroup_operation_bits, validation_flags, capability_bits}
 
 least : (x y : ℕ) → x ≤ y → min y x ≡ x
 least x y h = omega arith
@@ -48,23 +48,23 @@ within-intersection a b c ca cb =
     bits-within c (bit_and a b)
     (λ i. let e = bit_at_and a b i in let p = within-bits c a ca i in let q = within-bits c b cb i in omega arith)
 
-pub all_storage_access : known_bits storage_access ≡ 2 ^ 3 - 1
+pub all_storage_access : known_bits storage_access_bits ≡ 2 ^ 3 - 1
 unfolding known_from
 all_storage_access = refl
 
-pub all_barrier : known_bits barrier ≡ 2 ^ 4 - 1
+pub all_barrier : known_bits barrier_bits ≡ 2 ^ 4 - 1
 unfolding known_from
 all_barrier = refl
 
-pub all_memory_decorations : known_bits memory_decorations ≡ 2 ^ 2 - 1
+pub all_memory_decorations : known_bits memory_decoration_bits ≡ 2 ^ 2 - 1
 unfolding known_from
 all_memory_decorations = refl
 
-pub all_shader_stages : known_bits shader_stages ≡ 2 ^ 9 - 1
+pub all_shader_stages : known_bits shader_stage_bits ≡ 2 ^ 9 - 1
 unfolding known_from
 all_shader_stages = refl
 
-pub all_subgroup_operations : known_bits subgroup_operations ≡ 2 ^ 7 - 1
+pub all_subgroup_operations : known_bits subgroup_operation_bits ≡ 2 ^ 7 - 1
 unfolding known_from
 all_subgroup_operations = refl
 
@@ -72,6 +72,6 @@ pub all_validation_flags : known_bits validation_flags ≡ 2 ^ 7 - 1
 unfolding known_from
 all_validation_flags = refl
 
-pub all_capabilities : known_bits capabilities ≡ 2 ^ 38 - 1
+pub all_capabilities : known_bits capability_bits ≡ 2 ^ 38 - 1
 unfolding known_from
 all_capabilities = refl

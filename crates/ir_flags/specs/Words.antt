@@ -14,23 +14,23 @@ numbered_from bit (word ∷ words) = (word, bit) ∷ numbered_from (2 * bit) wor
 abbrev pub numbered : List (List ℕ) → List Row
 numbered words = numbered_from 1 words
 
-abbrev pub storage_access : List Row
-storage_access = numbered (codes "LOAD" ∷ codes "STORE" ∷ codes "ATOMIC" ∷ [])
+abbrev pub storage_access_bits : List Row
+storage_access_bits = numbered (codes "LOAD" ∷ codes "STORE" ∷ codes "ATOMIC" ∷ [])
 
-abbrev pub barrier : List Row
-barrier = numbered (codes "STORAGE" ∷ codes "WORK_GROUP" ∷ codes "SUB_GROUP" ∷ codes "TEXTURE" ∷ [])
+abbrev pub barrier_bits : List Row
+barrier_bits = numbered (codes "STORAGE" ∷ codes "WORK_GROUP" ∷ codes "SUB_GROUP" ∷ codes "TEXTURE" ∷ [])
 
-abbrev pub memory_decorations : List Row
-memory_decorations = numbered (codes "COHERENT" ∷ codes "VOLATILE" ∷ [])
+abbrev pub memory_decoration_bits : List Row
+memory_decoration_bits = numbered (codes "COHERENT" ∷ codes "VOLATILE" ∷ [])
 
-abbrev pub shader_stages : List Row
-shader_stages =
+abbrev pub shader_stage_bits : List Row
+shader_stage_bits =
     numbered (
     codes "VERTEX" ∷ codes "FRAGMENT" ∷ codes "COMPUTE" ∷ codes "MESH" ∷ codes "TASK" ∷ codes "RAY_GENERATION" ∷
     codes "ANY_HIT" ∷ codes "CLOSEST_HIT" ∷ codes "MISS" ∷ [])
 
-abbrev pub subgroup_operations : List Row
-subgroup_operations =
+abbrev pub subgroup_operation_bits : List Row
+subgroup_operation_bits =
     numbered (
     codes "BASIC" ∷ codes "VOTE" ∷ codes "ARITHMETIC" ∷ codes "BALLOT" ∷ codes "SHUFFLE" ∷ codes "SHUFFLE_RELATIVE" ∷
     codes "QUAD" ∷ [])
@@ -41,8 +41,8 @@ validation_flags =
     codes "EXPRESSIONS" ∷ codes "BLOCKS" ∷ codes "CONTROL_FLOW_UNIFORMITY" ∷ codes "STRUCT_LAYOUTS" ∷ codes "CONSTANTS" ∷
     codes "BINDINGS" ∷ codes "STRICT_SCOPE" ∷ [])
 
-abbrev pub capabilities : List Row
-capabilities =
+abbrev pub capability_bits : List Row
+capability_bits =
     numbered (
     codes "IMMEDIATES" ∷ codes "FLOAT64" ∷ codes "SHADER_FLOAT16" ∷ codes "SHADER_INT16" ∷ codes "SHADER_INT64" ∷
     codes "PRIMITIVE_INDEX" ∷ codes "BUFFER_BINDING_ARRAY" ∷ codes "STORAGE_BUFFER_BINDING_ARRAY" ∷

@@ -4,7 +4,7 @@ ghost use Rattle.std.specs.Prelude.{◌≡◌, ◌-◌, ◌^◌};
 ghost use Rattle.std.specs.Int.RustNames.{bit_and, bit_or};
 ghost use Rattle.bitflags.specs.Sets.{known_bits};
 ghost use Rattle.ir_flags.specs.Sets.{IsWithin};
-ghost use Rattle.ir_flags.specs.Words.{storage_access, barrier, memory_decorations, shader_stages, subgroup_operations, validation_flags, capabilities};
+ghost use Rattle.ir_flags.specs.Words.{storage_access_bits, barrier_bits, memory_decoration_bits, shader_stage_bits, subgroup_operation_bits, validation_flags, capability_bits};
 
 use crate::ShaderStages;
 
@@ -16,13 +16,13 @@ pub fn compute_like()
 
 /// All words of a set together have the bits below their count.
 pub fn all_words()
-    ensures storage_access { known_bits storage_access ≡ 2 ^ 3 - 1 }
-    ensures barrier { known_bits barrier ≡ 2 ^ 4 - 1 }
-    ensures memory_decorations { known_bits memory_decorations ≡ 2 ^ 2 - 1 }
-    ensures shader_stages { known_bits shader_stages ≡ 2 ^ 9 - 1 }
-    ensures subgroup_operations { known_bits subgroup_operations ≡ 2 ^ 7 - 1 }
+    ensures storage_access { known_bits storage_access_bits ≡ 2 ^ 3 - 1 }
+    ensures barrier { known_bits barrier_bits ≡ 2 ^ 4 - 1 }
+    ensures memory_decorations { known_bits memory_decoration_bits ≡ 2 ^ 2 - 1 }
+    ensures shader_stages { known_bits shader_stage_bits ≡ 2 ^ 9 - 1 }
+    ensures subgroup_operations { known_bits subgroup_operation_bits ≡ 2 ^ 7 - 1 }
     ensures validation_flags { known_bits validation_flags ≡ 2 ^ 7 - 1 }
-    ensures capabilities { known_bits capabilities ≡ 2 ^ 38 - 1 }
+    ensures capabilities { known_bits capability_bits ≡ 2 ^ 38 - 1 }
 {}
 
 /// What is within what: an order, in which a union is the least set that holds both, and an intersection

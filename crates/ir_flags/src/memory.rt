@@ -31,13 +31,13 @@ impl fmt::Debug for StorageAccess {
 
 impl Flags for StorageAccess {
     ghost use Rattle.std.specs.Prelude.{⊤};
-    ghost use Rattle.ir_flags.specs.Words.{storage_access};
+    ghost use Rattle.ir_flags.specs.Words.{storage_access_bits};
 
     type Bits = u32;
 
     ghost exact = { ⊤ };
 
-    ghost table = { storage_access };
+    ghost table = { storage_access_bits };
 
     ghost set_of = { λ s. s.0 };
 
@@ -83,13 +83,13 @@ impl fmt::Debug for Barrier {
 
 impl Flags for Barrier {
     ghost use Rattle.std.specs.Prelude.{⊤};
-    ghost use Rattle.ir_flags.specs.Words.{barrier};
+    ghost use Rattle.ir_flags.specs.Words.{barrier_bits};
 
     type Bits = u32;
 
     ghost exact = { ⊤ };
 
-    ghost table = { barrier };
+    ghost table = { barrier_bits };
 
     ghost set_of = { λ s. s.0 };
 
@@ -131,13 +131,13 @@ impl fmt::Debug for MemoryDecorations {
 
 impl Flags for MemoryDecorations {
     ghost use Rattle.std.specs.Prelude.{⊤};
-    ghost use Rattle.ir_flags.specs.Words.{memory_decorations};
+    ghost use Rattle.ir_flags.specs.Words.{memory_decoration_bits};
 
     type Bits = u8;
 
     ghost exact = { ⊤ };
 
-    ghost table = { memory_decorations };
+    ghost table = { memory_decoration_bits };
 
     ghost set_of = { λ s. s.0 };
 

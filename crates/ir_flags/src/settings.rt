@@ -175,13 +175,13 @@ impl fmt::Debug for Capabilities {
 
 impl Flags for Capabilities {
     ghost use Rattle.std.specs.Prelude.{⊤};
-    ghost use Rattle.ir_flags.specs.Words.{capabilities};
+    ghost use Rattle.ir_flags.specs.Words.{capability_bits};
 
     type Bits = u64;
 
     ghost exact = { ⊤ };
 
-    ghost table = { capabilities };
+    ghost table = { capability_bits };
 
     ghost set_of = { λ s. s.0 };
 

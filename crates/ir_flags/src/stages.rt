@@ -43,13 +43,13 @@ impl fmt::Debug for ShaderStages {
 
 impl Flags for ShaderStages {
     ghost use Rattle.std.specs.Prelude.{⊤};
-    ghost use Rattle.ir_flags.specs.Words.{shader_stages};
+    ghost use Rattle.ir_flags.specs.Words.{shader_stage_bits};
 
     type Bits = u16;
 
     ghost exact = { ⊤ };
 
-    ghost table = { shader_stages };
+    ghost table = { shader_stage_bits };
 
     ghost set_of = { λ s. s.0 };
 
@@ -101,13 +101,13 @@ impl fmt::Debug for SubgroupOperationSet {
 
 impl Flags for SubgroupOperationSet {
     ghost use Rattle.std.specs.Prelude.{⊤};
-    ghost use Rattle.ir_flags.specs.Words.{subgroup_operations};
+    ghost use Rattle.ir_flags.specs.Words.{subgroup_operation_bits};
 
     type Bits = u8;
 
     ghost exact = { ⊤ };
 
-    ghost table = { subgroup_operations };
+    ghost table = { subgroup_operation_bits };
 
     ghost set_of = { λ s. s.0 };
 

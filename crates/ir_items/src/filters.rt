@@ -85,10 +85,10 @@ impl DiagnosticFilterNode {
 }
 
 impl Copied for DiagnosticFilterNode {
-    ghost use Rattle.ir_items.specs.judged.GlobalPlain.{PlainNode};
+    ghost use Rattle.ir_items.specs.judged.GlobalPlain.{PlainFilterNode};
     ghost use Rattle.ir_items.specs.found.GlobalView.{node_view};
 
-    ghost View = { PlainNode };
+    ghost View = { PlainFilterNode };
 
     ghost view = { node_view };
 

@@ -1,7 +1,7 @@
 //! Diagnostic filters.
 ghost use Rattle.std.specs.Prelude.{◌≡◌, ◌<◌, ◌↔◌, length, map, IsTrue};
 ghost use Rattle.std.specs.Option.{ForSome};
-ghost use Rattle.ir_items.specs.judged.GlobalPlain.{PlainNode, standard};
+ghost use Rattle.ir_items.specs.judged.GlobalPlain.{PlainFilterNode, standard};
 ghost use Rattle.ir_items.specs.found.GlobalView.{node_view, values_of};
 ghost use Rattle.ir_items.specs.found.Filters.{nodes_of, ParentsPrecede, HasSeverity};
 
@@ -13,7 +13,7 @@ use ir_kinds::{Severity, StandardFilterableTriggeringRule};
 /// The call of filters that follows their parents.
 pub trait DiagnosticFilterNodeExt: Sized {
     /// What the node holds.
-    ghost node_of: { Self → PlainNode };
+    ghost node_of: { Self → PlainFilterNode };
 
     /// How severe the faults of a rule are where the filters of `node` and of the nodes after it count: the new
     /// severity of the nearest node with that rule, from `node` to its parent and on to the root, or

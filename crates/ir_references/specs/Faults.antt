@@ -3,7 +3,7 @@ use Rattle.std.specs.Prelude.{◌≡◌, ℕ, ◌<◌, List, length, ◌&&◌, C
 use Rattle.std.specs.Option.{option_or}
 use Rattle.ir_blocks.specs.judged.Plain.{PlainStatement}
 use Rattle.ir_types.specs.judged.ExpressionPlain.{PlainExpression}
-use Rattle.ir_items.specs.judged.GlobalPlain.{PlainNode}
+use Rattle.ir_items.specs.judged.GlobalPlain.{PlainFilterNode}
 use Rattle.ir_items.specs.judged.Plain.{PlainArgument, PlainLocal, PlainFunction, PlainModule}
 use Rattle.ir_items.specs.declared.functions.FunctionResult.{FunctionResult}
 use Rattle.ir_references.specs.First.{first_past, first_of, first_in}
@@ -118,7 +118,7 @@ statement_forward caller s = option_and_then (callee_forward caller) (statement_
 abbrev pub callees_forward : ℕ → PlainFunction → Option HandleFault
 callees_forward caller f = option_or (first_of (expression_forward caller) f.expressions) (first_in (statement_forward caller) f.body)
 
-abbrev pub parent_forward : ℕ → PlainNode → Option HandleFault
+abbrev pub parent_forward : ℕ → PlainFilterNode → Option HandleFault
 parent_forward n x = option_and_then (λ parent. if nat_lt parent n then None else Some (fault.Forward kind.DiagnosticFilter n parent)) x.parent
 
 -- ---- what the faults mean
@@ -156,8 +156,8 @@ IsForwardCallee caller f (fault.Forward k place depends_on) =
 IsForwardCallee caller f (fault.Range first end) = ⊥
 
 -- the fault of a parent that doesn't come before its filter
-abbrev pub IsForwardParent : List PlainNode → HandleFault → Type 0
+abbrev pub IsForwardParent : List PlainFilterNode → HandleFault → Type 0
 IsForwardParent nodes (fault.Missing k place) = ⊥
 IsForwardParent nodes (fault.Forward k place depends_on) =
-    (k ≡ kind.DiagnosticFilter) × ((x : PlainNode) × (slice_get nodes place ≡ Some x) × (x.parent ≡ Some depends_on) × ¬ (depends_on < place))
+    (k ≡ kind.DiagnosticFilter) × ((x : PlainFilterNode) × (slice_get nodes place ≡ Some x) × (x.parent ≡ Some depends_on) × ¬ (depends_on < place))
 IsForwardParent nodes (fault.Range first end) = ⊥

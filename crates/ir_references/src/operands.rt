@@ -3,7 +3,7 @@
 ghost use Rattle.std.specs.Prelude.{◌≡◌, ◌∷◌};
 ghost use Rattle.ir_types.specs.judged.ExpressionPlain.{expression_view};
 ghost use Rattle.ir_blocks.specs.found.View.{statement_view};
-ghost use Rattle.spec_expressions.specs.judged.Operands.{Operands, these, each_of, used, reads, reads_if, scoped, level_first, level_second, query_level, compared, where_answered, gather_index, of_expression, of_query, of_pipeline, of_statement};
+ghost use Rattle.spec_expressions.specs.judged.Operands.{Operands, these, each_of, used, reads, reads_if, scoped, level_first, level_second, query_level, comparand, where_answered, gather_index, expression_slots, of_query, of_pipeline, statement_slots};
 ghost use Rattle.spec_expressions.specs.declared.operand.Scoping.TheVariants.{Strictly};
 
 use ir_arena::handle::Handle;
@@ -124,7 +124,7 @@ pub fn with_operands<S, A, T: OperandUser<S, A>>(
     state: &mut S,
     expression: &Expression,
 ) -> A
-    ensures { T.does user.now state.old state.new result (of_expression (expression_view expression.now)) }
+    ensures { T.does user.now state.old state.new result (expression_slots (expression_view expression.now)) }
 {
     match expression {
         Expression::Literal(_)
@@ -244,7 +244,7 @@ pub fn with_operands<S, A, T: OperandUser<S, A>>(
 // ---- statements
 
 fn compared(fun: AtomicFunction) -> Option<Operand>
-    ensures { result ≡ compared fun }
+    ensures { result ≡ comparand fun }
 {
     match fun {
         AtomicFunction::Exchange { compare } => compare,
@@ -337,7 +337,7 @@ pub fn with_statement_operands<S, A, T: OperandUser<S, A>>(
     state: &mut S,
     statement: &Statement,
 ) -> A
-    ensures { T.does user.now state.old state.new result (of_statement (statement_view statement.now)) }
+    ensures { T.does user.now state.old state.new result (statement_slots (statement_view statement.now)) }
 {
     match statement {
         Statement::Emit(_)

@@ -18,7 +18,7 @@ use Rattle.judgement.proofs.Placed.{buffer_sound}
 use Rattle.judgement.specs.judged.BufferLaws.{buffer_type, BuffersOK, TypesAreSound, BuffersAreSound}
 use Rattle.judgement.specs.judged.Sound.{StrideOK, ShapesOK, IsBuffer}
 use Rattle.spec_interface.specs.judged.Globals.{VariableOK, GlobalsOK}
-use Rattle.spec_interface.specs.judged.Spaces.{array_base, counted, LiesIn}
+use Rattle.spec_interface.specs.judged.Spaces.{array_base, effective_type, LiesIn}
 use Rattle.spec_expressions.specs.judged.ModuleHandles.{HandlesOK}
 use Rattle.spec_expressions.specs.judged.Order.{a_type, type_on_named}
 use Rattle.spec_expressions.specs.judged.ModuleReferences.{variable, variable_type}
@@ -28,7 +28,7 @@ use Rattle.judgement.specs.judged.ModuleSteps.{layout, type, ModuleOK}
 use Rattle.judgement.specs.judged.Lines.{is_buffer, buffer_line, buffer_of}
 use Rattle.typing_forms.specs.judged.Order.{named_types, TypesGoBack}
 use Rattle.typing_forms.specs.judged.Resolutions.{inner_at}
-use Rattle.typing_layout.specs.judged.Buffers.{IsStorage, IsUniform}
+use Rattle.typing_layout.specs.judged.Buffers.{FitsStorageBuffer, FitsUniformBuffer}
 use Rattle.typing_layout.specs.judged.Layout.{size, alignment, LayoutOK}
 use Rattle.typing_layout.specs.judged.Parts.{Everywhere}
 use Rattle.typing_layout.specs.judged.Rules.{ShapeOK}
@@ -53,7 +53,7 @@ shape_counts c resolved (ray_query vertex_return) h = tt
 shape_counts c resolved (binding_array base n) h = tt
 
 -- a storage buffer can hold the type of a buffer, or a uniform one can
-serves : (flags : ValidationFlags) (a : AddressSpace) (i : Option PlainInner) (t : Tree) → IsTrue (is_buffer a) → Has flags.0 STRUCT_LAYOUTS.0 → LiesIn flags a i t → IsStorage t ⊎ IsUniform t
+serves : (flags : ValidationFlags) (a : AddressSpace) (i : Option PlainInner) (t : Tree) → IsTrue (is_buffer a) → Has flags.0 STRUCT_LAYOUTS.0 → LiesIn flags a i t → FitsStorageBuffer t ⊎ FitsUniformBuffer t
 serves flags space.Uniform i t b asked lies = inr (lies asked)
 serves flags (space.Storage access) i t b asked lies = inl (lies.0 asked)
 serves flags space.Function i t b asked lies = absurd lies
@@ -85,7 +85,7 @@ unwrapped types back ty many (Some (plain (inner.RayQuery vertex_return))) at lt
 unwrapped types back ty many (Some (plain (inner.BindingArray base n))) at lt =
     let below : base < ty = back.each ty (plain (inner.BindingArray base n)) at 0 0 (omega arith) in omega (arith, below, lt)
 
-counted_within : (types : List PlainType) → TypesGoBack types → (ty many : ℕ) → ty < many → counted types ty < many
+counted_within : (types : List PlainType) → TypesGoBack types → (ty many : ℕ) → ty < many → effective_type types ty < many
 counted_within types back ty many lt = unwrapped types back ty many (inner_at types ty) refl lt
 
 -- ---- what the accepted handles give
@@ -119,7 +119,7 @@ module _ (s : Settings) (resolved : Bool) (m : PlainModule) (asked : Has s.flags
   back : TypesGoBack m.types
   back = types_go_back m ok.handles
 
-  within : (number : ℕ) (v : PlainGlobal) → slice_get m.globals number ≡ Some v → counted m.types v.ty < length m.types
+  within : (number : ℕ) (v : PlainGlobal) → slice_get m.globals number ≡ Some v → effective_type m.types v.ty < length m.types
   within number v at = counted_within m.types back v.ty (length m.types) (ok.handles.there (variable number) (item (target.Type v.ty)) (variable_type at))
 
   accepted : (number : ℕ) (v : PlainGlobal) → slice_get m.globals number ≡ Some v → VariableOK s.flags s.capabilities m v
@@ -129,8 +129,8 @@ module _ (s : Settings) (resolved : Bool) (m : PlainModule) (asked : Has s.flags
 
   is_buffer_type : (number : ℕ) (v : PlainGlobal) → slice_get m.globals number ≡ Some v → IsTrue (is_buffer v.space) → Everywhere StrideOK (buffer_type m.types v) → IsBuffer (buffer_type m.types v)
   is_buffer_type number v at b strides = record {
-    laid = everywhere_inside LayoutOK m.types back (λ handle lt. (ok.steps layout).each handle lt) (counted m.types v.ty) (within number v at);
-    shaped = everywhere_inside ShapesOK m.types back (λ handle lt. shape_counts s.capabilities resolved (type_tree m.types handle) ((ok.steps type).each handle lt).shape) (counted m.types v.ty) (within number v at);
+    laid = everywhere_inside LayoutOK m.types back (λ handle lt. (ok.steps layout).each handle lt) (effective_type m.types v.ty) (within number v at);
+    shaped = everywhere_inside ShapesOK m.types back (λ handle lt. shape_counts s.capabilities resolved (type_tree m.types handle) ((ok.steps type).each handle lt).shape) (effective_type m.types v.ty) (within number v at);
     strides = strides;
     serves = serves s.flags v.space _ _ b asked (accepted number v at).lies;
   }

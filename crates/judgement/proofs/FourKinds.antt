@@ -10,10 +10,10 @@ use Rattle.ir_types.specs.judged.ExpressionPlain.{PlainExpression, plain}
 use Rattle.ir_types.specs.declared.expressions.Expression.TheVariants as x
 use Rattle.ir_items.specs.judged.Plain.{PlainFunction, PlainModule}
 use Rattle.typing_rules.specs.judged.Laws.{IsAmong}
-use Rattle.spec_expressions.specs.judged.CallChains.{end_of, UsesDirectly, HasUse}
+use Rattle.spec_expressions.specs.judged.CallChains.{chain_end, UsesDirectly, HasUse}
 use Rattle.spec_expressions.specs.judged.Effects.{Effect, takes, samples, runs, discards, sampling_at, expression_effects, expressions_effects, leaving_effects, statement_effects, effects_in, effects_inside, effects_in_cases, effects_of}
 use Rattle.spec_expressions.specs.judged.OperandUses.{Operand, bits_of, operand, operands_in, expression_uses, statement_uses}
-use Rattle.spec_expressions.specs.judged.Operands.{Operands, these, each_of, of_expression, of_statement}
+use Rattle.spec_expressions.specs.judged.Operands.{Operands, these, each_of, expression_slots, statement_slots}
 use Rattle.spec_expressions.specs.declared.operand.Slot.{Slot}
 use Rattle.spec_expressions.specs.declared.operand.Usage.{Usage}
 use Rattle.spec_expressions.specs.declared.operand.Usage.TheVariants.{Base, Read, Write, ReadWrite, Query, Atomic}
@@ -76,7 +76,7 @@ of_sampling e _ = tt
 in_expressions : (e : ℕ) (vs : List PlainExpression) → AllKinds (expressions_effects e vs)
 in_expressions e [] = tt
 in_expressions e (v ∷ vs) =
-    join (expression_effects e v) (expressions_effects (e + 1) vs) (join (map takes (expression_uses v)) (sampling_at e v) (taken (expression_uses v) (of_operands (of_expression v))) (of_sampling e v)) (in_expressions (e + 1) vs)
+    join (expression_effects e v) (expressions_effects (e + 1) vs) (join (map takes (expression_uses v)) (sampling_at e v) (taken (expression_uses v) (of_operands (expression_slots v))) (of_sampling e v)) (in_expressions (e + 1) vs)
 
 of_leaving : (s : PlainStatement) → AllKinds (leaving_effects s)
 of_leaving (emit first end) = tt
@@ -92,7 +92,7 @@ of_leaving (operation a) = tt
 of_leaving (call function arguments result) = (tt, tt)
 
 of_own : (s : PlainStatement) → AllKinds (statement_effects s)
-of_own s = join (map takes (statement_uses s)) (leaving_effects s) (taken (statement_uses s) (of_operands (of_statement s))) (of_leaving s)
+of_own s = join (map takes (statement_uses s)) (leaving_effects s) (taken (statement_uses s) (of_operands (statement_slots s))) (of_leaving s)
 
 mutual
   in_block : (b : PlainBlock) → AllKinds (effects_in b)
@@ -137,5 +137,5 @@ direct_kind g k f u = bit_of_kind u.operand.use_bits k (kind_among (effects_of f
 
 -- a use of a global variable has one of four bits
 pub use_kind : (m : PlainModule) (f : PlainFunction) (g k : ℕ) → HasUse m f g k → k < 4
-use_kind m f g k (inl r) = direct_kind g k (end_of f r.chain) r.holds
+use_kind m f g k (inl r) = direct_kind g k (chain_end f r.chain) r.holds
 use_kind m f g k (inr q) = bit_of_kind QUERY.0 k (omega arith) q.0

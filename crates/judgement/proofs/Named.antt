@@ -6,7 +6,7 @@ use Rattle.std.proofs.lemmas.Bool.{cases_eq, eqb-true}
 use Rattle.std.proofs.lemmas.Nat.Bits.{bit_at_lowest, bit_at-suc, bit_at-zero}
 use Rattle.ir_items.specs.judged.Plain.{PlainFunction, PlainModule}
 use Rattle.spec_expressions.specs.declared.global_use.GlobalUse.{GlobalUse}
-use Rattle.spec_expressions.specs.judged.CallChains.{Step, Calls, IsChain, end_of, Reaches, UsesDirectly, Names, HasUse}
+use Rattle.spec_expressions.specs.judged.CallChains.{Step, Calls, IsChain, chain_end, Reaches, UsesDirectly, NamesGlobal, HasUse}
 use Rattle.spec_expressions.specs.judged.Summaries.{no_use}
 use Rattle.spec_expressions.specs.judged.Values.{StartsAt, is_global, accessed, accessed_index}
 use Rattle.judgement.specs.found.ReportLaws.{NamedAreReported}
@@ -14,16 +14,16 @@ use Rattle.judgement.specs.judged.Lines.{is_used}
 
 -- ---- chains one after another
 
-end_joined : (f : PlainFunction) (first second : List Step) → end_of f (second ++ first) ≡ end_of (end_of f first) second
+end_joined : (f : PlainFunction) (first second : List Step) → chain_end f (second ++ first) ≡ chain_end (chain_end f first) second
 end_joined f first [] = refl
 end_joined f first (s ∷ second) = refl
 
-joined : (m : PlainModule) (f : PlainFunction) (first second : List Step) → IsChain m f first → IsChain m (end_of f first) second → IsChain m f (second ++ first)
+joined : (m : PlainModule) (f : PlainFunction) (first second : List Step) → IsChain m f first → IsChain m (chain_end f first) second → IsChain m f (second ++ first)
 joined m f first [] a b = a
 joined m f first (s ∷ second) a b = (subst (λ h. Calls m h s) (sym (end_joined f first second)) b.0, joined m f first second a b.1)
 
 -- what something reached reaches is reached
-further : (m : PlainModule) (f : PlainFunction) (P : PlainFunction → Type 0) (first : List Step) → IsChain m f first → Reaches m (end_of f first) P → Reaches m f P
+further : (m : PlainModule) (f : PlainFunction) (P : PlainFunction → Type 0) (first : List Step) → IsChain m f first → Reaches m (chain_end f first) P → Reaches m f P
 further m f P first a r = record {
   chain = r.chain ++ first;
   is_chain = joined m f first r.chain a r.is_chain;
@@ -32,13 +32,13 @@ further m f P first a r = record {
 
 -- ---- what is used is named
 
-starts_named : (f : PlainFunction) (e g : ℕ) → StartsAt f.expressions e g → Names g f
+starts_named : (f : PlainFunction) (e g : ℕ) → StartsAt f.expressions e g → NamesGlobal g f
 starts_named f e g (is_global at) = (e, at)
 starts_named f e g (accessed base index at below) = starts_named f base g below
 starts_named f e g (accessed_index base index at below) = starts_named f base g below
 
-used_is_named : (m : PlainModule) (f : PlainFunction) (g k : ℕ) → HasUse m f g k → Reaches m f (Names g)
-used_is_named m f g k (inl r) = record { chain = r.chain; is_chain = r.is_chain; holds = starts_named (end_of f r.chain) r.holds.operand.handle g r.holds.starts }
+used_is_named : (m : PlainModule) (f : PlainFunction) (g k : ℕ) → HasUse m f g k → Reaches m f (NamesGlobal g)
+used_is_named m f g k (inl r) = record { chain = r.chain; is_chain = r.is_chain; holds = starts_named (chain_end f r.chain) r.holds.operand.handle g r.holds.starts }
 used_is_named m f g k (inr q) = record { chain = q.1.chain; is_chain = q.1.is_chain; holds = q.1.holds.0 }
 
 -- ---- what is named is used
@@ -47,7 +47,7 @@ none_of_zero : (u : GlobalUse) (k : ℕ) → u.0 ≡ 0 → bit_at u.0 k ≡ 1 �
 none_of_zero u k is e = let z : 0 ≡ 1 = sym (bit_at-zero k) ∙ (sym (ap (λ n. bit_at n k) is) ∙ e) in omega (arith, z)
 
 -- something that is named has a use
-unused : (m : PlainModule) (f : PlainFunction) (g : ℕ) → ((k : ℕ) → HasUse m f g k → ⊥) → Reaches m f (Names g) → ⊥
+unused : (m : PlainModule) (f : PlainFunction) (g : ℕ) → ((k : ℕ) → HasUse m f g k → ⊥) → Reaches m f (NamesGlobal g) → ⊥
 unused m f g none r = none 2 (inr (
   refl,
   record {

@@ -11,8 +11,8 @@ use Rattle.judgement.specs.judged.Sound.{StrideOK, LeavesOK, ShapesOK, IsBuffer}
 use Rattle.typing_layout.specs.judged.Buffers.{PartsAligned, StorageAt, UniformAt}
 use Rattle.typing_layout.specs.judged.Flags.{HasFlag, AllHave, HostShareable, Sized, IsInOrder}
 use Rattle.typing_layout.specs.judged.Layout.{size, alignment, greatest_alignment, LayoutOK}
-use Rattle.judgement.specs.judged.Leaves.{inside, repeated, leaves, member_leaves}
-use Rattle.typing_layout.specs.judged.Parts.{Part, listed, end_of, Everywhere, EverywhereIn}
+use Rattle.judgement.specs.judged.Leaves.{leaf_inside, repeated, leaves, member_leaves}
+use Rattle.typing_layout.specs.judged.Parts.{TreeMember, member_list, end_of, Everywhere, EverywhereIn}
 use Rattle.typing_layout.specs.judged.Tree.{Tree, scalar, vector, matrix, cooperative_matrix, atomic, pointer, value_pointer, array, struct, image, sampler, acceleration_structure, ray_query, binding_array, Members, no_members, member}
 
 -- arrays without a length have one element, or there is none
@@ -35,24 +35,24 @@ whole_runs a s = (omega arith, dvd_refl a, dvd-zero a, omega arith)
 -- ---- members
 
 -- the first one begins at this byte or later
-abbrev BeginsFrom : ℕ → List Part → Type 0
-BeginsFrom low ps = (p : Part) → slice_get ps 0 ≡ Some p → low ≤ p.offset
+abbrev BeginsFrom : ℕ → List TreeMember → Type 0
+BeginsFrom low ps = (p : TreeMember) → slice_get ps 0 ≡ Some p → low ≤ p.offset
 
 -- each one begins at the end of the one before, or later
-abbrev Follow : List Part → Type 0
-Follow ps = (k : ℕ) (p q : Part) → slice_get ps k ≡ Some p → slice_get ps (suc k) ≡ Some q → end_of p ≤ q.offset
+abbrev Follow : List TreeMember → Type 0
+Follow ps = (k : ℕ) (p q : TreeMember) → slice_get ps k ≡ Some p → slice_get ps (suc k) ≡ Some q → end_of p ≤ q.offset
 
-in_order_follow : (ps : List Part) → IsInOrder ps → Follow ps
+in_order_follow : (ps : List TreeMember) → IsInOrder ps → Follow ps
 in_order_follow ps ordered k p q e g = subst (λ o. IfSome o (λ a. end_of a ≤ q.offset)) e (ordered (suc k) q g)
 
 -- what the rules of a struct say of its members
-record Held (ps : List Part) (span : ℕ) : Type 0 where
-  sized : (k : ℕ) (p : Part) → slice_get ps k ≡ Some p → suc k < length ps → HasFlag Sized p.of_type
-  within : (k : ℕ) (p : Part) → slice_get ps k ≡ Some p → end_of p ≤ span
+record Held (ps : List TreeMember) (span : ℕ) : Type 0 where
+  sized : (k : ℕ) (p : TreeMember) → slice_get ps k ≡ Some p → suc k < length ps → HasFlag Sized p.of_type
+  within : (k : ℕ) (p : TreeMember) → slice_get ps k ≡ Some p → end_of p ≤ span
   follow : Follow ps
   aligned : PartsAligned alignment ps
 
-held_rest : (p : Part) (ps : List Part) (span : ℕ) → Held (p ∷ ps) span → Held ps span
+held_rest : (p : TreeMember) (ps : List TreeMember) (span : ℕ) → Held (p ∷ ps) span → Held ps span
 held_rest p ps span h = record {
   sized = λ k q e lt. h.sized (suc k) q e (omega (arith, lt));
   within = λ k q e. h.within (suc k) q e;
@@ -60,16 +60,16 @@ held_rest p ps span h = record {
   aligned = λ k q e. h.aligned (suc k) q e;
 }
 
-more_than_one : (ps : List Part) (p q : Part) → slice_get ps 0 ≡ Some q → 1 < length (p ∷ ps)
+more_than_one : (ps : List TreeMember) (p q : TreeMember) → slice_get ps 0 ≡ Some q → 1 < length (p ∷ ps)
 more_than_one [] p q e = cc
 more_than_one (r ∷ ps) p q e = omega arith
 
 one_member : (held part : ℕ) (t : Tree) (binding : Option Binding) (offset : ℕ) (ms : Members) (low span a : ℕ) → Run held t → alignment t ∣ a → alignment t ∣ offset → low ≤ offset → offset + size t ≤ span
-    → ((q : Part) → slice_get (listed ms) 0 ≡ Some q → HasFlag Sized t) → BeginsFrom (offset + size t) (listed ms)
-    → ((mid : ℕ) → BeginsFrom mid (listed ms) → MembersRun held (suc part) ms mid span a) → MembersRun held part (member t binding offset ms) low span a
+    → ((q : TreeMember) → slice_get (member_list ms) 0 ≡ Some q → HasFlag Sized t) → BeginsFrom (offset + size t) (member_list ms)
+    → ((mid : ℕ) → BeginsFrom mid (member_list ms) → MembersRun held (suc part) ms mid span a) → MembersRun held part (member t binding offset ms) low span a
 one_member held part t binding offset no_members low span a r d off start fits sized next rest =
-    let moved : Runs a (offset + 0) (map (inside part offset) (leaves held t)) (offset + r.high) = runs_wider (alignment t) a _ _ _ d (runs_inside (alignment t) part offset 0 (leaves held t) r.high off r.runs) in
-    let placed : Runs a low (map (inside part offset) (leaves held t)) (offset + r.high) = runs_lower a (offset + 0) low _ _ (omega arith) moved in
+    let moved : Runs a (offset + 0) (map (leaf_inside part offset) (leaves held t)) (offset + r.high) = runs_wider (alignment t) a _ _ _ d (runs_inside (alignment t) part offset 0 (leaves held t) r.high off r.runs) in
+    let placed : Runs a low (map (leaf_inside part offset) (leaves held t)) (offset + r.high) = runs_lower a (offset + 0) low _ _ (omega arith) moved in
     record {
       high = offset + r.high;
       runs = runs_append a low _ (offset + r.high) [] (offset + r.high) placed (omega arith);
@@ -77,8 +77,8 @@ one_member held part t binding offset no_members low span a r d off start fits s
     }
 one_member held part t binding offset (member t' b' o' ms) low span a r d off start fits sized next rest =
     let small : r.high ≤ size t = r.within (inr (sized _ refl)) in
-    let moved : Runs a (offset + 0) (map (inside part offset) (leaves held t)) (offset + r.high) = runs_wider (alignment t) a _ _ _ d (runs_inside (alignment t) part offset 0 (leaves held t) r.high off r.runs) in
-    let placed : Runs a low (map (inside part offset) (leaves held t)) (offset + size t) = runs_higher a low _ (offset + r.high) (offset + size t) (omega (arith, small)) (runs_lower a (offset + 0) low _ _ (omega arith) moved) in
+    let moved : Runs a (offset + 0) (map (leaf_inside part offset) (leaves held t)) (offset + r.high) = runs_wider (alignment t) a _ _ _ d (runs_inside (alignment t) part offset 0 (leaves held t) r.high off r.runs) in
+    let placed : Runs a low (map (leaf_inside part offset) (leaves held t)) (offset + size t) = runs_higher a low _ (offset + r.high) (offset + size t) (omega (arith, small)) (runs_lower a (offset + 0) low _ _ (omega arith) moved) in
     let q = rest (offset + size t) next in
     record {
       high = q.high;
@@ -117,10 +117,10 @@ mutual
   leaves_run held (value_pointer n s space) laid ok strides storage host = record { high = 0; runs = omega arith; within = λ h. omega arith }
   leaves_run held (array base n stride) laid ok strides storage host = array_run held base n stride (leaves_run held base laid.1 ok.1 strides.1 storage.1 host.0) ok.0 strides.0 storage.0
   leaves_run held (struct ms span) laid ok strides storage host =
-      let h : Held (listed ms) span = record {
+      let h : Held (member_list ms) span = record {
         sized = λ k p e. (ok.0.each k p e).sized;
         within = λ k p e. (ok.0.each k p e).within;
-        follow = in_order_follow (listed ms) host.1;
+        follow = in_order_follow (member_list ms) host.1;
         aligned = storage.0.0;
       } in
       let q = members_run held 0 ms 0 span (greatest_alignment ms) laid.1 ok.1 strides.1 storage.1 host.0 (dvd_refl (greatest_alignment ms)) (λ p e. omega arith) h in
@@ -132,15 +132,15 @@ mutual
   leaves_run held (binding_array base n) laid ok strides storage host = record { high = 0; runs = omega arith; within = λ h. omega arith }
 
   members_run : (held part : ℕ) (ms : Members) (low span a : ℕ) → EverywhereIn LayoutOK ms → EverywhereIn ShapesOK ms → EverywhereIn StrideOK ms → EverywhereIn StorageAt ms → AllHave HostShareable ms
-      → greatest_alignment ms ∣ a → BeginsFrom low (listed ms) → Held (listed ms) span → MembersRun held part ms low span a
+      → greatest_alignment ms ∣ a → BeginsFrom low (member_list ms) → Held (member_list ms) span → MembersRun held part ms low span a
   members_run held part no_members low span a laid ok strides storage host d start h = record { high = low; runs = omega arith; within = λ b le. le }
   members_run held part (member t binding offset ms) low span a laid ok strides storage host d start h =
       let p : IsPowerOfTwo (alignment t) = alignment_power t laid.0 in
       let q : IsPowerOfTwo (greatest_alignment ms) = greatest_power ms laid.1 in
-      let here : Part = record { of_type = t; binding = binding; offset = offset } in
+      let here : TreeMember = record { of_type = t; binding = binding; offset = offset } in
       one_member held part t binding offset ms low span a (leaves_run held t laid.0 ok.0 strides.0 storage.0 host.0) (dvd_trans (alignment t) (divides_max_left (alignment t) (greatest_alignment ms) p q) d)
-      (h.aligned 0 here refl) (start here refl) (h.within 0 here refl) (λ r e. h.sized 0 here refl (more_than_one (listed ms) here r e)) (λ r e. h.follow 0 here r refl e)
-      (λ mid begins. members_run held (suc part) ms mid span a laid.1 ok.1 strides.1 storage.1 host.1 (dvd_trans (greatest_alignment ms) (divides_max_right (alignment t) (greatest_alignment ms) p q) d) begins (held_rest here (listed ms) span h))
+      (h.aligned 0 here refl) (start here refl) (h.within 0 here refl) (λ r e. h.sized 0 here refl (more_than_one (member_list ms) here r e)) (λ r e. h.follow 0 here r refl e)
+      (λ mid begins. members_run held (suc part) ms mid span a laid.1 ok.1 strides.1 storage.1 host.1 (dvd_trans (greatest_alignment ms) (divides_max_right (alignment t) (greatest_alignment ms) p q) d) begins (held_rest here (member_list ms) span h))
 
 -- ---- what serves as a uniform buffer serves as a storage buffer
 

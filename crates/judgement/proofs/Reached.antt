@@ -6,7 +6,7 @@ use Rattle.ir_items.specs.judged.Plain.{PlainModule}
 use Rattle.spec_expressions.specs.judged.ModuleHandles.{HandlesOK}
 use Rattle.judgement.proofs.Failures.{same_rank}
 use Rattle.ir_flags.specs.declared.settings.Settings.{Settings}
-use Rattle.judgement.specs.judged.ModuleSteps.{ModuleStep, layout, type, typing, expression, constant, override, rank, StepPasses, IsReached, ModuleOK}
+use Rattle.judgement.specs.judged.ModuleSteps.{ModuleStep, layout, type, typing, expression, constant, override, step_rank, StepPasses, IsReached, ModuleOK}
 
 below_or_same : (a b : ℕ) → a < suc b → (a < b) ⊎ (a ≡ b)
 below_or_same a b lt = search rules
@@ -16,11 +16,11 @@ pub reach_first : (s : Settings) (resolved : Bool) (m : PlainModule) → Handles
 reach_first s resolved m ok = record { handles = ok; earlier = λ other lt. absurd (omega (arith, lt)) }
 
 -- where each item passes a step, the next one is reached
-pub reach : (s : Settings) (resolved : Bool) (m : PlainModule) (step next : ModuleStep) → rank next ≡ suc (rank step) → IsReached s resolved m step → StepPasses s resolved m step → IsReached s resolved m next
+pub reach : (s : Settings) (resolved : Bool) (m : PlainModule) (step next : ModuleStep) → step_rank next ≡ suc (step_rank step) → IsReached s resolved m step → StepPasses s resolved m step → IsReached s resolved m next
 reach s resolved m step next follows reached passes = record {
   handles = reached.handles;
   earlier = λ other lt.
-      elim (below_or_same (rank other) (rank step) (omega (arith, lt, follows))) [
+      elim (below_or_same (step_rank other) (step_rank step) (omega (arith, lt, follows))) [
         | inl less ↦ reached.earlier other less
         | inr same ↦ subst (λ t. StepPasses s resolved m t) (sym (same_rank other step same)) passes
       ];

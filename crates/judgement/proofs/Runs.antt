@@ -6,8 +6,8 @@ use Rattle.std.proofs.lemmas.List.Elements.{All-nil, All-cons, All-weaker}
 use Rattle.std.proofs.lemmas.List.Kept.{AllPairs-cons}
 use Rattle.std.proofs.lemmas.Nat.Gcd.{dvd_trans}
 use Rattle.std.proofs.Math.Nat.{dvd-add, dvd-mul_left_of_dvd}
-use Rattle.judgement.specs.judged.Sound.{AreApart}
-use Rattle.judgement.specs.judged.Leaves.{Leaf, inside, repeated}
+use Rattle.judgement.specs.judged.Sound.{LeavesApart}
+use Rattle.judgement.specs.judged.Leaves.{Leaf, leaf_inside, repeated}
 
 -- from low to high, each at a multiple of its alignment, which divides a
 abbrev pub Runs : (a low : ℕ) → List Leaf → (high : ℕ) → Type 0
@@ -31,13 +31,13 @@ runs_append a low [] mid ys high r q = runs_lower a mid low ys high r q
 runs_append a low (l ∷ ls) mid ys high r q = (r.0, r.1, r.2, runs_append a (l.first + l.length) ls mid ys high r.3 q)
 
 -- moved to the place of a part
-pub runs_inside : (a part offset low : ℕ) (ls : List Leaf) (high : ℕ) → a ∣ offset → Runs a low ls high → Runs a (offset + low) (map (inside part offset) ls) (offset + high)
+pub runs_inside : (a part offset low : ℕ) (ls : List Leaf) (high : ℕ) → a ∣ offset → Runs a low ls high → Runs a (offset + low) (map (leaf_inside part offset) ls) (offset + high)
 runs_inside a part offset low [] high d r = omega arith
 runs_inside a part offset low (l ∷ ls) high d r = (
   omega arith,
   r.1,
   dvd-add l.alignment (dvd_trans l.alignment r.1 d) r.2,
-  runs_lower a (offset + (l.first + l.length)) (offset + l.first + l.length) (map (inside part offset) ls) (offset + high) (omega arith) (runs_inside a part offset (l.first + l.length) ls high d r.3),
+  runs_lower a (offset + (l.first + l.length)) (offset + l.first + l.length) (map (leaf_inside part offset) ls) (offset + high) (omega arith) (runs_inside a part offset (l.first + l.length) ls high d r.3),
 )
 
 -- one element after the other
@@ -45,9 +45,9 @@ pub runs_repeated : (a stride : ℕ) (ls : List Leaf) (high : ℕ) → a ∣ str
 unfolding repeated
 runs_repeated a stride ls high d r le zero part = omega arith
 runs_repeated a stride ls high d r le (suc n) part =
-    let here : Runs a (part * stride + 0) (map (inside part (part * stride)) ls) (part * stride + high) = runs_inside a part (part * stride) 0 ls high (dvd-mul_left_of_dvd a d part) r in
-    let low : Runs a (part * stride) (map (inside part (part * stride)) ls) (part * stride + high) = runs_lower a (part * stride + 0) (part * stride) _ (part * stride + high) (omega arith) here in
-    let placed : Runs a (part * stride) (map (inside part (part * stride)) ls) (suc part * stride) = runs_higher a (part * stride) _ (part * stride + high) (suc part * stride) (omega arith) low in
+    let here : Runs a (part * stride + 0) (map (leaf_inside part (part * stride)) ls) (part * stride + high) = runs_inside a part (part * stride) 0 ls high (dvd-mul_left_of_dvd a d part) r in
+    let low : Runs a (part * stride) (map (leaf_inside part (part * stride)) ls) (part * stride + high) = runs_lower a (part * stride + 0) (part * stride) _ (part * stride + high) (omega arith) here in
+    let placed : Runs a (part * stride) (map (leaf_inside part (part * stride)) ls) (suc part * stride) = runs_higher a (part * stride) _ (part * stride + high) (suc part * stride) (omega arith) low in
     let rest : Runs a (suc part * stride) (repeated n (suc part) stride ls) ((part + suc n) * stride) =
     runs_higher a (suc part * stride) _ ((suc part + n) * stride) ((part + suc n) * stride) (omega arith) (runs_repeated a stride ls high d r le n (suc part)) in
     runs_append a (part * stride) _ (suc part * stride) _ ((part + suc n) * stride) placed rest
@@ -75,7 +75,7 @@ pub runs_within : (a low : ℕ) (ls : List Leaf) (high : ℕ) → Runs a low ls 
 runs_within a low [] high r = All-nil _
 runs_within a low (l ∷ ls) high r = All-cons (λ m. m.first + m.length ≤ high) l ls (low_below_high a (l.first + l.length) ls high r.3) (runs_within a (l.first + l.length) ls high r.3)
 
-pub runs_apart : (a low : ℕ) (ls : List Leaf) (high : ℕ) → Runs a low ls high → AllPairs AreApart ls
+pub runs_apart : (a low : ℕ) (ls : List Leaf) (high : ℕ) → Runs a low ls high → AllPairs LeavesApart ls
 runs_apart a low [] high r = λ i j d lt h. absurd (omega arith)
 runs_apart a low (l ∷ ls) high r =
-    AllPairs-cons AreApart l ls (All-weaker (λ m. l.first + l.length ≤ m.first) (AreApart l) (λ m h. inl h) ls (runs_from a (l.first + l.length) ls high r.3)) (runs_apart a (l.first + l.length) ls high r.3)
+    AllPairs-cons LeavesApart l ls (All-weaker (λ m. l.first + l.length ≤ m.first) (LeavesApart l) (λ m h. inl h) ls (runs_from a (l.first + l.length) ls high r.3)) (runs_apart a (l.first + l.length) ls high r.3)

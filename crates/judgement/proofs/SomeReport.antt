@@ -1,15 +1,13 @@
 -- There is a report on each module whose handles are in order.
 use Rattle.std.proofs.Common.{◌≡◌, ◌<◌, ◌≤◌, inl, inr, ℕ, zero, suc, ◌+◌, List, [], ◌∷◌, ◌++◌, length, Option, Some, None, slice_get, refl, sym, ap, subst, ◌∙◌, arith}
 use Rattle.std.specs.Prelude.{◌↔◌, flat_map, slice_index_or}
-use Rattle.spec_expressions.specs.judged.Pairs.{SamplingPair}
 use Rattle.spec_expressions.specs.declared.global_use.GlobalUse.{GlobalUse}
 use Rattle.spec_expressions.specs.declared.sampling.GlobalOrArgument.{GlobalOrArgument}
 use Rattle.spec_expressions.specs.declared.sampling.GlobalOrArgument.TheVariants.{Global, Argument}
 use Rattle.ir_types.specs.judged.ExpressionPlain.{PlainExpression, plain}
 use Rattle.ir_types.specs.declared.expressions.Expression.TheVariants as x
 use Rattle.ir_items.specs.judged.Plain.{PlainEntry, PlainFunction, PlainModule}
-use Rattle.typing_rules.specs.judged.Laws.{IsAmong}
-use Rattle.spec_expressions.specs.judged.CallChains.{base_denotes, denotes, place, Step, IsChain, end_of, bound, argument_means, seen_through, HasUse, HasPair}
+use Rattle.spec_expressions.specs.judged.CallChains.{base_denotes, denotes, global_or_argument, Step, IsChain, meaning_at_start, argument_means, seen_through, HasUse, HasPair}
 use Rattle.spec_expressions.specs.judged.Summaries.{no_use}
 use Rattle.spec_expressions.specs.judged.FunctionHandles.{HandlesInRange}
 use Rattle.spec_expressions.specs.judged.ModuleHandles.{HandlesOK}
@@ -21,7 +19,7 @@ use Rattle.judgement.proofs.FourKinds.{use_kind}
 use Rattle.judgement.proofs.Ordered.{some_ordered}
 use Rattle.judgement.specs.found.ReportLaws.{SomeReport}
 use Rattle.judgement.specs.judged.Lines.{buffers, entry_lines}
-use Rattle.judgement.specs.judged.Reports.{AreUses, ArePairs, IsEntryReport, AreEntryReports, IsReport}
+use Rattle.judgement.specs.judged.Reports.{AreUses, ArePairs, IsEntryReport, IsReport}
 
 -- ---- pairs are of global variables that are there
 
@@ -40,7 +38,7 @@ module _ (m : PlainModule) (f : PlainFunction) (ok : HandlesInRange m f) where
   occurs_within h g (Some (plain (x.AccessIndex base index))) at e = base_within base g (slice_get f.expressions base) refl e
   occurs_within h g _ at e = absurd (let y = e in cc)
 
-  place_within : (h g : ℕ) → place f.expressions h ≡ Some (Global g) → g < length m.globals
+  place_within : (h g : ℕ) → global_or_argument f.expressions h ≡ Some (Global g) → g < length m.globals
   place_within h g e = occurs_within h g (slice_get f.expressions h) refl e
 
 -- where all that expressions of the caller mean is there, so is what a callee's are seen to be
@@ -49,16 +47,16 @@ module _ (m : PlainModule) (meaning : ℕ → Option GlobalOrArgument) (within :
   argument_within g None e = absurd (let y = e in cc)
   argument_within g (Some h) e = within h g e
 
-  seen_within : (s : Step) → HandlesInRange m s.function → (h g : ℕ) (o : Option GlobalOrArgument) → place s.function.expressions h ≡ o → seen_through meaning s.arguments o ≡ Some (Global g) → g < length m.globals
+  seen_within : (s : Step) → HandlesInRange m s.function → (h g : ℕ) (o : Option GlobalOrArgument) → global_or_argument s.function.expressions h ≡ o → seen_through meaning s.arguments o ≡ Some (Global g) → g < length m.globals
   seen_within s there h g None at e = absurd (let y = e in cc)
   seen_within s there h g (Some (Global v)) at e = place_within m s.function there h g (at ∙ e)
   seen_within s there h g (Some (Argument number)) at e = argument_within g (slice_get s.arguments number) e
 
 module _ (m : PlainModule) (handles : HandlesOK m) (f : PlainFunction) (ok : HandlesInRange m f) where
-  bound_within : (chain : List Step) → IsChain m f chain → (h g : ℕ) → bound f chain h ≡ Some (Global g) → g < length m.globals
+  bound_within : (chain : List Step) → IsChain m f chain → (h g : ℕ) → meaning_at_start f chain h ≡ Some (Global g) → g < length m.globals
   bound_within [] is h g e = place_within m f ok h g e
   bound_within (s ∷ chain) is h g e =
-      seen_within m (bound f chain) (λ i k. bound_within chain is.1 i k) s (handles.functions is.0.callee s.function is.0.found) h g (place s.function.expressions h) refl e
+      seen_within m (meaning_at_start f chain) (λ i k. bound_within chain is.1 i k) s (handles.functions is.0.callee s.function is.0.found) h g (global_or_argument s.function.expressions h) refl e
 
   pair_within : (p : ℕ × ℕ) → HasPair m f (Global p.0, Global p.1) → (p.0 < length m.globals) × (p.1 < length m.globals)
   pair_within p h = (bound_within h.chain h.is_chain h.sampled.image p.0 h.sampled.image_means, bound_within h.chain h.is_chain h.sampled.sampler p.1 h.sampled.sampler_means)

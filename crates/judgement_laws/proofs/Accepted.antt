@@ -42,7 +42,7 @@ use Rattle.spec_runs.specs.judged.Laws.{AnswersNameNothing}
 use Rattle.spec_statements.specs.judged.Strict.{StrictOK}
 use Rattle.judgement_laws.proofs.AnswerKinds.{answers_name_nothing}
 use Rattle.judgement_laws.specs.found.Accepted.{IsAcceptedEntry, RunsNest, RunsPassTypes, RunsUseLive, StrictRunsUseLive, RunsKeepStage, RunsNeverEscape}
-use Rattle.spec_runs.specs.judged.Machine.{Frame, denotes, pair_of, mentioned_at, callee_frame, entry_frame, trace}
+use Rattle.spec_runs.specs.judged.Machine.{Frame, global_denoted, pair_of, mentioned_at, callee_frame, entry_frame, trace}
 use Rattle.spec_runs.proofs.Invariance.{invariants_hold}
 use Rattle.spec_runs.proofs.Strict.{strict_is_lawful, strict_suffices}
 use Rattle.spec_runs.proofs.Scopes.{skipped_is_lawful, scope_suffices, known, introduced_known}
@@ -253,7 +253,7 @@ module _ (s : Settings) (m : PlainModule) (number : ℕ) (a : IsAcceptedEntry s 
 
   any_mentioned : (frame : Frame) (o : Option PlainExpression) → AllByRecursion Holds (mentioned_at frame o)
   any_mentioned frame (Some (plain (GlobalVariable g))) = (tt, tt)
-  any_mentioned frame (Some (plain (ImageSample image sampler gathers coordinate array_index offset level depth_ref clamp_to_edge))) = any_pair (denotes frame image) (denotes frame sampler)
+  any_mentioned frame (Some (plain (ImageSample image sampler gathers coordinate array_index offset level depth_ref clamp_to_edge))) = any_pair (global_denoted frame image) (global_denoted frame sampler)
   any_mentioned frame _ = tt
 
   pub entry_fine : Fine (entry_frame a.entry.entry.function)
@@ -339,7 +339,7 @@ module _ (s : Settings) (m : PlainModule) (number : ℕ) (a : IsAcceptedEntry s 
 
     any_used_mention : (frame : Frame) (o : Option PlainExpression) → AllByRecursion (UsesOK g) (mentioned_at frame o)
     any_used_mention frame (Some (plain (GlobalVariable h))) = (tt, tt)
-    any_used_mention frame (Some (plain (ImageSample image sampler gathers coordinate array_index offset level depth_ref clamp_to_edge))) = any_used_pair (denotes frame image) (denotes frame sampler)
+    any_used_mention frame (Some (plain (ImageSample image sampler gathers coordinate array_index offset level depth_ref clamp_to_edge))) = any_used_pair (global_denoted frame image) (global_denoted frame sampler)
     any_used_mention frame _ = tt
 
     uses_kept : IsInvariant u g m Fine (UsesOK g)

@@ -5,7 +5,7 @@ use Rattle.ir_blocks.specs.judged.Plain.{PlainBlock}
 use Rattle.ir_items.specs.judged.Plain.{PlainFunction, PlainEntry, PlainModule}
 use Rattle.ir_types.specs.judged.ExpressionPlain.{PlainExpression, compose, plain}
 use Rattle.typing_rules.specs.judged.Laws.{IsAmong}
-use Rattle.spec_expressions.specs.judged.CallChains.{place}
+use Rattle.spec_expressions.specs.judged.CallChains.{global_or_argument}
 use Rattle.spec_expressions.specs.judged.Effects.{samples}
 use Rattle.spec_expressions.specs.judged.Summaries.{IsWrongArgument}
 use Rattle.spec_expressions.specs.judged.Values.{is_source, ComesFrom, itself, through, NonUniform}
@@ -52,7 +52,7 @@ wrong_form_moves l k e (inl h) = inl (record {
   image = h.image;
   sampler = h.sampler;
   sampling = subst (λ xs. IsAmong (samples e h.image h.sampler) xs) (same_effects k) h.sampling;
-  wrong = subst (λ xs. (place xs h.image ≡ None) ⊎ (place xs h.sampler ≡ None)) (same_expressions k) h.wrong;
+  wrong = subst (λ xs. (global_or_argument xs h.image ≡ None) ⊎ (global_or_argument xs h.sampler ≡ None)) (same_expressions k) h.wrong;
 })
 wrong_form_moves {f = f} l k e (inr h) =
     let moved = step_moves l k h.step h.calls in

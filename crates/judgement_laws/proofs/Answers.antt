@@ -2,22 +2,19 @@
 use Rattle.std.proofs.Common.{◌≡◌, ◌∙◌, ℕ, [], Option, Some, None, option_and_then, slice_get, refl, sym, ap, subst, List}
 use Rattle.std.proofs.lemmas.Option.{slice_get_within}
 use Rattle.std.specs.Prelude.{IsSomeAnd}
-use Rattle.ir_blocks.specs.judged.Places.{Place, OccursAt}
 use Rattle.ir_blocks.specs.judged.Plain.{PlainOperation, control_barrier, memory_barrier, store, image_store, atomic, image_atomic, uniform_load, ray_query, ballot, collective, gather, cooperative_store, ray_pipeline, PlainStatement, emit, block, if_, switch, loop, break, continue, return, kill, operation, call}
 use Rattle.ir_types.specs.judged.ExpressionPlain.{PlainExpression, plain}
 use Rattle.ir_types.specs.declared.expressions.Expression.TheVariants as x
 use Rattle.ir_flags.specs.Sets.{Has}
-use Rattle.ir_flags.specs.declared.settings.TheConstants.ValidationFlags.{BLOCKS, EXPRESSIONS}
+use Rattle.ir_flags.specs.declared.settings.TheConstants.ValidationFlags.{EXPRESSIONS}
 use Rattle.ir_flags.specs.declared.settings.Settings.{Settings}
-use Rattle.ir_items.specs.judged.Plain.{PlainFunction, PlainModule}
-use Rattle.judgement_laws.specs.found.AcceptedLaws.{IsCallOf, IsOperationOf, OccursOnce, EachAnswered, AnsweredByOne}
-use Rattle.spec_statements.specs.judged.ModuleFunctions.{FunctionAtOK}
+use Rattle.judgement_laws.specs.found.AcceptedLaws.{IsCallOf, IsOperationOf, EachAnswered, AnsweredByOne}
 use Rattle.ir_kinds.specs.declared.scalars.Scalar.{Scalar}
-use Rattle.spec_expressions.specs.judged.Operands.{compared}
-use Rattle.spec_statements.specs.judged.Atomics.{AnswerOK, AtomicAnswer, AtomicChangeOK, changed_scalar, declared_answer}
+use Rattle.spec_expressions.specs.judged.Operands.{comparand}
+use Rattle.spec_statements.specs.judged.Atomics.{AtomicAnswerOK, AtomicAnswer, AtomicChangeOK, changed_scalar, declared_answer}
 use Rattle.spec_statements.specs.judged.BlockContext.{BlockContext, form_at}
 use Rattle.spec_statements.specs.judged.Functions.{BodyOK}
-use Rattle.spec_statements.specs.judged.Results.{AnswersBy, DenotesResult, of_call, of_atomic, answer_of, operation_answer}
+use Rattle.spec_statements.specs.judged.Results.{of_call, of_atomic, answer_of, operation_answer}
 use Rattle.spec_statements.specs.judged.Statements.{OperationOK, StatementOK}
 
 some_is : {A : Type 0} {x y : A} → Some x ≡ Some y → x ≡ y
@@ -41,7 +38,7 @@ module _ (c : BlockContext) (e : ℕ) where
     no_operation (atomic pointer done value None) ok is = cc (is)
     no_operation (atomic pointer done value (Some result)) ok is =
         let changed : (s : Scalar) × AtomicChangeOK c pointer done value (Some result) s = some_and (AtomicChangeOK c pointer done value (Some result)) (changed_scalar c.m.types (form_at c pointer)) ok in
-        undeclared (AnswerOK c changed.0 (compared done)) (slice_get c.f.expressions result) function (ap (slice_get c.f.expressions) (some_is is) ∙ at) changed.1.answered
+        undeclared (AtomicAnswerOK c changed.0 (comparand done)) (slice_get c.f.expressions result) function (ap (slice_get c.f.expressions) (some_is is) ∙ at) changed.1.answered
     no_operation (image_atomic image coordinate array_index done value) ok is = cc (is)
     no_operation (uniform_load pointer result) ok is = cc (is)
     no_operation (ray_query query done) ok is = cc (is)

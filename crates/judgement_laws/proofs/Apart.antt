@@ -6,7 +6,6 @@ use Rattle.ir_items.specs.judged.Plain.{PlainEntry, PlainModule}
 use Rattle.ir_kinds.specs.declared.bindings.ResourceBinding.{ResourceBinding}
 use Rattle.judgement_laws.specs.found.AcceptedLaws.{IsReported, BindingsDiffer}
 use Rattle.spec_expressions.specs.judged.CallChains.{HasUse}
-use Rattle.spec_interface.specs.judged.Modules.{EntryAtOK}
 use Rattle.spec_interface.specs.judged.Payloads.{binding_at}
 use Rattle.spec_interface.specs.judged.Uses.{EntryUses}
 use Rattle.spec_interface.specs.judged.UsedVariables.{IsUsed}

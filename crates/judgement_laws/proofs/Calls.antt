@@ -7,7 +7,7 @@ use Rattle.typing_rules.specs.judged.Laws.{IsAmong}
 use Rattle.spec_expressions.specs.judged.Pairs.{SamplingPair}
 use Rattle.spec_expressions.specs.declared.sampling.GlobalOrArgument.{GlobalOrArgument}
 use Rattle.spec_expressions.specs.judged.Effects.{takes, samples, runs, expressions_effects, effects_of}
-use Rattle.spec_expressions.specs.judged.CallChains.{place, Step, Calls, end_of, IsChain, seen_through, bound, Reaches, UsesDirectly, Names, IsUnusedFrom, HasUse, HasPair}
+use Rattle.spec_expressions.specs.judged.CallChains.{global_or_argument, Step, Calls, chain_end, IsChain, seen_through, meaning_at_start, Reaches, UsesDirectly, NamesGlobal, IsUnusedFrom, HasUse, HasPair}
 use Rattle.spec_expressions.specs.judged.Values.{StartsAt}
 use Rattle.judgement_laws.specs.judged.Like.{LikeFunction, LikeModule}
 use Rattle.judgement_laws.proofs.Likeness.{function_back, module_back}
@@ -38,14 +38,14 @@ step_moves {m} {n} {f} {g} l k s c =
 pub record ChainMoves (n : PlainModule) (f g : PlainFunction) (chain : List Step) : Type 0 where
   pub steps : List Step
   pub is_chain : IsChain n g steps
-  pub ends : LikeFunction (end_of f chain) (end_of g steps)
-  pub means : (e : ℕ) → bound f chain e ≡ bound g steps e
+  pub ends : LikeFunction (chain_end f chain) (chain_end g steps)
+  pub means : (e : ℕ) → meaning_at_start f chain e ≡ meaning_at_start g steps e
 
 seen_alike : (a b : ℕ → Option GlobalOrArgument) → ((e : ℕ) → a e ≡ b e) → a ≡ b
 seen_alike a b h = λ i e. h e i
 
 pub chain_moves : {m n : PlainModule} {f g : PlainFunction} → LikeModule m n → LikeFunction f g → (chain : List Step) → IsChain m f chain → ChainMoves n f g chain
-chain_moves l k [] c = record { steps = []; is_chain = tt; ends = k; means = λ e. ap (λ xs. place xs e) (same_expressions k) }
+chain_moves l k [] c = record { steps = []; is_chain = tt; ends = k; means = λ e. ap (λ xs. global_or_argument xs e) (same_expressions k) }
 chain_moves {f = f} {g = g} l k (s ∷ before) c =
     let first = chain_moves l k before c.1 in
     let one = step_moves l first.ends s c.0 in
@@ -53,7 +53,7 @@ chain_moves {f = f} {g = g} l k (s ∷ before) c =
       steps = one.step ∷ first.steps;
       is_chain = (one.calls, first.is_chain);
       ends = one.function;
-      means = λ e i. seen_through (seen_alike (bound f before) (bound g first.steps) first.means i) (sym one.arguments i) (place (same_expressions one.function i) e);
+      means = λ e i. seen_through (seen_alike (meaning_at_start f before) (meaning_at_start g first.steps) first.means i) (sym one.arguments i) (global_or_argument (same_expressions one.function i) e);
     }
 
 pub reaches_moves : {m n : PlainModule} {f g : PlainFunction} → LikeModule m n → LikeFunction f g → (P Q : PlainFunction → Type 0)
@@ -70,7 +70,7 @@ uses_directly_moves g k a b l u = record {
   bit = u.bit;
 }
 
-pub names_moves : (g : ℕ) (a b : PlainFunction) → LikeFunction a b → Names g a → Names g b
+pub names_moves : (g : ℕ) (a b : PlainFunction) → LikeFunction a b → NamesGlobal g a → NamesGlobal g b
 names_moves g a b l x = (x.0, subst (λ xs. slice_get xs x.0 ≡ Some (plain (GlobalVariable g))) (same_expressions l) x.1)
 
 unused_moves : {m n : PlainModule} → LikeModule m n → (g : ℕ) (a b : PlainFunction) → LikeFunction a b → IsUnusedFrom m g a → IsUnusedFrom n g b
@@ -79,7 +79,7 @@ unused_moves l g a b k none bit r = none bit (reaches_moves (module_back l) (fun
 pub use_moves : {m n : PlainModule} {f h : PlainFunction} → LikeModule m n → LikeFunction f h → (g k : ℕ) → HasUse m f g k → HasUse n h g k
 use_moves l k g bit (inl r) = inl (reaches_moves l k (UsesDirectly g bit) (UsesDirectly g bit) (uses_directly_moves g bit) r)
 use_moves {m} {n} l k g bit (inr x) =
-    inr (x.0, reaches_moves l k (λ h. Names g h × IsUnusedFrom m g h) (λ h. Names g h × IsUnusedFrom n g h) (λ a b like y. (names_moves g a b like y.0, unused_moves l g a b like y.1)) x.1)
+    inr (x.0, reaches_moves l k (λ h. NamesGlobal g h × IsUnusedFrom m g h) (λ h. NamesGlobal g h × IsUnusedFrom n g h) (λ a b like y. (names_moves g a b like y.0, unused_moves l g a b like y.1)) x.1)
 
 pub pair_moves : {m n : PlainModule} {f g : PlainFunction} → LikeModule m n → LikeFunction f g → (p : SamplingPair) → HasPair m f p → HasPair n g p
 pair_moves l k p h =

@@ -13,7 +13,7 @@ use Rattle.ir_types.specs.declared.expressions.Expression.TheVariants.{GlobalVar
 use Rattle.ir_items.specs.judged.Plain.{PlainFunction, PlainModule}
 use Rattle.typing_rules.specs.judged.Laws.{IsAmong}
 use Rattle.spec_expressions.proofs.Members.{among-left, among-right, get-among}
-use Rattle.spec_expressions.specs.judged.CallChains.{place, Step, Calls, IsChain, end_of, argument_means, seen_through, bound, Reaches, Names, HasPair}
+use Rattle.spec_expressions.specs.judged.CallChains.{global_or_argument, Step, Calls, IsChain, chain_end, argument_means, seen_through, meaning_at_start, Reaches, NamesGlobal, HasPair}
 use Rattle.spec_expressions.specs.judged.Effects.{Effect, takes, samples as sampling, runs, sampling_at, expression_effects, expressions_effects, statement_effects, effects_in, effects_inside, effects_in_cases, effects_of}
 use Rattle.spec_expressions.specs.judged.OperandUses.{expression_uses, statement_uses}
 use Rattle.spec_expressions.specs.judged.FunctionHandles.{HandlesInRange}
@@ -23,7 +23,7 @@ use Rattle.spec_runs.specs.judged.Good.{NamedOK, SampledOK}
 use Rattle.spec_runs.specs.found.Invariants.{IsInvariant}
 use Rattle.spec_runs.specs.judged.Scoping.{UsedOperands, with_skipped}
 use Rattle.judgement_laws.specs.found.Accepted.{IsAcceptedEntry, RunsNameReached, RunsSamplePairs}
-use Rattle.spec_runs.specs.judged.Machine.{Frame, argument_global, global_meant, denotes, pair_of, mentioned_at, callee_frame, entry_frame, trace}
+use Rattle.spec_runs.specs.judged.Machine.{Frame, argument_global, global_meant, global_denoted, pair_of, mentioned_at, callee_frame, entry_frame, trace}
 use Rattle.judgement_laws.proofs.Accepted.{Fine, callee_fine, entry_fine, all_weaken}
 use Rattle.spec_runs.proofs.Invariance.{invariants_hold}
 use Rattle.spec_runs.proofs.Scopes.{skipped_is_lawful}
@@ -90,11 +90,11 @@ sampling_among f e x image sampler at is =
 record InChain (m : PlainModule) (f : PlainFunction) (frame : Frame) : Type 0 where
   pub chain : List Step
   pub is_chain : IsChain m f chain
-  pub ends : end_of f chain ≡ frame.function
-  pub means : (e g : ℕ) → denotes frame e ≡ Some g → bound f chain e ≡ Some (Global g)
+  pub ends : chain_end f chain ≡ frame.function
+  pub means : (e g : ℕ) → global_denoted frame e ≡ Some g → meaning_at_start f chain e ≡ Some (Global g)
 
 entry_chain : (m : PlainModule) (f : PlainFunction) → InChain m f (entry_frame f)
-entry_chain m f = record { chain = []; is_chain = tt; ends = refl; means = λ e g is. by_place (place f.expressions e) g is }
+entry_chain m f = record { chain = []; is_chain = tt; ends = refl; means = λ e g is. by_place (global_or_argument f.expressions e) g is }
   where
     by_place : (o : Option GlobalOrArgument) (g : ℕ) → global_meant [] o ≡ Some g → o ≡ Some (Global g)
     by_place (Some (Global h)) g is = ap (λ x. Some (Global x)) (some_is is)
@@ -104,17 +104,17 @@ entry_chain m f = record { chain = []; is_chain = tt; ends = refl; means = λ e 
 callee_chain : (m : PlainModule) (f : PlainFunction) (frame : Frame) → InChain m f frame → (p : Place) (function : ℕ) (arguments : List ℕ) (result : Option ℕ) (callee : PlainFunction) → OccursAt frame.function.body p (call function arguments result) → slice_get m.functions function ≡ Some callee → InChain m f (callee_frame frame callee arguments)
 callee_chain m f frame c p function arguments result callee stands found =
     let called = get-among (effects_of frame.function) (runs function arguments) (call_among frame.function p function arguments result stands) in
-    let calls : Calls m (end_of f c.chain) (record { at = called.0; arguments = arguments; function = callee }) =
+    let calls : Calls m (chain_end f c.chain) (record { at = called.0; arguments = arguments; function = callee }) =
     record { callee = function; call = subst (λ h. slice_get (effects_of h) called.0 ≡ Some (runs function arguments)) (sym c.ends) called.1; found = found } in
-    record { chain = record { at = called.0; arguments = arguments; function = callee } ∷ c.chain; is_chain = (calls, c.is_chain); ends = refl; means = λ e g is. by_place (place callee.expressions e) g is }
+    record { chain = record { at = called.0; arguments = arguments; function = callee } ∷ c.chain; is_chain = (calls, c.is_chain); ends = refl; means = λ e g is. by_place (global_or_argument callee.expressions e) g is }
   where
-    by_argument : (o : Option ℕ) (g : ℕ) → argument_global (option_map (denotes frame) o) ≡ Some g → argument_means (bound f c.chain) o ≡ Some (Global g)
+    by_argument : (o : Option ℕ) (g : ℕ) → argument_global (option_map (global_denoted frame) o) ≡ Some g → argument_means (meaning_at_start f c.chain) o ≡ Some (Global g)
     by_argument (Some e) g is = c.means e g is
     by_argument None g is = absurd (cc (is))
 
-    by_place : (o : Option GlobalOrArgument) (g : ℕ) → global_meant (map (denotes frame) arguments) o ≡ Some g → seen_through (bound f c.chain) arguments o ≡ Some (Global g)
+    by_place : (o : Option GlobalOrArgument) (g : ℕ) → global_meant (map (global_denoted frame) arguments) o ≡ Some g → seen_through (meaning_at_start f c.chain) arguments o ≡ Some (Global g)
     by_place (Some (Global h)) g is = ap (λ x. Some (Global x)) (some_is is)
-    by_place (Some (Argument n)) g is = by_argument (slice_get arguments n) g (sym (ap argument_global (slice_get-map (denotes frame) arguments n)) ∙ is)
+    by_place (Some (Argument n)) g is = by_argument (slice_get arguments n) g (sym (ap argument_global (slice_get-map (global_denoted frame) arguments n)) ∙ is)
     by_place None g is = absurd (cc (is))
 
 -- ---- runs
@@ -133,7 +133,7 @@ module _ (s : Settings) (m : PlainModule) (number : ℕ) (a : IsAcceptedEntry s 
   Holds (entered depth) = Unit {0}
   Holds (executed g p) = Unit {0}
   Holds (introduced_expression g e) = Unit {0}
-  Holds (named g) = (g < length m.globals) × Reaches m f (Names g)
+  Holds (named g) = (g < length m.globals) × Reaches m f (NamesGlobal g)
   Holds (sampled image sampler) = HasPair m f (Global image, Global sampler)
   Holds (used g live skipped o) = Unit {0}
   Holds (passed caller callee arguments) = Unit {0}
@@ -144,14 +144,14 @@ module _ (s : Settings) (m : PlainModule) (number : ℕ) (a : IsAcceptedEntry s 
   names_hold : (frame : Frame) → Reported frame → (e g : ℕ) → slice_get frame.function.expressions e ≡ Some (plain (GlobalVariable g)) → Holds (named g)
   names_hold frame t e g at = (
     t.handles (computed_site e) _ (expression_names at refl),
-    record { chain = t.within.chain; is_chain = t.within.is_chain; holds = subst (Names g) (sym t.within.ends) (e, at) },
+    record { chain = t.within.chain; is_chain = t.within.is_chain; holds = subst (NamesGlobal g) (sym t.within.ends) (e, at) },
   )
 
   -- what an expression samples, where its image and its sampler denote global variables
-  samples_hold : (frame : Frame) → Reported frame → (e : ℕ) (x : PlainExpression) (image sampler : ℕ) → slice_get frame.function.expressions e ≡ Some x → sampling_at e x ≡ sampling e image sampler ∷ [] → AllByRecursion Holds (pair_of (denotes frame image) (denotes frame sampler))
-  samples_hold frame t e x image sampler at is = by_pair (denotes frame image) (denotes frame sampler) refl refl
+  samples_hold : (frame : Frame) → Reported frame → (e : ℕ) (x : PlainExpression) (image sampler : ℕ) → slice_get frame.function.expressions e ≡ Some x → sampling_at e x ≡ sampling e image sampler ∷ [] → AllByRecursion Holds (pair_of (global_denoted frame image) (global_denoted frame sampler))
+  samples_hold frame t e x image sampler at is = by_pair (global_denoted frame image) (global_denoted frame sampler) refl refl
     where
-      by_pair : (i j : Option ℕ) → denotes frame image ≡ i → denotes frame sampler ≡ j → AllByRecursion Holds (pair_of i j)
+      by_pair : (i j : Option ℕ) → global_denoted frame image ≡ i → global_denoted frame sampler ≡ j → AllByRecursion Holds (pair_of i j)
       by_pair (Some i) (Some j) image_is sampler_is = (
         record {
           chain = t.within.chain;

@@ -4,7 +4,7 @@ use Rattle.ir_blocks.specs.judged.Plain.{PlainStatement, block, if_, switch, ret
 use Rattle.ir_blocks.specs.judged.Shapes.{Shape, leaves, nests, chooses, switches, shape_of, Part, inner, accepting, rejecting, case_at, loop_body, loop_continuing, case_body, part_of}
 use Rattle.ir_blocks.specs.judged.Places.{Place, here, later, inside, condition, Before, earlier, both_later, both_inside, body_before_continuing, body_before_condition, continuing_before_condition, nothing, loop_condition, condition_of, spot_at, OccursAt}
 use Rattle.ir_blocks.specs.judged.Control.{returns_in, parts_around}
-use Rattle.ir_blocks.specs.judged.Tails.{Ends, IsTailPart, goes_on, IsOpenEnd, empty, after_last, further, in_tail, head_of, ending, completed, finished, finished_cases}
+use Rattle.ir_blocks.specs.judged.Tails.{CaseEnds, IsTailPart, goes_on, IsOpenEnd, empty, after_last, further, in_tail, head_of, ending, completed, finished, finished_cases}
 use Rattle.ir_blocks.proofs.TailLaws as tail
 use Rattle.spec_expressions.specs.judged.Effects.{statement_effects, effects_in, effects_inside, effects_in_cases}
 use Rattle.spec_expressions.specs.judged.Positions.{Holds, holds_later, holds_inside}
@@ -13,7 +13,7 @@ use Rattle.judgement_laws.specs.found.Alike.{Carried, kept, extra, Alike}
 -- ---- parts of a finished statement (as in TailLaws, where these are not public)
 
 -- a case that ends is completed, and any other stays
-case_either : (cs : PlainCases) (k : ℕ) → (Ends cs k × (case_body (finished_cases cs) k ≡ completed (case_body cs k))) ⊎ (case_body (finished_cases cs) k ≡ case_body cs k)
+case_either : (cs : PlainCases) (k : ℕ) → (CaseEnds cs k × (case_body (finished_cases cs) k ≡ completed (case_body cs k))) ⊎ (case_body (finished_cases cs) k ≡ case_body cs k)
 case_either no_case k = inr refl
 case_either (case value body true rest) zero = inr refl
 case_either (case value body false rest) zero = inl (refl, refl)
@@ -31,7 +31,7 @@ part_either (switch selector cases) (case_at k) = case_either cases k
 part_either (switch selector cases) _ = inr refl
 part_either s part = inr refl
 
-case_tail : (cs : PlainCases) (k : ℕ) → Ends cs k → case_body (finished_cases cs) k ≡ completed (case_body cs k)
+case_tail : (cs : PlainCases) (k : ℕ) → CaseEnds cs k → case_body (finished_cases cs) k ≡ completed (case_body cs k)
 case_tail no_case k h = absurd h
 case_tail (case value body falls rest) zero h = subst (λ f. case_body (finished_cases (case value body f rest)) zero ≡ completed body) (sym h) refl
 case_tail (case value body falls rest) (suc k) h = case_tail rest k h

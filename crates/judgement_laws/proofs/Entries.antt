@@ -27,7 +27,7 @@ use Rattle.spec_interface.specs.judged.Modules.{AreStages, EntryAtOK, EntriesOK}
 use Rattle.spec_interface.specs.judged.Payloads.{PayloadOK}
 use Rattle.spec_interface.specs.judged.Stages.{StageOK}
 use Rattle.spec_interface.specs.judged.Uses.{OwnUse, EntryUses}
-use Rattle.spec_interface.specs.judged.UsedVariables.{OwnPayloadOK, VariableOK, VariablesOK, IsUsed}
+use Rattle.spec_interface.specs.judged.UsedVariables.{OwnPayloadOK, UsedVariableOK, VariablesOK, IsUsed}
 use Rattle.spec_statements.specs.judged.EarlierPayloads.{HasPayloadBefore}
 use Rattle.judgement_laws.specs.judged.Like.{LikeEntry, LikeModule}
 use Rattle.judgement_laws.proofs.Calls.{use_moves}
@@ -86,7 +86,7 @@ module _ (m : PlainModule) (functions : List PlainFunction) (entries : List Plai
   own_payload g v h = record { own = h.own; bytes = h.bytes }
 
   module _ (Uses Others : ℕ → ℕ → Type 0) (back : (g k : ℕ) → Others g k → Uses g k) where
-    variable : (g : ℕ) (v : PlainGlobal) → VariableOK m x g v (Uses g) → VariableOK n y g v (Others g)
+    variable : (g : ℕ) (v : PlainGlobal) → UsedVariableOK m x g v (Uses g) → UsedVariableOK n y g v (Others g)
     variable g v h = record { payload = λ space. own_payload g v (h.payload space); reached = h.reached; allowed = λ k used. h.allowed k (back g k used) }
 
     used_back : (g : ℕ) → IsUsed Others g → IsUsed Uses g
@@ -200,7 +200,7 @@ entry_at_moves l s i h =
 pub entries_move : {m n : PlainModule} → LikeModule m n → (s : Settings) → EntriesOK s m → EntriesOK s n
 entries_move l s h i within = entry_at_moves l s i (h i (subst (λ k. i < k) (sym l.entries.many) within))
 
-pub first_entry_moves : {m n : PlainModule} → LikeModule m n → (s : Settings) (i : ℕ) → entries.IsFirstFailing s m i → entries.IsFirstFailing s n i
+pub first_entry_moves : {m n : PlainModule} → LikeModule m n → (s : Settings) (i : ℕ) → entries.IsFirstFailingEntry s m i → entries.IsFirstFailingEntry s n i
 first_entry_moves l s i h = record {
   within = subst (λ k. i < k) l.entries.many h.within;
   before = λ earlier less. entry_at_moves l s earlier (h.before earlier less);

@@ -1,10 +1,10 @@
 -- Chains of calls run functions of falling index.
 use Rattle.std.proofs.Common.{◌≡◌, ◌<◌, ◌++◌, ℕ, List, [], ◌∷◌, Some, length, slice_get}
-use Rattle.ir_items.specs.judged.Plain.{PlainEntry, PlainFunction, PlainModule}
+use Rattle.ir_items.specs.judged.Plain.{PlainFunction, PlainModule}
 use Rattle.module_handles.proofs.Whole.{order_gives_conditions}
-use Rattle.judgement_laws.specs.found.AcceptedLaws.{BeginsAt, at_function, at_entry, AreRun, Rise, Falls, CallsFall}
+use Rattle.judgement_laws.specs.found.AcceptedLaws.{BeginsAt, at_function, at_entry, AreRun, Rise, CallsFall}
 use Rattle.spec_expressions.proofs.Members.{among-get}
-use Rattle.spec_expressions.specs.judged.CallChains.{Step, Calls, IsChain, end_of}
+use Rattle.spec_expressions.specs.judged.CallChains.{Step, IsChain, chain_end}
 use Rattle.spec_expressions.specs.judged.Effects.{runs, effects_of}
 use Rattle.spec_statements.proofs.CallLaws.{calls_precede}
 use Rattle.spec_expressions.specs.judged.FunctionHandles.{CalleesPrecede}
@@ -30,14 +30,14 @@ module _ (m : PlainModule) (handles : HandlesOK m) where
       indexes : List ℕ
       are : AreRun m f chain indexes
       rise : Rise (indexes ++ index ∷ [])
-      precede : CalleesPrecede (head_or indexes index) (end_of f chain)
+      precede : CalleesPrecede (head_or indexes index) (chain_end f chain)
 
     along : (chain : List Step) → IsChain m f chain → Along chain
     along [] is = record { indexes = []; are = tt; rise = tt; precede = precede_at f index begins }
     along (s ∷ before) is =
         let a = along before is.1 in
         let c = is.0 in
-        let lt : c.callee < head_or a.indexes index = calls_precede (end_of f before) (head_or a.indexes index) a.precede c.callee s.arguments (among-get (effects_of (end_of f before)) s.at (runs c.callee s.arguments) c.call) in
+        let lt : c.callee < head_or a.indexes index = calls_precede (chain_end f before) (head_or a.indexes index) a.precede c.callee s.arguments (among-get (effects_of (chain_end f before)) s.at (runs c.callee s.arguments) c.call) in
         record {
           indexes = c.callee ∷ a.indexes;
           are = (c.call, c.found, a.are);

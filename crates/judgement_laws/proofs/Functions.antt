@@ -148,7 +148,7 @@ function_at_moves l s i h =
 pub functions_move : {m n : PlainModule} → LikeModule m n → (s : Settings) → FunctionsOK s m → FunctionsOK s n
 functions_move l s h i within = function_at_moves l s i (h i (subst (λ k. i < k) (sym l.functions.many) within))
 
-pub first_function_moves : {m n : PlainModule} → LikeModule m n → (s : Settings) (i : ℕ) → functions.IsFirstFailing s m i → functions.IsFirstFailing s n i
+pub first_function_moves : {m n : PlainModule} → LikeModule m n → (s : Settings) (i : ℕ) → functions.IsFirstFailingFunction s m i → functions.IsFirstFailingFunction s n i
 first_function_moves l s i h = record {
   within = subst (λ k. i < k) l.functions.many h.within;
   before = λ earlier less. function_at_moves l s earlier (h.before earlier less);

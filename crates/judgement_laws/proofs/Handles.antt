@@ -10,7 +10,7 @@ use Rattle.spec_expressions.specs.judged.FunctionHandles.{HandlesInRange}
 use Rattle.spec_expressions.specs.judged.ModuleReferences as in_module
 use Rattle.spec_expressions.specs.judged.ModuleReferences.{NamesIn, IsThereIn}
 use Rattle.spec_expressions.specs.judged.Order as order
-use Rattle.spec_expressions.specs.judged.Order.{Ordered, NamesType, DependsOn, IsBefore}
+use Rattle.spec_expressions.specs.judged.Order.{Ordered, NamesType, DependsOn}
 use Rattle.spec_expressions.specs.judged.ModuleHandles.{HandlesOK}
 use Rattle.judgement_laws.specs.judged.Like.{Matched, LikeFunction, LikeEntry, LikeModule}
 use Rattle.judgement_laws.specs.found.ReturnLaws.{ReturnsKeepHandles}
@@ -22,7 +22,7 @@ module _ (m : PlainModule) (functions : List PlainFunction) (entries : List Plai
   abbrev n : PlainModule
   n = record m { functions = functions; entries = entries }
 
-  names_in : (part : in_module.Part) (named : Named) → NamesIn m part named → NamesIn n part named
+  names_in : (part : in_module.ModulePart) (named : Named) → NamesIn m part named → NamesIn n part named
   names_in _ _ (in_module.type_names a b) = in_module.type_names a b
   names_in _ _ (in_module.type_counts a b) = in_module.type_counts a b
   names_in _ _ (in_module.filter_names a b) = in_module.filter_names a b
@@ -71,7 +71,7 @@ module _ (m : PlainModule) (functions : List PlainFunction) (entries : List Plai
 
 -- ---- over the relation
 
-names_in_move : (a b : PlainModule) → LikeModule a b → (part : in_module.Part) (named : Named) → NamesIn a part named → NamesIn b part named
+names_in_move : (a b : PlainModule) → LikeModule a b → (part : in_module.ModulePart) (named : Named) → NamesIn a part named → NamesIn b part named
 names_in_move a b l part named x = subst (λ z. NamesIn z part named) (sym l.rest) (names_in a b.functions b.entries l.functions l.entries part named x)
 
 depends_move : (a b : PlainModule) → LikeModule a b → (x y : Ordered) → DependsOn a x y → DependsOn b x y

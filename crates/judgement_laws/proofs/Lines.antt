@@ -10,11 +10,12 @@ use Rattle.ir_types.specs.judged.Plain.{PlainType}
 use Rattle.typing_rules.specs.judged.Laws.{IsAmong}
 use Rattle.spec_expressions.specs.judged.Summaries.{no_use}
 use Rattle.judgement_laws.proofs.Texts.{whole_end, whole_append, whole_if, whole_each, whole_flat, has_itself, has_left, has_right, has_each, has_flat}
-use Rattle.spec_interface.specs.judged.Spaces.{counted}
+use Rattle.spec_interface.specs.judged.Spaces.{effective_type}
 use Rattle.typing_layout.specs.judged.Layout.{size, alignment}
 use Rattle.typing_layout.specs.judged.View.{type_tree}
 use Rattle.judgement_laws.specs.judged.Lines.{AreWhole, HasLines, use_line, ReportsGlobal, as_payload, as_mesh, as_used, ReportsPair, LinesStand, EntriesAreReported, BuffersAreReported}
-use Rattle.judgement.specs.judged.Lines.{each_from, is_buffer, buffer_line, buffer_of, buffers, mesh_output, is_at, is_own, own_line, is_used, use_words, global_line, pair_line, head_line, variable_lines, entry_lines}
+use Rattle.judgement.specs.judged.Lines.{each_from, is_buffer, buffer_line, buffer_of, buffers, is_at, is_own, own_line, is_used, use_words, global_line, pair_line, head_line, variable_lines, entry_lines}
+use Rattle.spec_interface.specs.judged.Uses.{mesh_output}
 use Rattle.judgement.specs.judged.Reports.{IsEntryReport}
 
 -- ---- each line is whole
@@ -152,7 +153,7 @@ if_holds false line e = absurd (true≢false (sym e))
 
 pub buffers_are_reported : BuffersAreReported
 buffers_are_reported m report r number v at b =
-    let line = buffer_line number (size (type_tree m.types (counted m.types v.ty))) (alignment (type_tree m.types (counted m.types v.ty))) in
+    let line = buffer_line number (size (type_tree m.types (effective_type m.types v.ty))) (alignment (type_tree m.types (effective_type m.types v.ty))) in
     let n : 0 + number ≡ number = omega arith in
     let piece : HasLines (buffer_of m.types (0 + number) v) (buffers m) = has_each (buffer_of m.types) (buffer_whole m.types) 0 m.globals number v at in
     let own : HasLines (buffer_of m.types number v) (buffers m) = subst (λ j. HasLines (buffer_of m.types j v) (buffers m)) n piece in

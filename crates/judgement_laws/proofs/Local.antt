@@ -3,7 +3,7 @@ use Rattle.std.proofs.Common.{◌≡◌, inl, inr, ◌<◌, ℕ, List, [], ◌�
 use Rattle.spec_expressions.specs.judged.Pairs.{SamplingPair}
 use Rattle.spec_expressions.specs.declared.sampling.GlobalOrArgument.TheVariants.{Global}
 use Rattle.ir_items.specs.judged.Plain.{PlainEntry, PlainFunction, PlainModule}
-use Rattle.spec_expressions.specs.judged.CallChains.{Step, Calls, IsChain, end_of, Reaches, IsUnusedFrom, UsesDirectly, HasUse, HasPair}
+use Rattle.spec_expressions.specs.judged.CallChains.{Step, Calls, IsChain, chain_end, Reaches, IsUnusedFrom, UsesDirectly, HasUse, HasPair}
 use Rattle.spec_expressions.specs.judged.Effects.{effects_of}
 use Rattle.judgement.proofs.OneReport.{one_entry_report}
 use Rattle.judgement.specs.judged.Reports.{IsEntryReport}
@@ -12,20 +12,20 @@ use Rattle.judgement_laws.specs.judged.Lines.{HasLines}
 use Rattle.judgement_laws.specs.judged.Local.{AgreeFrom, DifferElsewhere, ReportsAreLocal}
 
 -- a chain after a chain
-end_after : (f : PlainFunction) (before after : List Step) → end_of f (after ++ before) ≡ end_of (end_of f before) after
+end_after : (f : PlainFunction) (before after : List Step) → chain_end f (after ++ before) ≡ chain_end (chain_end f before) after
 end_after f before [] = refl
 end_after f before (s ∷ after) = refl
 
-chain_behind : (m : PlainModule) (f : PlainFunction) (before after : List Step) → IsChain m f before → IsChain m (end_of f before) after → IsChain m f (after ++ before)
+chain_behind : (m : PlainModule) (f : PlainFunction) (before after : List Step) → IsChain m f before → IsChain m (chain_end f before) after → IsChain m f (after ++ before)
 chain_behind m f before [] first rest = first
 chain_behind m f before (s ∷ after) first rest = (subst (λ h. Calls m h s) (sym (end_after f before after)) rest.0, chain_behind m f before after first rest.1)
 
 -- what is agreed on from f is from each function that it reaches
-agree_there : (m n : PlainModule) (f : PlainFunction) (chain : List Step) → IsChain m f chain → AgreeFrom m n f → AgreeFrom m n (end_of f chain)
+agree_there : (m n : PlainModule) (f : PlainFunction) (chain : List Step) → IsChain m f chain → AgreeFrom m n f → AgreeFrom m n (chain_end f chain)
 agree_there m n f chain is agree after rest at callee arguments call =
     agree (after ++ chain) (chain_behind m f chain after is rest) at callee arguments (ap (λ h. slice_get (effects_of h) at) (end_after f chain after) ∙ call)
 
-call_kept : (m n : PlainModule) (f : PlainFunction) (chain : List Step) (s : Step) → IsChain m f chain → AgreeFrom m n f → Calls m (end_of f chain) s → Calls n (end_of f chain) s
+call_kept : (m n : PlainModule) (f : PlainFunction) (chain : List Step) (s : Step) → IsChain m f chain → AgreeFrom m n f → Calls m (chain_end f chain) s → Calls n (chain_end f chain) s
 call_kept m n f chain s is agree calls = record { callee = calls.callee; call = calls.call; found = sym (agree chain is s.at calls.callee s.arguments calls.call) ∙ calls.found }
 
 chain_kept : (m n : PlainModule) (f : PlainFunction) (chain : List Step) → AgreeFrom m n f → IsChain m f chain → IsChain n f chain
@@ -49,8 +49,8 @@ use_kept : (m n : PlainModule) (f : PlainFunction) → AgreeFrom m n f → (g k 
 use_kept m n f agree g k (inl direct) = inl (reaches_kept m n f (UsesDirectly g k) agree direct)
 use_kept m n f agree g k (inr query) =
     let r = query.1 in
-    let there = agree_back m n (end_of f r.chain) (agree_there m n f r.chain r.is_chain agree) in
-    let unused : IsUnusedFrom n g (end_of f r.chain) = λ j used. r.holds.1 j (reaches_kept n m (end_of f r.chain) (UsesDirectly g j) there used) in
+    let there = agree_back m n (chain_end f r.chain) (agree_there m n f r.chain r.is_chain agree) in
+    let unused : IsUnusedFrom n g (chain_end f r.chain) = λ j used. r.holds.1 j (reaches_kept n m (chain_end f r.chain) (UsesDirectly g j) there used) in
     inr (query.0, record { chain = r.chain; is_chain = chain_kept m n f r.chain agree r.is_chain; holds = (r.holds.0, unused) })
 
 pair_kept : (m n : PlainModule) (f : PlainFunction) → AgreeFrom m n f → (p : SamplingPair) → HasPair m f p → HasPair n f p

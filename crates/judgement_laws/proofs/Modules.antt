@@ -11,7 +11,7 @@ use Rattle.typing_layout.specs.declared.constness.ExpressionKind.{ExpressionKind
 use Rattle.spec_expressions.specs.judged.Compose.{ComponentsOK}
 use Rattle.spec_expressions.specs.judged.Constants.{ConstantOK}
 use Rattle.spec_expressions.specs.judged.Context.{outside}
-use Rattle.spec_expressions.specs.judged.GlobalExpressions.{Required, of_literal, of_composition, of_value, to_work_out, required_of, IsMet, GlobalExpressionOK}
+use Rattle.spec_expressions.specs.judged.GlobalExpressions.{GlobalRequirement, of_literal, of_composition, of_value, must_be_folded, required_of, IsMet, GlobalExpressionOK}
 use Rattle.spec_expressions.specs.judged.Overrides.{DefaultOK, OverrideOK}
 use Rattle.spec_expressions.specs.judged.Typing.{HasGlobalType}
 use Rattle.spec_interface.specs.judged.Globals as globals
@@ -35,11 +35,11 @@ module _ (m : PlainModule) (functions : List PlainFunction) (entries : List Plai
   components : (t : ℕ) (parts : List ℕ) → ComponentsOK (outside m) m.global_expressions t parts → ComponentsOK (outside n) n.global_expressions t parts
   components t parts h = record { form = h.form; typed = λ e among. global_typed e (h.form e) (h.typed e among); made = h.made }
 
-  met : (capabilities : Capabilities) (resolved : Bool) (kind : ExpressionKind) (a : Required) → IsMet capabilities resolved m kind a → IsMet capabilities resolved n kind a
+  met : (capabilities : Capabilities) (resolved : Bool) (kind : ExpressionKind) (a : GlobalRequirement) → IsMet capabilities resolved m kind a → IsMet capabilities resolved n kind a
   met capabilities resolved kind (of_literal value) h = h
   met capabilities resolved kind (of_composition t parts) h = components t parts h
   met capabilities resolved kind of_value h = h
-  met capabilities resolved kind to_work_out h = h
+  met capabilities resolved kind must_be_folded h = h
 
   expression_ok : (capabilities : Capabilities) (resolved : Bool) (i : ℕ) → GlobalExpressionOK capabilities resolved m i → GlobalExpressionOK capabilities resolved n i
   expression_ok capabilities resolved i h =
@@ -132,7 +132,7 @@ pub globals_move : (m n : PlainModule) → LikeModule m n → (flags : Validatio
 globals_move m n l flags capabilities h i within = global_move m n l flags capabilities i (h i (subst (λ z. i < length z.globals) l.rest within))
 
 pub first_global_move : (m n : PlainModule) → LikeModule m n → (flags : ValidationFlags) (capabilities : Capabilities) (i : ℕ)
-    → globals.IsFirstFailing flags capabilities m i → globals.IsFirstFailing flags capabilities n i
+    → globals.IsFirstFailingGlobal flags capabilities m i → globals.IsFirstFailingGlobal flags capabilities n i
 first_global_move m n l flags capabilities i h = record {
   within = subst (λ z. i < length z.globals) (sym l.rest) h.within;
   before = λ other less. global_move m n l flags capabilities other (h.before other less);

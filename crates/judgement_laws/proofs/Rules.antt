@@ -11,13 +11,13 @@ use Rattle.ir_flags.specs.declared.stages.SubgroupOperationSet.{SubgroupOperatio
 use Rattle.ir_items.specs.judged.Plain.{PlainFunction, PlainEntry, PlainLocal, PlainArgument}
 use Rattle.ir_items.specs.declared.functions.FunctionResult.{FunctionResult}
 use Rattle.ir_kinds.specs.declared.scalars.Scalar.{Scalar}
-use Rattle.spec_expressions.specs.judged.Operands.{compared}
-use Rattle.spec_statements.specs.judged.Atomics.{AtomicAnswer, AnswerOK, AtomicResultOK, AtomicChangeOK, changed_scalar}
+use Rattle.spec_expressions.specs.judged.Operands.{comparand}
+use Rattle.spec_statements.specs.judged.Atomics.{AtomicAnswer, AtomicAnswerOK, AtomicResultOK, AtomicChangeOK, changed_scalar}
 use Rattle.spec_statements.specs.judged.Barriers.{HasSubgroupBarriers}
 use Rattle.spec_statements.specs.judged.BlockContext.{BlockContext, form_at}
 use Rattle.spec_statements.specs.judged.Calls.{CallResultOK, CallOK}
 use Rattle.spec_statements.specs.judged.Interfaces.{BeginsAs, LocalOK, ArgumentOK, ResultOK, InterfaceOK}
-use Rattle.spec_statements.specs.judged.RayQueries.{StepOK}
+use Rattle.spec_statements.specs.judged.RayQueries.{RayStepOK}
 use Rattle.spec_statements.specs.judged.Returns.{ReturnOK}
 use Rattle.spec_statements.specs.judged.Statements.{OperationOK, StatementOK}
 use Rattle.spec_statements.specs.judged.StorageImages.{IsTexelOf, IsWritten, IsChanged, written_image, changed_image}
@@ -41,18 +41,18 @@ module _ (c : BlockContext) (functions : List PlainFunction) (entries : List Pla
   texel : (image : Picture) (coordinate : ℕ) (array_index : Option ℕ) → IsTexelOf c image coordinate array_index → IsTexelOf d image coordinate array_index
   texel image coordinate array_index h = record { flat = h.flat; layer = h.layer }
 
-  atomic_answer : (s : Scalar) (compare : Option ℕ) (answer : AtomicAnswer) → AnswerOK c s compare answer → AnswerOK d s compare answer
+  atomic_answer : (s : Scalar) (compare : Option ℕ) (answer : AtomicAnswer) → AtomicAnswerOK c s compare answer → AtomicAnswerOK d s compare answer
   atomic_answer s None answer h = h
   atomic_answer s (Some compare) answer h = h
 
   atomic_result : (s : Scalar) (done : AtomicFunction) (result : Option ℕ) → AtomicResultOK c s done result → AtomicResultOK d s done result
   atomic_result s done None h = h
-  atomic_result s done (Some r) h = some_and (AnswerOK c s (compared done)) (AnswerOK d s (compared done)) _ (atomic_answer s (compared done)) h
+  atomic_result s done (Some r) h = some_and (AtomicAnswerOK c s (comparand done)) (AtomicAnswerOK d s (comparand done)) _ (atomic_answer s (comparand done)) h
 
   changed : (pointer : ℕ) (done : AtomicFunction) (value : ℕ) (result : Option ℕ) (s : Scalar) → AtomicChangeOK c pointer done value result s → AtomicChangeOK d pointer done value result s
   changed pointer done value result s h = record { fits = h.fits; allowed = h.allowed; answered = atomic_result s done result h.answered }
 
-  query_step : (fun : RayQueryFunction) (vertices : Bool) → StepOK c vertices fun → StepOK d vertices fun
+  query_step : (fun : RayQueryFunction) (vertices : Bool) → RayStepOK c vertices fun → RayStepOK d vertices fun
   query_step (ray.Initialize acceleration_structure descriptor) vertices h = h
   query_step (ray.Proceed result) vertices h = h
   query_step (ray.GenerateIntersection hit_t) vertices h = h
@@ -92,7 +92,7 @@ module _ (c : BlockContext) (functions : List PlainFunction) (entries : List Pla
       (λ p x. (texel p coordinate array_index x.0, x.1))
       h
   operation_moves (uniform_load pointer result) h = record { space = h.space; answered = h.answered }
-  operation_moves (ray_query query fun) h = some_and (λ vertices. StepOK c vertices fun) (λ vertices. StepOK d vertices fun) _ (query_step fun) h
+  operation_moves (ray_query query fun) h = some_and (λ vertices. RayStepOK c vertices fun) (λ vertices. RayStepOK d vertices fun) _ (query_step fun) h
   operation_moves (ballot result predicate) h = record { operation = supported _ h.operation; truth = h.truth }
   operation_moves (collective op collective_op argument result) h = record { operation = supported _ h.operation; takes = h.takes; goes = h.goes; answered = h.answered }
   operation_moves (gather how argument result) h = record { operation = supported _ h.operation; index = h.index; known = index_known how h.known; number = h.number; answered = h.answered }

@@ -9,11 +9,11 @@ use Rattle.ir_types.specs.judged.ExpressionPlain.{PlainExpression, compose, plai
 use Rattle.ir_types.specs.declared.expressions.Expression.{Expression}
 use Rattle.ir_types.specs.declared.expressions.Expression.TheVariants as x
 use Rattle.typing_rules.specs.declared.rules.Rule.{Rule}
-use Rattle.typing_rules.specs.judged.MathTable.{table}
+use Rattle.typing_rules.specs.judged.MathTable.{math_overloads}
 use Rattle.typing_forms.specs.judged.Forms.{form_of_type}
 use Rattle.typing_forms.specs.declared.form.Form.{Form}
 use Rattle.spec_expressions.specs.judged.Context.{Context}
-use Rattle.spec_expressions.specs.judged.Maths.{arguments, concluded, math_of, taking}
+use Rattle.spec_expressions.specs.judged.Maths.{arguments, concluded, math_of, matching_rules}
 use Rattle.spec_expressions.specs.judged.Typing.{HasTypeAmong, has, rule_of, rule_at}
 use Rattle.spec_expressions.specs.declared.faults.TypingFault.{TypingFault}
 use Rattle.spec_expressions.specs.declared.faults.TypingFault.TheVariants.{BuiltinArgumentsInvalid, FunctionReturnsVoid}
@@ -47,7 +47,7 @@ module _ (c : Context) (functions : List PlainFunction) (same : SameResults c.fu
 
   math_same : (fun : MathFunction) (given : Option (List Form)) → math_of d fun given ≡ math_of c fun given
   math_same fun (Some given) =
-      ap (λ (r : Result Form TypingFault). if length given == argument_count fun then r else Err BuiltinArgumentsInvalid) (concluded_same (slice_get (taking 0 given (table fun)) 0))
+      ap (λ (r : Result Form TypingFault). if length given == argument_count fun then r else Err BuiltinArgumentsInvalid) (concluded_same (slice_get (matching_rules 0 given (math_overloads fun)) 0))
   math_same fun None = refl
 
   rule_of_same : (e : Expression) (p q r s : Form) → rule_of d e p q r s ≡ rule_of c e p q r s

@@ -3,7 +3,7 @@ use Rattle.std.proofs.Common.{◌≡◌, inl, inr, ℕ, List, [], ◌∷◌, Non
 use Rattle.module_constants.specs.Laws.{CompositionRefuted, ComponentsRefuted}
 use Rattle.typing_errors.specs.declared.compose.ComposeError.TheVariants as compose
 use Rattle.typing_rules.specs.judged.Laws.{IsAmong}
-use Rattle.spec_expressions.specs.judged.Compose.{IsMadeOf, ComposeOK}
+use Rattle.spec_expressions.specs.judged.Compose.{IsComposedOf, ComposeOK}
 use Rattle.spec_expressions.proofs.TypingLaws.{one_type}
 use Rattle.typing_forms.specs.declared.form.Form.{Form}
 use Rattle.typing_forms.specs.judged.Parts.{components_of}
@@ -13,11 +13,11 @@ composition_refuted types type forms (compose.Typing ty) wrong ok =
     let none : components_of ok.i ≡ None = wrong.1 ok.i ok.at in let whole = ok.made.whole in cc
 composition_refuted types type forms (compose.ComponentCount given expected) wrong ok =
     let same : ok.i ≡ wrong.i = (let a = ok.at in let b = wrong.at in cc) in
-    let made : IsMadeOf types wrong.i forms = subst (λ i. IsMadeOf types i forms) same ok.made in
+    let made : IsComposedOf types wrong.i forms = subst (λ i. IsComposedOf types i forms) same ok.made in
     wrong.other (let a = made.whole in let b = wrong.has in cc)
 composition_refuted types type forms (compose.ComponentType index) wrong ok =
     let same : ok.i ≡ wrong.i = (let a = ok.at in let b = wrong.at in cc) in
-    let made : IsMadeOf types wrong.i forms = subst (λ i. IsMadeOf types i forms) same ok.made in
+    let made : IsComposedOf types wrong.i forms = subst (λ i. IsComposedOf types i forms) same ok.made in
     wrong.unfit (made.fit wrong.place wrong.f wrong.stands)
 
 same_forms : (p q : ℕ → Form) (components : List ℕ) → ((c : ℕ) → IsAmong c components → p c ≡ q c) → map p components ≡ map q components

@@ -19,7 +19,7 @@ use Rattle.module_constants.proofs.IdLemmas.{below_or_same}
 use Rattle.module_constants.specs.Required.{IsUnmet}
 use Rattle.module_constants.specs.Refusals.{IsFineConstant, IsConstantRefused, IsExpressionRefused, IsFineBesideId, IsOverrideRefused}
 use Rattle.spec_expressions.specs.judged.Constants.{ConstantOK}
-use Rattle.spec_expressions.specs.judged.GlobalExpressions.{Required, of_literal, of_composition, of_value, to_work_out, required_of, IsMet, GlobalExpressionOK}
+use Rattle.spec_expressions.specs.judged.GlobalExpressions.{GlobalRequirement, of_literal, of_composition, of_value, must_be_folded, required_of, IsMet, GlobalExpressionOK}
 use Rattle.spec_expressions.specs.judged.Overrides.{IsTaken, OverrideOK}
 use Rattle.typing_layout.specs.judged.Constness.{IsOfKind}
 use Rattle.typing_layout.specs.declared.constness.ExpressionKind.{ExpressionKind}
@@ -53,7 +53,7 @@ constant_told m handle c (Err e) at wrong =
 
 -- ---- global expressions
 
-unmet : (capabilities : Capabilities) (resolved : Bool) (m : PlainModule) (handle : ℕ) (x : PlainExpression) (k : ExpressionKind) (asked : Required) (e : ConstExpressionError) → slice_get m.global_expressions handle ≡ Some x
+unmet : (capabilities : Capabilities) (resolved : Bool) (m : PlainModule) (handle : ℕ) (x : PlainExpression) (k : ExpressionKind) (asked : GlobalRequirement) (e : ConstExpressionError) → slice_get m.global_expressions handle ≡ Some x
     → IsOfKind m.global_expressions handle k → k ≢ Runtime → required_of x ≡ asked → IsUnmet capabilities resolved m k asked e → IsConstExpressionFault capabilities resolved m handle e
 unmet capabilities resolved m handle x k (of_literal value) (error.Literal e) at of_kind known is wrong = record { expression = x; at = at; value = value; is = is; fault = wrong }
 unmet capabilities resolved m handle x k (of_literal value) error.NonConstOrOverride at of_kind known is wrong = absurd wrong
@@ -69,13 +69,13 @@ unmet capabilities resolved m handle x k (of_composition type components) (error
 unmet capabilities resolved m handle x k (of_composition type components) (error.Typing e) at of_kind known is wrong = absurd wrong
 unmet capabilities resolved m handle x k (of_composition type components) error.Other at of_kind known is wrong = absurd wrong
 unmet capabilities resolved m handle x k of_value e at of_kind known is wrong = absurd wrong
-unmet capabilities resolved m handle x k to_work_out error.NonFullyEvaluatedConst at of_kind known is wrong =
+unmet capabilities resolved m handle x k must_be_folded error.NonFullyEvaluatedConst at of_kind known is wrong =
     record { expression = x; at = at; is = is; kind = k; of_kind = of_kind; known = known; due = wrong }
-unmet capabilities resolved m handle x k to_work_out error.NonConstOrOverride at of_kind known is wrong = absurd wrong
-unmet capabilities resolved m handle x k to_work_out (error.Compose e) at of_kind known is wrong = absurd wrong
-unmet capabilities resolved m handle x k to_work_out (error.Literal e) at of_kind known is wrong = absurd wrong
-unmet capabilities resolved m handle x k to_work_out (error.Typing e) at of_kind known is wrong = absurd wrong
-unmet capabilities resolved m handle x k to_work_out error.Other at of_kind known is wrong = absurd wrong
+unmet capabilities resolved m handle x k must_be_folded error.NonConstOrOverride at of_kind known is wrong = absurd wrong
+unmet capabilities resolved m handle x k must_be_folded (error.Compose e) at of_kind known is wrong = absurd wrong
+unmet capabilities resolved m handle x k must_be_folded (error.Literal e) at of_kind known is wrong = absurd wrong
+unmet capabilities resolved m handle x k must_be_folded (error.Typing e) at of_kind known is wrong = absurd wrong
+unmet capabilities resolved m handle x k must_be_folded error.Other at of_kind known is wrong = absurd wrong
 
 pub expression_refused : (capabilities : Capabilities) (resolved : Bool) (m : PlainModule) (handle : ℕ) (e : ConstExpressionError) → IsConstExpressionFault capabilities resolved m handle e → IsExpressionRefused capabilities resolved m handle e
 expression_refused capabilities resolved m handle e fault = record { fault = fault; not = expression_refuted capabilities resolved m handle e fault }

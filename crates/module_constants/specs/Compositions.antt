@@ -3,7 +3,7 @@ use Rattle.std.specs.Prelude.{◌≡◌, ◌≢◌, ℕ, List, Some, None, min, 
 use Rattle.typing_errors.specs.declared.compose.ComposeError.{ComposeError}
 use Rattle.typing_errors.specs.declared.compose.ComposeError.TheVariants as compose
 use Rattle.ir_types.specs.judged.Plain.{PlainInner, PlainType}
-use Rattle.spec_expressions.specs.judged.Compose.{Fits, parts_given}
+use Rattle.spec_expressions.specs.judged.Compose.{ComponentFits, parts_given}
 use Rattle.typing_forms.specs.judged.Resolutions.{inner_at}
 use Rattle.typing_forms.specs.declared.form.Form.{Form}
 use Rattle.typing_forms.specs.judged.Parts.{components_of}
@@ -35,7 +35,7 @@ pub record IsComponentFault (types : List PlainType) (type : ℕ) (forms : List 
   pub place : ℕ
   pub f : Form
   pub stands : slice_get forms place ≡ Some f
-  pub unfit : ¬ Fits types i place f
+  pub unfit : ¬ ComponentFits types i place f
   pub told : index ≡ in_32_bits place
 
 abbrev pub IsComposeFault : List PlainType → (type : ℕ) → List Form → ComposeError → Type 0

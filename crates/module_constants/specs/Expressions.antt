@@ -9,7 +9,7 @@ use Rattle.ir_flags.specs.declared.settings.Capabilities.{Capabilities}
 use Rattle.ir_items.specs.judged.Plain.{PlainModule}
 use Rattle.ir_kinds.specs.declared.values.Literal.{Literal}
 use Rattle.typing_rules.specs.judged.Laws.{IsAmong}
-use Rattle.spec_expressions.specs.judged.GlobalExpressions.{of_literal, of_composition, to_work_out, required_of, MayWait}
+use Rattle.spec_expressions.specs.judged.GlobalExpressions.{of_literal, of_composition, must_be_folded, required_of, MayWait}
 use Rattle.spec_expressions.specs.judged.Context.{Context, outside}
 use Rattle.spec_expressions.specs.judged.Typing.{HasTypeAmong}
 use Rattle.module_type_checks.specs.Widths.{IsLiteralFault}
@@ -47,7 +47,7 @@ pub record IsBadLiteral (capabilities : Capabilities) (m : PlainModule) (handle 
 pub record IsNotWorkedOut (resolved : Bool) (m : PlainModule) (handle : ℕ) : Type 0 where
   pub expression : PlainExpression
   pub at : slice_get m.global_expressions handle ≡ Some expression
-  pub is : required_of expression ≡ to_work_out
+  pub is : required_of expression ≡ must_be_folded
   pub kind : ExpressionKind
   pub of_kind : IsOfKind m.global_expressions handle kind
   pub known : kind ≢ Runtime

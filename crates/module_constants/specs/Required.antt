@@ -5,7 +5,7 @@ use Rattle.typing_errors.specs.declared.const_expressions.ConstExpressionError.{
 use Rattle.typing_errors.specs.declared.const_expressions.ConstExpressionError.TheVariants as error
 use Rattle.ir_flags.specs.declared.settings.Capabilities.{Capabilities}
 use Rattle.ir_items.specs.judged.Plain.{PlainModule}
-use Rattle.spec_expressions.specs.judged.GlobalExpressions.{Required, of_literal, of_composition, of_value, to_work_out, MayWait}
+use Rattle.spec_expressions.specs.judged.GlobalExpressions.{GlobalRequirement, of_literal, of_composition, of_value, must_be_folded, MayWait}
 use Rattle.spec_expressions.specs.judged.Context.{outside}
 use Rattle.module_type_checks.specs.Widths.{IsLiteralFault}
 use Rattle.typing_layout.specs.declared.constness.ExpressionKind.{ExpressionKind}
@@ -15,10 +15,10 @@ IsLate resolved kind error.NonFullyEvaluatedConst = ¬ MayWait resolved kind
 IsLate resolved kind _ = ⊥
 
 -- what is required is not met
-abbrev pub IsUnmet : Capabilities → (resolved : Bool) → PlainModule → ExpressionKind → Required → ConstExpressionError → Type 0
+abbrev pub IsUnmet : Capabilities → (resolved : Bool) → PlainModule → ExpressionKind → GlobalRequirement → ConstExpressionError → Type 0
 IsUnmet capabilities resolved m kind (of_literal value) (error.Literal e) = IsLiteralFault capabilities value e
 IsUnmet capabilities resolved m kind (of_literal value) _ = ⊥
 IsUnmet capabilities resolved m kind (of_composition type components) (error.Compose e) = IsComponentsFault (outside m) m.global_expressions type components e
 IsUnmet capabilities resolved m kind (of_composition type components) _ = ⊥
 IsUnmet capabilities resolved m kind of_value e = ⊥
-IsUnmet capabilities resolved m kind to_work_out e = IsLate resolved kind e
+IsUnmet capabilities resolved m kind must_be_folded e = IsLate resolved kind e

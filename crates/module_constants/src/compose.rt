@@ -5,7 +5,7 @@ ghost use Rattle.module_constants.specs.Compositions.{in_32_bits, IsComposeFault
 ghost use Rattle.ir_types.specs.judged.Plain.{PlainMember, inner_view, member_view};
 ghost use Rattle.typing_errors.specs.declared.compose.ComposeError.TheVariants as compose;
 ghost use Rattle.module_constants.specs.Composed.{AllFit, IsMisfit, IsOtherCount, AreWhole, AreNotWhole, IsForm, IsScalars, IsMember, forms_of};
-ghost use Rattle.spec_expressions.specs.judged.Compose.{scalars_in, Fits, parts_given, ComposeOK};
+ghost use Rattle.spec_expressions.specs.judged.Compose.{scalars_in, ComponentFits, parts_given, ComposeOK};
 ghost use Rattle.typing_forms.specs.judged.Forms.{form_of_type};
 ghost use Rattle.typing_forms.specs.judged.Resolutions.{types_view};
 ghost use Rattle.typing_errors.specs.Answers.{form_given};
@@ -201,8 +201,8 @@ fn check_parts(
 ) -> Result<(), ComposeError>
     requires { components_of (inner_view inner.now) ≡ Some expected }
     ensures { MatchResult result
-        (λ _. AreWhole (Fits (types_view types.now) (inner_view inner.now)) (forms_of components.now) (parts_given (inner_view inner.now) (forms_of components.now)) expected)
-        (AreNotWhole (Fits (types_view types.now) (inner_view inner.now)) (forms_of components.now) (parts_given (inner_view inner.now) (forms_of components.now)) expected) }
+        (λ _. AreWhole (ComponentFits (types_view types.now) (inner_view inner.now)) (forms_of components.now) (parts_given (inner_view inner.now) (forms_of components.now)) expected)
+        (AreNotWhole (ComponentFits (types_view types.now) (inner_view inner.now)) (forms_of components.now) (parts_given (inner_view inner.now) (forms_of components.now)) expected) }
 {
     match *inner {
         TypeInner::Vector { scalar, .. } => check_vector(scalar, components, expected),

@@ -5,7 +5,7 @@ ghost use Rattle.ir_types.specs.judged.ExpressionPlain.{expression_view};
 ghost use Rattle.ir_types.specs.judged.Plain.{inner_view};
 ghost use Rattle.module_context.specs.OperandView.{scene_in, expressions_in, types_in, IsKnown};
 ghost use Rattle.spec_statements.specs.judged.Access.{literal_of};
-ghost use Rattle.spec_statements.specs.judged.Scene.{form_at};
+ghost use Rattle.spec_statements.specs.judged.Scene.{form_among};
 ghost use Rattle.spec_statements.specs.judged.Shapes.{pointed_in};
 ghost use Rattle.typing_layout.specs.judged.Flags.{HasFlag, Data, Sized, Constructible};
 ghost use Rattle.typing_layout.specs.judged.View.{type_tree};
@@ -87,7 +87,7 @@ fn literal_of(expression: &Expression) -> Option<Literal>
 impl<'a> CheckContext<'a> {
     /// The form of the type of an expression, [`Form::Nothing`] where there is none.
     pub fn form_at(&self, handle: Handle<key::Expression>) -> Form
-        ensures { result ≡ form_at (scene_in self.now).forms handle }
+        ensures { result ≡ form_among (scene_in self.now).forms handle }
     {
         match self.forms.get(handle.index()) {
             Some(form) => *form,

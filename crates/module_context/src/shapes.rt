@@ -1,7 +1,7 @@
 //! What a type is made of.
 
 ghost use Rattle.std.specs.Prelude.{◌≡◌, ◌↔◌, IsTrue};
-ghost use Rattle.spec_statements.specs.judged.Shapes.{IsInteger, IsFloating, IsTruth, IsNumeric, IsIntegerScalar, shaped_of, form_of_shape, picture_of, sampler_of, pointee_of};
+ghost use Rattle.spec_statements.specs.judged.Shapes.{IsInteger, IsFloating, IsBool, IsNumeric, IsIntegerScalar, shaped_of, form_of_shape, picture_of, sampler_of, pointee_of};
 
 use ir_arena::handle::Handle;
 use ir_kinds::{Scalar, ScalarKind};
@@ -38,7 +38,7 @@ pub const fn is_floating(kind: ScalarKind) -> bool
 
 /// Whether a kind of scalar is that of truth values.
 pub const fn is_truth(kind: ScalarKind) -> bool
-    ensures { IsTrue result ↔ IsTruth kind }
+    ensures { IsTrue result ↔ IsBool kind }
 {
     match kind {
         ScalarKind::Bool => true,

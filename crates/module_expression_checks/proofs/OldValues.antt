@@ -4,7 +4,7 @@ use Rattle.ir_types.specs.judged.Plain.{PlainInner, PlainMember, PlainType, stru
 use Rattle.typing_forms.specs.judged.Forms.{form_of_type}
 use Rattle.typing_forms.specs.declared.form.Form.{Form}
 use Rattle.spec_statements.specs.judged.ExpressionResults.{AreExchanged, IsExchangeOf}
-use Rattle.spec_statements.specs.judged.Shapes.{IsMadeOf, IsAlone, IsTruth}
+use Rattle.spec_statements.specs.judged.Shapes.{IsMadeOf, IsScalarShape, IsBool}
 
 -- ---- two members
 
@@ -12,7 +12,7 @@ some_is : (a b : Form) → Some a ≡ Some b → a ≡ b
 some_is a b e = cc
 
 pub found : (types : List PlainType) (old exchanged : PlainMember) → old.name ≡ Some (codes "old_value") → exchanged.name ≡ Some (codes "exchanged")
-    → IsMadeOf IsAlone IsTruth (form_of_type types exchanged.ty) → (of : Form) → (Some (form_of_type types old.ty) ≡ Some of) ↔ AreExchanged (λ x. x ≡ of) types old exchanged
+    → IsMadeOf IsScalarShape IsBool (form_of_type types exchanged.ty) → (of : Form) → (Some (form_of_type types old.ty) ≡ Some of) ↔ AreExchanged (λ x. x ≡ of) types old exchanged
 found types old exchanged first second truth of =
     (λ e. record { old_name = first; old_type = some_is _ _ e; exchanged_name = second; exchanged_type = truth }, λ h. ap Some h.old_type)
 

@@ -5,7 +5,7 @@ ghost use Rattle.module_context.specs.Refused.{IsRefused};
 ghost use Rattle.module_context.specs.OperandView.{scene_in, types_in, expressions_in};
 ghost use Rattle.ir_types.specs.judged.Plain.{inner_view};
 ghost use Rattle.spec_statements.specs.judged.Access.{element_count, pointed_count, row_count, known_length, literal_of, index_of, IsIndexOf, AccessOK, AccessIndexOK};
-ghost use Rattle.spec_statements.specs.judged.Scene.{form_at};
+ghost use Rattle.spec_statements.specs.judged.Scene.{form_among};
 ghost use Rattle.typing_forms.specs.judged.Resolutions.{inner_at};
 
 use ir_arena::handle::Handle;
@@ -146,7 +146,7 @@ fn is_within(context: &CheckContext<'_>, parts: Option<u32>, index: Handle<key::
 // Whether an expression is an index of a value of a type.
 fn is_access(context: &CheckContext<'_>, base: Form, index: Handle<key::Expression>) -> bool
     ensures { IsTrue result
-        ↔ AccessOK (types_in context.now) base (form_at (scene_in context.now).forms index) (slice_get (expressions_in context.now) index) }
+        ↔ AccessOK (types_in context.now) base (form_among (scene_in context.now).forms index) (slice_get (expressions_in context.now) index) }
 {
     is_integer_scalar(context.form_at(index))
         && is_within(context, known_length(context, base), index)
@@ -164,8 +164,8 @@ pub fn check_access(
     index: Handle<key::Expression>,
 ) -> Result<(), ExpressionError>
     ensures { MatchResult result
-        (λ _. AccessOK (types_in context.now) (form_at (scene_in context.now).forms base) (form_at (scene_in context.now).forms index) (slice_get (expressions_in context.now) index))
-        (IsRefused (AccessOK (types_in context.now) (form_at (scene_in context.now).forms base) (form_at (scene_in context.now).forms index) (slice_get (expressions_in context.now) index))) }
+        (λ _. AccessOK (types_in context.now) (form_among (scene_in context.now).forms base) (form_among (scene_in context.now).forms index) (slice_get (expressions_in context.now) index))
+        (IsRefused (AccessOK (types_in context.now) (form_among (scene_in context.now).forms base) (form_among (scene_in context.now).forms index) (slice_get (expressions_in context.now) index))) }
 {
     refused_unless(is_access(context, context.form_at(base), index))
 }
@@ -191,8 +191,8 @@ pub fn check_access_index(
     index: u32,
 ) -> Result<(), ExpressionError>
     ensures { MatchResult result
-        (λ _. AccessIndexOK (types_in context.now) (form_at (scene_in context.now).forms base) index)
-        (IsRefused (AccessIndexOK (types_in context.now) (form_at (scene_in context.now).forms base) index)) }
+        (λ _. AccessIndexOK (types_in context.now) (form_among (scene_in context.now).forms base) index)
+        (IsRefused (AccessIndexOK (types_in context.now) (form_among (scene_in context.now).forms base) index)) }
 {
     refused_unless(is_part(context, context.form_at(base), index))
 }

@@ -3,7 +3,7 @@
 ghost use Rattle.std.specs.Prelude.{MatchResult, map};
 ghost use Rattle.module_context.specs.OperandView.{scene_in, types_in};
 ghost use Rattle.module_expression_checks.specs.Faults.{IsBadComposition};
-ghost use Rattle.spec_statements.specs.judged.Scene.{form_at};
+ghost use Rattle.spec_statements.specs.judged.Scene.{form_among};
 ghost use Rattle.spec_expressions.specs.judged.Compose.{ComposeOK};
 
 use ir_arena::handle::Handle;
@@ -24,8 +24,8 @@ pub fn check_compose(
     components: &[Handle<key::Expression>],
 ) -> Result<(), ExpressionError>
     ensures { MatchResult result
-        (λ _. ComposeOK (types_in context.now) ty (map (form_at (scene_in context.now).forms) components.now))
-        (IsBadComposition (types_in context.now) ty (map (form_at (scene_in context.now).forms) components.now)) }
+        (λ _. ComposeOK (types_in context.now) ty (map (form_among (scene_in context.now).forms) components.now))
+        (IsBadComposition (types_in context.now) ty (map (form_among (scene_in context.now).forms) components.now)) }
 {
     let parts = Components::Expressions {
         forms: context.forms,

@@ -4,7 +4,7 @@ ghost use Rattle.std.specs.Prelude.{◌↔◌, IsTrue, MatchResult};
 ghost use Rattle.module_context.specs.Refused.{IsRefused};
 ghost use Rattle.module_context.specs.OperandView.{scene_in};
 ghost use Rattle.spec_statements.specs.judged.Conversions.{IsConverted, AsOK};
-ghost use Rattle.spec_statements.specs.judged.Scene.{form_at};
+ghost use Rattle.spec_statements.specs.judged.Scene.{form_among};
 ghost use Rattle.typing_layout.specs.judged.Widths.{ScalarOK};
 
 use ir_arena::handle::Handle;
@@ -62,8 +62,8 @@ pub fn check_as(
     convert: Option<Bytes>,
 ) -> Result<(), ExpressionError>
     ensures { MatchResult result
-        (λ _. AsOK context.now.capabilities kind convert (form_at (scene_in context.now).forms expr))
-        (IsRefused (AsOK context.now.capabilities kind convert (form_at (scene_in context.now).forms expr))) }
+        (λ _. AsOK context.now.capabilities kind convert (form_among (scene_in context.now).forms expr))
+        (IsRefused (AsOK context.now.capabilities kind convert (form_among (scene_in context.now).forms expr))) }
 {
     refused_unless(converts(context.capabilities, kind, convert, context.form_at(expr)))
 }

@@ -4,7 +4,7 @@ ghost use Rattle.std.specs.Prelude.{◌↔◌, IsTrue, MatchResult};
 ghost use Rattle.module_context.specs.Refused.{IsRefused};
 ghost use Rattle.module_context.specs.OperandView.{scene_in};
 ghost use Rattle.spec_statements.specs.judged.CooperativeMatrices.{CooperativeLoadOK, IsAddend, IsRightFactor, AreFactors, MultiplyAddOK};
-ghost use Rattle.spec_statements.specs.judged.Scene.{form_at};
+ghost use Rattle.spec_statements.specs.judged.Scene.{form_among};
 
 use ir_arena::handle::Handle;
 use ir_kinds::{CooperativeRole, CooperativeSize, Scalar};
@@ -34,8 +34,8 @@ pub fn check_cooperative_load(
     stride: Handle<key::Expression>,
 ) -> Result<(), ExpressionError>
     ensures { MatchResult result
-        (λ _. CooperativeLoadOK (form_at (scene_in context.now).forms stride))
-        (IsRefused (CooperativeLoadOK (form_at (scene_in context.now).forms stride))) }
+        (λ _. CooperativeLoadOK (form_among (scene_in context.now).forms stride))
+        (IsRefused (CooperativeLoadOK (form_among (scene_in context.now).forms stride))) }
 {
     refused_unless(is_stride(context.form_at(stride)))
 }
@@ -120,8 +120,8 @@ pub fn check_multiply_add(
     c: Handle<key::Expression>,
 ) -> Result<(), ExpressionError>
     ensures { MatchResult result
-        (λ _. MultiplyAddOK (form_at (scene_in context.now).forms a) (form_at (scene_in context.now).forms b) (form_at (scene_in context.now).forms c))
-        (IsRefused (MultiplyAddOK (form_at (scene_in context.now).forms a) (form_at (scene_in context.now).forms b) (form_at (scene_in context.now).forms c))) }
+        (λ _. MultiplyAddOK (form_among (scene_in context.now).forms a) (form_among (scene_in context.now).forms b) (form_among (scene_in context.now).forms c))
+        (IsRefused (MultiplyAddOK (form_among (scene_in context.now).forms a) (form_among (scene_in context.now).forms b) (form_among (scene_in context.now).forms c))) }
 {
     let a = context.form_at(a);
     let b = context.form_at(b);

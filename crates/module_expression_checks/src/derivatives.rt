@@ -4,7 +4,7 @@ ghost use Rattle.std.specs.Prelude.{◌↔◌, IsTrue, MatchResult};
 ghost use Rattle.module_context.specs.Refused.{IsRefused};
 ghost use Rattle.module_context.specs.OperandView.{scene_in};
 ghost use Rattle.spec_statements.specs.judged.Derivatives.{DerivativeOK};
-ghost use Rattle.spec_statements.specs.judged.Scene.{form_at};
+ghost use Rattle.spec_statements.specs.judged.Scene.{form_among};
 
 use ir_arena::handle::Handle;
 use ir_types::key;
@@ -45,8 +45,8 @@ pub fn check_derivative(
     expr: Handle<key::Expression>,
 ) -> Result<(), ExpressionError>
     ensures { MatchResult result
-        (λ _. DerivativeOK (form_at (scene_in context.now).forms expr))
-        (IsRefused (DerivativeOK (form_at (scene_in context.now).forms expr))) }
+        (λ _. DerivativeOK (form_among (scene_in context.now).forms expr))
+        (IsRefused (DerivativeOK (form_among (scene_in context.now).forms expr))) }
 {
     refused_unless(is_slope(context.form_at(expr)))
 }

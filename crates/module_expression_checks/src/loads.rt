@@ -5,7 +5,7 @@ ghost use Rattle.module_context.specs.Refused.{IsRefused};
 ghost use Rattle.module_context.specs.OperandView.{scene_in, types_in, IsKnown};
 ghost use Rattle.ir_types.specs.judged.Plain.{inner_view};
 ghost use Rattle.spec_statements.specs.judged.Loads.{LoadOK, IsDynamic, IsRuntimeArray, ArrayLengthOK};
-ghost use Rattle.spec_statements.specs.judged.Scene.{form_at};
+ghost use Rattle.spec_statements.specs.judged.Scene.{form_among};
 
 use ir_arena::handle::Handle;
 use ir_types::{ArraySize, TypeInner, key};
@@ -51,8 +51,8 @@ pub fn check_load(
 ) -> Result<(), ExpressionError>
     requires { IsKnown context.now }
     ensures { MatchResult result
-        (λ _. LoadOK (types_in context.now) (form_at (scene_in context.now).forms pointer))
-        (IsRefused (LoadOK (types_in context.now) (form_at (scene_in context.now).forms pointer))) }
+        (λ _. LoadOK (types_in context.now) (form_among (scene_in context.now).forms pointer))
+        (IsRefused (LoadOK (types_in context.now) (form_among (scene_in context.now).forms pointer))) }
 {
     refused_unless(is_loaded(context, context.form_at(pointer)))
 }
@@ -112,8 +112,8 @@ pub fn check_array_length(
     array: Handle<key::Expression>,
 ) -> Result<(), ExpressionError>
     ensures { MatchResult result
-        (λ _. ArrayLengthOK (types_in context.now) (form_at (scene_in context.now).forms array))
-        (IsRefused (ArrayLengthOK (types_in context.now) (form_at (scene_in context.now).forms array))) }
+        (λ _. ArrayLengthOK (types_in context.now) (form_among (scene_in context.now).forms array))
+        (IsRefused (ArrayLengthOK (types_in context.now) (form_among (scene_in context.now).forms array))) }
 {
     refused_unless(has_length(context, context.form_at(array)))
 }

@@ -3,9 +3,9 @@
 ghost use Rattle.std.specs.Prelude.{◌≡◌, ◌↔◌, IsTrue, MatchResult};
 ghost use Rattle.module_context.specs.Refused.{IsRefused};
 ghost use Rattle.module_context.specs.OperandView.{scene_in};
-ghost use Rattle.spec_statements.specs.judged.Operators.{IsSigned, IsBits, TakesKind, IsAdded, AreMultiplied, UnaryOK, SumOK, ProductOK, ShiftOK, BinaryOK};
-ghost use Rattle.spec_statements.specs.judged.Scene.{form_at};
-ghost use Rattle.spec_statements.specs.judged.Shapes.{AnyShape, IsAlone, IsOfValue, IsInteger, IsNumeric, IsTruth, IsMadeOf, IsValue};
+ghost use Rattle.spec_statements.specs.judged.Operators.{IsSigned, IsIntegerOrBool, TakesKind, IsAdded, AreMultiplied, UnaryOK, SumOK, ProductOK, ShiftOK, BinaryOK};
+ghost use Rattle.spec_statements.specs.judged.Scene.{form_among};
+ghost use Rattle.spec_statements.specs.judged.Shapes.{AnyShape, IsScalarShape, IsScalarOrVector, IsInteger, IsNumeric, IsBool, IsMadeOf, IsValue};
 
 use crate::shapes::{is_alone, is_of_value, is_one_truth};
 use ir_arena::handle::Handle;
@@ -65,8 +65,8 @@ pub fn check_unary(
     expr: Handle<key::Expression>,
 ) -> Result<(), ExpressionError>
     ensures { MatchResult result
-        (λ _. UnaryOK op (form_at (scene_in context.now).forms expr))
-        (IsRefused (UnaryOK op (form_at (scene_in context.now).forms expr))) }
+        (λ _. UnaryOK op (form_among (scene_in context.now).forms expr))
+        (IsRefused (UnaryOK op (form_among (scene_in context.now).forms expr))) }
 {
     refused_unless(takes(op, context.form_at(expr)))
 }
@@ -75,7 +75,7 @@ pub fn check_unary(
 
 // Whether scalars of a kind are truth values or integers.
 const fn is_bits(kind: ScalarKind) -> bool
-    ensures { IsTrue result ↔ IsBits kind }
+    ensures { IsTrue result ↔ IsIntegerOrBool kind }
 {
     match kind {
         ScalarKind::Sint | ScalarKind::Uint | ScalarKind::Bool => true,
@@ -162,7 +162,7 @@ fn is_value(of: Form) -> bool
 
 // Whether a type is one of numbers alone or in a row.
 fn is_number(of: Form) -> bool
-    ensures { IsTrue result ↔ IsMadeOf IsOfValue IsNumeric of }
+    ensures { IsTrue result ↔ IsMadeOf IsScalarOrVector IsNumeric of }
 {
     match shaped_of(of) {
         Some(shaped) => is_of_value(shaped.shape) && is_numeric(shaped.scalar.kind),
@@ -172,7 +172,7 @@ fn is_number(of: Form) -> bool
 
 // Whether a type is made of truth values or integers.
 fn is_of_bits(of: Form) -> bool
-    ensures { IsTrue result ↔ IsMadeOf AnyShape IsBits of }
+    ensures { IsTrue result ↔ IsMadeOf AnyShape IsIntegerOrBool of }
 {
     match shaped_of(of) {
         Some(shaped) => is_bits(shaped.scalar.kind),
@@ -243,8 +243,8 @@ pub fn check_binary(
     right: Handle<key::Expression>,
 ) -> Result<(), ExpressionError>
     ensures { MatchResult result
-        (λ _. BinaryOK op (form_at (scene_in context.now).forms left) (form_at (scene_in context.now).forms right))
-        (IsRefused (BinaryOK op (form_at (scene_in context.now).forms left) (form_at (scene_in context.now).forms right))) }
+        (λ _. BinaryOK op (form_among (scene_in context.now).forms left) (form_among (scene_in context.now).forms right))
+        (IsRefused (BinaryOK op (form_among (scene_in context.now).forms left) (form_among (scene_in context.now).forms right))) }
 {
     let left = context.form_at(left);
     let right = context.form_at(right);

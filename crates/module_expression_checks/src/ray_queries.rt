@@ -5,7 +5,7 @@ ghost use Rattle.module_context.specs.Refused.{IsRefused};
 ghost use Rattle.module_context.specs.OperandView.{scene_in, types_in};
 ghost use Rattle.ir_types.specs.judged.Plain.{inner_view};
 ghost use Rattle.spec_statements.specs.judged.ExpressionRayQueries.{query_of, VertexPositionsOK, IntersectionOK};
-ghost use Rattle.spec_statements.specs.judged.Scene.{form_at};
+ghost use Rattle.spec_statements.specs.judged.Scene.{form_among};
 ghost use Rattle.spec_statements.specs.judged.Shapes.{pointed_in};
 
 use ir_arena::handle::Handle;
@@ -74,8 +74,8 @@ pub fn check_vertex_positions(
     query: Handle<key::Expression>,
 ) -> Result<(), ExpressionError>
     ensures { MatchResult result
-        (λ _. VertexPositionsOK (types_in context.now) (form_at (scene_in context.now).forms query))
-        (IsRefused (VertexPositionsOK (types_in context.now) (form_at (scene_in context.now).forms query))) }
+        (λ _. VertexPositionsOK (types_in context.now) (form_among (scene_in context.now).forms query))
+        (IsRefused (VertexPositionsOK (types_in context.now) (form_among (scene_in context.now).forms query))) }
 {
     refused_unless(gives_positions(context, context.form_at(query)))
 }
@@ -91,8 +91,8 @@ pub fn check_intersection(
     query: Handle<key::Expression>,
 ) -> Result<(), ExpressionError>
     ensures { MatchResult result
-        (λ _. IntersectionOK (types_in context.now) (form_at (scene_in context.now).forms query))
-        (IsRefused (IntersectionOK (types_in context.now) (form_at (scene_in context.now).forms query))) }
+        (λ _. IntersectionOK (types_in context.now) (form_among (scene_in context.now).forms query))
+        (IsRefused (IntersectionOK (types_in context.now) (form_among (scene_in context.now).forms query))) }
 {
     refused_unless(gives_intersection(context, context.form_at(query)))
 }

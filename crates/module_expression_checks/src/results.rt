@@ -3,7 +3,7 @@
 ghost use Rattle.std.specs.Prelude.{◌↔◌, IsTrue, MatchResult};
 ghost use Rattle.module_context.specs.Refused.{IsRefused};
 ghost use Rattle.module_context.specs.OperandView.{types_in, IsKnown};
-ghost use Rattle.spec_statements.specs.judged.ExpressionResults.{IsAtomicValue, IsExchange, AtomicResultOK, UniformLoadOK};
+ghost use Rattle.spec_statements.specs.judged.ExpressionResults.{IsAtomicValue, IsExchange, AtomicResultTypeOK, UniformLoadOK};
 ghost use Rattle.typing_layout.specs.judged.Widths.{AtomicOK};
 ghost use Rattle.typing_forms.specs.judged.Resolutions.{inner_at};
 
@@ -50,7 +50,7 @@ fn is_atomic_exchange(context: &CheckContext<'_>, ty: Handle<key::IrType>) -> bo
 
 // Whether an atomic operation may answer a value of a type.
 fn is_atomic_result(context: &CheckContext<'_>, ty: Handle<key::IrType>, comparison: bool) -> bool
-    ensures { IsTrue result ↔ AtomicResultOK context.now.capabilities (types_in context.now) ty comparison }
+    ensures { IsTrue result ↔ AtomicResultTypeOK context.now.capabilities (types_in context.now) ty comparison }
 {
     if comparison {
         is_atomic_exchange(context, ty)
@@ -71,8 +71,8 @@ pub fn check_atomic_result(
     comparison: bool,
 ) -> Result<(), ExpressionError>
     ensures { MatchResult result
-        (λ _. AtomicResultOK context.now.capabilities (types_in context.now) ty comparison)
-        (IsRefused (AtomicResultOK context.now.capabilities (types_in context.now) ty comparison)) }
+        (λ _. AtomicResultTypeOK context.now.capabilities (types_in context.now) ty comparison)
+        (IsRefused (AtomicResultTypeOK context.now.capabilities (types_in context.now) ty comparison)) }
 {
     refused_unless(is_atomic_result(context, ty, comparison))
 }

@@ -3,9 +3,9 @@
 ghost use Rattle.std.specs.Prelude.{◌↔◌, IsTrue, MatchResult};
 ghost use Rattle.module_context.specs.Refused.{IsRefused};
 ghost use Rattle.module_context.specs.OperandView.{scene_in};
-ghost use Rattle.spec_statements.specs.judged.Scene.{form_at};
+ghost use Rattle.spec_statements.specs.judged.Scene.{form_among};
 ghost use Rattle.spec_statements.specs.judged.Selections.{ChoosesFrom, IsCondition, SelectOK, RelationalOK};
-ghost use Rattle.spec_statements.specs.judged.Shapes.{IsRow, IsOfValue, IsFloating, IsTruth, IsMadeOf};
+ghost use Rattle.spec_statements.specs.judged.Shapes.{IsVectorShape, IsScalarOrVector, IsFloating, IsBool, IsMadeOf};
 
 use crate::shapes::is_of_value;
 use ir_arena::handle::Handle;
@@ -75,8 +75,8 @@ pub fn check_select(
     reject: Handle<key::Expression>,
 ) -> Result<(), ExpressionError>
     ensures { MatchResult result
-        (λ _. SelectOK (form_at (scene_in context.now).forms condition) (form_at (scene_in context.now).forms accept) (form_at (scene_in context.now).forms reject))
-        (IsRefused (SelectOK (form_at (scene_in context.now).forms condition) (form_at (scene_in context.now).forms accept) (form_at (scene_in context.now).forms reject))) }
+        (λ _. SelectOK (form_among (scene_in context.now).forms condition) (form_among (scene_in context.now).forms accept) (form_among (scene_in context.now).forms reject))
+        (IsRefused (SelectOK (form_among (scene_in context.now).forms condition) (form_among (scene_in context.now).forms accept) (form_among (scene_in context.now).forms reject))) }
 {
     let condition = context.form_at(condition);
     let accept = context.form_at(accept);
@@ -88,7 +88,7 @@ pub fn check_select(
 
 // Whether a shape is that of a vector.
 const fn is_row(shape: Shape) -> bool
-    ensures { IsTrue result ↔ IsRow shape }
+    ensures { IsTrue result ↔ IsVectorShape shape }
 {
     match shape {
         Shape::Row(_) => true,
@@ -98,7 +98,7 @@ const fn is_row(shape: Shape) -> bool
 
 // Whether a type is that of a vector of truth values.
 fn is_row_of_truths(of: Form) -> bool
-    ensures { IsTrue result ↔ IsMadeOf IsRow IsTruth of }
+    ensures { IsTrue result ↔ IsMadeOf IsVectorShape IsBool of }
 {
     match shaped_of(of) {
         Some(shaped) => is_row(shaped.shape) && is_truth(shaped.scalar.kind),
@@ -108,7 +108,7 @@ fn is_row_of_truths(of: Form) -> bool
 
 // Whether a type is one of floats alone or in a row.
 fn is_of_floats(of: Form) -> bool
-    ensures { IsTrue result ↔ IsMadeOf IsOfValue IsFloating of }
+    ensures { IsTrue result ↔ IsMadeOf IsScalarOrVector IsFloating of }
 {
     match shaped_of(of) {
         Some(shaped) => is_of_value(shaped.shape) && is_floating(shaped.scalar.kind),
@@ -138,8 +138,8 @@ pub fn check_relational(
     argument: Handle<key::Expression>,
 ) -> Result<(), ExpressionError>
     ensures { MatchResult result
-        (λ _. RelationalOK fun (form_at (scene_in context.now).forms argument))
-        (IsRefused (RelationalOK fun (form_at (scene_in context.now).forms argument))) }
+        (λ _. RelationalOK fun (form_among (scene_in context.now).forms argument))
+        (IsRefused (RelationalOK fun (form_among (scene_in context.now).forms argument))) }
 {
     refused_unless(relates(fun, context.form_at(argument)))
 }

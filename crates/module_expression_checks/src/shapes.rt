@@ -1,7 +1,7 @@
 //! Shapes that several families require.
 
 ghost use Rattle.std.specs.Prelude.{◌↔◌, IsTrue};
-ghost use Rattle.spec_statements.specs.judged.Shapes.{IsAlone, IsOfValue, IsTruth, IsMadeOf};
+ghost use Rattle.spec_statements.specs.judged.Shapes.{IsScalarShape, IsScalarOrVector, IsBool, IsMadeOf};
 
 use module_context::{is_truth, shaped_of};
 use spec_statements::Shape;
@@ -9,7 +9,7 @@ use typing_forms::Form;
 
 /// Whether a shape is that of one scalar.
 pub const fn is_alone(shape: Shape) -> bool
-    ensures { IsTrue result ↔ IsAlone shape }
+    ensures { IsTrue result ↔ IsScalarShape shape }
 {
     match shape {
         Shape::One => true,
@@ -19,7 +19,7 @@ pub const fn is_alone(shape: Shape) -> bool
 
 /// Whether a shape is that of a value: one scalar, or a vector.
 pub const fn is_of_value(shape: Shape) -> bool
-    ensures { IsTrue result ↔ IsOfValue shape }
+    ensures { IsTrue result ↔ IsScalarOrVector shape }
 {
     match shape {
         Shape::One | Shape::Row(_) => true,
@@ -29,7 +29,7 @@ pub const fn is_of_value(shape: Shape) -> bool
 
 /// Whether a type is one truth value.
 pub(crate) fn is_one_truth(of: Form) -> bool
-    ensures { IsTrue result ↔ IsMadeOf IsAlone IsTruth of }
+    ensures { IsTrue result ↔ IsMadeOf IsScalarShape IsBool of }
 {
     match shaped_of(of) {
         Some(shaped) => is_alone(shaped.shape) && is_truth(shaped.scalar.kind),

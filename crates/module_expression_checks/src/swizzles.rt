@@ -5,7 +5,7 @@ ghost use Rattle.module_context.specs.Refused.{IsRefused};
 ghost use Rattle.module_context.specs.OperandView.{scene_in};
 ghost use Rattle.module_expression_checks.specs.Letters.{MayStand};
 ghost use Rattle.spec_statements.specs.judged.Swizzles.{AreComponents, SwizzleOK};
-ghost use Rattle.spec_statements.specs.judged.Scene.{form_at};
+ghost use Rattle.spec_statements.specs.judged.Scene.{form_among};
 
 use ir_arena::handle::Handle;
 use ir_kinds::{SwizzleComponent, VectorSize};
@@ -61,8 +61,8 @@ pub fn check_swizzle(
     pattern: [SwizzleComponent; 4],
 ) -> Result<(), ExpressionError>
     ensures { MatchResult result
-        (λ _. SwizzleOK size pattern (form_at (scene_in context.now).forms vector))
-        (IsRefused (SwizzleOK size pattern (form_at (scene_in context.now).forms vector))) }
+        (λ _. SwizzleOK size pattern (form_among (scene_in context.now).forms vector))
+        (IsRefused (SwizzleOK size pattern (form_among (scene_in context.now).forms vector))) }
 {
     refused_unless(is_swizzle(size, pattern, context.form_at(vector)))
 }

@@ -9,7 +9,7 @@ use Rattle.ir_types.specs.declared.expressions.Expression.TheVariants as x
 use Rattle.ir_kinds.specs.declared.values.Literal.{Literal}
 use Rattle.spec_statements.specs.judged.Access.{literal_in}
 use Rattle.spec_statements.specs.judged.Checks.{CheckOf}
-use Rattle.spec_statements.specs.judged.Scene.{Scene, form_at}
+use Rattle.spec_statements.specs.judged.Scene.{Scene, form_among}
 
 -- a literal that may not be used; of any other kind what is required does not hold, and the error has no name
 abbrev pub IsPlainFault : Scene → Expression → Option Literal → ExpressionError → Type 0
@@ -18,7 +18,7 @@ IsPlainFault s expression None e = IsRefused (CheckOf s expression) e
 
 -- a composition that can't be made, or another expression with a fault
 abbrev pub IsFaultOf : Scene → PlainExpression → ExpressionError → Type 0
-IsFaultOf s (compose type components) e = IsBadComposition s.types type (map (form_at s.forms) components) e
+IsFaultOf s (compose type components) e = IsBadComposition s.types type (map (form_among s.forms) components) e
 IsFaultOf s (plain expression) e = IsPlainFault s expression (literal_in expression) e
 
 -- the expression at a handle has this fault

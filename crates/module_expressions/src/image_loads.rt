@@ -3,8 +3,8 @@
 ghost use Rattle.std.specs.Prelude.{◌↔◌, IsTrue, MatchResult};
 ghost use Rattle.module_context.specs.Refused.{IsRefused};
 ghost use Rattle.module_context.specs.OperandView.{scene_in};
-ghost use Rattle.spec_statements.specs.judged.ImageLoads.{IsFlat, IsTexel, IsReadable, IsTexelLoad, ImageLoadOK, IsAnswered, ImageQueryOK};
-ghost use Rattle.spec_statements.specs.judged.Scene.{form_at};
+ghost use Rattle.spec_statements.specs.judged.ImageLoads.{IsFlat, IsTexelCoordinate, IsReadable, IsTexelLoad, ImageLoadOK, IsAnswered, ImageQueryOK};
+ghost use Rattle.spec_statements.specs.judged.Scene.{form_among};
 
 use crate::operands::{along, is_number_if};
 use bitflags::Flags;
@@ -33,7 +33,7 @@ const fn is_flat(dim: ImageDimension) -> bool
 
 /// Whether a type is that of the number of a texel each way.
 pub fn is_texel(dim: ImageDimension, coordinate: &Form) -> bool
-    ensures { IsTrue result ↔ IsTexel dim coordinate.now }
+    ensures { IsTrue result ↔ IsTexelCoordinate dim coordinate.now }
 {
     match shaped_of(*coordinate) {
         Some(shaped) => {
@@ -109,8 +109,8 @@ pub fn check_image_load(
     level: Option<Handle<key::Expression>>,
 ) -> Result<(), ExpressionError>
     ensures { MatchResult result
-        (λ _. ImageLoadOK (scene_in context.now).forms (form_at (scene_in context.now).forms image) coordinate array_index sample level)
-        (IsRefused (ImageLoadOK (scene_in context.now).forms (form_at (scene_in context.now).forms image) coordinate array_index sample level)) }
+        (λ _. ImageLoadOK (scene_in context.now).forms (form_among (scene_in context.now).forms image) coordinate array_index sample level)
+        (IsRefused (ImageLoadOK (scene_in context.now).forms (form_among (scene_in context.now).forms image) coordinate array_index sample level)) }
 {
     let of = context.form_at(image);
     refused_unless(is_image_load(context, of, coordinate, array_index, sample, level))
@@ -167,8 +167,8 @@ pub fn check_image_query(
     query: ImageQuery,
 ) -> Result<(), ExpressionError>
     ensures { MatchResult result
-        (λ _. ImageQueryOK (scene_in context.now).forms (form_at (scene_in context.now).forms image) query)
-        (IsRefused (ImageQueryOK (scene_in context.now).forms (form_at (scene_in context.now).forms image) query)) }
+        (λ _. ImageQueryOK (scene_in context.now).forms (form_among (scene_in context.now).forms image) query)
+        (IsRefused (ImageQueryOK (scene_in context.now).forms (form_among (scene_in context.now).forms image) query)) }
 {
     refused_unless(is_image_query(context, context.form_at(image), query))
 }

@@ -5,9 +5,9 @@ ghost use Rattle.module_context.specs.Refused.{IsRefused};
 ghost use Rattle.module_context.specs.OperandView.{scene_in, expressions_in, IsKnown};
 ghost use Rattle.ir_kinds.specs.judged.Images.{is_depth, is_multisampled};
 ghost use Rattle.ir_kinds.specs.judged.Scalars.{floating};
-ghost use Rattle.spec_statements.specs.judged.ImageSamples.{IsFloat32, IsFiltered, IsOffset, IsGathered, IsLevel, ClampOK, OutsideOK, IsSampled, ImageSampleOK};
-ghost use Rattle.spec_statements.specs.judged.Scene.{form_at};
-ghost use Rattle.spec_statements.specs.judged.Shapes.{IsIntegerScalar, ExactlyIf, along, sampler_of};
+ghost use Rattle.spec_statements.specs.judged.ImageSamples.{IsFloat32, IsFiltered, IsOffset, IsGathered, IsLevel, ClampOK, ExternalOK, IsSampled, ImageSampleOK};
+ghost use Rattle.spec_statements.specs.judged.Scene.{form_among};
+ghost use Rattle.spec_statements.specs.judged.Shapes.{IsIntegerScalar, ExactlyIf, coordinate_form, sampler_of};
 
 use crate::levels::{gathers_if, is_clamp, is_float32, is_level, is_outside};
 use crate::operands::{along, is_number_if};
@@ -38,7 +38,7 @@ fn is_compared(
     depth_ref: Option<Handle<key::Expression>>,
 ) -> bool
     ensures { IsTrue result
-        ↔ IfSome depth_ref (λ reference. IsFloat32 (form_at (scene_in context.now).forms reference) × (is_depth class ≡ true)) }
+        ↔ IfSome depth_ref (λ reference. IsFloat32 (form_among (scene_in context.now).forms reference) × (is_depth class ≡ true)) }
 {
     match depth_ref {
         Some(reference) => is_float32(context.form_at(reference)) && class.is_depth(),
@@ -69,7 +69,7 @@ fn is_place(
     dim: ImageDimension,
     coordinate: Handle<key::Expression>,
 ) -> bool
-    ensures { IsTrue result ↔ (form_at (scene_in context.now).forms coordinate ≡ along dim (floating 4)) }
+    ensures { IsTrue result ↔ (form_among (scene_in context.now).forms coordinate ≡ coordinate_form dim (floating 4)) }
 {
     are_same(context.form_at(coordinate), along(dim, Scalar::F32))
 }
@@ -108,8 +108,8 @@ fn is_offset_if(
 // Whether the sampler compares exactly where there is something to compare with.
 fn is_sampler_met(context: &CheckContext<'_>, image: &Picture, by: &Sampling) -> bool
     ensures { IsTrue result
-        ↔ (IsSomeAnd (sampler_of (form_at (scene_in context.now).forms by.now.sampler)) (λ comparison. comparison ≡ is_some by.now.depth_ref)
-        × IfSome by.now.depth_ref (λ reference. IsFloat32 (form_at (scene_in context.now).forms reference) × (is_depth image.now.class ≡ true))) }
+        ↔ (IsSomeAnd (sampler_of (form_among (scene_in context.now).forms by.now.sampler)) (λ comparison. comparison ≡ is_some by.now.depth_ref)
+        × IfSome by.now.depth_ref (λ reference. IsFloat32 (form_among (scene_in context.now).forms reference) × (is_depth image.now.class ≡ true))) }
 {
     is_sampler(context.form_at(by.sampler), by.depth_ref.is_some())
         && is_compared(context, image.class, by.depth_ref)
@@ -126,8 +126,8 @@ fn is_class_met(image: &Picture, by: &Sampling) -> bool
 fn is_place_met(context: &CheckContext<'_>, image: &Picture, by: &Sampling) -> bool
     requires { IsKnown context.now }
     ensures { IsTrue result
-        ↔ ((form_at (scene_in context.now).forms by.now.coordinate ≡ along image.now.dim (floating 4))
-        × ExactlyIf image.now.arrayed by.now.array_index (λ layer. IsIntegerScalar (form_at (scene_in context.now).forms layer))
+        ↔ ((form_among (scene_in context.now).forms by.now.coordinate ≡ coordinate_form image.now.dim (floating 4))
+        × ExactlyIf image.now.arrayed by.now.array_index (λ layer. IsIntegerScalar (form_among (scene_in context.now).forms layer))
         × IfSome by.now.offset (IsOffset (expressions_in context.now) (scene_in context.now).forms image.now.dim)) }
 {
     is_place(context, image.dim, by.coordinate)
@@ -139,7 +139,7 @@ fn is_place_met(context: &CheckContext<'_>, image: &Picture, by: &Sampling) -> b
 fn is_detail_met(context: &CheckContext<'_>, image: &Picture, by: &Sampling) -> bool
     ensures { IsTrue result
         ↔ (IfSome by.now.gather (IsGathered image.now by.now.level)
-        × IsLevel (scene_in context.now).forms image.now.class (form_at (scene_in context.now).forms by.now.coordinate) by.now.level) }
+        × IsLevel (scene_in context.now).forms image.now.class (form_among (scene_in context.now).forms by.now.coordinate) by.now.level) }
 {
     gathers_if(image, by.level, by.gather)
         && is_level(context, image.class, by.coordinate, by.level)
@@ -148,7 +148,7 @@ fn is_detail_met(context: &CheckContext<'_>, image: &Picture, by: &Sampling) -> 
 // Whether the image is clamped as it may be, and one from outside sampled as it is.
 fn is_edge_met(image: &Picture, by: &Sampling) -> bool
     ensures { IsTrue result
-        ↔ (ClampOK image.now by.now.clamp_to_edge × OutsideOK image.now.class by.now.gather by.now.offset by.now.level) }
+        ↔ (ClampOK image.now by.now.clamp_to_edge × ExternalOK image.now.class by.now.gather by.now.offset by.now.level) }
 {
     is_clamp(image, by.clamp_to_edge) && is_outside(image.class, by.gather, by.offset, by.level)
 }
@@ -190,8 +190,8 @@ pub fn check_image_sample(
 ) -> Result<(), ExpressionError>
     requires { IsKnown context.now }
     ensures { MatchResult result
-        (λ _. ImageSampleOK (expressions_in context.now) (scene_in context.now).forms (form_at (scene_in context.now).forms image) by.now)
-        (IsRefused (ImageSampleOK (expressions_in context.now) (scene_in context.now).forms (form_at (scene_in context.now).forms image) by.now)) }
+        (λ _. ImageSampleOK (expressions_in context.now) (scene_in context.now).forms (form_among (scene_in context.now).forms image) by.now)
+        (IsRefused (ImageSampleOK (expressions_in context.now) (scene_in context.now).forms (form_among (scene_in context.now).forms image) by.now)) }
 {
     refused_unless(is_image_sample(context, context.form_at(image), by))
 }

@@ -2,8 +2,8 @@
 
 ghost use Rattle.std.specs.Prelude.{◌≡◌, ◌↔◌, IsTrue, IfSome, Bool};
 ghost use Rattle.module_context.specs.OperandView.{scene_in};
-ghost use Rattle.spec_statements.specs.judged.ImageSamples.{IsFloat32, HasNeighbours, IsGathered, IsLevel, IsClamped, ClampOK, OutsideOK};
-ghost use Rattle.spec_statements.specs.judged.Scene.{form_at};
+ghost use Rattle.spec_statements.specs.judged.ImageSamples.{IsFloat32, HasNeighbours, IsGathered, IsLevel, IsClamped, ClampOK, ExternalOK};
+ghost use Rattle.spec_statements.specs.judged.Scene.{form_among};
 
 use ir_arena::handle::Handle;
 use ir_kinds::{ImageClass, ImageDimension, Scalar, ScalarKind, SwizzleComponent};
@@ -36,7 +36,7 @@ const fn is_finest(level: SampleLevel) -> bool
 
 // Whether an expression is an exact level of an image.
 fn is_exact(context: &CheckContext<'_>, class: ImageClass, level: Handle<key::Expression>) -> bool
-    ensures { IsTrue result ↔ IsLevel (scene_in context.now).forms class (form_at (scene_in context.now).forms level) (SampleLevel.Exact level) }
+    ensures { IsTrue result ↔ IsLevel (scene_in context.now).forms class (form_among (scene_in context.now).forms level) (SampleLevel.Exact level) }
 {
     is_float32(context.form_at(level))
         || (class.is_depth() && is_integer_scalar(context.form_at(level)))
@@ -50,7 +50,7 @@ fn are_slopes(
     below: Handle<key::Expression>,
 ) -> bool
     ensures { IsTrue result
-        ↔ ((form_at (scene_in context.now).forms right ≡ form_at (scene_in context.now).forms coordinate) × (form_at (scene_in context.now).forms below ≡ form_at (scene_in context.now).forms coordinate)) }
+        ↔ ((form_among (scene_in context.now).forms right ≡ form_among (scene_in context.now).forms coordinate) × (form_among (scene_in context.now).forms below ≡ form_among (scene_in context.now).forms coordinate)) }
 {
     are_same(context.form_at(right), context.form_at(coordinate))
         && are_same(context.form_at(below), context.form_at(coordinate))
@@ -63,7 +63,7 @@ pub(crate) fn is_level(
     coordinate: Handle<key::Expression>,
     level: SampleLevel,
 ) -> bool
-    ensures { IsTrue result ↔ IsLevel (scene_in context.now).forms class (form_at (scene_in context.now).forms coordinate) level }
+    ensures { IsTrue result ↔ IsLevel (scene_in context.now).forms class (form_among (scene_in context.now).forms coordinate) level }
 {
     match level {
         SampleLevel::Auto | SampleLevel::Zero => true,
@@ -155,7 +155,7 @@ pub(crate) fn is_outside(
     offset: Option<Handle<key::Expression>>,
     level: SampleLevel,
 ) -> bool
-    ensures { IsTrue result ↔ OutsideOK class gather offset level }
+    ensures { IsTrue result ↔ ExternalOK class gather offset level }
 {
     !is_external(class) || (is_finest(level) && gather.is_none() && offset.is_none())
 }

@@ -2,8 +2,8 @@
 
 ghost use Rattle.std.specs.Prelude.{◌≡◌, ◌↔◌, IsTrue};
 ghost use Rattle.module_context.specs.OperandView.{scene_in};
-ghost use Rattle.spec_statements.specs.judged.Scene.{form_at};
-ghost use Rattle.spec_statements.specs.judged.Shapes.{IsIntegerScalar, ExactlyIf, along};
+ghost use Rattle.spec_statements.specs.judged.Scene.{form_among};
+ghost use Rattle.spec_statements.specs.judged.Shapes.{IsIntegerScalar, ExactlyIf, coordinate_form};
 
 use ir_arena::handle::Handle;
 use ir_kinds::{ImageDimension, Scalar, VectorSize};
@@ -13,7 +13,7 @@ use typing_forms::Form;
 
 /// The type of a place in an image of so many dimensions.
 pub(crate) const fn along(dim: ImageDimension, scalar: Scalar) -> Form
-    ensures { result ≡ along dim scalar }
+    ensures { result ≡ coordinate_form dim scalar }
 {
     match dim {
         ImageDimension::D1 => Form::Scalar(scalar),
@@ -34,7 +34,7 @@ pub(crate) fn is_number_if(
     wanted: bool,
     given: Option<Handle<key::Expression>>,
 ) -> bool
-    ensures { IsTrue result ↔ ExactlyIf wanted given (λ number. IsIntegerScalar (form_at (scene_in context.now).forms number)) }
+    ensures { IsTrue result ↔ ExactlyIf wanted given (λ number. IsIntegerScalar (form_among (scene_in context.now).forms number)) }
 {
     match given {
         Some(number) => {

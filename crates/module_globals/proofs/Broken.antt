@@ -2,11 +2,11 @@
 use Rattle.std.proofs.Common.{◌≡◌, ◌∙◌, ◌≤◌, ◌⊎◌, ◌≢◌, inl, inr, ℕ, List, Some, IfSome, sym, ap, subst, arith}
 use Rattle.std.specs.Int.{◌∣◌}
 use Rattle.ir_types.specs.judged.Plain.{PlainType}
-use Rattle.typing_layout.specs.judged.Buffers.{IsStorage, IsUniform, StorageAt, UniformAt, uniform_alignment, free_after}
+use Rattle.typing_layout.specs.judged.Buffers.{FitsStorageBuffer, FitsUniformBuffer, StorageAt, UniformAt, uniform_alignment, free_after}
 use Rattle.typing_layout.specs.judged.Flags.{HasFlag, AllHave, HostShareable}
-use Rattle.typing_layout.specs.judged.Immediates.{FitsImmediates, ImmediateAt, scalar_of}
-use Rattle.typing_layout.specs.judged.Parts.{Part, Everywhere, EverywhereIn, Somewhere, SomewhereIn}
-use Rattle.typing_layout.specs.judged.Layout.{alignment}
+use Rattle.typing_layout.specs.judged.Immediates.{FitsImmediates, ImmediateAt}
+use Rattle.typing_layout.specs.judged.Parts.{TreeMember, Everywhere, EverywhereIn, Somewhere, SomewhereIn}
+use Rattle.typing_layout.specs.judged.Layout.{alignment, tree_scalar}
 use Rattle.typing_layout.specs.judged.Tree.{Tree, scalar, vector, matrix, cooperative_matrix, atomic, pointer, value_pointer, array, struct, image, sampler, acceleration_structure, ray_query, binding_array, Members, no_members, member}
 use Rattle.typing_layout.specs.judged.View.{type_tree}
 use Rattle.typing_layout.specs.found.BufferFaults.{BreaksStorage, BreaksUniform, IsBroken, IsUnfit, IsBadStride, IsBadSpan, IsBadOffset, IsNearAfter}
@@ -85,7 +85,7 @@ storage_offset index offset a t s q =
     let begins : alignment q.p.of_type ∣ q.p.offset = at.0 index q.p q.at in
     q.broken (subst (λ o. a ∣ o) (sym q.begins) (subst (λ n. n ∣ q.p.offset) (sym q.asked) begins))
 
-pub storage_refuted : (types : List PlainType) (t : Tree) (type : ℕ) (d : Disalignment) → IsBroken BreaksStorage types t (type, d) → IsStorage t → ⊥
+pub storage_refuted : (types : List PlainType) (t : Tree) (type : ℕ) (d : Disalignment) → IsBroken BreaksStorage types t (type, d) → FitsStorageBuffer t → ⊥
 storage_refuted types t type (fault.ArrayStride stride a) broken ok =
     apart StorageAt (At types type (BreaksStorage (fault.ArrayStride stride a))) (λ inside s q. storage_stride stride a inside s q.1) t ok.1 broken
 storage_refuted types t type (fault.StructSpan span a) broken ok =
@@ -121,13 +121,13 @@ uniform_offset index offset a t s q =
 uniform_near : (index offset expected : ℕ) (t : Tree) → UniformAt t → IsNearAfter index offset expected t → ⊥
 uniform_near index offset expected t s q =
     let at : UniformAt (struct q.members q.span) = subst UniformAt q.is s in
-    let free : free_after q.q q.q.of_type ≤ q.p.offset = subst (λ o. IfSome o (λ (a : Part). free_after a a.of_type ≤ q.p.offset)) q.behind (at.2 index q.p q.at) in
+    let free : free_after q.q q.q.of_type ≤ q.p.offset = subst (λ o. IfSome o (λ (a : TreeMember). free_after a a.of_type ≤ q.p.offset)) q.behind (at.2 index q.p q.at) in
     let begins = q.begins in
     let asked = q.asked in
     let near = q.near in
     omega (arith, free, begins, asked, near)
 
-pub uniform_refuted : (types : List PlainType) (t : Tree) (type : ℕ) (d : Disalignment) → IsBroken BreaksUniform types t (type, d) → IsUniform t → ⊥
+pub uniform_refuted : (types : List PlainType) (t : Tree) (type : ℕ) (d : Disalignment) → IsBroken BreaksUniform types t (type, d) → FitsUniformBuffer t → ⊥
 uniform_refuted types t type (fault.ArrayStride stride a) broken ok =
     apart UniformAt (At types type (BreaksUniform (fault.ArrayStride stride a))) (λ inside s q. uniform_stride stride a inside s q.1) t ok.1 broken
 uniform_refuted types t type (fault.StructSpan span a) broken ok =
@@ -141,8 +141,8 @@ uniform_refuted types t type fault.NonHostShareable broken ok =
 
 -- ---- immediate data
 
-unfit_at : (s : Scalar) → s.width ≡ 2 → (t : Tree) → ImmediateAt t → scalar_of t ≡ Some s → ⊥
+unfit_at : (s : Scalar) → s.width ≡ 2 → (t : Tree) → ImmediateAt t → tree_scalar t ≡ Some s → ⊥
 unfit_at s two t fits is = subst (λ o. IfSome o (λ (x : Scalar). x.width ≢ 2)) is fits two
 
 pub unfit_refuted : (t : Tree) (e : ImmediateError) → IsUnfit t e → FitsImmediates t → ⊥
-unfit_refuted t (immediate.InvalidScalar s) unfit fits = apart ImmediateAt (λ inside. scalar_of inside ≡ Some s) (unfit_at s unfit.1) t fits unfit.0
+unfit_refuted t (immediate.InvalidScalar s) unfit fits = apart ImmediateAt (λ inside. tree_scalar inside ≡ Some s) (unfit_at s unfit.1) t fits unfit.0

@@ -5,7 +5,7 @@ use Rattle.module_globals.specs.Reached.{IsMet, IsReached, IsReachedIn}
 use Rattle.module_globals.specs.Slots.{IsIn, Meets}
 use Rattle.ir_types.specs.declared.types.ArraySize.{ArraySize}
 use Rattle.ir_types.specs.declared.types.ArraySize.TheVariants as count
-use Rattle.judgement.specs.judged.Leaves.{Leaf, inside, repeated, held_in, leaves, member_leaves}
+use Rattle.judgement.specs.judged.Leaves.{Leaf, leaf_inside, repeated, held_in, leaves, member_leaves}
 use Rattle.typing_layout.specs.judged.Tree.{Tree, scalar, vector, matrix, cooperative_matrix, atomic, pointer, value_pointer, array, struct, image, sampler, acceleration_structure, ray_query, binding_array, Members, no_members, member}
 use Rattle.typing_forms.specs.judged.Sizes.{counted}
 
@@ -58,14 +58,14 @@ MeetsAt slot offset l = Meets (offset + l.first) l.length slot
 moved : (slot n o p : ℕ) → o ≡ p → Meets o n slot → Meets p n slot
 moved slot n o p e m = subst (λ x. Meets x n slot) e m
 
-inside_to : (slot offset part begin : ℕ) (ls : List Leaf) → AnyLeaf (MeetsAt slot offset) (map (inside part begin) ls) → AnyLeaf (MeetsAt slot (offset + begin)) ls
+inside_to : (slot offset part begin : ℕ) (ls : List Leaf) → AnyLeaf (MeetsAt slot offset) (map (leaf_inside part begin) ls) → AnyLeaf (MeetsAt slot (offset + begin)) ls
 inside_to slot offset part begin ls h =
-    any_mapped (MeetsAt slot offset) (MeetsAt slot (offset + begin)) (inside part begin)
+    any_mapped (MeetsAt slot offset) (MeetsAt slot (offset + begin)) (leaf_inside part begin)
     (λ l m. moved slot l.length (offset + (begin + l.first)) (offset + begin + l.first) (omega arith) m) ls h
 
-inside_from : (slot offset part begin : ℕ) (ls : List Leaf) → AnyLeaf (MeetsAt slot (offset + begin)) ls → AnyLeaf (MeetsAt slot offset) (map (inside part begin) ls)
+inside_from : (slot offset part begin : ℕ) (ls : List Leaf) → AnyLeaf (MeetsAt slot (offset + begin)) ls → AnyLeaf (MeetsAt slot offset) (map (leaf_inside part begin) ls)
 inside_from slot offset part begin ls h =
-    any_through (MeetsAt slot offset) (MeetsAt slot (offset + begin)) (inside part begin)
+    any_through (MeetsAt slot offset) (MeetsAt slot (offset + begin)) (leaf_inside part begin)
     (λ l m. moved slot l.length (offset + begin + l.first) (offset + (begin + l.first)) (omega arith) m) ls h
 
 begun : (slot o p : ℕ) (ls : List Leaf) → o ≡ p → AnyLeaf (MeetsAt slot o) ls → AnyLeaf (MeetsAt slot p) ls
@@ -76,7 +76,7 @@ repeated_to : (slot offset stride : ℕ) (ls : List Leaf) (n part : ℕ) → Any
 unfolding repeated
 repeated_to slot offset stride ls zero part h = absurd h
 repeated_to slot offset stride ls (suc n) part h =
-    elim (any_either (MeetsAt slot offset) (map (inside part (part * stride)) ls) (repeated n (suc part) stride ls) h) [
+    elim (any_either (MeetsAt slot offset) (map (leaf_inside part (part * stride)) ls) (repeated n (suc part) stride ls) h) [
       | inl here ↦ (0, omega arith, begun slot (offset + part * stride) (offset + (part + 0) * stride) ls (omega arith) (inside_to slot offset part (part * stride) ls here))
       | inr later ↦
           let f = repeated_to slot offset stride ls n (suc part) later in
@@ -88,10 +88,10 @@ repeated_from : (slot offset stride : ℕ) (ls : List Leaf) (n part place : ℕ)
 unfolding repeated
 repeated_from slot offset stride ls zero part place lt h = absurd (omega (arith, lt))
 repeated_from slot offset stride ls (suc n) part zero lt h =
-    any_left (MeetsAt slot offset) (map (inside part (part * stride)) ls) (repeated n (suc part) stride ls)
+    any_left (MeetsAt slot offset) (map (leaf_inside part (part * stride)) ls) (repeated n (suc part) stride ls)
     (inside_from slot offset part (part * stride) ls (begun slot (offset + (part + 0) * stride) (offset + part * stride) ls (omega arith) h))
 repeated_from slot offset stride ls (suc n) part (suc place) lt h =
-    any_right (MeetsAt slot offset) (map (inside part (part * stride)) ls) (repeated n (suc part) stride ls)
+    any_right (MeetsAt slot offset) (map (leaf_inside part (part * stride)) ls) (repeated n (suc part) stride ls)
     (repeated_from slot offset stride ls n (suc part) place (omega (arith, lt)) (begun slot (offset + (part + suc place) * stride) (offset + (suc part + place) * stride) ls (omega arith) h))
 
 -- ---- from the leaves to the parts and back
@@ -144,7 +144,7 @@ mutual
   from_members : (slot : ℕ) (ms : Members) (offset part : ℕ) → AnyLeaf (MeetsAt slot offset) (member_leaves 1 part ms) → IsReachedIn slot ms offset
   from_members slot no_members offset part h = absurd h
   from_members slot (member t binding begin ms) offset part h =
-      elim (any_either (MeetsAt slot offset) (map (inside part begin) (leaves 1 t)) (member_leaves 1 (suc part) ms) h) [
+      elim (any_either (MeetsAt slot offset) (map (leaf_inside part begin) (leaves 1 t)) (member_leaves 1 (suc part) ms) h) [
         | inl here ↦ inl (from_leaves slot t (offset + begin) (inside_to slot offset part begin (leaves 1 t) here))
         | inr later ↦ inr (from_members slot ms offset (suc part) later)
       ]
@@ -169,8 +169,8 @@ mutual
   to_members : (slot : ℕ) (ms : Members) (offset part : ℕ) → IsReachedIn slot ms offset → AnyLeaf (MeetsAt slot offset) (member_leaves 1 part ms)
   to_members slot no_members offset part h = absurd h
   to_members slot (member t binding begin ms) offset part h = elim h [
-    | inl here ↦ any_left (MeetsAt slot offset) (map (inside part begin) (leaves 1 t)) (member_leaves 1 (suc part) ms) (inside_from slot offset part begin (leaves 1 t) (to_leaves slot t (offset + begin) here))
-    | inr later ↦ any_right (MeetsAt slot offset) (map (inside part begin) (leaves 1 t)) (member_leaves 1 (suc part) ms) (to_members slot ms offset (suc part) later)
+    | inl here ↦ any_left (MeetsAt slot offset) (map (leaf_inside part begin) (leaves 1 t)) (member_leaves 1 (suc part) ms) (inside_from slot offset part begin (leaves 1 t) (to_leaves slot t (offset + begin) here))
+    | inr later ↦ any_right (MeetsAt slot offset) (map (leaf_inside part begin) (leaves 1 t)) (member_leaves 1 (suc part) ms) (to_members slot ms offset (suc part) later)
   ]
 
 -- a value meets a slot exactly where one of its leaves does

@@ -14,9 +14,9 @@ use Rattle.ir_items.specs.judged.Plain.{PlainModule}
 use Rattle.ir_kinds.specs.declared.spaces.AddressSpace.TheVariants.{Uniform, Storage, Immediate, TaskPayload}
 use Rattle.ir_types.specs.judged.Plain.{PlainInner}
 use Rattle.module_globals.proofs.SizeLemmas.{size_found}
-use Rattle.typing_layout.specs.judged.Buffers.{IsStorage, IsUniform, uniform_alignment}
+use Rattle.typing_layout.specs.judged.Buffers.{FitsStorageBuffer, FitsUniformBuffer, uniform_alignment}
 use Rattle.typing_layout.specs.judged.Immediates.{FitsImmediates}
-use Rattle.spec_interface.specs.judged.Spaces.{LiesIn, counted, is_storage}
+use Rattle.spec_interface.specs.judged.Spaces.{LiesIn, effective_type, is_storage}
 use Rattle.typing_layout.specs.judged.Layout.{alignment}
 use Rattle.typing_layout.specs.found.BufferFaults.{BreaksStorage, BreaksUniform, IsBroken, IsUnfit}
 use Rattle.typing_layout.specs.found.Infos.{HasInfo}
@@ -40,26 +40,26 @@ module _ (HasForm : (expression : ℕ) → Form → Type 0) (flags : ValidationF
   abbrev Wrong : GlobalVariableError → Type 0
   Wrong = IsWrongBy HasForm flags capabilities m v
 
-  stored : (access : StorageAccess) → v.space ≡ Storage access → access ≢ STORE → (Has flags.0 STRUCT_LAYOUTS.0 → IsStorage (counted_tree m v)) → Lies
+  stored : (access : StorageAccess) → v.space ≡ Storage access → access ≢ STORE → (Has flags.0 STRUCT_LAYOUTS.0 → FitsStorageBuffer (counted_tree m v)) → Lies
   stored access is differs laid = subst (λ s. LiesIn flags s (counted_inner m v) (counted_tree m v)) (sym is) (laid, differs)
 
   storage_wrong : (access : StorageAccess) → v.space ≡ Storage access → (e : GlobalVariableError) → IsLayoutFault flags v.space info.storage_layout e → Wrong e
   storage_wrong access is (error.Alignment s type d) f =
-      (f.0, f.1, inl (subst (λ s. IsTrue (is_storage s)) (sym is) refl, not_laid (λ a. IsStorage (counted_tree m v) × (a ≡ alignment (counted_tree m v))) (IsBroken BreaksStorage m.types (counted_tree m v)) info.storage_layout (type, d) f.2 told.storage))
+      (f.0, f.1, inl (subst (λ s. IsTrue (is_storage s)) (sym is) refl, not_laid (λ a. FitsStorageBuffer (counted_tree m v) × (a ≡ alignment (counted_tree m v))) (IsBroken BreaksStorage m.types (counted_tree m v)) info.storage_layout (type, d) f.2 told.storage))
   storage_wrong access is _ f = absurd f
 
   pub storage_told : (access : StorageAccess) → v.space ≡ Storage access → access ≢ STORE → (r : Result (Unit {0}) GlobalVariableError)
       → MatchResult r (λ _. Has flags.0 STRUCT_LAYOUTS.0 → IsOk info.storage_layout) (IsLayoutFault flags v.space info.storage_layout) → MatchResult r (λ _. Lies) Wrong
-  storage_told access is differs (Ok u) h = stored access is differs (λ asked. (laid (λ a. IsStorage (counted_tree m v) × (a ≡ alignment (counted_tree m v))) (IsBroken BreaksStorage m.types (counted_tree m v)) info.storage_layout told.storage (h asked)).1.0)
+  storage_told access is differs (Ok u) h = stored access is differs (λ asked. (laid (λ a. FitsStorageBuffer (counted_tree m v) × (a ≡ alignment (counted_tree m v))) (IsBroken BreaksStorage m.types (counted_tree m v)) info.storage_layout told.storage (h asked)).1.0)
   storage_told access is differs (Err e) h = storage_wrong access is e h
 
   uniform_wrong : v.space ≡ Uniform → (e : GlobalVariableError) → IsLayoutFault flags v.space info.uniform_layout e → Wrong e
-  uniform_wrong is (error.Alignment s type d) f = (f.0, f.1, inr (is, not_laid (λ a. IsUniform (counted_tree m v) × (a ≡ uniform_alignment (counted_tree m v))) (IsBroken BreaksUniform m.types (counted_tree m v)) info.uniform_layout (type, d) f.2 told.uniform))
+  uniform_wrong is (error.Alignment s type d) f = (f.0, f.1, inr (is, not_laid (λ a. FitsUniformBuffer (counted_tree m v) × (a ≡ uniform_alignment (counted_tree m v))) (IsBroken BreaksUniform m.types (counted_tree m v)) info.uniform_layout (type, d) f.2 told.uniform))
   uniform_wrong is _ f = absurd f
 
   pub uniform_told : v.space ≡ Uniform → (r : Result (Unit {0}) GlobalVariableError)
       → MatchResult r (λ _. Has flags.0 STRUCT_LAYOUTS.0 → IsOk info.uniform_layout) (IsLayoutFault flags v.space info.uniform_layout) → MatchResult r (λ _. Lies) Wrong
-  uniform_told is (Ok u) h = subst (λ s. LiesIn flags s (counted_inner m v) (counted_tree m v)) (sym is) (λ asked. (laid (λ a. IsUniform (counted_tree m v) × (a ≡ uniform_alignment (counted_tree m v))) (IsBroken BreaksUniform m.types (counted_tree m v)) info.uniform_layout told.uniform (h asked)).1.0)
+  uniform_told is (Ok u) h = subst (λ s. LiesIn flags s (counted_inner m v) (counted_tree m v)) (sym is) (λ asked. (laid (λ a. FitsUniformBuffer (counted_tree m v) × (a ≡ uniform_alignment (counted_tree m v))) (IsBroken BreaksUniform m.types (counted_tree m v)) info.uniform_layout told.uniform (h asked)).1.0)
   uniform_told is (Err e) h = uniform_wrong is e h
 
   pub immediate_ok : v.space ≡ Immediate → (u : Unit {0}) → info.immediates_compatibility ≡ Ok u → Lies
@@ -71,5 +71,5 @@ module _ (HasForm : (expression : ℕ) → Form → Type 0) (flags : ValidationF
   pub bytes_told : v.space ≡ TaskPayload → (i : PlainInner) → counted_inner m v ≡ Some i → (r : Result (Unit {0}) GlobalVariableError)
       → MatchResult r (λ _. type_size i ≢ 0) (λ e. (e ≡ error.ZeroSizedTaskPayload) × (type_size i ≡ 0)) → MatchResult r (λ _. Lies) Wrong
   bytes_told is i at (Ok u) h =
-      subst (λ s. LiesIn flags s (counted_inner m v) (counted_tree m v)) (sym is) (λ z. h (size_found m.types (counted m.types v.ty) i at ∙ z))
-  bytes_told is i at (Err e) h = subst Wrong (sym h.0) (is, sym (size_found m.types (counted m.types v.ty) i at) ∙ h.1)
+      subst (λ s. LiesIn flags s (counted_inner m v) (counted_tree m v)) (sym is) (λ z. h (size_found m.types (effective_type m.types v.ty) i at ∙ z))
+  bytes_told is i at (Err e) h = subst Wrong (sym h.0) (is, sym (size_found m.types (effective_type m.types v.ty) i at) ∙ h.1)

@@ -14,16 +14,16 @@ use Rattle.ir_items.specs.judged.Plain.{PlainModule}
 use Rattle.ir_kinds.specs.declared.spaces.AddressSpace.{AddressSpace}
 use Rattle.ir_kinds.specs.declared.spaces.AddressSpace.TheVariants.{Storage}
 use Rattle.ir_types.specs.judged.Plain.{PlainInner}
-use Rattle.typing_layout.specs.judged.Buffers.{IsStorage}
+use Rattle.typing_layout.specs.judged.Buffers.{FitsStorageBuffer}
 use Rattle.spec_interface.specs.judged.Globals.{BeginsOK, VariableOK}
-use Rattle.spec_interface.specs.judged.Spaces.{array_capability, space_capability, BindingArrayOK, LiesIn, is_storage}
+use Rattle.spec_interface.specs.judged.Spaces.{array_capability, space_capability, HasArrayCapability, LiesIn, is_storage}
 use Rattle.typing_layout.specs.judged.Tree.{Tree}
 use Rattle.typing_forms.specs.judged.Resolutions.{inner_at}
 
 some_none : {A : Type 0} (o : Option A) (x : A) → o ≡ Some x → o ≡ None → ⊥
 some_none o x some none = cc
 
-stored : (flags : ValidationFlags) (s : AddressSpace) (i : Option PlainInner) (t : Tree) → IsTrue (is_storage s) → LiesIn flags s i t → Has flags.0 STRUCT_LAYOUTS.0 → IsStorage t
+stored : (flags : ValidationFlags) (s : AddressSpace) (i : Option PlainInner) (t : Tree) → IsTrue (is_storage s) → LiesIn flags s i t → Has flags.0 STRUCT_LAYOUTS.0 → FitsStorageBuffer t
 stored flags (Storage access) i t is lies asked = lies.0 asked
 stored flags _ i t is lies asked = cc
 
@@ -31,8 +31,8 @@ module _ (flags : ValidationFlags) (capabilities : Capabilities) (m : PlainModul
   lies_in : (s : AddressSpace) → v.space ≡ s → LiesIn flags s (counted_inner m v) (counted_tree m v)
   lies_in s is = subst (λ s. LiesIn flags s (counted_inner m v) (counted_tree m v)) is ok.lies
 
-  array_ok : (base : ℕ) → IsArrayOf m.types v.ty base → BindingArrayOK capabilities v.space (inner_at m.types base)
-  array_ok base is = subst (λ o. IfSome o (λ (b : ℕ). BindingArrayOK capabilities v.space (inner_at m.types b))) is ok.arrays
+  array_ok : (base : ℕ) → IsArrayOf m.types v.ty base → HasArrayCapability capabilities v.space (inner_at m.types base)
+  array_ok base is = subst (λ o. IfSome o (λ (b : ℕ). HasArrayCapability capabilities v.space (inner_at m.types b))) is ok.arrays
 
   no_array : (base : ℕ) → IsArrayOf m.types v.ty base → array_capability v.space (inner_at m.types base) ≡ None → ⊥
   no_array base is none = let a = array_ok base is in some_none (array_capability v.space (inner_at m.types base)) a.capability a.needed none

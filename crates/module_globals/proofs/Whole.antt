@@ -17,7 +17,7 @@ use Rattle.ir_items.specs.judged.Plain.{PlainModule}
 use Rattle.ir_kinds.specs.declared.spaces.AddressSpace.{AddressSpace}
 use Rattle.ir_types.specs.judged.Plain.{PlainType}
 use Rattle.spec_interface.specs.judged.Globals.{BeginsBy, VariableBy, VariableOK, GlobalOK}
-use Rattle.spec_interface.specs.judged.Spaces.{array_base, counted}
+use Rattle.spec_interface.specs.judged.Spaces.{array_base, effective_type}
 use Rattle.typing_forms.specs.judged.Forms.{form_of_type}
 use Rattle.typing_forms.specs.judged.Order.{TypesGoBack}
 use Rattle.typing_forms.specs.judged.Resolutions.{inner_at}
@@ -27,7 +27,7 @@ counted_by : (types : List PlainType) → TypesGoBack types → (type : ℕ) →
 counted_by types back type within None e = within
 counted_by types back type within (Some base) e = base_there types back type base within e
 
-pub counted_there : (types : List PlainType) → TypesGoBack types → (type : ℕ) → type < length types → counted types type < length types
+pub counted_there : (types : List PlainType) → TypesGoBack types → (type : ℕ) → type < length types → effective_type types type < length types
 counted_there types back type within = counted_by types back type within (array_base (inner_at types type)) refl
 
 pub global_found : {T View : Type 0} (view : T → View) (entries : List (T × Span)) (h : ℕ) (v : T) → Some v ≡ value_at entries h → slice_get (map view (values_of entries)) h ≡ Some (view v)

@@ -18,7 +18,7 @@ use Rattle.ir_types.specs.judged.Plain.{PlainInner, PlainType}
 use Rattle.spec_expressions.specs.judged.Overrides.{IsKnownByOverrides}
 use Rattle.spec_expressions.specs.judged.Typing.{HasGlobalType}
 use Rattle.spec_interface.specs.judged.Handles.{is_handle}
-use Rattle.spec_interface.specs.judged.Spaces.{array_base, counted, array_capability, space_capability, required, HasAll, is_resource, is_storage}
+use Rattle.spec_interface.specs.judged.Spaces.{array_base, effective_type, array_capability, space_capability, required, HasAll, is_resource, is_storage}
 use Rattle.typing_layout.specs.judged.Layout.{size}
 use Rattle.typing_layout.specs.judged.Tree.{Tree}
 use Rattle.typing_layout.specs.judged.View.{type_tree}
@@ -35,10 +35,10 @@ IsArrayOf types type base = array_base (inner_at types type) ≡ Some base
 
 -- what the type that counts is made of, and its tree
 abbrev pub counted_inner : PlainModule → PlainGlobal → Option PlainInner
-counted_inner m v = inner_at m.types (counted m.types v.ty)
+counted_inner m v = inner_at m.types (effective_type m.types v.ty)
 
 abbrev pub counted_tree : PlainModule → PlainGlobal → Tree
-counted_tree m v = type_tree m.types (counted m.types v.ty)
+counted_tree m v = type_tree m.types (effective_type m.types v.ty)
 
 -- the variable needs this capability
 abbrev pub Needs : PlainModule → PlainGlobal → Capabilities → Type 0

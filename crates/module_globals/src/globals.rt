@@ -11,7 +11,7 @@ ghost use Rattle.ir_flags.specs.Sets.{Has};
 ghost use Rattle.ir_flags.specs.declared.settings.TheConstants.ValidationFlags.{BINDINGS, STRUCT_LAYOUTS};
 ghost use Rattle.ir_items.specs.found.GlobalView.{global_view};
 ghost use Rattle.spec_interface.specs.judged.Globals.{BeginsBy, DecorationsOK, VariableBy};
-ghost use Rattle.spec_interface.specs.judged.Spaces.{counted, ArraysOK, space_capability, LiesIn, required, HasAll, is_resource};
+ghost use Rattle.spec_interface.specs.judged.Spaces.{effective_type, ArraysOK, space_capability, LiesIn, required, HasAll, is_resource};
 ghost use Rattle.ir_types.specs.judged.Plain.{inner_view};
 ghost use Rattle.typing_forms.specs.judged.Order.{TypesGoBack};
 ghost use Rattle.typing_forms.specs.judged.Resolutions.{inner_at};
@@ -70,7 +70,7 @@ fn check_arrays(
     requires back { TypesGoBack (module_of context.now).types }
     requires placed { IsPlaced (module_of context.now) (global_view variable.now) }
     ensures { (given : Option Initializer) (flags : ValidationFlags) → MatchResult result
-        (λ ty. (ty ≡ counted (module_of context.now).types variable.now.ty) × ArraysOK context.now.capabilities variable.now.space (module_of context.now).types variable.now.ty)
+        (λ ty. (ty ≡ effective_type (module_of context.now).types variable.now.ty) × ArraysOK context.now.capabilities variable.now.space (module_of context.now).types variable.now.ty)
         (IsWrongBy (HasFormOf given) flags context.now.capabilities (module_of context.now) (global_view variable.now)) }
 {
     let Some(base) = array_base(inner_of(context, variable.ty)) else {
@@ -122,7 +122,7 @@ fn check_lies(
     ty: Handle<key::IrType>,
 ) -> Result<(), GlobalVariableError>
     requires known { HasInfos context.now }
-    requires counts { ty ≡ counted (module_of context.now).types variable.now.ty }
+    requires counts { ty ≡ effective_type (module_of context.now).types variable.now.ty }
     requires within { ty < length (module_of context.now).types }
     ensures { (given : Option Initializer) → MatchResult result
         (λ _. LiesIn flags variable.now.space (counted_inner (module_of context.now) (global_view variable.now)) (counted_tree (module_of context.now) (global_view variable.now)))
@@ -161,7 +161,7 @@ fn check_needs(
     ty: Handle<key::IrType>,
 ) -> Result<(), GlobalVariableError>
     requires known { HasInfos context.now }
-    requires counts { ty ≡ counted (module_of context.now).types variable.now.ty }
+    requires counts { ty ≡ effective_type (module_of context.now).types variable.now.ty }
     requires within { ty < length (module_of context.now).types }
     ensures { (given : Option Initializer) (flags : ValidationFlags) → MatchResult result
         (λ _. IfSome (space_capability variable.now.space (counted_inner (module_of context.now) (global_view variable.now))) (λ c. Has context.now.capabilities.0 c.0)

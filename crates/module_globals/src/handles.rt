@@ -2,7 +2,7 @@
 
 ghost use Rattle.std.specs.Prelude.{◌≡◌, Some};
 ghost use Rattle.ir_types.specs.judged.Plain.{inner_view};
-ghost use Rattle.spec_interface.specs.judged.Handles.{is_handle, is_norm_16, handle_capability, class_array_capability, handles_capability};
+ghost use Rattle.spec_interface.specs.judged.Handles.{is_handle, is_norm_16, handle_capability, class_array_capability, handle_array_capability};
 ghost use Rattle.spec_interface.specs.judged.Spaces.{array_base};
 
 use ir_arena::handle::Handle;
@@ -97,7 +97,7 @@ const fn class_array_capability(class: ImageClass) -> Option<Capabilities>
 
 /// What binding arrays of this by handles need; `None` where there are none.
 pub(crate) fn handles_capability(inner: &TypeInner) -> Option<Capabilities>
-    ensures { result ≡ handles_capability (Some (inner_view inner.now)) }
+    ensures { result ≡ handle_array_capability (Some (inner_view inner.now)) }
 {
     match inner {
         TypeInner::Image { class, .. } => class_array_capability(*class),

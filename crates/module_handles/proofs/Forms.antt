@@ -9,7 +9,7 @@ use Rattle.ir_kinds.specs.declared.spaces.AddressSpace.TheVariants as space
 use Rattle.ir_types.specs.judged.Plain.{PlainInner, PlainMember, PlainType, plain, struct}
 use Rattle.ir_types.specs.declared.types.TypeInner.TheVariants as inner
 use Rattle.module_handles.specs.Types.{IsMadeOf}
-use Rattle.spec_expressions.specs.judged.Access.{pointer_to, pointed_element, element, one_of, member, pointed_part, member_of, access_index_type}
+use Rattle.spec_expressions.specs.judged.Access.{pointer_to, pointed_element, element, part_in_bounds, member, pointed_part, member_of, access_index_type}
 use Rattle.spec_expressions.specs.judged.Loads.{variable_type, loaded, loaded_value, load_type}
 use Rattle.spec_expressions.specs.declared.faults.TypingFault.{TypingFault}
 use Rattle.spec_expressions.specs.declared.faults.TypingFault.TheVariants.{InvalidAccess, InvalidPointer, OutOfBoundsIndex}
@@ -112,7 +112,7 @@ module _ (types : List PlainType) (back : TypesGoBack types) where
   element_made (form.Pointer base sp) known = pointed_element_made base sp known (inner_at types base) refl
   element_made _ known = no_form types
 
-  one_made : (base index count : ℕ) (u : Form) → IsMadeOf types u → Gives types (one_of base index count u)
+  one_made : (base index count : ℕ) (u : Form) → IsMadeOf types u → Gives types (part_in_bounds base index count u)
   one_made base index count u known = chosen (nat_lt index count)
     where
       chosen : (b : Bool) → Gives types (if b then Ok u else Err (OutOfBoundsIndex base index))

@@ -1,7 +1,7 @@
 -- Calls that pass another number of arguments, found in a body.
 use Rattle.std.proofs.Common.{◌≡◌, ◌≢◌, ◌==◌, ℕ, List, length, Bool, true, false, true≢false, if◌then◌else◌, Option, Some, None, refl, sym, ap, ◌∙◌, subst, slice_get}
 use Rattle.std.proofs.lemmas.Bool.{eq-eqb, eqb-true}
-use Rattle.ir_blocks.specs.judged.Plain.{PlainStatement, emit, block, if_, switch, loop, break, continue, return, kill, operation, call}
+use Rattle.ir_blocks.specs.judged.Plain.{PlainStatement, call}
 use Rattle.ir_blocks.specs.judged.Places.{OccursAt}
 use Rattle.ir_items.specs.judged.Plain.{PlainFunction, PlainModule}
 use Rattle.ir_references.proofs.FirstLaws.{none_at, place_found}

@@ -3,12 +3,12 @@ use Rattle.std.proofs.Common.{◌≡◌, ◌<◌, inl, inr, ℕ, zero, suc, List
 use Rattle.std.specs.Prelude.{◌==◌, ok_or}
 use Rattle.ir_types.specs.judged.ExpressionPlain.{PlainExpression, compose, plain as simple}
 use Rattle.ir_types.specs.declared.expressions.Expression.TheVariants as x
-use Rattle.ir_items.specs.judged.GlobalPlain.{PlainConstant, PlainOverride, PlainGlobal}
+use Rattle.ir_items.specs.judged.GlobalPlain.{PlainConstant, PlainOverride}
 use Rattle.ir_items.specs.judged.Plain.{PlainArgument, PlainLocal, PlainFunction, PlainModule}
 use Rattle.ir_items.specs.declared.functions.FunctionResult.{FunctionResult}
 use Rattle.ir_kinds.specs.declared.predeclared.PredeclaredType.{PredeclaredType}
 use Rattle.ir_kinds.specs.declared.spaces.AddressSpace.TheVariants as space
-use Rattle.ir_types.specs.judged.Plain.{PlainType, plain}
+use Rattle.ir_types.specs.judged.Plain.{plain}
 use Rattle.module_handles.proofs.Forms.{at_place, Gives, GivesIf, gives, gives_none, gives_or, some_form, no_form, pointer_made, type_made, element_made, access_index_made, load_made, variable_made}
 use Rattle.module_handles.proofs.Values.{splat_made, swizzle_made, image_sample_made, image_load_made, query_made, binary_made, relational_made, as_made, matrix_loaded, value_size_made}
 use Rattle.module_handles.specs.Types.{IsMadeOf, OrderGivesTypes}
@@ -18,13 +18,13 @@ use Rattle.typing_rules.specs.declared.rules.Conclusion.{Conclusion}
 use Rattle.typing_rules.specs.declared.rules.Conclusion.TheVariants.{Value, Predeclared}
 use Rattle.typing_rules.specs.declared.rules.Rule.{Rule}
 use Rattle.spec_expressions.specs.judged.Access.{element}
-use Rattle.spec_expressions.specs.judged.Context.{Context, inside, form_if}
+use Rattle.spec_expressions.specs.judged.Context.{inside, form_if}
 use Rattle.spec_expressions.specs.judged.CooperativeMatrices.{pointed_scalar}
 use Rattle.spec_expressions.specs.judged.Loads.{global_if, local_if}
-use Rattle.spec_expressions.specs.judged.Maths.{arguments, concluded, math_of, taking}
+use Rattle.spec_expressions.specs.judged.Maths.{arguments, concluded, math_of, matching_rules}
 use Rattle.ir_kinds.specs.judged.Maths.{argument_count}
 use Rattle.ir_kinds.specs.declared.maths.MathFunction.{MathFunction}
-use Rattle.typing_rules.specs.judged.MathTable.{table}
+use Rattle.typing_rules.specs.judged.MathTable.{math_overloads}
 use Rattle.typing_rules.specs.judged.Types.{inner_of}
 use Rattle.spec_expressions.specs.judged.Results.{result_of}
 use Rattle.spec_expressions.specs.judged.Typing.{HasTypeAmong, has}
@@ -39,10 +39,10 @@ use Rattle.spec_expressions.specs.judged.ModuleReferences as part
 use Rattle.spec_expressions.specs.judged.References.{ItemExists, item, argument, answer, local, computed, argument_type, answer_type, local_type, expression_names}
 use Rattle.spec_expressions.specs.declared.target.Target.{Target}
 use Rattle.spec_expressions.specs.declared.target.Target.TheVariants as target
-use Rattle.spec_expressions.specs.judged.Given.{is_key, handle_for, given_type}
+use Rattle.spec_expressions.specs.judged.Given.{predeclared_matches, handle_for, given_type}
 use Rattle.typing_forms.specs.judged.Forms.{form_of, form_of_type}
 use Rattle.typing_forms.specs.judged.Order.{TypesGoBack}
-use Rattle.typing_forms.specs.judged.Resolutions.{PlainResolution, by_handle, by_value}
+use Rattle.typing_forms.specs.judged.Resolutions.{by_handle, by_value}
 use Rattle.typing_forms.specs.declared.form.Form.{Form}
 use Rattle.typing_forms.specs.declared.form.Form.TheVariants as form
 
@@ -74,7 +74,7 @@ third_given (Some w) (Some v) (Some z) ys y e = inr (inr (inl (let f = e in cc (
 
 key_among : (key : PredeclaredType) (entries : List (PredeclaredType × ℕ)) (y : ℕ) → handle_for key entries ≡ Some y → IsAmong y (map (λ (p : PredeclaredType × ℕ). p.1) entries)
 key_among key [] y e = cc (e)
-key_among key (entry ∷ more) y e = chosen (is_key key entry.0) e (key_among key more y)
+key_among key (entry ∷ more) y e = chosen (predeclared_matches key entry.0) e (key_among key more y)
   where
     chosen : (b : Bool) → (if b then Some entry.1 else handle_for key more) ≡ Some y → (handle_for key more ≡ Some y → IsAmong y (map (λ (p : PredeclaredType × ℕ). p.1) more))
         → IsAmong y (entry.1 ∷ map (λ (p : PredeclaredType × ℕ). p.1) more)
@@ -157,8 +157,8 @@ module _ (m : PlainModule) (ok : HandlesOK m) (f : PlainFunction) (within : Hand
   math_made fun None = gives_none m.types BuiltinArgumentsInvalid
   math_made fun (Some forms) = counted (length forms == argument_count fun)
     where
-      counted : (b : Bool) → Given (if b then concluded (inside m f) (slice_get (taking 0 forms (table fun)) 0) else Err BuiltinArgumentsInvalid)
-      counted true = concluded_made (slice_get (taking 0 forms (table fun)) 0)
+      counted : (b : Bool) → Given (if b then concluded (inside m f) (slice_get (matching_rules 0 forms (math_overloads fun)) 0) else Err BuiltinArgumentsInvalid)
+      counted true = concluded_made (slice_get (matching_rules 0 forms (math_overloads fun)) 0)
       counted false = gives_none m.types BuiltinArgumentsInvalid
 
   -- ---- all kinds

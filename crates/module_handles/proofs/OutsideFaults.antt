@@ -16,7 +16,7 @@ use Rattle.module_handles.specs.InOrder.{IsFaultIn, NamesForward, IsGlobalExpres
 use Rattle.spec_expressions.specs.judged.ExpressionNames.{expression_item}
 use Rattle.spec_expressions.specs.judged.ModuleHandles.{named_at, in_module}
 use Rattle.spec_expressions.specs.judged.ItemNames.{pending_of, special_types, mesh_types, mesh_expressions, entry_variables}
-use Rattle.spec_expressions.specs.judged.ModuleReferences.{Part, a_type, special, leaf, constant, override, expression, variable, entry, NamesIn, type_counts, special_names, leaf_names, constant_type, constant_value, override_type, override_value, expression_names, variable_type, variable_value, entry_type, entry_expression, entry_variable, IsThereIn}
+use Rattle.spec_expressions.specs.judged.ModuleReferences.{ModulePart, a_type, special, leaf, constant, override, expression, variable, entry, NamesIn, type_counts, special_names, leaf_names, constant_type, constant_value, override_type, override_value, expression_names, variable_type, variable_value, entry_type, entry_expression, entry_variable, IsThereIn}
 use Rattle.spec_expressions.specs.judged.Order.{Ordered, an_expression, NamesType, by_itself, by_constant, by_override, DependsOn, type_on_named, type_on_override, type_on_expression, expression_on_constant, expression_on_override, kind_of, place_of}
 use Rattle.spec_expressions.specs.judged.Order.{a_type as type_before}
 use Rattle.spec_expressions.specs.judged.References.{Named, item, operand}
@@ -60,7 +60,7 @@ module _ (m : PlainModule) where
     pub at : named_at named ≡ Some (k, place)
     pub not : ¬ IsThereIn m named
 
-  pub absent_fault : (part : Part) (named : Named) (h : HandleFault) → NamesIn m part named → Absent named h → IsFaultIn m h
+  pub absent_fault : (part : ModulePart) (named : Named) (h : HandleFault) → NamesIn m part named → Absent named h → IsFaultIn m h
   absent_fault part named h names a = subst (IsFaultIn m) (sym a.is) (record { named = named; absent = in_module names a.not; at = a.at })
 
   not_there : (place there : ℕ) → there ≤ place → ¬ (place < there)

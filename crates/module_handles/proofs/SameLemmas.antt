@@ -5,7 +5,7 @@ use Rattle.std.proofs.lemmas.List.Elements.{All-cons, All-nil, All-head, All-tai
 use Rattle.typing_rules.specs.judged.Laws.{IsAmong}
 use Rattle.spec_expressions.specs.judged.OperandUses.{Operand, operand, operands_in, expression_uses}
 use Rattle.spec_expressions.specs.declared.operand.Usage.TheVariants.{Read}
-use Rattle.spec_expressions.specs.judged.Operands.{Operands, these, each_of, of_expression, handles_of as handles_in}
+use Rattle.spec_expressions.specs.judged.Operands.{Operands, these, each_of, expression_slots, handles_of as handles_in}
 use Rattle.spec_expressions.specs.declared.operand.Slot.{Slot}
 use Rattle.spec_expressions.specs.declared.operand.Usage.{Usage}
 use Rattle.module_handles.specs.SameOperands.{handles_of, SameOperands, SameOrder}
@@ -29,7 +29,7 @@ same (these slots) = by_slots slots
 same (each_of when handles) = all_read handles
 
 pub same_operands : SameOperands
-same_operands x = same (of_expression x)
+same_operands x = same (expression_slots x)
 
 -- ---- membership in the one form and in the other
 

@@ -19,7 +19,7 @@ use Rattle.spec_expressions.specs.judged.FunctionHandles.{OperandsPrecede}
 use Rattle.spec_expressions.specs.judged.ExpressionNames.{expression_operands, expression_item}
 use Rattle.spec_expressions.specs.judged.ModuleHandles.{HandlesOK}
 use Rattle.spec_expressions.specs.judged.ItemNames.{pending_of, special_types, mesh_types, mesh_expressions, entry_variables}
-use Rattle.spec_expressions.specs.judged.ModuleReferences.{Part, NamesIn, type_names, type_counts, special_names, filter_names, leaf_names, constant_type, constant_value, override_type, override_value, expression_names, expression_reads, variable_type, variable_value, entry_type, entry_expression, entry_variable, IsThereIn}
+use Rattle.spec_expressions.specs.judged.ModuleReferences.{ModulePart, NamesIn, type_names, type_counts, special_names, filter_names, leaf_names, constant_type, constant_value, override_type, override_value, expression_names, expression_reads, variable_type, variable_value, entry_type, entry_expression, entry_variable, IsThereIn}
 use Rattle.spec_expressions.specs.judged.Order.{Ordered, a_type, a_filter, a_function, an_expression, of_function, of_entry, DependsOn, type_on_named, type_on_override, type_on_expression, filter_on_parent, expression_on_operand, expression_on_constant, expression_on_override, function_on_callee, inside_function, inside_entry, IsBefore}
 use Rattle.spec_expressions.specs.judged.References.{Named, item}
 use Rattle.spec_expressions.specs.declared.item.ItemKind.TheVariants as kind
@@ -40,7 +40,7 @@ module _ (m : PlainModule) (types : TypesOK m) (items : ItemsOK m) (globals : Gl
   type_before : (place t : ℕ) (x : PlainType) → slice_get m.types place ≡ Some x → Contains (named_types x.inner) t → t < place
   type_before place t x at c = below_each place (named_types x.inner) (map_none _ _ (types place x at).built) t c
 
-  names_there : (part : Part) (named : Named) → NamesIn m part named → IsThereIn m named
+  names_there : (part : ModulePart) (named : Named) → NamesIn m part named → IsThereIn m named
   names_there _ _ (type_names {i = i} {t = t} {x = x} at c) = earlier m.types i t x at (type_before i t x at c)
   names_there _ _ (type_counts {i = i} {o = o} {x = x} at is) = missing_none kind.Override _ o (then_none (missing kind.Override (length m.overrides)) (pending_of x.inner) (types i x at).there o is)
   names_there _ _ (special_names {t = t} c) = each_there kind.Type _ (special_types m.special) items.special t c

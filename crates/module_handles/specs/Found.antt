@@ -3,7 +3,7 @@
 use Rattle.std.specs.Prelude.{ℕ, ◌+◌, List, nat_lt, if◌then◌else◌, Option, Some, None, option_map, option_and_then, slice_get}
 use Rattle.std.specs.Option.{option_or}
 use Rattle.ir_types.specs.judged.ExpressionPlain.{PlainExpression}
-use Rattle.ir_items.specs.judged.GlobalPlain.{PlainConstant, PlainOverride, PlainGlobal, PlainSpecial}
+use Rattle.ir_items.specs.judged.GlobalPlain.{PlainConstant, PlainOverride, PlainGlobal, PlainSpecialTypes}
 use Rattle.ir_items.specs.judged.Plain.{PlainEntry, PlainModule}
 use Rattle.ir_references.specs.Faults.{missing, item_missing}
 use Rattle.ir_references.specs.First.{first_past}
@@ -11,7 +11,7 @@ use Rattle.ir_references.specs.declared.bounds.Bounds.{Bounds}
 use Rattle.ir_references.specs.declared.fault.HandleFault.{HandleFault}
 use Rattle.ir_references.specs.declared.fault.HandleFault.TheVariants as fault
 use Rattle.ir_types.specs.judged.Plain.{PlainInner}
-use Rattle.module_handles.specs.LookupFound.{type_of, init_of, forward, counted_by, counted_forward}
+use Rattle.module_handles.specs.LookupFound.{type_of, init_of, forward, counted_by}
 use Rattle.spec_expressions.specs.judged.ExpressionNames.{expression_item}
 use Rattle.spec_expressions.specs.judged.ItemNames.{pending_of, special_types, mesh_types, mesh_expressions, entry_variables}
 use Rattle.spec_expressions.specs.declared.item.ItemKind.{ItemKind}
@@ -26,7 +26,7 @@ use Rattle.typing_forms.specs.judged.Order.{named_types}
 abbrev pub first_missing : ItemKind → (there : ℕ) → List ℕ → Option HandleFault
 first_missing k there places = option_map (λ place. fault.Missing k place) (first_past there places)
 
-abbrev pub special_missing : Bounds → PlainSpecial → Option HandleFault
+abbrev pub special_missing : Bounds → PlainSpecialTypes → Option HandleFault
 special_missing b special = first_missing kind.Type b.types (special_types special)
 
 abbrev pub leaf_missing : Bounds → Option ℕ → Option HandleFault

@@ -9,7 +9,7 @@ use Rattle.module_type_checks.proofs.Sets.{by_flags, both_have}
 use Rattle.module_type_checks.specs.Sets.{AreOf, HostIf, AreKept, IoIs, AreShared, AreCommon, CommonBelow, Follows}
 use Rattle.typing_layout.specs.judged.Blends.{HasSource, source_at}
 use Rattle.typing_layout.specs.judged.Flags.{TypeFlag, bit, array_flags, HasFlag, AllHave, StructHas, HasBlendSource, IsInOrder, blend_source, Data, Sized, Copy, IoShareable, HostShareable, CreationResolved, Argument, Constructible}
-use Rattle.typing_layout.specs.judged.Parts.{Part, listed, before, end_of}
+use Rattle.typing_layout.specs.judged.Parts.{TreeMember, member_list, item_before, end_of}
 use Rattle.typing_layout.specs.judged.Tree.{Tree, Members, no_members, member, array, struct}
 use Rattle.typing_layout.specs.judged.View.{members_by}
 use Rattle.module_type_checks.proofs.Places.{part_at, below_none, below_more, below_all}
@@ -27,14 +27,14 @@ array_are base new mask n is of t stride flags f =
 
 -- ---- all members
 
-have_each : (f : TypeFlag) (ms : Members) → AllHave f ms → (k : ℕ) → AtPlace (λ k p. HasFlag f p.of_type) (listed ms) k
+have_each : (f : TypeFlag) (ms : Members) → AllHave f ms → (k : ℕ) → AtPlace (λ k p. HasFlag f p.of_type) (member_list ms) k
 have_each f no_members h k p e = cc
-have_each f (member t b o ms) h zero p e = let q : record { of_type = t; binding = b; offset = o } ≡ p = cc in subst (λ (x : Part). HasFlag f x.of_type) q h.0
+have_each f (member t b o ms) h zero p e = let q : record { of_type = t; binding = b; offset = o } ≡ p = cc in subst (λ (x : TreeMember). HasFlag f x.of_type) q h.0
 have_each f (member t b o ms) h (suc k) p e = have_each f ms h.1 k p e
 
-each_have : (f : TypeFlag) (ms : Members) → ((k : ℕ) → AtPlace (λ k p. HasFlag f p.of_type) (listed ms) k) → AllHave f ms
+each_have : (f : TypeFlag) (ms : Members) → ((k : ℕ) → AtPlace (λ k p. HasFlag f p.of_type) (member_list ms) k) → AllHave f ms
 each_have f no_members h = tt
-each_have f (member t b o ms) h = (let here : Part = record { of_type = t; binding = b; offset = o } in h 0 here refl, each_have f ms (λ k. h (suc k)))
+each_have f (member t b o ms) h = (let here : TreeMember = record { of_type = t; binding = b; offset = o } in h 0 here refl, each_have f ms (λ k. h (suc k)))
 
 all_flags : (f : TypeFlag) → Has 255 (bit f)
 all_flags = by_flags (λ f. Has 255 (bit f)) refl refl refl refl refl refl refl refl
@@ -43,7 +43,7 @@ pub common_none : (c : TypeContext) (ms : List PlainMember) (set : TypeFlags) (p
 common_none c ms set place is first = record { each = λ f. ((λ _. below_none (λ k p. HasFlag f p.of_type) (parts_in c ms) place first), (λ _. subst (λ s. Has s (bit f)) (sym is) (all_flags f))) }
 
 -- what stood before a place, where it occurs before the next
-earlier : (P : ℕ → Part → Type 0) (ps : List Part) (place : ℕ) → Below P ps (place + 1) → Below P ps place
+earlier : (P : ℕ → TreeMember → Type 0) (ps : List TreeMember) (place : ℕ) → Below P ps (place + 1) → Below P ps place
 earlier P ps place b = record { each = λ k lt. b.each k (omega arith) }
 
 pub common_more : (c : TypeContext) (ms : List PlainMember) (set new : TypeFlags) (place : ℕ) (placed : Placed) → CommonBelow c ms set place → IsPlaced c ms place placed
@@ -54,7 +54,7 @@ common_more c ms set new place placed common at is = record {
       let here = at.told.facts.info.flags f in (
         (λ h. let hs = two.0 (subst (λ s. Has s (bit f)) is h) in
             below_more (λ k p. HasFlag f p.of_type) (parts_in c ms) place ((common.each f).0 hs.0)
-            (λ p e. let same : part_of (tree_in c) at.m ≡ p = (let a = at.part in let b = e in cc) in subst (λ (x : Part). HasFlag f x.of_type) same (here.0 hs.1))),
+            (λ p e. let same : part_of (tree_in c) at.m ≡ p = (let a = at.part in let b = e in cc) in subst (λ (x : TreeMember). HasFlag f x.of_type) same (here.0 hs.1))),
         (λ b. subst (λ s. Has s (bit f)) (sym is)
             (two.1 ((common.each f).1 (earlier (λ k p. HasFlag f p.of_type) (parts_in c ms) place b), here.1 (b.each place (omega arith) (part_of (tree_in c) at.m) at.part)))),
       );
@@ -71,22 +71,22 @@ common_all c ms set place common all = record {
 -- ---- order
 
 pub follows_none : (c : TypeContext) (ms : List PlainMember) (place : ℕ) → place ≡ 0 → AtPlace (Follows (parts_in c ms)) (parts_in c ms) place
-follows_none c ms place first p e = subst (λ k. IfSome (before (parts_in c ms) k) (λ a. end_of a ≤ p.offset)) (sym first) tt
+follows_none c ms place first p e = subst (λ k. IfSome (item_before (parts_in c ms) k) (λ a. end_of a ≤ p.offset)) (sym first) tt
 
 pub follows_some : (c : TypeContext) (ms : List PlainMember) (place end : ℕ) (here last : Placed) (r : Bool) → IsPlaced c ms place here → IsBefore c ms place last
     → end ≡ last.offset + last.facts.size → IsTrue r ↔ (end ≤ here.offset) → IsTrue r ↔ AtPlace (Follows (parts_in c ms)) (parts_in c ms) place
 follows_some c ms place end here last r at behind is tells =
     let ends : end ≡ end_of (part_of (tree_in c) behind.m) = is ∙ (λ i. behind.told.begins i + behind.told.facts.bytes i) in
-    let q : Part = part_of (tree_in c) at.m in (
+    let q : TreeMember = part_of (tree_in c) at.m in (
       (λ h p e. let same : q ≡ p = (let a = at.part in let b = e in cc) in
-          subst (λ (x : Part). Follows (parts_in c ms) place x) same
+          subst (λ (x : TreeMember). Follows (parts_in c ms) place x) same
           (subst (λ o. IfSome o (λ a. end_of a ≤ q.offset)) (sym behind.part) (subst (λ n. n ≤ q.offset) ends (subst (λ n. end ≤ n) at.told.begins (tells.0 h))))),
       (λ h. tells.1 (subst (λ n. end ≤ n) (sym at.told.begins) (subst (λ n. n ≤ q.offset) (sym ends) (subst (λ o. IfSome o (λ a. end_of a ≤ q.offset)) behind.part (h q at.part))))),
     )
 
 -- ---- sources
 
-to_blend : (tree : ℕ → Tree) (ms : List PlainMember) → HasSource ms → HasBlendSource (listed (members_by tree ms))
+to_blend : (tree : ℕ → Tree) (ms : List PlainMember) → HasSource ms → HasBlendSource (member_list (members_by tree ms))
 to_blend tree ms has = let m = found ms has.0 has.1 has.2 in (has.0, part_of tree m.0, part_at tree ms has.0 m.0 m.1, subst IsSome (sym m.2) refl)
   where
     found : (ms : List PlainMember) (k source : ℕ) → source_at ms k ≡ Some source → (m : PlainMember) × (slice_get ms k ≡ Some m) × (blend_source m.binding ≡ Some source)
@@ -98,18 +98,18 @@ some_source : (o : Option ℕ) → IsSome o → (x : ℕ) × (o ≡ Some x)
 some_source None h = absurd (true≢false (sym h))
 some_source (Some x) h = (x, refl)
 
-from_blend : (tree : ℕ → Tree) (ms : List PlainMember) → HasBlendSource (listed (members_by tree ms)) → HasSource ms
+from_blend : (tree : ℕ → Tree) (ms : List PlainMember) → HasBlendSource (member_list (members_by tree ms)) → HasSource ms
 from_blend tree ms has = let s = source ms has.0 has.1 has.2 has.3 in (has.0, s.0, s.1)
   where
-    source : (ms : List PlainMember) (k : ℕ) (p : Part) → slice_get (listed (members_by tree ms)) k ≡ Some p → IsSome (blend_source p.binding) → (x : ℕ) × (source_at ms k ≡ Some x)
+    source : (ms : List PlainMember) (k : ℕ) (p : TreeMember) → slice_get (member_list (members_by tree ms)) k ≡ Some p → IsSome (blend_source p.binding) → (x : ℕ) × (source_at ms k ≡ Some x)
     source [] k p e h = cc
-    source (m ∷ ms) zero p e h = let same : p ≡ part_of tree m = cc in some_source (blend_source m.binding) (subst (λ (x : Part). IsSome (blend_source x.binding)) same h)
+    source (m ∷ ms) zero p e h = let same : p ≡ part_of tree m = cc in some_source (blend_source m.binding) (subst (λ (x : TreeMember). IsSome (blend_source x.binding)) same h)
     source (m ∷ ms) (suc k) p e h = source ms k p e h
 
 -- ---- structs
 
 abbrev ForStruct : ℕ → (tree : ℕ → Tree) → List PlainMember → TypeFlag → Type 0
-ForStruct set tree ms f = Has set (bit f) ↔ StructHas f (AllHave f (members_by tree ms)) (listed (members_by tree ms))
+ForStruct set tree ms f = Has set (bit f) ↔ StructHas f (AllHave f (members_by tree ms)) (member_list (members_by tree ms))
 
 pub struct_are : (c : TypeContext) (ms : List PlainMember) (common : TypeFlags) (kept : ℕ) (new : TypeFlags) (in_order blended : Bool) → AreCommon c ms common → IsTrue in_order ↔ IsInOrder (parts_in c ms)
     → AreKept common.0 in_order kept → IsTrue blended ↔ HasSource ms → AreShared kept blended new.0 → (span : ℕ) → AreFlags new (struct (members_by (tree_in c) ms) span)

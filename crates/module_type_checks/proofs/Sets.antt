@@ -6,7 +6,7 @@ use Rattle.ir_flags.proofs.SetLaws.{within-union_right, within-intersection, wit
 use Rattle.ir_flags.specs.Sets.{Has}
 use Rattle.ir_types.specs.declared.types.ArraySize.TheVariants as count
 use Rattle.module_type_checks.specs.Sets.{AreOf, HostIf, AreKept, IoIs, AreShared}
-use Rattle.typing_layout.specs.judged.Flags.{TypeFlag, bit, among, Data, Sized, Copy, IoShareable, HostShareable, CreationResolved, Argument, Constructible, value_flags, shareable_flags, number_flags, atomic_flags, far_pointer_flags, own_pointer_flags, resource_flags, query_flags, binding_array_flags, array_flags}
+use Rattle.typing_layout.specs.judged.Flags.{TypeFlag, bit, among, Data, Sized, Copy, IoShareable, HostShareable, CreationResolved, Argument, Constructible, value_flags, shareable_flags, number_flags, atomic_flags, shared_pointer_flags, invocation_pointer_flags, resource_flags, query_flags, binding_array_flags, array_flags}
 
 pub by_flags : (P : TypeFlag → Type 0) → P Data → P Sized → P Copy → P IoShareable → P HostShareable → P CreationResolved → P Argument → P Constructible → (f : TypeFlag) → P f
 by_flags P a b c d e g h i Data = a
@@ -41,11 +41,11 @@ number_set = are_of 255 number_flags (by_flags (Agree 255 number_flags) refl ref
 pub atomic_set : AreOf 51 atomic_flags
 atomic_set = are_of 51 atomic_flags (by_flags (Agree 51 atomic_flags) refl refl refl refl refl refl refl refl)
 
-pub far_set : AreOf 38 far_pointer_flags
-far_set = are_of 38 far_pointer_flags (by_flags (Agree 38 far_pointer_flags) refl refl refl refl refl refl refl refl)
+pub far_set : AreOf 38 shared_pointer_flags
+far_set = are_of 38 shared_pointer_flags (by_flags (Agree 38 shared_pointer_flags) refl refl refl refl refl refl refl refl)
 
-pub own_set : AreOf 102 own_pointer_flags
-own_set = are_of 102 own_pointer_flags (by_flags (Agree 102 own_pointer_flags) refl refl refl refl refl refl refl refl)
+pub own_set : AreOf 102 invocation_pointer_flags
+own_set = are_of 102 invocation_pointer_flags (by_flags (Agree 102 invocation_pointer_flags) refl refl refl refl refl refl refl refl)
 
 pub resource_set : AreOf 96 resource_flags
 resource_set = are_of 96 resource_flags (by_flags (Agree 96 resource_flags) refl refl refl refl refl refl refl refl)

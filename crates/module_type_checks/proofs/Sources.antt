@@ -2,13 +2,13 @@
 use Rattle.std.proofs.Common.{◌≡◌, ◌≢◌, ◌<◌, ◌≤◌, ◌+◌, ◌⊎◌, inl, inr, ℕ, zero, suc, List, [], ◌∷◌, Option, Some, None, All, Result, Ok, Err, MatchOption, MatchResult, map, length, slice_get, get_or, option_and_then, refl, sym, ap, subst, ◌∙◌, arith, rules}
 use Rattle.ir_types.specs.judged.Plain.{PlainMember, member_view}
 use Rattle.ir_types.specs.declared.types.StructMember.{StructMember}
-use Rattle.typing_layout.specs.judged.Blends.{source_at, HasSource, LocationOK, BlendOK}
+use Rattle.typing_layout.specs.judged.Blends.{source_at, HasSource, BlendLocationOK, BlendOK}
 use Rattle.typing_layout.specs.judged.Flags.{blend_source}
 use Rattle.module_type_checks.specs.Blends.{AreLocated, IsLocationFaultIn, IsSoleBelow, IsSole, IsOnlyType, IsCollision, PairOK, IsPairFault, SourcesOK}
 use Rattle.typing_layout.specs.found.BlendFaults.{IsTwice, IsAbsent, IsAlone, IsSource, IsVaryingFault}
 use Rattle.ir_flags.specs.Sets.{Has}
 use Rattle.ir_flags.specs.declared.settings.TheConstants.Capabilities.{DUAL_SOURCE_BLENDING}
-use Rattle.typing_layout.specs.judged.Blends.{location_of}
+use Rattle.typing_layout.specs.judged.Blends.{binding_location}
 use Rattle.ir_kinds.specs.declared.bindings.Binding.{Binding}
 use Rattle.ir_kinds.specs.declared.bindings.Binding.TheVariants as bound
 use Rattle.module_type_checks.specs.Known.{types_in}
@@ -82,13 +82,13 @@ sole_all ms source (Some j) place before all = (source_within (map member_view m
 -- ---- locations
 
 pub record LocatedBelow (ms : List PlainMember) (place : ℕ) : Type 0 where
-  pub each : (k : ℕ) (m : PlainMember) → k < place → slice_get ms k ≡ Some m → LocationOK m
+  pub each : (k : ℕ) (m : PlainMember) → k < place → slice_get ms k ≡ Some m → BlendLocationOK m
 
-pub located_more : (ms : List PlainMember) (place : ℕ) (m : PlainMember) → LocatedBelow ms place → slice_get ms place ≡ Some m → LocationOK m → LocatedBelow ms (place + 1)
+pub located_more : (ms : List PlainMember) (place : ℕ) (m : PlainMember) → LocatedBelow ms place → slice_get ms place ≡ Some m → BlendLocationOK m → LocatedBelow ms (place + 1)
 located_more ms place m before at ok = record { each = λ k x lt e. elim (below_or_same k place lt) [ inl less ↦ before.each k x less e | inr same ↦ last k x same e ] }
   where
-    last : (k : ℕ) (x : PlainMember) → k ≡ place → slice_get ms k ≡ Some x → LocationOK x
-    last k x same e = let q : m ≡ x = (let a = at in let b = e in let c = same in cc) in subst LocationOK q ok
+    last : (k : ℕ) (x : PlainMember) → k ≡ place → slice_get ms k ≡ Some x → BlendLocationOK x
+    last k x same e = let q : m ≡ x = (let a = at in let b = e in let c = same in cc) in subst BlendLocationOK q ok
 
 member_within : (ms : List PlainMember) (k : ℕ) (m : PlainMember) → slice_get ms k ≡ Some m → k < length ms
 member_within [] k m e = cc
@@ -104,7 +104,7 @@ plain_here ms k m lt is = plain_at ms k m lt ∙ ap (λ x. Some (member_view x))
 -- ---- the whole
 
 -- a source has a location
-located_source : (b : Option Binding) (source : ℕ) → blend_source b ≡ Some source → (location : ℕ) × (location_of b ≡ Some location)
+located_source : (b : Option Binding) (source : ℕ) → blend_source b ≡ Some source → (location : ℕ) × (binding_location b ≡ Some location)
 located_source None source e = cc
 located_source (Some (bound.BuiltIn built_in)) source e = cc
 located_source (Some (bound.Location location interpolation sampling s per_primitive)) source e = (location, refl)
@@ -112,7 +112,7 @@ located_source (Some (bound.Location location interpolation sampling s per_primi
 some_is : (x y : ℕ) → Some x ≡ Some y → x ≡ y
 some_is x y e = cc
 
-one_of_two : (m : PlainMember) (source : ℕ) → LocationOK m → blend_source m.binding ≡ Some source → (source ≡ 0) ⊎ (source ≡ 1)
+one_of_two : (m : PlainMember) (source : ℕ) → BlendLocationOK m → blend_source m.binding ≡ Some source → (source ≡ 0) ⊎ (source ≡ 1)
 one_of_two m source ok is =
     let at = located_source m.binding source is in
     elim ((ok at.0 at.1).1) [ inl e ↦ inl (some_is source 0 (sym is ∙ e)) | inr e ↦ inr (some_is source 1 (sym is ∙ e)) ]

@@ -1,7 +1,7 @@
 -- Sources of a blend, step by step.
 use Rattle.std.specs.Prelude.{◌≡◌, ◌≢◌, ◌⊎◌, ◌<◌, ℕ, List, Option, Some, None, length, slice_get}
 use Rattle.ir_types.specs.judged.Plain.{PlainMember}
-use Rattle.typing_layout.specs.judged.Blends.{location_of, source_at, LocationOK, IsOnlySource}
+use Rattle.typing_layout.specs.judged.Blends.{binding_location, source_at, BlendLocationOK, IsOnlySource}
 use Rattle.typing_layout.specs.judged.Flags.{HasFlag, IoShareable, blend_source}
 use Rattle.module_type_checks.specs.Known.{types_in, tree_in}
 use Rattle.module_type_checks.specs.declared.context.TypeContext.{TypeContext}
@@ -12,12 +12,12 @@ use Rattle.typing_forms.specs.judged.Resolutions.{inner_at}
 
 abbrev pub IsLocationFault : PlainMember → VaryingError → Type 0
 IsLocationFault m (varying.InvalidBlendSrcIndex location source) =
-    (location_of m.binding ≡ Some location) × (blend_source m.binding ≡ Some source) × ((location ≢ 0) ⊎ ((source ≢ 0) × (source ≢ 1)))
-IsLocationFault m (varying.InvalidBlendSrcWithOtherBindings location) = (location_of m.binding ≡ Some location) × (blend_source m.binding ≡ None)
+    (binding_location m.binding ≡ Some location) × (blend_source m.binding ≡ Some source) × ((location ≢ 0) ⊎ ((source ≢ 0) × (source ≢ 1)))
+IsLocationFault m (varying.InvalidBlendSrcWithOtherBindings location) = (binding_location m.binding ≡ Some location) × (blend_source m.binding ≡ None)
 IsLocationFault m _ = ⊥
 
 abbrev pub AreLocated : List PlainMember → Type 0
-AreLocated members = (place : ℕ) (m : PlainMember) → slice_get members place ≡ Some m → LocationOK m
+AreLocated members = (place : ℕ) (m : PlainMember) → slice_get members place ≡ Some m → BlendLocationOK m
 
 pub record IsLocationFaultIn (members : List PlainMember) (e : VaryingError) : Type 0 where
   pub place : ℕ

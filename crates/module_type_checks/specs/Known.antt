@@ -2,7 +2,7 @@
 use Rattle.std.specs.Prelude.{◌≡◌, ◌≤◌, ℕ, List, Some, length, slice_get, if◌then◌else◌}
 use Rattle.ir_types.specs.judged.Plain.{PlainType}
 use Rattle.typing_layout.specs.judged.Buffers.{uniform_alignment, free_after}
-use Rattle.typing_layout.specs.judged.Parts.{Part, end_of}
+use Rattle.typing_layout.specs.judged.Parts.{TreeMember, end_of}
 use Rattle.typing_layout.specs.judged.Layout.{size, alignment}
 use Rattle.typing_layout.specs.judged.Tree.{Tree}
 use Rattle.typing_layout.specs.judged.View.{type_tree}
@@ -37,5 +37,5 @@ pub record AreFacts (c : TypeContext) (t : Tree) (f : Facts) : Type 0 where
   pub bytes : f.size ≡ size t
   pub aligned : f.alignment ≡ alignment t
   pub uniform : f.uniform_alignment ≡ uniform_alignment t
-  pub behind : (p : Part) → free_after p t ≡ (if f.is_struct then rounded_up 16 (end_of p) else 0)
+  pub behind : (p : TreeMember) → free_after p t ≡ (if f.is_struct then rounded_up 16 (end_of p) else 0)
   pub info : HasInfo (types_in c) t f.info

@@ -1,7 +1,7 @@
 -- Members at their places.
 use Rattle.std.specs.Prelude.{◌≡◌, ◌<◌, ℕ, List, Option, Some, None, slice_get}
 use Rattle.ir_types.specs.judged.Plain.{PlainMember}
-use Rattle.typing_layout.specs.judged.Parts.{Part, listed, before, end_of}
+use Rattle.typing_layout.specs.judged.Parts.{TreeMember, member_list, item_before, end_of}
 use Rattle.typing_layout.specs.judged.Structs.{MemberOK}
 use Rattle.typing_layout.specs.judged.Tree.{Tree}
 use Rattle.typing_layout.specs.judged.View.{members_by}
@@ -9,11 +9,11 @@ use Rattle.module_type_checks.specs.Known.{tree_in, AreFacts}
 use Rattle.module_type_checks.specs.declared.context.TypeContext.{TypeContext}
 use Rattle.module_type_checks.specs.declared.members.Placed.{Placed}
 
-abbrev pub parts_in : TypeContext → List PlainMember → List Part
-parts_in c members = listed (members_by (tree_in c) members)
+abbrev pub parts_in : TypeContext → List PlainMember → List TreeMember
+parts_in c members = member_list (members_by (tree_in c) members)
 
 -- a member with the tree of its type
-abbrev pub part_of : (tree : ℕ → Tree) → PlainMember → Part
+abbrev pub part_of : (tree : ℕ → Tree) → PlainMember → TreeMember
 part_of tree m = record { of_type = tree m.ty; binding = m.binding; offset = m.offset }
 
 -- what is reported of a member
@@ -32,21 +32,21 @@ pub record IsPlaced (c : TypeContext) (members : List PlainMember) (place : ℕ)
 -- what is reported of the member before a place
 pub record IsBefore (c : TypeContext) (members : List PlainMember) (place : ℕ) (placed : Placed) : Type 0 where
   pub m : PlainMember
-  pub at : before members place ≡ Some m
-  pub part : before (parts_in c members) place ≡ Some (part_of (tree_in c) m)
+  pub at : item_before members place ≡ Some m
+  pub part : item_before (parts_in c members) place ≡ Some (part_of (tree_in c) m)
   pub told : IsReported c m placed
 
 -- where it ends, and 0 where there is none
-abbrev pub end_after : Option Part → ℕ
+abbrev pub end_after : Option TreeMember → ℕ
 end_after None = 0
 end_after (Some p) = end_of p
 
 -- P holds of whatever stands at a place
-abbrev pub AtPlace : (P : ℕ → Part → Type 0) → List Part → (place : ℕ) → Type 0
-AtPlace P ps place = (p : Part) → slice_get ps place ≡ Some p → P place p
+abbrev pub AtPlace : (P : ℕ → TreeMember → Type 0) → List TreeMember → (place : ℕ) → Type 0
+AtPlace P ps place = (p : TreeMember) → slice_get ps place ≡ Some p → P place p
 
 -- P holds of whatever stands before a place
-pub record Below (P : ℕ → Part → Type 0) (ps : List Part) (place : ℕ) : Type 0 where
+pub record Below (P : ℕ → TreeMember → Type 0) (ps : List TreeMember) (place : ℕ) : Type 0 where
   pub each : (k : ℕ) → k < place → AtPlace P ps k
 
 -- the member may stand at its place

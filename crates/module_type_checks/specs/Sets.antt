@@ -3,7 +3,7 @@ use Rattle.std.specs.Prelude.{◌↔◌, ◌≤◌, ℕ, List, Bool, IsTrue, IfS
 use Rattle.ir_flags.specs.Sets.{Has}
 use Rattle.ir_types.specs.judged.Plain.{PlainMember}
 use Rattle.typing_layout.specs.judged.Flags.{TypeFlag, bit, among, HasFlag, AllHave, Data, Sized, Copy, IoShareable, HostShareable, CreationResolved, Argument, Constructible}
-use Rattle.typing_layout.specs.judged.Parts.{Part, before, end_of}
+use Rattle.typing_layout.specs.judged.Parts.{TreeMember, item_before, end_of}
 use Rattle.typing_layout.specs.judged.View.{members_by}
 use Rattle.module_type_checks.specs.Known.{tree_in}
 use Rattle.module_type_checks.specs.Placed.{parts_in, Below}
@@ -51,5 +51,5 @@ pub record CommonBelow (c : TypeContext) (members : List PlainMember) (set : Typ
   pub each : (f : TypeFlag) → Has set.0 (bit f) ↔ Below (λ k p. HasFlag f p.of_type) (parts_in c members) place
 
 -- a member begins where the one before ends, or later
-abbrev pub Follows : List Part → (place : ℕ) → Part → Type 0
-Follows ps place p = IfSome (before ps place) (λ a. end_of a ≤ p.offset)
+abbrev pub Follows : List TreeMember → (place : ℕ) → TreeMember → Type 0
+Follows ps place p = IfSome (item_before ps place) (λ a. end_of a ≤ p.offset)

@@ -2,7 +2,7 @@
 
 ghost use Rattle.std.specs.Prelude.{◌≡◌, ◌<◌, ◌+◌, ◌↔◌, Some, None, IsTrue, All, length, map, MatchOption, MatchResult};
 ghost use Rattle.ir_types.specs.judged.Plain.{inner_view, member_view};
-ghost use Rattle.typing_layout.specs.judged.Blends.{HasSource, LocationOK, BlendOK, location_of};
+ghost use Rattle.typing_layout.specs.judged.Blends.{HasSource, BlendLocationOK, BlendOK, binding_location};
 ghost use Rattle.typing_layout.specs.judged.Flags.{HasFlag, IoShareable, blend_source};
 ghost use Rattle.module_type_checks.specs.Blends.{AreLocated, IsLocationFault, IsLocationFaultIn, IsSole, IsSoleBelow, IsCollision, IsOnlyType, PairOK, IsPairFault, SourcesOK};
 ghost use Rattle.module_type_checks.specs.Known.{IsKnown, types_in, tree_in};
@@ -18,7 +18,7 @@ use typing_layout::{TypeError, TypeFlags, VaryingError};
 
 // The location of a member, if it has one.
 const fn location_of(binding: Option<Binding>) -> Option<u32>
-    ensures { result ≡ location_of binding }
+    ensures { result ≡ binding_location binding }
 {
     match binding {
         Some(Binding::Location { location, .. }) => Some(location),
@@ -50,7 +50,7 @@ pub fn has_source(members: &[StructMember]) -> bool
 
 // Whether a member has no location, or is a source of a blend at location 0.
 fn check_location(member: &StructMember) -> Result<(), VaryingError>
-    ensures { MatchResult result (λ _. LocationOK (member_view member.now)) (IsLocationFault (member_view member.now)) }
+    ensures { MatchResult result (λ _. BlendLocationOK (member_view member.now)) (IsLocationFault (member_view member.now)) }
 {
     let Some(location) = location_of(member.binding) else {
         return Ok(());

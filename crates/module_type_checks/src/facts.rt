@@ -3,7 +3,7 @@
 ghost use Rattle.std.specs.Prelude.{◌≡◌, ◌<◌, ℕ, Some, length, max, if◌then◌else◌};
 ghost use Rattle.ir_types.specs.judged.Plain.{inner_view};
 ghost use Rattle.typing_layout.specs.judged.Buffers.{uniform_alignment, free_after};
-ghost use Rattle.typing_layout.specs.judged.Parts.{Part, end_of};
+ghost use Rattle.typing_layout.specs.judged.Parts.{TreeMember, end_of};
 ghost use Rattle.typing_layout.specs.judged.Layout.{alignment};
 ghost use Rattle.typing_layout.specs.judged.Tree.{Tree};
 ghost use Rattle.typing_layout.specs.judged.View.{tree_by};
@@ -42,7 +42,7 @@ pub fn type_at(types: &UniqueArena<IrType, key::IrType>, ty: Handle<key::IrType>
 
 // Whether a type is a struct, so that what follows keeps away.
 fn is_struct(inner: &TypeInner) -> bool
-    ensures { (tree : ℕ → Tree) (p : Part)
+    ensures { (tree : ℕ → Tree) (p : TreeMember)
         → free_after p (tree_by tree (inner_view inner.now)) ≡ (if result then rounded_up 16 (end_of p) else 0) }
 {
     match *inner {

@@ -1,7 +1,7 @@
 //! Which images, and what traces rays, there are.
 
 ghost use Rattle.std.specs.Prelude.{MatchResult};
-ghost use Rattle.typing_layout.specs.judged.Images.{ImageOK, VerticesOK, StructureOK, QueryOK};
+ghost use Rattle.typing_layout.specs.judged.Images.{ImageOK, VertexReturnOK, AccelerationStructureOK, RayQueryTypeOK};
 ghost use Rattle.module_type_checks.specs.Images.{IsVerticesFault};
 ghost use Rattle.typing_layout.specs.found.Faults.{IsImageFault, IsStructureFault, IsQueryFault};
 
@@ -66,7 +66,7 @@ pub(crate) fn check_image(
 
 // Whether the vertices of a hit can be had, where they are required.
 fn check_vertices(capabilities: Capabilities, vertex_return: bool) -> Result<(), TypeError>
-    ensures { MatchResult result (λ _. VerticesOK capabilities vertex_return) (IsVerticesFault capabilities vertex_return) }
+    ensures { MatchResult result (λ _. VertexReturnOK capabilities vertex_return) (IsVerticesFault capabilities vertex_return) }
 {
     if vertex_return && !capabilities.contains(Capabilities::RAY_HIT_VERTEX_POSITION) {
         return Err(TypeError::MissingCapability(Capabilities::RAY_HIT_VERTEX_POSITION));
@@ -79,7 +79,7 @@ pub(crate) fn check_structure(
     capabilities: Capabilities,
     vertex_return: bool,
 ) -> Result<(), TypeError>
-    ensures { MatchResult result (λ _. StructureOK capabilities vertex_return) (IsStructureFault capabilities vertex_return) }
+    ensures { MatchResult result (λ _. AccelerationStructureOK capabilities vertex_return) (IsStructureFault capabilities vertex_return) }
 {
     if !capabilities.contains(Capabilities::RAY_QUERY)
         && !capabilities.contains(Capabilities::RAY_TRACING_PIPELINE)
@@ -91,7 +91,7 @@ pub(crate) fn check_structure(
 
 /// Whether there is a ray query.
 pub(crate) fn check_query(capabilities: Capabilities, vertex_return: bool) -> Result<(), TypeError>
-    ensures { MatchResult result (λ _. QueryOK capabilities vertex_return) (IsQueryFault capabilities vertex_return) }
+    ensures { MatchResult result (λ _. RayQueryTypeOK capabilities vertex_return) (IsQueryFault capabilities vertex_return) }
 {
     if !capabilities.contains(Capabilities::RAY_QUERY) {
         return Err(TypeError::MissingCapability(Capabilities::RAY_QUERY));

@@ -3,7 +3,7 @@
 ghost use Rattle.std.specs.Prelude.{◌≡◌, ◌<◌, ◌≤◌, ◌+◌, ◌⊎◌, ℕ, suc, All, length, map, MatchOption, MatchResult};
 ghost use Rattle.typing_layout.specs.judged.Flags.{HasFlag, Sized};
 ghost use Rattle.ir_types.specs.judged.Plain.{member_view};
-ghost use Rattle.typing_layout.specs.judged.Parts.{before};
+ghost use Rattle.typing_layout.specs.judged.Parts.{item_before};
 ghost use Rattle.typing_layout.specs.judged.Structs.{StructOK};
 ghost use Rattle.module_type_checks.specs.Known.{IsKnown, types_in, tree_in};
 ghost use Rattle.module_type_checks.specs.Placed.{parts_in, IsPlaced, IsBefore, end_after, PlacedOK};
@@ -102,7 +102,7 @@ fn check_ordered(
     requires within { place < length members.now }
     requires placed { IsPlaced context.now (map member_view members.now) place member }
     ensures { (span : ℕ) → MatchResult result
-        (λ _. (member.offset ≡ 0) ⊎ (end_after (before (parts_in context.now (map member_view members.now)) place) ≤ member.offset))
+        (λ _. (member.offset ≡ 0) ⊎ (end_after (item_before (parts_in context.now (map member_view members.now)) place) ≤ member.offset))
         (IsStructFault (types_in context.now) (map member_view members.now) span) }
 {
     if member.offset == 0 {

@@ -4,7 +4,7 @@ ghost use Rattle.std.specs.Prelude.{◌≡◌, ◌<◌, ◌↔◌, ℕ, IsTrue, 
 ghost use Rattle.ir_flags.specs.Sets.{Has};
 ghost use Rattle.ir_types.specs.judged.Plain.{inner_view};
 ghost use Rattle.typing_layout.specs.judged.Flags.{HasFlag, Data, Sized};
-ghost use Rattle.typing_layout.specs.judged.Rules.{IsStorageSpace, PointerOK, ArrayOK, BindingArrayOK, IsKnownCount, IsBound};
+ghost use Rattle.typing_layout.specs.judged.Rules.{IsStorageSpace, PointerOK, ArrayOK, BindingArrayOK, CountIsResolved, IsBindingArrayBase};
 ghost use Rattle.typing_layout.specs.judged.Tree.{Tree};
 ghost use Rattle.typing_layout.specs.judged.View.{tree_by};
 ghost use Rattle.module_type_checks.specs.Known.{IsKnown, tree_in, types_in};
@@ -74,7 +74,7 @@ pub(crate) fn check_pointer(
 
 // Whether how many elements there are is known once overrides are resolved, if they are.
 const fn is_known_count(resolved: bool, size: ArraySize) -> bool
-    ensures { IsTrue result ↔ IsKnownCount resolved size }
+    ensures { IsTrue result ↔ CountIsResolved resolved size }
 {
     match size {
         ArraySize::Constant(_) | ArraySize::Dynamic => true,
@@ -106,7 +106,7 @@ pub(crate) fn check_array(
 
 // Whether a type stands in binding arrays.
 fn is_bound(inner: &TypeInner) -> bool
-    ensures { (tree : ℕ → Tree) → IsTrue result ↔ IsBound (tree_by tree (inner_view inner.now)) }
+    ensures { (tree : ℕ → Tree) → IsTrue result ↔ IsBindingArrayBase (tree_by tree (inner_view inner.now)) }
 {
     match *inner {
         TypeInner::Struct { .. }
@@ -130,7 +130,7 @@ fn is_bound(inner: &TypeInner) -> bool
 fn is_in_array(context: &TypeContext<'_>, base: Handle<key::IrType>) -> bool
     requires known { IsKnown context.now }
     requires before { base < length context.now.infos.now }
-    ensures { IsTrue result ↔ IsBound (tree_in context.now base) }
+    ensures { IsTrue result ↔ IsBindingArrayBase (tree_in context.now base) }
 {
     is_bound(type_at(context.types, base))
 }

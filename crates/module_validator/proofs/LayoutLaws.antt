@@ -6,11 +6,11 @@ use Rattle.ir_types.specs.declared.types.ArraySize.{ArraySize}
 use Rattle.ir_types.specs.declared.types.ArraySize.TheVariants.{Constant, Pending, Dynamic}
 use Rattle.module_validator.proofs.Inside.{everywhere_in, somewhere_struct, somewhere_here}
 use Rattle.module_validator.specs.Layouts.{IsStructOf, IsStructAt, IsArrayAt, StoragePart, UniformPart, FitsAt, free_before, IsUniformAlignment}
-use Rattle.typing_layout.specs.judged.Buffers.{StorageAt, IsStorage, UniformAt, IsUniform, uniform_alignment, free_after}
+use Rattle.typing_layout.specs.judged.Buffers.{StorageAt, FitsStorageBuffer, UniformAt, FitsUniformBuffer, uniform_alignment, free_after}
 use Rattle.typing_layout.specs.judged.Flags.{HasFlag, HostShareable}
-use Rattle.typing_layout.specs.judged.Immediates.{ImmediateAt, FitsImmediates, scalar_of}
-use Rattle.typing_layout.specs.judged.Parts.{Part, before, end_of, Somewhere}
-use Rattle.typing_layout.specs.judged.Layout.{alignment}
+use Rattle.typing_layout.specs.judged.Immediates.{ImmediateAt, FitsImmediates}
+use Rattle.typing_layout.specs.judged.Parts.{TreeMember, item_before, end_of, Somewhere}
+use Rattle.typing_layout.specs.judged.Layout.{alignment, tree_scalar}
 use Rattle.typing_layout.specs.judged.Tree.{Tree, array}
 use Rattle.typing_layout.specs.judged.View.{members_by}
 use Rattle.module_type_checks.specs.Known.{types_in, tree_in}
@@ -56,16 +56,16 @@ bad_span c ms span handle a own asked broken = record { members = members_by (tr
 
 -- ---- storage
 
-pub storage_part : (c : TypeContext) (ms : List PlainMember) (place a : ℕ) (placed : Placed) (at : IsPlaced c ms place placed) → IsStorage (tree_in c at.m.ty) × (a ≡ alignment (tree_in c at.m.ty)) → a ∣ placed.offset
+pub storage_part : (c : TypeContext) (ms : List PlainMember) (place a : ℕ) (placed : Placed) (at : IsPlaced c ms place placed) → FitsStorageBuffer (tree_in c at.m.ty) × (a ≡ alignment (tree_in c at.m.ty)) → a ∣ placed.offset
     → AtPlace StoragePart (parts_in c ms) place
 storage_part c ms place a placed at laid d p e =
     let same : part_of (tree_in c) at.m ≡ p = (let x = at.part in let y = e in cc) in
     subst (StoragePart place) same (laid.0, subst (λ n. n ∣ at.m.offset) laid.1 (subst (λ n. a ∣ n) at.told.begins d))
 
 pub storage_struct : (c : TypeContext) (ms : List PlainMember) (span handle : ℕ) → IsStructOf c ms span handle → HasFlag HostShareable (tree_in c handle) → ((k : ℕ) → AtPlace StoragePart (parts_in c ms) k)
-    → alignment (tree_in c handle) ∣ span → IsStorage (tree_in c handle)
+    → alignment (tree_in c handle) ∣ span → FitsStorageBuffer (tree_in c handle)
 storage_struct c ms span handle own host each d =
-    subst IsStorage (sym own.is) (
+    subst FitsStorageBuffer (sym own.is) (
       subst (HasFlag HostShareable) own.is host,
       (((λ k p e. (each k p e).1), subst (λ x. alignment x ∣ span) own.is d), everywhere_in StorageAt (members_by (tree_in c) ms) (λ k p e. (each k p e).0.1)),
     )
@@ -75,10 +75,10 @@ array_host base (Constant n) stride h = (h, refl)
 array_host base (Pending override) stride h = (h, refl)
 array_host base Dynamic stride h = (h, refl)
 
-pub storage_array : (c : TypeContext) (f : Facts) (stride handle a : ℕ) (own : IsArrayAt c f stride handle) → IsStorage own.base × (a ≡ alignment own.base) → a ∣ stride
-    → IsStorage (tree_in c handle) × (a ≡ alignment (tree_in c handle))
+pub storage_array : (c : TypeContext) (f : Facts) (stride handle a : ℕ) (own : IsArrayAt c f stride handle) → FitsStorageBuffer own.base × (a ≡ alignment own.base) → a ∣ stride
+    → FitsStorageBuffer (tree_in c handle) × (a ≡ alignment (tree_in c handle))
 storage_array c f stride handle a own laid d = (
-  subst IsStorage (sym own.is) (array_host own.base own.count stride laid.0.0, (subst (λ n. n ∣ stride) laid.1 d, laid.0.1)),
+  subst FitsStorageBuffer (sym own.is) (array_host own.base own.count stride laid.0.0, (subst (λ n. n ∣ stride) laid.1 d, laid.0.1)),
   laid.1 ∙ ap alignment (sym own.is),
 )
 
@@ -91,33 +91,33 @@ bad_stride asks c f stride handle a own asked broken = record { base = own.base;
 
 -- ---- uniform
 
-pub uniform_of_placed : (c : TypeContext) (ms : List PlainMember) (place a : ℕ) (placed : Placed) (at : IsPlaced c ms place placed) → IsUniform (tree_in c at.m.ty) × (a ≡ uniform_alignment (tree_in c at.m.ty))
+pub uniform_of_placed : (c : TypeContext) (ms : List PlainMember) (place a : ℕ) (placed : Placed) (at : IsPlaced c ms place placed) → FitsUniformBuffer (tree_in c at.m.ty) × (a ≡ uniform_alignment (tree_in c at.m.ty))
     → IsUniformAlignment c placed.ty a
 uniform_of_placed c ms place a placed at laid = subst (λ h. IsUniformAlignment c h a) (sym at.told.of) (record { laid = laid.0; aligned = laid.1 })
 
-free_within : (o : Option Part) (n : ℕ) → free_before o ≤ n → IfSome o (λ a. free_after a a.of_type ≤ n)
+free_within : (o : Option TreeMember) (n : ℕ) → free_before o ≤ n → IfSome o (λ a. free_after a a.of_type ≤ n)
 free_within None n le = tt
 free_within (Some a) n le = le
 
 pub uniform_part : (c : TypeContext) (ms : List PlainMember) (place a free : ℕ) (placed : Placed) (at : IsPlaced c ms place placed) → IsUniformAlignment c placed.ty a → a ∣ placed.offset
-    → free ≡ free_before (before (parts_in c ms) place) → free ≤ placed.offset → AtPlace (UniformPart (parts_in c ms)) (parts_in c ms) place
+    → free ≡ free_before (item_before (parts_in c ms) place) → free ≤ placed.offset → AtPlace (UniformPart (parts_in c ms)) (parts_in c ms) place
 uniform_part c ms place a free placed at laid d is le p e =
     let same : part_of (tree_in c) at.m ≡ p = (let x = at.part in let y = e in cc) in
     let here : IsUniformAlignment c at.m.ty a = subst (λ h. IsUniformAlignment c h a) at.told.of laid in
     subst (UniformPart (parts_in c ms) place) same (
       here.laid,
       subst (λ n. n ∣ at.m.offset) here.aligned (subst (λ n. a ∣ n) at.told.begins d),
-      free_within (before (parts_in c ms) place) at.m.offset (subst (λ n. n ≤ at.m.offset) is (subst (λ n. free ≤ n) at.told.begins le)),
+      free_within (item_before (parts_in c ms) place) at.m.offset (subst (λ n. n ≤ at.m.offset) is (subst (λ n. free ≤ n) at.told.begins le)),
     )
 
-some_before : (o : Option Part) (n : ℕ) → n < free_before o → (q : Part) × (o ≡ Some q)
+some_before : (o : Option TreeMember) (n : ℕ) → n < free_before o → (q : TreeMember) × (o ≡ Some q)
 some_before None n lt = absurd (omega arith)
 some_before (Some q) n lt = (q, refl)
 
 pub near_behind : (c : TypeContext) (ms : List PlainMember) (handle place free : ℕ) (placed : Placed) (own : IsStructAt c ms handle) (at : IsPlaced c ms place placed)
-    → free ≡ free_before (before (parts_in c ms) place) → placed.offset < free → IsNearAfter place placed.offset free (tree_in c handle)
+    → free ≡ free_before (item_before (parts_in c ms) place) → placed.offset < free → IsNearAfter place placed.offset free (tree_in c handle)
 near_behind c ms handle place free placed own at is lt =
-    let b = some_before (before (parts_in c ms) place) placed.offset (subst (λ n. placed.offset < n) is lt) in
+    let b = some_before (item_before (parts_in c ms) place) placed.offset (subst (λ n. placed.offset < n) is lt) in
     record {
       members = members_by (tree_in c) ms;
       span = own.span;
@@ -134,20 +134,20 @@ near_behind c ms handle place free placed own at is lt =
 pub aligned_here : (c : TypeContext) (ms : List PlainMember) (place a : ℕ) (placed : Placed) (at : IsPlaced c ms place placed) → IsUniformAlignment c placed.ty a → a ≡ uniform_alignment (tree_in c at.m.ty)
 aligned_here c ms place a placed at laid = (subst (λ h. IsUniformAlignment c h a) at.told.of laid).aligned
 
-pub free_first : (c : TypeContext) (ms : List PlainMember) (place : ℕ) → place ≡ 0 → 0 ≡ free_before (before (parts_in c ms) place)
-free_first c ms place first = subst (λ k. 0 ≡ free_before (before (parts_in c ms) k)) (sym first) refl
+pub free_first : (c : TypeContext) (ms : List PlainMember) (place : ℕ) → place ≡ 0 → 0 ≡ free_before (item_before (parts_in c ms) place)
+free_first c ms place first = subst (λ k. 0 ≡ free_before (item_before (parts_in c ms) k)) (sym first) refl
 
 pub free_then : (c : TypeContext) (ms : List PlainMember) (place end free : ℕ) (last : Placed) (b : Bool) → IsBefore c ms place last → end ≡ last.offset + last.facts.size → last.facts.is_struct ≡ b
-    → free ≡ (if b then rounded_up 16 end else 0) → free ≡ free_before (before (parts_in c ms) place)
+    → free ≡ (if b then rounded_up 16 end else 0) → free ≡ free_before (item_before (parts_in c ms) place)
 free_then c ms place end free last b at is struct_is free_is =
-    let q : Part = part_of (tree_in c) at.m in
+    let q : TreeMember = part_of (tree_in c) at.m in
     let ends : end ≡ end_of q = is ∙ (λ i. at.told.begins i + at.told.facts.bytes i) in
     free_is ∙ ap (λ e. if b then rounded_up 16 e else 0) ends ∙ ap (λ x. if x then rounded_up 16 (end_of q) else 0) (sym struct_is) ∙ sym (at.told.facts.behind q) ∙ ap free_before (sym at.part)
 
 pub uniform_struct : (c : TypeContext) (ms : List PlainMember) (span handle : ℕ) → IsStructOf c ms span handle → HasFlag HostShareable (tree_in c handle)
-    → ((k : ℕ) → AtPlace (UniformPart (parts_in c ms)) (parts_in c ms) k) → alignment (tree_in c handle) ∣ span → IsUniform (tree_in c handle)
+    → ((k : ℕ) → AtPlace (UniformPart (parts_in c ms)) (parts_in c ms) k) → alignment (tree_in c handle) ∣ span → FitsUniformBuffer (tree_in c handle)
 uniform_struct c ms span handle own host each d =
-    subst IsUniform (sym own.is) (
+    subst FitsUniformBuffer (sym own.is) (
       subst (HasFlag HostShareable) own.is host,
       (
         ((λ k p e. (each k p e).1), subst (λ x. alignment x ∣ span) own.is d, (λ k p e. (each k p e).2)),
@@ -159,10 +159,10 @@ pub struct_sixteen : (c : TypeContext) (ms : List PlainMember) (span handle own_
     → a ≡ uniform_alignment (tree_in c handle)
 struct_sixteen c ms span handle n a own aligned is = is ∙ ap (max 16) (aligned ∙ ap alignment own.is) ∙ ap uniform_alignment (sym own.is)
 
-pub uniform_array : (c : TypeContext) (f : Facts) (stride handle a r : ℕ) (own : IsArrayAt c f stride handle) → IsUniform own.base × (a ≡ uniform_alignment own.base) → a ∣ stride → 16 ∣ stride
-    → r ≡ max 16 f.alignment → IsUniform (tree_in c handle) × (r ≡ uniform_alignment (tree_in c handle))
+pub uniform_array : (c : TypeContext) (f : Facts) (stride handle a r : ℕ) (own : IsArrayAt c f stride handle) → FitsUniformBuffer own.base × (a ≡ uniform_alignment own.base) → a ∣ stride → 16 ∣ stride
+    → r ≡ max 16 f.alignment → FitsUniformBuffer (tree_in c handle) × (r ≡ uniform_alignment (tree_in c handle))
 uniform_array c f stride handle a r own laid d sixteen is = (
-  subst IsUniform (sym own.is) (array_host own.base own.count stride laid.0.0, ((subst (λ n. n ∣ stride) laid.1 d, sixteen), laid.0.1)),
+  subst FitsUniformBuffer (sym own.is) (array_host own.base own.count stride laid.0.0, ((subst (λ n. n ∣ stride) laid.1 d, sixteen), laid.0.1)),
   is ∙ ap (max 16) own.facts.aligned ∙ ap uniform_alignment (sym own.is),
 )
 
@@ -171,7 +171,7 @@ uniform_array c f stride handle a r own laid d sixteen is = (
 pub unfit_part : (c : TypeContext) (ms : List PlainMember) (handle place : ℕ) (placed : Placed) (e : ImmediateError) (own : IsStructAt c ms handle) (at : IsPlaced c ms place placed) → IsUnfit (tree_in c at.m.ty) e
     → IsUnfit (tree_in c handle) e
 unfit_part c ms handle place placed (immediate.InvalidScalar s) own at h =
-    (somewhere_struct (λ inside. scalar_of inside ≡ Some s) (tree_in c handle) (members_by (tree_in c) ms) own.span place (part_of (tree_in c) at.m) own.is at.part h.0, h.1)
+    (somewhere_struct (λ inside. tree_scalar inside ≡ Some s) (tree_in c handle) (members_by (tree_in c) ms) own.span place (part_of (tree_in c) at.m) own.is at.part h.0, h.1)
 
 pub fit_part : (c : TypeContext) (ms : List PlainMember) (place : ℕ) (placed : Placed) (at : IsPlaced c ms place placed) → FitsImmediates (tree_in c at.m.ty) → AtPlace FitsAt (parts_in c ms) place
 fit_part c ms place placed at h p e =

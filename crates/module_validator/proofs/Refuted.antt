@@ -12,11 +12,11 @@ use Rattle.ir_types.specs.judged.Plain.{PlainInner, PlainMember, PlainType, stru
 use Rattle.ir_types.specs.declared.types.ArraySize.{ArraySize}
 use Rattle.ir_types.specs.declared.types.ArraySize.TheVariants as count
 use Rattle.ir_types.specs.declared.types.TypeInner.TheVariants as inner
-use Rattle.typing_layout.specs.judged.Blends.{BlendOK, HasSource, BlendsOK, LocationOK, IsOnlySource, location_of, source_at}
+use Rattle.typing_layout.specs.judged.Blends.{BlendOK, HasSource, BlendsOK, BlendLocationOK, IsOnlySource, binding_location, source_at}
 use Rattle.typing_layout.specs.judged.Flags.{HasFlag, IoShareable, blend_source}
-use Rattle.typing_layout.specs.judged.Images.{ImageOK, StructureOK, QueryOK}
-use Rattle.typing_layout.specs.judged.Parts.{listed, before, end_of}
-use Rattle.typing_layout.specs.judged.Rules.{ShapeOK, TypeOK, CooperativeOK, PointerOK, IsKnownCount, ArrayOK, BindingArrayOK}
+use Rattle.typing_layout.specs.judged.Images.{ImageOK, AccelerationStructureOK, RayQueryTypeOK}
+use Rattle.typing_layout.specs.judged.Parts.{member_list, item_before, end_of}
+use Rattle.typing_layout.specs.judged.Rules.{ShapeOK, TypeOK, CooperativeOK, PointerOK, CountIsResolved, ArrayOK, BindingArrayOK}
 use Rattle.typing_layout.specs.judged.Structs.{MemberOK, StructOK}
 use Rattle.typing_layout.specs.judged.Widths.{IsKindAllowed}
 use Rattle.typing_layout.specs.judged.View.{members_by, type_tree}
@@ -38,12 +38,12 @@ use Rattle.typing_forms.specs.judged.Resolutions.{inner_at}
 
 -- ---- structs
 
-before_part : (c : TypeContext) (ms : List PlainMember) (k : ℕ) (a : PlainMember) → before ms k ≡ Some a → before (listed (members_by (tree_in c) ms)) k ≡ Some (part_of (tree_in c) a)
+before_part : (c : TypeContext) (ms : List PlainMember) (k : ℕ) (a : PlainMember) → item_before ms k ≡ Some a → item_before (member_list (members_by (tree_in c) ms)) k ≡ Some (part_of (tree_in c) a)
 before_part c ms zero a e = cc
 before_part c ms (suc k) a e = part_at (tree_in c) ms k a e
 
 member_refuted : (c : TypeContext) (ms : List PlainMember) (span k : ℕ) (m : PlainMember) (e : TypeError) → IsMemberFault (types_in c) ms span k m e
-    → MemberOK (listed (members_by (tree_in c) ms)) span k (part_of (tree_in c) m) → ⊥
+    → MemberOK (member_list (members_by (tree_in c) ms)) span k (part_of (tree_in c) m) → ⊥
 member_refuted c ms span k m (error.InvalidData index ty) f ok = f.2 ok.stored
 member_refuted c ms span k m (error.InvalidDynamicArray index ty) f ok = f.3 (ok.sized (omega (arith, f.2, many_parts (tree_in c) ms)))
 member_refuted c ms span k m (error.MemberOverlap index offset) f ok = elim ok.ordered [
@@ -55,8 +55,8 @@ member_refuted c ms span k m (error.MemberOverlap index offset) f ok = elim ok.o
 member_refuted c ms span k m (error.MemberOutOfBounds index offset bytes end) f ok = absurd (omega (arith, ok.within, f.4.past))
 member_refuted c ms span k m _ f ok = f
 
-struct_refuted : (c : TypeContext) (ms : List PlainMember) (span : ℕ) (e : TypeError) → IsStructFault (types_in c) ms span e → StructOK (listed (members_by (tree_in c) ms)) span → ⊥
-struct_refuted c ms span error.EmptyStruct f ok = ok.some (ap (λ xs. listed (members_by (tree_in c) xs)) f)
+struct_refuted : (c : TypeContext) (ms : List PlainMember) (span : ℕ) (e : TypeError) → IsStructFault (types_in c) ms span e → StructOK (member_list (members_by (tree_in c) ms)) span → ⊥
+struct_refuted c ms span error.EmptyStruct f ok = ok.some (ap (λ xs. member_list (members_by (tree_in c) xs)) f)
 struct_refuted c ms span e f ok = member_refuted c ms span f.0 f.1 e f.3 (ok.each f.0 (part_of (tree_in c) f.1) (part_at (tree_in c) ms f.0 f.1 f.2))
 
 -- ---- sources of a blend
@@ -64,10 +64,10 @@ struct_refuted c ms span e f ok = member_refuted c ms span f.0 f.1 e f.3 (ok.eac
 some_is : {A : Type 0} (x y : A) → Some x ≡ Some y → x ≡ y
 some_is x y e = cc
 
-located_source : (m : PlainMember) (source : ℕ) → blend_source m.binding ≡ Some source → LocationOK m → (source ≡ 0) ⊎ (source ≡ 1)
+located_source : (m : PlainMember) (source : ℕ) → blend_source m.binding ≡ Some source → BlendLocationOK m → (source ≡ 0) ⊎ (source ≡ 1)
 located_source m source is ok = let at = location m.binding source is in elim ((ok at.0 at.1).1) [ inl e ↦ inl (some_is source 0 (sym is ∙ e)) | inr e ↦ inr (some_is source 1 (sym is ∙ e)) ]
   where
-    location : (b : _) (source : ℕ) → blend_source b ≡ Some source → (l : ℕ) × (location_of b ≡ Some l)
+    location : (b : _) (source : ℕ) → blend_source b ≡ Some source → (l : ℕ) × (binding_location b ≡ Some l)
     location None source e = cc
     location (Some (bound.BuiltIn built_in)) source e = cc
     location (Some (bound.Location l i s b p)) source e = (l, refl)
@@ -142,7 +142,7 @@ pointer_refuted types base space (error.InvalidPointerBase ty) f ok = f.1 ok.0
 pointer_refuted types base space (error.InvalidPointerToUnsized ty s) f ok = elim ok.1 [ inl sized ↦ f.2 sized | inr storage ↦ f.3 storage ]
 pointer_refuted types base space _ f ok = f
 
-pending_refuted : (resolved : Bool) (n : ArraySize) → resolved ≡ true → IsPending n → IsKnownCount resolved n → ⊥
+pending_refuted : (resolved : Bool) (n : ArraySize) → resolved ≡ true → IsPending n → CountIsResolved resolved n → ⊥
 pending_refuted resolved (count.Constant n) is pending ok = pending
 pending_refuted resolved (count.Pending override) is pending ok = true≢false (sym is ∙ ok)
 pending_refuted resolved count.Dynamic is pending ok = pending
@@ -167,14 +167,14 @@ image_refuted k dim arrayed class (error.UnsupportedImageType d a x) f ok = elim
 ]
 image_refuted k dim arrayed class _ f ok = f
 
-structure_refuted : (k : Capabilities) (v : Bool) (e : TypeError) → IsStructureFault k v e → StructureOK k v → ⊥
+structure_refuted : (k : Capabilities) (v : Bool) (e : TypeError) → IsStructureFault k v e → AccelerationStructureOK k v → ⊥
 structure_refuted k v (error.MissingCapability c) f ok = elim f [
   | inl h ↦ elim ok.0 [ inl a ↦ h.1 a | inr b ↦ h.2 b ]
   | inr h ↦ lacked k c _ h.2 h.1 (ok.1 h.0)
 ]
 structure_refuted k v _ f ok = f
 
-query_refuted : (k : Capabilities) (v : Bool) (e : TypeError) → IsQueryFault k v e → QueryOK k v → ⊥
+query_refuted : (k : Capabilities) (v : Bool) (e : TypeError) → IsQueryFault k v e → RayQueryTypeOK k v → ⊥
 query_refuted k v (error.MissingCapability c) f ok = elim f [ inl h ↦ lacked k c _ h.1 h.0 ok.0 | inr h ↦ lacked k c _ h.2 h.1 (ok.1 h.0) ]
 query_refuted k v _ f ok = f
 

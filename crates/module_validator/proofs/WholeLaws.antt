@@ -9,10 +9,10 @@ use Rattle.module_type_checks.specs.Kinds.{whole_flags}
 use Rattle.module_validator.specs.Layouts.{IsStructOf, IsArrayAt, IsScalarFit, IsScalarUnfit}
 use Rattle.module_type_checks.specs.Sets.{AreOf}
 use Rattle.module_validator.specs.Whole.{IsWhole}
-use Rattle.typing_layout.specs.judged.Buffers.{IsStorage, IsUniform, uniform_alignment}
+use Rattle.typing_layout.specs.judged.Buffers.{FitsStorageBuffer, FitsUniformBuffer, uniform_alignment}
 use Rattle.typing_layout.specs.judged.Flags.{HasFlag, HostShareable}
-use Rattle.typing_layout.specs.judged.Immediates.{FitsImmediates, scalar_of}
-use Rattle.typing_layout.specs.judged.Layout.{alignment}
+use Rattle.typing_layout.specs.judged.Immediates.{FitsImmediates}
+use Rattle.typing_layout.specs.judged.Layout.{alignment, tree_scalar}
 use Rattle.typing_layout.specs.judged.Tree.{Tree, scalar, vector, matrix, cooperative_matrix, atomic, pointer, value_pointer, array, struct, image, sampler, acceleration_structure, ray_query, binding_array}
 use Rattle.typing_layout.specs.judged.View.{tree_by, members_by}
 use Rattle.module_type_checks.proofs.Known.{tree_of}
@@ -26,7 +26,7 @@ use Rattle.typing_layout.specs.declared.type_error.ImmediateError.TheVariants as
 use Rattle.typing_layout.specs.declared.type_flags.TypeFlags.{TypeFlags}
 use Rattle.typing_forms.specs.judged.Resolutions.{inner_at}
 
-pub whole_storage : (t : Tree) → IsWhole t → HasFlag HostShareable t → IsStorage t
+pub whole_storage : (t : Tree) → IsWhole t → HasFlag HostShareable t → FitsStorageBuffer t
 whole_storage (scalar s) whole host = (host, tt)
 whole_storage (vector n s) whole host = (host, tt)
 whole_storage (matrix columns rows s) whole host = (host, tt)
@@ -42,7 +42,7 @@ whole_storage (acceleration_structure vertex_return) whole host = (host, tt)
 whole_storage (ray_query vertex_return) whole host = (host, tt)
 whole_storage (binding_array base n) whole host = (host, tt)
 
-pub whole_uniform : (t : Tree) → IsWhole t → HasFlag HostShareable t → IsUniform t
+pub whole_uniform : (t : Tree) → IsWhole t → HasFlag HostShareable t → FitsUniformBuffer t
 whole_uniform (scalar s) whole host = (host, tt)
 whole_uniform (vector n s) whole host = (host, tt)
 whole_uniform (matrix columns rows s) whole host = (host, tt)
@@ -74,7 +74,7 @@ whole_alignment (acceleration_structure vertex_return) whole = refl
 whole_alignment (ray_query vertex_return) whole = refl
 whole_alignment (binding_array base n) whole = refl
 
-whole_fits : (t : Tree) → IsWhole t → IsScalarFit (scalar_of t) → FitsImmediates t
+whole_fits : (t : Tree) → IsWhole t → IsScalarFit (tree_scalar t) → FitsImmediates t
 whole_fits (scalar s) whole fit = fit
 whole_fits (vector n s) whole fit = fit
 whole_fits (matrix columns rows s) whole fit = fit
@@ -90,9 +90,9 @@ whole_fits (acceleration_structure vertex_return) whole fit = fit
 whole_fits (ray_query vertex_return) whole fit = fit
 whole_fits (binding_array base n) whole fit = fit
 
-pub whole_immediates : (t : Tree) (r : Result (Unit {0}) ImmediateError) → IsWhole t → MatchResult r (λ _. IsScalarFit (scalar_of t)) (IsScalarUnfit (scalar_of t)) → MatchResult r (λ _. FitsImmediates t) (IsUnfit t)
+pub whole_immediates : (t : Tree) (r : Result (Unit {0}) ImmediateError) → IsWhole t → MatchResult r (λ _. IsScalarFit (tree_scalar t)) (IsScalarUnfit (tree_scalar t)) → MatchResult r (λ _. FitsImmediates t) (IsUnfit t)
 whole_immediates t (Ok u) whole h = whole_fits t whole h
-whole_immediates t (Err (immediate.InvalidScalar s)) whole h = (somewhere_here (λ inside. scalar_of inside ≡ Some s) t h.0, h.1)
+whole_immediates t (Err (immediate.InvalidScalar s)) whole h = (somewhere_here (λ inside. tree_scalar inside ≡ Some s) t h.0, h.1)
 
 pub whole_are : (tree : ℕ → Tree) (i : PlainInner) (set : TypeFlags) → AreOf set.0 (whole_flags i) → IsWhole (tree_by tree i) → AreFlags set (tree_by tree i)
 whole_are tree (written_struct members span) set of whole = absurd whole
@@ -119,7 +119,7 @@ pub at_flags : (c : TypeContext) (handle : ℕ) (i : PlainInner) (set : TypeFlag
 at_flags c handle i set known at of whole = subst (AreFlags set) (sym (tree_of c handle i known at)) (whole_are (tree_in c) i set of whole)
 
 pub at_immediates : (c : TypeContext) (handle : ℕ) (i : PlainInner) (r : Result (Unit {0}) ImmediateError) → IsKnown c → Some i ≡ inner_at (types_in c) handle → IsWhole (tree_by (tree_in c) i)
-    → MatchResult r (λ _. IsScalarFit (scalar_of (tree_by (tree_in c) i))) (IsScalarUnfit (scalar_of (tree_by (tree_in c) i))) → MatchResult r (λ _. FitsImmediates (tree_in c handle)) (IsUnfit (tree_in c handle))
+    → MatchResult r (λ _. IsScalarFit (tree_scalar (tree_by (tree_in c) i))) (IsScalarUnfit (tree_scalar (tree_by (tree_in c) i))) → MatchResult r (λ _. FitsImmediates (tree_in c handle)) (IsUnfit (tree_in c handle))
 at_immediates c handle i r known at whole h =
     subst (λ t. MatchResult r (λ _. FitsImmediates t) (IsUnfit t)) (sym (tree_of c handle i known at)) (whole_immediates (tree_by (tree_in c) i) r whole h)
 

@@ -4,9 +4,9 @@ use Rattle.std.specs.Int.{◌∣◌}
 use Rattle.ir_kinds.specs.declared.scalars.Scalar.{Scalar}
 use Rattle.ir_types.specs.judged.Plain.{PlainMember}
 use Rattle.ir_types.specs.declared.types.ArraySize.{ArraySize}
-use Rattle.typing_layout.specs.judged.Buffers.{IsStorage, IsUniform, uniform_alignment, free_after}
+use Rattle.typing_layout.specs.judged.Buffers.{FitsStorageBuffer, FitsUniformBuffer, uniform_alignment, free_after}
 use Rattle.typing_layout.specs.judged.Immediates.{FitsImmediates}
-use Rattle.typing_layout.specs.judged.Parts.{Part, before}
+use Rattle.typing_layout.specs.judged.Parts.{TreeMember, item_before}
 use Rattle.typing_layout.specs.judged.Layout.{alignment}
 use Rattle.typing_layout.specs.judged.Tree.{Tree, array, struct}
 use Rattle.typing_layout.specs.judged.View.{members_by}
@@ -32,23 +32,23 @@ pub record IsArrayAt (c : TypeContext) (f : Facts) (stride handle : ℕ) : Type 
   pub facts : AreFacts c base f
 
 -- a member lies as its type requires
-abbrev pub StoragePart : (place : ℕ) → Part → Type 0
-StoragePart place p = IsStorage p.of_type × (alignment p.of_type ∣ p.offset)
+abbrev pub StoragePart : (place : ℕ) → TreeMember → Type 0
+StoragePart place p = FitsStorageBuffer p.of_type × (alignment p.of_type ∣ p.offset)
 
-abbrev pub UniformPart : List Part → (place : ℕ) → Part → Type 0
-UniformPart ps place p = IsUniform p.of_type × (uniform_alignment p.of_type ∣ p.offset) × IfSome (before ps place) (λ a. free_after a a.of_type ≤ p.offset)
+abbrev pub UniformPart : List TreeMember → (place : ℕ) → TreeMember → Type 0
+UniformPart ps place p = FitsUniformBuffer p.of_type × (uniform_alignment p.of_type ∣ p.offset) × IfSome (item_before ps place) (λ a. free_after a a.of_type ≤ p.offset)
 
-abbrev pub FitsAt : (place : ℕ) → Part → Type 0
+abbrev pub FitsAt : (place : ℕ) → TreeMember → Type 0
 FitsAt place p = FitsImmediates p.of_type
 
 -- where the member before lets the next one begin
-abbrev pub free_before : Option Part → ℕ
+abbrev pub free_before : Option TreeMember → ℕ
 free_before None = 0
 free_before (Some a) = free_after a a.of_type
 
 -- an earlier type lies in uniform buffers, with this alignment
 pub record IsUniformAlignment (c : TypeContext) (ty a : ℕ) : Type 0 where
-  pub laid : IsUniform (tree_in c ty)
+  pub laid : FitsUniformBuffer (tree_in c ty)
   pub aligned : a ≡ uniform_alignment (tree_in c ty)
 
 abbrev pub IsScalarFit : Option Scalar → Type 0

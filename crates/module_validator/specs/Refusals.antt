@@ -8,11 +8,11 @@ use Rattle.ir_flags.specs.declared.settings.Capabilities.{Capabilities}
 use Rattle.ir_flags.specs.declared.settings.ValidationFlags.{ValidationFlags}
 use Rattle.ir_items.specs.judged.Plain.{PlainModule}
 use Rattle.module_validator.specs.declared.globals.InvalidGlobalVariable.{InvalidGlobalVariable}
-use Rattle.spec_interface.specs.judged.Globals.{IsFirstFailing}
+use Rattle.spec_interface.specs.judged.Globals.{IsFirstFailingGlobal}
 
 -- It is the first variable that is not accepted, and this is wrong with it.
 pub record IsVariableFault (flags : ValidationFlags) (capabilities : Capabilities) (m : PlainModule) (e : InvalidGlobalVariable) : Type 0 where
-  pub first : IsFirstFailing flags capabilities m e.global
+  pub first : IsFirstFailingGlobal flags capabilities m e.global
   pub fault : IsGlobalFault flags capabilities m e.global e.error
 
 -- memory ran out, or the first variable that is refused is reported

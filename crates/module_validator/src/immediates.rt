@@ -3,7 +3,8 @@
 ghost use Rattle.std.specs.Prelude.{◌≡◌, ◌<◌, ℕ, All, length, map, MatchResult};
 ghost use Rattle.ir_types.specs.judged.Plain.{inner_view, member_view};
 ghost use Rattle.module_validator.specs.Layouts.{FitsAt, IsStructAt};
-ghost use Rattle.typing_layout.specs.judged.Immediates.{scalar_of, FitsImmediates};
+ghost use Rattle.typing_layout.specs.judged.Immediates.{FitsImmediates};
+ghost use Rattle.typing_layout.specs.judged.Layout.{tree_scalar};
 ghost use Rattle.typing_layout.specs.judged.Tree.{Tree};
 ghost use Rattle.typing_layout.specs.judged.View.{tree_by};
 ghost use Rattle.module_type_checks.specs.Known.{IsKnown, tree_in};
@@ -19,7 +20,7 @@ use typing_layout::ImmediateError;
 
 // The scalars that a value is, without those of elements and members.
 fn scalar_of(inner: &TypeInner) -> Option<Scalar>
-    ensures { (tree : ℕ → Tree) → result ≡ scalar_of (tree_by tree (inner_view inner.now)) }
+    ensures { (tree : ℕ → Tree) → result ≡ tree_scalar (tree_by tree (inner_view inner.now)) }
 {
     match *inner {
         TypeInner::Scalar(scalar)
@@ -42,8 +43,8 @@ fn scalar_of(inner: &TypeInner) -> Option<Scalar>
 /// Of a type that holds no other.
 pub(crate) fn immediates_of_whole(inner: &TypeInner) -> Result<(), ImmediateError>
     ensures { (tree : ℕ → Tree) → MatchResult result
-        (λ _. IsScalarFit (scalar_of (tree_by tree (inner_view inner.now))))
-        (IsScalarUnfit (scalar_of (tree_by tree (inner_view inner.now)))) }
+        (λ _. IsScalarFit (tree_scalar (tree_by tree (inner_view inner.now))))
+        (IsScalarUnfit (tree_scalar (tree_by tree (inner_view inner.now)))) }
 {
     match scalar_of(inner) {
         Some(scalar) => {

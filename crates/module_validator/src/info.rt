@@ -4,7 +4,7 @@ ghost use Rattle.std.specs.Prelude.{◌≡◌, ◌<◌, ◌≤◌, ℕ, Some, Al
 ghost use Rattle.ir_types.specs.judged.Plain.{inner_view, member_view};
 ghost use Rattle.module_validator.specs.Layouts.{IsStructOf};
 ghost use Rattle.module_validator.specs.Whole.{IsWhole};
-ghost use Rattle.typing_layout.specs.judged.Buffers.{IsStorage, IsUniform, uniform_alignment};
+ghost use Rattle.typing_layout.specs.judged.Buffers.{FitsStorageBuffer, FitsUniformBuffer, uniform_alignment};
 ghost use Rattle.typing_layout.specs.judged.Layout.{alignment};
 ghost use Rattle.typing_layout.specs.judged.Tree.{array};
 ghost use Rattle.typing_layout.specs.judged.View.{tree_by};
@@ -36,10 +36,10 @@ fn layout_of_whole(
     requires flags { AreFlags flags (tree_in context.now handle) }
     requires aligned { own ≡ alignment (tree_in context.now handle) }
     ensures storage { MatchResult result
-        (λ a. IsStorage (tree_in context.now handle) × (a ≡ alignment (tree_in context.now handle)))
+        (λ a. FitsStorageBuffer (tree_in context.now handle) × (a ≡ alignment (tree_in context.now handle)))
         (IsBroken BreaksStorage (types_in context.now) (tree_in context.now handle)) }
     ensures uniform { MatchResult result
-        (λ a. IsUniform (tree_in context.now handle) × (a ≡ uniform_alignment (tree_in context.now handle)))
+        (λ a. FitsUniformBuffer (tree_in context.now handle) × (a ≡ uniform_alignment (tree_in context.now handle)))
         (IsBroken BreaksUniform (types_in context.now) (tree_in context.now handle)) }
 {
     if flags.contains(TypeFlags::HOST_SHAREABLE) {

@@ -3,7 +3,7 @@
 ghost use Rattle.std.specs.Prelude.{◌≡◌, ◌<◌, All, length, map, MatchResult};
 ghost use Rattle.ir_types.specs.judged.Plain.{member_view};
 ghost use Rattle.module_validator.specs.Layouts.{IsArrayAt, IsStructAt, IsStructOf, StoragePart};
-ghost use Rattle.typing_layout.specs.judged.Buffers.{IsStorage};
+ghost use Rattle.typing_layout.specs.judged.Buffers.{FitsStorageBuffer};
 ghost use Rattle.typing_layout.specs.judged.Layout.{alignment};
 ghost use Rattle.module_type_checks.specs.Known.{IsKnown, tree_in, types_in};
 ghost use Rattle.module_type_checks.specs.Placed.{parts_in, AtPlace};
@@ -69,7 +69,7 @@ pub fn storage_of_struct(
     requires flags { AreFlags flags (tree_in context.now handle) }
     requires aligned { own_alignment ≡ alignment (tree_in context.now handle) }
     ensures { MatchResult result
-        (λ a. IsStorage (tree_in context.now handle) × (a ≡ alignment (tree_in context.now handle)))
+        (λ a. FitsStorageBuffer (tree_in context.now handle) × (a ≡ alignment (tree_in context.now handle)))
         (IsBroken BreaksStorage (types_in context.now) (tree_in context.now handle)) }
 {
     if !flags.contains(TypeFlags::HOST_SHAREABLE) {
@@ -100,7 +100,7 @@ pub fn storage_of_array(
 ) -> LayoutCompatibility
     requires own { IsArrayAt context.now base.now stride handle }
     ensures { MatchResult result
-        (λ a. IsStorage (tree_in context.now handle) × (a ≡ alignment (tree_in context.now handle)))
+        (λ a. FitsStorageBuffer (tree_in context.now handle) × (a ≡ alignment (tree_in context.now handle)))
         (IsBroken BreaksStorage (types_in context.now) (tree_in context.now handle)) }
 {
     match base.info.storage_layout {

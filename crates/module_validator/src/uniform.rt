@@ -3,8 +3,8 @@
 ghost use Rattle.std.specs.Prelude.{◌≡◌, ◌<◌, All, length, map, MatchResult};
 ghost use Rattle.ir_types.specs.judged.Plain.{member_view};
 ghost use Rattle.module_validator.specs.Layouts.{IsArrayAt, IsStructAt, IsStructOf, IsUniformAlignment, UniformPart, free_before};
-ghost use Rattle.typing_layout.specs.judged.Buffers.{IsUniform, uniform_alignment};
-ghost use Rattle.typing_layout.specs.judged.Parts.{before};
+ghost use Rattle.typing_layout.specs.judged.Buffers.{FitsUniformBuffer, uniform_alignment};
+ghost use Rattle.typing_layout.specs.judged.Parts.{item_before};
 ghost use Rattle.typing_layout.specs.judged.Layout.{alignment};
 ghost use Rattle.module_type_checks.specs.Known.{IsKnown, tree_in, types_in};
 ghost use Rattle.module_type_checks.specs.Placed.{parts_in, AtPlace, IsPlaced};
@@ -23,7 +23,7 @@ fn free_before(context: &TypeContext<'_>, members: &[StructMember], place: usize
     requires known { IsKnown context.now }
     requires named { All (λ m. m.ty < length context.now.infos.now) members.now }
     requires within { place < length members.now }
-    ensures { result ≡ free_before (before (parts_in context.now (map member_view members.now)) place) }
+    ensures { result ≡ free_before (item_before (parts_in context.now (map member_view members.now)) place) }
 {
     match member_before(context, members, place) {
         None => 0,
@@ -120,7 +120,7 @@ pub(crate) fn uniform_of_struct(
     requires flags { AreFlags flags (tree_in context.now handle) }
     requires aligned { own_alignment ≡ alignment (tree_in context.now handle) }
     ensures { MatchResult result
-        (λ a. IsUniform (tree_in context.now handle) × (a ≡ uniform_alignment (tree_in context.now handle)))
+        (λ a. FitsUniformBuffer (tree_in context.now handle) × (a ≡ uniform_alignment (tree_in context.now handle)))
         (IsBroken BreaksUniform (types_in context.now) (tree_in context.now handle)) }
 {
     if !flags.contains(TypeFlags::HOST_SHAREABLE) {
@@ -151,7 +151,7 @@ pub(crate) fn uniform_of_array(
 ) -> LayoutCompatibility
     requires own { IsArrayAt context.now base.now stride handle }
     ensures { MatchResult result
-        (λ a. IsUniform (tree_in context.now handle) × (a ≡ uniform_alignment (tree_in context.now handle)))
+        (λ a. FitsUniformBuffer (tree_in context.now handle) × (a ≡ uniform_alignment (tree_in context.now handle)))
         (IsBroken BreaksUniform (types_in context.now) (tree_in context.now handle)) }
 {
     match base.info.uniform_layout {

@@ -35,9 +35,9 @@ pub data Family : Type 0 where
 module _ (s : Settings) (resolved : Bool) (m : PlainModule) where
   abbrev pub IsFailing : Family → ℕ → Type 0
   IsFailing (up_to_overrides step) i = IsFirstFailing s resolved m step i
-  IsFailing at_variables i = ModuleOK s resolved m × globals.IsFirstFailing s.flags s.capabilities m i
-  IsFailing at_functions i = ModuleOK s resolved m × GlobalsOK s.flags s.capabilities m × functions.IsFirstFailing s m i
-  IsFailing at_entries i = ModuleOK s resolved m × GlobalsOK s.flags s.capabilities m × FunctionsOK s m × entries.IsFirstFailing s m i
+  IsFailing at_variables i = ModuleOK s resolved m × globals.IsFirstFailingGlobal s.flags s.capabilities m i
+  IsFailing at_functions i = ModuleOK s resolved m × GlobalsOK s.flags s.capabilities m × functions.IsFirstFailingFunction s m i
+  IsFailing at_entries i = ModuleOK s resolved m × GlobalsOK s.flags s.capabilities m × FunctionsOK s m × entries.IsFirstFailingEntry s m i
 
   pub in_order : (o : Family) (i : ℕ) → IsFailing o i → HandlesOK m
   in_order (up_to_overrides step) i x = x.reached.handles
@@ -46,13 +46,13 @@ module _ (s : Settings) (resolved : Bool) (m : PlainModule) where
   in_order at_entries i x = x.0.handles
 
   -- no global variable fails where all are accepted
-  no_variable : (i : ℕ) → GlobalsOK s.flags s.capabilities m → globals.IsFirstFailing s.flags s.capabilities m i → ⊥
+  no_variable : (i : ℕ) → GlobalsOK s.flags s.capabilities m → globals.IsFirstFailingGlobal s.flags s.capabilities m i → ⊥
   no_variable i all first = first.fails (all i first.within)
 
-  no_function : (i : ℕ) → FunctionsOK s m → functions.IsFirstFailing s m i → ⊥
+  no_function : (i : ℕ) → FunctionsOK s m → functions.IsFirstFailingFunction s m i → ⊥
   no_function i all first = first.fails (all i first.within)
 
-  no_entry : (i : ℕ) → EntriesOK s m → entries.IsFirstFailing s m i → ⊥
+  no_entry : (i : ℕ) → EntriesOK s m → entries.IsFirstFailingEntry s m i → ⊥
   no_entry i all first = first.fails (all i first.within)
 
   -- where all steps accept, none fails
@@ -62,13 +62,13 @@ module _ (s : Settings) (resolved : Bool) (m : PlainModule) where
   none_failing at_functions i items variables functions entries y = no_function i functions y.2
   none_failing at_entries i items variables functions entries y = no_entry i entries y.3
 
-  variable_once : (i j : ℕ) → globals.IsFirstFailing s.flags s.capabilities m i → globals.IsFirstFailing s.flags s.capabilities m j → i ≡ j
+  variable_once : (i j : ℕ) → globals.IsFirstFailingGlobal s.flags s.capabilities m i → globals.IsFirstFailingGlobal s.flags s.capabilities m j → i ≡ j
   variable_once i j f g = first_once (GlobalOK s.flags s.capabilities m) i j f.before f.fails g.before g.fails
 
-  function_once : (i j : ℕ) → functions.IsFirstFailing s m i → functions.IsFirstFailing s m j → i ≡ j
+  function_once : (i j : ℕ) → functions.IsFirstFailingFunction s m i → functions.IsFirstFailingFunction s m j → i ≡ j
   function_once i j f g = first_once (FunctionAtOK s m) i j f.before f.fails g.before g.fails
 
-  entry_once : (i j : ℕ) → entries.IsFirstFailing s m i → entries.IsFirstFailing s m j → i ≡ j
+  entry_once : (i j : ℕ) → entries.IsFirstFailingEntry s m i → entries.IsFirstFailingEntry s m j → i ≡ j
   entry_once i j f g = first_once (EntryAtOK s m) i j f.before f.fails g.before g.fails
 
   pub failing_once : (o p : Family) (i j : ℕ) → IsFailing o i → IsFailing p j → (o ≡ p) × (i ≡ j)

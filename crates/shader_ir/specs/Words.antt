@@ -1,3 +1,3 @@
 -- The words of sets and of plain types.
 pub use Rattle.ir_flags.specs.Sets.{Has, IsWithin}
-pub use Rattle.ir_flags.specs.Words.{Row, storage_access, barrier, memory_decorations, shader_stages, subgroup_operations, validation_flags, capabilities}
+pub use Rattle.ir_flags.specs.Words.{Row, storage_access_bits, barrier_bits, memory_decoration_bits, shader_stage_bits, subgroup_operation_bits, validation_flags, capability_bits}

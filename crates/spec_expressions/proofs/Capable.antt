@@ -6,7 +6,7 @@ use Rattle.ir_flags.specs.declared.settings.Capabilities.{Capabilities}
 use Rattle.ir_items.specs.judged.Plain.{PlainModule}
 use Rattle.ir_kinds.specs.declared.scalars.ScalarKind.{ScalarKind}
 use Rattle.ir_kinds.specs.declared.scalars.ScalarKind.TheVariants as kind
-use Rattle.spec_expressions.specs.judged.GlobalExpressions.{Required, of_literal, of_composition, of_value, to_work_out, IsMet}
+use Rattle.spec_expressions.specs.judged.GlobalExpressions.{GlobalRequirement, of_literal, of_composition, of_value, must_be_folded, IsMet}
 use Rattle.spec_expressions.specs.found.ConstantLaws.{MoreCapabilities}
 use Rattle.typing_layout.specs.judged.Widths.{IsWidthAllowed, IsKindAllowed}
 use Rattle.ir_kinds.specs.judged.Values.{literal_scalar}
@@ -28,11 +28,11 @@ kind_more few many kind.Bool width more ok = ok
 kind_more few many kind.AbstractInt width more ok = ok
 kind_more few many kind.AbstractFloat width more ok = ok
 
-met_more : (few many : Capabilities) (resolved : Bool) (m : PlainModule) (k : ExpressionKind) (asked : Required) → IsWithin few.0 many.0 → IsMet few resolved m k asked → IsMet many resolved m k asked
+met_more : (few many : Capabilities) (resolved : Bool) (m : PlainModule) (k : ExpressionKind) (asked : GlobalRequirement) → IsWithin few.0 many.0 → IsMet few resolved m k asked → IsMet many resolved m k asked
 met_more few many resolved m k (of_literal value) more ok = kind_more few many (literal_scalar value).kind (literal_scalar value).width more ok
 met_more few many resolved m k (of_composition type components) more ok = ok
 met_more few many resolved m k of_value more ok = ok
-met_more few many resolved m k to_work_out more ok = ok
+met_more few many resolved m k must_be_folded more ok = ok
 
 pub more_capabilities : MoreCapabilities
 more_capabilities few many more resolved m handle ok = record {

@@ -2,14 +2,13 @@
 use Rattle.std.proofs.Common.{◌≡◌, ◌⊎◌, ℕ, Option, Some, None, List, [], ◌∷◌, ◌++◌, refl, ap, sym, subst, ◌∙◌, inl, inr, ⊎_elim, slice_get}
 use Rattle.std.specs.Int.{bit_at}
 use Rattle.ir_items.specs.judged.Plain.{PlainFunction, PlainModule}
-use Rattle.spec_expressions.specs.declared.global_use.TheConstants.GlobalUse.{QUERY}
 use Rattle.spec_expressions.specs.declared.sampling.GlobalOrArgument.{GlobalOrArgument}
 use Rattle.spec_expressions.specs.declared.sampling.GlobalOrArgument.TheVariants.{Global, Argument}
 use Rattle.spec_expressions.specs.judged.Pairs.{SamplingPair}
-use Rattle.spec_expressions.specs.judged.CallChains.{place, Step, Calls, IsChain, end_of, bound, argument_means, seen_through, Reaches, UsesDirectly, Names, IsUnusedFrom, HasUse, Samples, HasPair}
+use Rattle.spec_expressions.specs.judged.CallChains.{global_or_argument, Step, Calls, IsChain, chain_end, meaning_at_start, argument_means, seen_through, Reaches, UsesDirectly, NamesGlobal, IsUnusedFrom, HasUse, Samples, HasPair}
 use Rattle.spec_expressions.specs.judged.Summaries.{ComesUp}
 
-pub end_of-append : (f : PlainFunction) (s : Step) (rest : List Step) → end_of f (rest ++ s ∷ []) ≡ end_of s.function rest
+pub end_of-append : (f : PlainFunction) (s : Step) (rest : List Step) → chain_end f (rest ++ s ∷ []) ≡ chain_end s.function rest
 end_of-append f s [] = refl
 end_of-append f s (t ∷ rest) = refl
 
@@ -32,9 +31,9 @@ through_through a b meaning inner outer h None = refl
 through_through a b meaning inner outer h (Some (Global g)) = refl
 through_through a b meaning inner outer h (Some (Argument i)) = argument_through a b meaning outer h (slice_get inner i)
 
-pub bound-append : (f : PlainFunction) (s : Step) (rest : List Step) (e : ℕ) → bound f (rest ++ s ∷ []) e ≡ seen_through (place f.expressions) s.arguments (bound s.function rest e)
+pub bound-append : (f : PlainFunction) (s : Step) (rest : List Step) (e : ℕ) → meaning_at_start f (rest ++ s ∷ []) e ≡ seen_through (global_or_argument f.expressions) s.arguments (meaning_at_start s.function rest e)
 bound-append f s [] e = refl
-bound-append f s (t ∷ rest) e = through_through (bound f (rest ++ s ∷ [])) (bound s.function rest) (place f.expressions) t.arguments s.arguments (bound-append f s rest) (place t.function.expressions e)
+bound-append f s (t ∷ rest) e = through_through (meaning_at_start f (rest ++ s ∷ [])) (meaning_at_start s.function rest) (global_or_argument f.expressions) t.arguments s.arguments (bound-append f s rest) (global_or_argument t.function.expressions e)
 
 -- a chain with a step has a first one
 record HasFirst (chain : List Step) : Type 0 where
@@ -62,12 +61,12 @@ pub record CalleeReaches (m : PlainModule) (f : PlainFunction) (P : PlainFunctio
   pub calls : Calls m f step
   pub reaches : Reaches m step.function P
 
-reaches_by : (m : PlainModule) (f : PlainFunction) (P : PlainFunction → Type 0) (chain : List Step) → IsChain m f chain → P (end_of f chain) → P f ⊎ CalleeReaches m f P
+reaches_by : (m : PlainModule) (f : PlainFunction) (P : PlainFunction → Type 0) (chain : List Step) → IsChain m f chain → P (chain_end f chain) → P f ⊎ CalleeReaches m f P
 reaches_by m f P [] c h = inl h
 reaches_by m f P (s ∷ chain) c h =
     let v = first_of s chain in
     let c' : IsChain m f (v.rest ++ v.first ∷ []) = subst (IsChain m f) v.is c in
-    let h' : P (end_of f (v.rest ++ v.first ∷ [])) = subst (λ xs. P (end_of f xs)) v.is h in
+    let h' : P (chain_end f (v.rest ++ v.first ∷ [])) = subst (λ xs. P (chain_end f xs)) v.is h in
     let parts = chain_first m f v.first v.rest c' in
     inr (record {
       step = v.first;
@@ -84,7 +83,7 @@ reaches-cases m f P r = reaches_by m f P r.chain r.is_chain r.holds
 -- a callee's use is the caller's
 pub use-from_call : (m : PlainModule) (f : PlainFunction) (s : Step) (g k : ℕ) → Calls m f s → HasUse m s.function g k → HasUse m f g k
 use-from_call m f s g k c (inl r) = inl (reaches-from_call m f (UsesDirectly g k) s c r)
-use-from_call m f s g k c (inr r) = inr (r.0, reaches-from_call m f (λ h. Names g h × IsUnusedFrom m g h) s c r.1)
+use-from_call m f s g k c (inr r) = inr (r.0, reaches-from_call m f (λ h. NamesGlobal g h × IsUnusedFrom m g h) s c r.1)
 
 -- ---- pairs
 
@@ -96,9 +95,9 @@ seen meaning arguments (Some a) above e = (a, refl)
 -- a pair of a callee, its arguments substituted, is the caller's
 pub pair-from_call : (m : PlainModule) (f : PlainFunction) (s : Step) (q p : SamplingPair) → Calls m f s → HasPair m s.function q → ComesUp f.expressions s.arguments q p → HasPair m f p
 pair-from_call m f s q p c r u =
-    let means : (e : ℕ) (a b : GlobalOrArgument) → bound s.function r.chain e ≡ Some a → seen_through (place f.expressions) s.arguments (Some a) ≡ Some b → bound f (r.chain ++ s ∷ []) e ≡ Some b =
-    λ e a b is gives. bound-append f s r.chain e ∙ (ap (seen_through (place f.expressions) s.arguments) is ∙ gives) in
-    let sampled : Samples (bound f (r.chain ++ s ∷ [])) (end_of s.function r.chain) p = record {
+    let means : (e : ℕ) (a b : GlobalOrArgument) → meaning_at_start s.function r.chain e ≡ Some a → seen_through (global_or_argument f.expressions) s.arguments (Some a) ≡ Some b → meaning_at_start f (r.chain ++ s ∷ []) e ≡ Some b =
+    λ e a b is gives. bound-append f s r.chain e ∙ (ap (seen_through (global_or_argument f.expressions) s.arguments) is ∙ gives) in
+    let sampled : Samples (meaning_at_start f (r.chain ++ s ∷ [])) (chain_end s.function r.chain) p = record {
       expression = r.sampled.expression;
       image = r.sampled.image;
       sampler = r.sampled.sampler;
@@ -109,10 +108,10 @@ pair-from_call m f s q p c r u =
     record {
       chain = r.chain ++ s ∷ [];
       is_chain = chain_from m f s r.chain c r.is_chain;
-      sampled = subst (λ h. Samples (bound f (r.chain ++ s ∷ [])) h p) (sym (end_of-append f s r.chain)) sampled;
+      sampled = subst (λ h. Samples (meaning_at_start f (r.chain ++ s ∷ [])) h p) (sym (end_of-append f s r.chain)) sampled;
     }
 
-pub pair-here : (m : PlainModule) (f : PlainFunction) (p : SamplingPair) → Samples (place f.expressions) f p → HasPair m f p
+pub pair-here : (m : PlainModule) (f : PlainFunction) (p : SamplingPair) → Samples (global_or_argument f.expressions) f p → HasPair m f p
 pair-here m f p h = record { chain = []; is_chain = tt; sampled = h }
 
 pub record CalleePair (m : PlainModule) (f : PlainFunction) (p : SamplingPair) : Type 0 where
@@ -123,12 +122,12 @@ pub record CalleePair (m : PlainModule) (f : PlainFunction) (p : SamplingPair) :
   pub gives : ComesUp f.expressions step.arguments pair p
 
 -- a pair that is sampled after a call comes up from the callee
-comes : (m : PlainModule) (f : PlainFunction) (s : Step) (rest : List Step) (p : SamplingPair) → Calls m f s → IsChain m s.function rest → Samples (bound f (rest ++ s ∷ [])) (end_of s.function rest) p → CalleePair m f p
+comes : (m : PlainModule) (f : PlainFunction) (s : Step) (rest : List Step) (p : SamplingPair) → Calls m f s → IsChain m s.function rest → Samples (meaning_at_start f (rest ++ s ∷ [])) (chain_end s.function rest) p → CalleePair m f p
 comes m f s rest p c r h =
-    let image : seen_through (place f.expressions) s.arguments (bound s.function rest h.image) ≡ Some p.0 = sym (bound-append f s rest h.image) ∙ h.image_means in
-    let sampler : seen_through (place f.expressions) s.arguments (bound s.function rest h.sampler) ≡ Some p.1 = sym (bound-append f s rest h.sampler) ∙ h.sampler_means in
-    let a = seen (place f.expressions) s.arguments (bound s.function rest h.image) p.0 image in
-    let b = seen (place f.expressions) s.arguments (bound s.function rest h.sampler) p.1 sampler in
+    let image : seen_through (global_or_argument f.expressions) s.arguments (meaning_at_start s.function rest h.image) ≡ Some p.0 = sym (bound-append f s rest h.image) ∙ h.image_means in
+    let sampler : seen_through (global_or_argument f.expressions) s.arguments (meaning_at_start s.function rest h.sampler) ≡ Some p.1 = sym (bound-append f s rest h.sampler) ∙ h.sampler_means in
+    let a = seen (global_or_argument f.expressions) s.arguments (meaning_at_start s.function rest h.image) p.0 image in
+    let b = seen (global_or_argument f.expressions) s.arguments (meaning_at_start s.function rest h.sampler) p.1 sampler in
     record {
       step = s;
       calls = c;
@@ -139,21 +138,21 @@ comes m f s rest p c r h =
         sampled = record { expression = h.expression; image = h.image; sampler = h.sampler; sampling = h.sampling; image_means = a.1; sampler_means = b.1 };
       };
       gives = record {
-        image = subst (λ o. seen_through (place f.expressions) s.arguments o ≡ Some p.0) a.1 image;
-        sampler = subst (λ o. seen_through (place f.expressions) s.arguments o ≡ Some p.1) b.1 sampler;
+        image = subst (λ o. seen_through (global_or_argument f.expressions) s.arguments o ≡ Some p.0) a.1 image;
+        sampler = subst (λ o. seen_through (global_or_argument f.expressions) s.arguments o ≡ Some p.1) b.1 sampler;
       };
     }
 
-pair_over : (m : PlainModule) (f : PlainFunction) (p : SamplingPair) (chain : List Step) → IsChain m f chain → Samples (bound f chain) (end_of f chain) p → Samples (place f.expressions) f p ⊎ CalleePair m f p
+pair_over : (m : PlainModule) (f : PlainFunction) (p : SamplingPair) (chain : List Step) → IsChain m f chain → Samples (meaning_at_start f chain) (chain_end f chain) p → Samples (global_or_argument f.expressions) f p ⊎ CalleePair m f p
 pair_over m f p [] c h = inl h
 pair_over m f p (s ∷ chain) c h =
     let v = first_of s chain in
     let c' : IsChain m f (v.rest ++ v.first ∷ []) = subst (IsChain m f) v.is c in
-    let h' : Samples (bound f (v.rest ++ v.first ∷ [])) (end_of f (v.rest ++ v.first ∷ [])) p = subst (λ xs. Samples (bound f xs) (end_of f xs) p) v.is h in
-    let h'' : Samples (bound f (v.rest ++ v.first ∷ [])) (end_of v.first.function v.rest) p = subst (λ g. Samples (bound f (v.rest ++ v.first ∷ [])) g p) (end_of-append f v.first v.rest) h' in
+    let h' : Samples (meaning_at_start f (v.rest ++ v.first ∷ [])) (chain_end f (v.rest ++ v.first ∷ [])) p = subst (λ xs. Samples (meaning_at_start f xs) (chain_end f xs) p) v.is h in
+    let h'' : Samples (meaning_at_start f (v.rest ++ v.first ∷ [])) (chain_end v.first.function v.rest) p = subst (λ g. Samples (meaning_at_start f (v.rest ++ v.first ∷ [])) g p) (end_of-append f v.first v.rest) h' in
     let parts = chain_first m f v.first v.rest c' in
     inr (comes m f v.first v.rest p parts.0 parts.1 h'')
 
 -- a pair is the function's own, or comes up from a callee
-pub pair-cases : (m : PlainModule) (f : PlainFunction) (p : SamplingPair) → HasPair m f p → Samples (place f.expressions) f p ⊎ CalleePair m f p
+pub pair-cases : (m : PlainModule) (f : PlainFunction) (p : SamplingPair) → HasPair m f p → Samples (global_or_argument f.expressions) f p ⊎ CalleePair m f p
 pair-cases m f p r = pair_over m f p r.chain r.is_chain r.sampled

@@ -5,8 +5,8 @@ use Rattle.ir_kinds.specs.declared.diagnostics.Severity.{Severity}
 use Rattle.ir_blocks.specs.judged.Plain.{PlainOperation, control_barrier, memory_barrier, store, image_store, atomic, image_atomic, uniform_load, ray_query, ballot, collective, gather, cooperative_store, ray_pipeline, PlainStatement, emit, block, if_, switch, loop, break, continue, return, kill, operation, call, PlainBlock, stop, next, PlainCases, no_case, case}
 use Rattle.ir_blocks.specs.judged.Shapes.{Part, inner, accepting, rejecting, case_at, loop_body, loop_continuing, shape_of, case_body, part_of}
 use Rattle.ir_blocks.specs.judged.Places.{Place, here, later, inside, condition, statement, OccursAt}
-use Rattle.spec_expressions.specs.judged.Disruption.{Disrupted, ends_in, ends_at, enter, disrupted_at}
-use Rattle.spec_expressions.specs.judged.Uniformity.{Required, OperationRequires, EmitRequires, Requires, DisruptedRequirement, UniformityFault}
+use Rattle.spec_expressions.specs.judged.Disruption.{ends_in, ends_at, enter, disrupted_at}
+use Rattle.spec_expressions.specs.judged.Uniformity.{Required, OperationRequires, Requires, DisruptedRequirement, UniformityFault}
 use Rattle.spec_expressions.specs.found.Found.{first_required, where_disrupted, operation_required, required_in, required_at, required_in_cases, IsLook}
 use Rattle.spec_expressions.proofs.EverywhereLaws.{none_in_stop}
 use Rattle.spec_expressions.proofs.DisruptionLaws.{found, from_found, disrupted_as}

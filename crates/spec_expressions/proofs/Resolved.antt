@@ -2,7 +2,7 @@
 use Rattle.std.proofs.Common.{ℕ, Option, Some, None, true, false, refl}
 use Rattle.ir_flags.specs.declared.settings.Capabilities.{Capabilities}
 use Rattle.ir_items.specs.judged.Plain.{PlainModule}
-use Rattle.spec_expressions.specs.judged.GlobalExpressions.{Required, of_literal, of_composition, of_value, to_work_out, MayWait, IsMet}
+use Rattle.spec_expressions.specs.judged.GlobalExpressions.{GlobalRequirement, of_literal, of_composition, of_value, must_be_folded, MayWait, IsMet}
 use Rattle.spec_expressions.specs.found.ConstantLaws.{ResolvedExpressions, ResolvedOverrides}
 use Rattle.spec_expressions.specs.judged.Overrides.{DefaultOK}
 use Rattle.typing_layout.specs.declared.constness.ExpressionKind.{ExpressionKind}
@@ -13,11 +13,11 @@ waits Const ok = ok
 waits Override ok = refl
 waits Runtime ok = ok
 
-met_resolved : (capabilities : Capabilities) (m : PlainModule) (k : ExpressionKind) (asked : Required) → IsMet capabilities true m k asked → IsMet capabilities false m k asked
+met_resolved : (capabilities : Capabilities) (m : PlainModule) (k : ExpressionKind) (asked : GlobalRequirement) → IsMet capabilities true m k asked → IsMet capabilities false m k asked
 met_resolved capabilities m k (of_literal value) ok = ok
 met_resolved capabilities m k (of_composition type components) ok = ok
 met_resolved capabilities m k of_value ok = ok
-met_resolved capabilities m k to_work_out ok = waits k ok
+met_resolved capabilities m k must_be_folded ok = waits k ok
 
 pub resolved_expressions : ResolvedExpressions
 resolved_expressions capabilities m handle ok = record {

@@ -9,8 +9,8 @@ use Rattle.typing_rules.specs.judged.Laws.{IsAmong}
 use Rattle.spec_expressions.specs.declared.global_use.TheConstants.GlobalUse.{QUERY}
 use Rattle.spec_expressions.specs.judged.Pairs.{SamplingPair}
 use Rattle.spec_expressions.specs.judged.Effects.{Effect, takes, samples, runs, discards, effects_of}
-use Rattle.spec_expressions.specs.judged.CallChains.{place, Step, Calls, Reaches, UsesDirectly, Names, IsUnusedFrom, HasUse, Samples, HasPair, Discards, MayKill}
-use Rattle.spec_expressions.specs.judged.Summaries.{Summary, no_use, HasBit, IsSummary, CallsOne, ComesUp, JoinsUse, IsJoined, KnownCallee, CalleesKnown, AreSummaries, CallsBelow, AgreeOnCallees}
+use Rattle.spec_expressions.specs.judged.CallChains.{Step, Calls, Reaches, UsesDirectly, NamesGlobal, IsUnusedFrom, HasUse, HasPair, Discards, MayKill}
+use Rattle.spec_expressions.specs.judged.Summaries.{Summary, no_use, HasBit, IsSummary, CallsOne, ComesUp, JoinsUse, IsJoined, CalleesKnown, AreSummaries, CallsBelow, AgreeOnCallees}
 use Rattle.spec_expressions.proofs.Members.{among-get, get-among, get-within}
 use Rattle.spec_expressions.proofs.ChainLaws.{reaches-from_call, reaches-here, reaches-cases, CalleeReaches, use-from_call, pair-from_call, pair-here, pair-cases, CalleePair}
 
@@ -122,9 +122,9 @@ module _ (m : PlainModule) (f : PlainFunction) (summaries : List Summary) (known
   joined_bit : (g k : ℕ) → g < length m.globals → IsUnusedFrom m g f → JoinsUse f summaries g k → bit_at QUERY.0 k ≡ 1
   joined_bit g k lt unused j = elim (use_up g k lt j) [ inl r ↦ absurd (unused k r) | inr r ↦ r.0 ]
 
-  query_down : (g k : ℕ) → g < length m.globals → bit_at QUERY.0 k ≡ 1 → Reaches m f (λ h. Names g h × IsUnusedFrom m g h)
-      → JoinsUse f summaries g k ⊎ ((bit_at QUERY.0 k ≡ 1) × Names g f × ((j : ℕ) → JoinsUse f summaries g j → ⊥))
-  query_down g k lt bit r = elim (reaches-cases m f (λ h. Names g h × IsUnusedFrom m g h) r) [
+  query_down : (g k : ℕ) → g < length m.globals → bit_at QUERY.0 k ≡ 1 → Reaches m f (λ h. NamesGlobal g h × IsUnusedFrom m g h)
+      → JoinsUse f summaries g k ⊎ ((bit_at QUERY.0 k ≡ 1) × NamesGlobal g f × ((j : ℕ) → JoinsUse f summaries g j → ⊥))
+  query_down g k lt bit r = elim (reaches-cases m f (λ h. NamesGlobal g h × IsUnusedFrom m g h) r) [
     | inl own ↦ elim (find_call summaries g k (effects_of f)) [
       | inl c ↦ inl (inr (c.arguments, c.summary, record { callee = c.callee; call = c.call; found = c.found }, c.bit))
       | inr none ↦ inr (
@@ -141,8 +141,8 @@ module _ (m : PlainModule) (f : PlainFunction) (summaries : List Summary) (known
     | inr c ↦ (let s = stepped m f summaries known c.step c.calls in inl (inr (c.step.arguments, s.summary, s.calls, (s.is.uses g k lt).1 (inr (bit, c.reaches)))))
   ]
 
-  query_up : (g k : ℕ) → g < length m.globals → bit_at QUERY.0 k ≡ 1 → Names g f → ((j : ℕ) → JoinsUse f summaries g j → ⊥) → HasUse m f g k
-  query_up g k lt bit names none = inr (bit, reaches-here m f (λ h. Names g h × IsUnusedFrom m g h) (names, λ j r. none j (direct_down g j lt r)))
+  query_up : (g k : ℕ) → g < length m.globals → bit_at QUERY.0 k ≡ 1 → NamesGlobal g f → ((j : ℕ) → JoinsUse f summaries g j → ⊥) → HasUse m f g k
+  query_up g k lt bit names none = inr (bit, reaches-here m f (λ h. NamesGlobal g h × IsUnusedFrom m g h) (names, λ j r. none j (direct_down g j lt r)))
 
   pair_up : (p : SamplingPair) (arguments : List ℕ) (t : Summary) (q : SamplingPair) → CallsOne f summaries arguments t → IsAmong q t.pairs → ComesUp f.expressions arguments q p → HasPair m f p
   pair_up p arguments t q calls among up =

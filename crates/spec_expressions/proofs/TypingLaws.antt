@@ -8,7 +8,7 @@ use Rattle.typing_forms.specs.found.Equivalence.{AreEquivalent}
 use Rattle.typing_rules.specs.judged.Laws.{IsAmong}
 use Rattle.spec_expressions.specs.judged.Context.{Context}
 use Rattle.spec_expressions.specs.found.Laws.{IsFaulty}
-use Rattle.spec_expressions.specs.judged.Typing.{operand_form, typing_operands, rule, rule_at, HasTypeAmong, has}
+use Rattle.spec_expressions.specs.judged.Typing.{operand_form, typing_operands, expression_rule, rule_at, HasTypeAmong, has}
 use Rattle.spec_expressions.specs.declared.faults.TypingFault.{TypingFault}
 
 same_reads : (p q : ℕ → Form) (operands : List ℕ) → ((o : ℕ) → IsAmong o operands → p o ≡ q o) → (place : ℕ) → operand_form p operands place ≡ operand_form q operands place
@@ -25,7 +25,7 @@ operands_decide context x p q same =
     let b1 = operand_form q (typing_operands x) 1 in
     let b2 = operand_form q (typing_operands x) 2 in
     let b3 = operand_form q (typing_operands x) 3 in
-    ap (λ d. rule context x a0 a1 a2 d) (r 3) ∙ ap (λ c. rule context x a0 a1 c b3) (r 2) ∙ ap (λ b. rule context x a0 b b2 b3) (r 1) ∙ ap (λ a. rule context x a b1 b2 b3) (r 0)
+    ap (λ d. expression_rule context x a0 a1 a2 d) (r 3) ∙ ap (λ c. expression_rule context x a0 a1 c b3) (r 2) ∙ ap (λ b. expression_rule context x a0 b b2 b3) (r 1) ∙ ap (λ a. expression_rule context x a b1 b2 b3) (r 0)
 
 pub equivalent_operands_decide : (context : Context) (x : PlainExpression) (p q : ℕ → PlainResolution) → ((o : ℕ) → IsAmong o (typing_operands x) → AreEquivalent context.types (p o) (q o))
     → rule_at context x (λ o. form_of context.types (p o)) ≡ rule_at context x (λ o. form_of context.types (q o))

@@ -4,7 +4,7 @@ ghost use Rattle.std.specs.Prelude.{◌≡◌, ◌∷◌, ◌↔◌, [], ℕ, Is
 ghost use Rattle.ir_items.specs.found.View.{module_view};
 ghost use Rattle.ir_kinds.specs.declared.stages.MeshOutputTopology.{MeshOutputTopology};
 ghost use Rattle.ir_types.specs.judged.Plain.{member_view};
-ghost use Rattle.spec_interface.specs.judged.Members.{members_at, part_of, topologies, topologies_at, topology_of, type_bound, types_bound};
+ghost use Rattle.spec_interface.specs.judged.Members.{members_at, mesh_part_of, member_topologies, topologies_at, topology_of, type_bound, types_bound};
 ghost use Rattle.spec_interface.specs.judged.Meshes.{AreParts};
 ghost use Rattle.spec_interface.specs.declared.parts.MeshParts.{MeshParts};
 
@@ -18,7 +18,7 @@ use ir_types::{StructMember, key};
 
 // The part of what a mesh shader gives that is bound, if it is one.
 fn part_of(binding: &Option<Binding>) -> Option<MeshPart>
-    ensures { result ≡ part_of binding.now }
+    ensures { result ≡ mesh_part_of binding.now }
 {
     match binding {
         Some(Binding::BuiltIn(BuiltIn::VertexCount)) => Some(MeshPart::VertexCount),
@@ -100,8 +100,8 @@ fn topology_of(binding: &Option<Binding>) -> Option<MeshOutputTopology>
 // What the one member names that names vertices; `None` where there is no such member, or several.
 fn only_topology(members: &[StructMember]) -> Option<MeshOutputTopology>
     ensures { MatchOption result
-        ((t : MeshOutputTopology) → topologies (map member_view members.now) ≡ t ∷ [] → ⊥)
-        (λ t. topologies (map member_view members.now) ≡ t ∷ []) }
+        ((t : MeshOutputTopology) → member_topologies (map member_view members.now) ≡ t ∷ [] → ⊥)
+        (λ t. member_topologies (map member_view members.now) ≡ t ∷ []) }
 {
     let mut found = Found::Nothing;
     for member in members {

@@ -2,7 +2,7 @@
 
 ghost use Rattle.std.specs.Prelude.{◌≡◌, None, false};
 ghost use Rattle.ir_kinds.specs.declared.bindings.BuiltIn.TheVariants.{PrimitiveIndex};
-ghost use Rattle.spec_interface.specs.judged.BuiltInRows.{built_in_row, but, given, given_by, gives, gives_by, row, with_primitive};
+ghost use Rattle.spec_interface.specs.judged.BuiltInRows.{built_in_row, but, taken, taken_by, gives, gives_by, row_with, with_primitive};
 
 use crate::{BuiltInRow, BuiltInType, Exception};
 use ir_flags::{Capabilities as C, ShaderStages};
@@ -66,7 +66,7 @@ const FOUR_BY_THREE: BuiltInType = BuiltInType::Value(Form::Matrix {
 
 // What is given by the stages before.
 const fn given(inputs: ShaderStages, ty: BuiltInType) -> BuiltInRow
-    ensures { result ≡ given inputs ty }
+    ensures { result ≡ taken inputs ty }
 {
     BuiltInRow {
         inputs,
@@ -85,7 +85,7 @@ const fn given_by(
     ty: BuiltInType,
     exception: Exception,
 ) -> BuiltInRow
-    ensures { result ≡ but exception (given_by capability inputs ty) }
+    ensures { result ≡ but exception (taken_by capability inputs ty) }
 {
     BuiltInRow {
         inputs,
@@ -127,7 +127,7 @@ const fn gives_by(capability: C, outputs: ShaderStages, ty: BuiltInType) -> Buil
 
 // What is both given and given on.
 const fn both(inputs: ShaderStages, outputs: ShaderStages, ty: BuiltInType) -> BuiltInRow
-    ensures { result ≡ row inputs outputs false ty None }
+    ensures { result ≡ row_with inputs outputs false ty None }
 {
     BuiltInRow {
         inputs,

@@ -3,8 +3,8 @@
 ghost use Rattle.std.specs.Prelude.{◌≡◌, ℕ, List, Some};
 ghost use Rattle.ir_items.specs.found.View.{module_view};
 ghost use Rattle.ir_types.specs.judged.Plain.{inner_view};
-ghost use Rattle.spec_interface.specs.judged.Uses.{access_uses, all_but_atomic, allowed_uses, class_uses, handle_uses, is_run_for_rays, payload_uses, read_uses, traces_rays, use_if};
-ghost use Rattle.spec_interface.specs.judged.Spaces.{array_base, counted};
+ghost use Rattle.spec_interface.specs.judged.Uses.{access_uses, all_but_atomic, allowed_uses, class_uses, handle_uses, sees_incoming_payload, payload_uses, read_uses, traces_rays, use_if};
+ghost use Rattle.spec_interface.specs.judged.Spaces.{array_base, effective_type};
 ghost use Rattle.typing_forms.specs.judged.Resolutions.{inner_at};
 
 use crate::lookups::inner_at;
@@ -93,7 +93,7 @@ fn base_at(module: &Module, ty: Handle<key::IrType>) -> Option<Handle<key::IrTyp
 
 // The type whose rules count: of a binding array that of its elements.
 fn counted(module: &Module, ty: Handle<key::IrType>) -> Handle<key::IrType>
-    ensures { result ≡ counted (module_view «module».now).types ty }
+    ensures { result ≡ effective_type (module_view «module».now).types ty }
 {
     match base_at(module, ty) {
         Some(base) => base,
@@ -126,7 +126,7 @@ pub fn allowed_uses(
     ty: Handle<key::IrType>,
 ) -> GlobalUse
     ensures { let types = (module_view «module».now).types in
-        result ≡ allowed_uses stage space (inner_at types (counted types ty)) }
+        result ≡ allowed_uses stage space (inner_at types (effective_type types ty)) }
 {
     match space {
         AddressSpace::Function => GlobalUse(0),
@@ -158,7 +158,7 @@ pub const fn traces_rays(stage: ShaderStage) -> bool
 
 /// Whether a stage runs for rays that have a payload.
 pub const fn is_run_for_rays(stage: ShaderStage) -> bool
-    ensures { result ≡ is_run_for_rays stage }
+    ensures { result ≡ sees_incoming_payload stage }
 {
     match stage {
         ShaderStage::AnyHit | ShaderStage::ClosestHit | ShaderStage::Miss => true,

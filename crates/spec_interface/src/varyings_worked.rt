@@ -8,8 +8,8 @@ ghost use Rattle.ir_kinds.specs.declared.bindings.Interpolation.TheVariants.{Fla
 ghost use Rattle.ir_kinds.specs.declared.bindings.Sampling.TheVariants.{Center, First, Sample};
 ghost use Rattle.ir_kinds.specs.declared.scalars.ScalarKind.TheVariants.{Float, Uint};
 ghost use Rattle.ir_kinds.specs.declared.stages.ShaderStage.TheVariants.{ClosestHit, Fragment, Mesh, Miss, Task, Vertex};
-ghost use Rattle.spec_interface.specs.judged.BuiltIns.{IsFree, OccursAt};
-ghost use Rattle.spec_interface.specs.judged.Locations.{NeedsInterpolation, InterpolationOK, PrimitiveOK, goes_with};
+ghost use Rattle.spec_interface.specs.judged.BuiltIns.{IsFree, RowOccursAt};
+ghost use Rattle.spec_interface.specs.judged.Locations.{NeedsInterpolation, InterpolationOK, PerPrimitiveOK, sampling_fits};
 ghost use Rattle.spec_interface.specs.judged.BuiltInRows.{built_in_row};
 ghost use Rattle.spec_interface.specs.judged.Varyings.{canonical, location_of, varying, varyings_of};
 ghost use Rattle.spec_interface.specs.found.Worked.{bound_at, linear_at, small_types};
@@ -18,40 +18,40 @@ ghost use Rattle.spec_interface.specs.declared.varyings.Direction.TheVariants.{I
 
 /// Where built-in values stand.
 pub fn built_ins()
-    ensures vertex_is_given_its_index { OccursAt Input Vertex (built_in_row VertexIndex) }
-    ensures and_does_not_give_it { ¬ OccursAt Output Vertex (built_in_row VertexIndex) }
-    ensures vertex_gives_its_position { OccursAt Output Vertex (built_in_row (Position true)) }
-    ensures mesh_gives_it_with_a_vertex { OccursAt VertexOutput Mesh (built_in_row (Position false)) }
-    ensures fragment_is_given_it { OccursAt Input Fragment (built_in_row (Position false)) }
-    ensures fragment_gives_its_depth { OccursAt Output Fragment (built_in_row FragDepth) }
-    ensures samples_go_in { OccursAt Input Fragment (built_in_row SampleMask) }
-    ensures samples_go_out { OccursAt Output Fragment (built_in_row SampleMask) }
-    ensures primitive_is_culled { OccursAt PrimitiveOutput Mesh (built_in_row CullPrimitive) }
-    ensures vertex_is_not { ¬ OccursAt VertexOutput Mesh (built_in_row CullPrimitive) }
-    ensures task_gives_its_size { OccursAt Output Task (built_in_row MeshTaskSize) }
-    ensures vertex_has_no_subgroup { ¬ OccursAt Input Vertex (built_in_row SubgroupSize) }
-    ensures miss_has_one { OccursAt Input Miss (built_in_row SubgroupSize) }
-    ensures count_of_vertices_goes_nowhere { ¬ OccursAt VertexOutput Mesh (built_in_row VertexCount) }
+    ensures vertex_is_given_its_index { RowOccursAt Input Vertex (built_in_row VertexIndex) }
+    ensures and_does_not_give_it { ¬ RowOccursAt Output Vertex (built_in_row VertexIndex) }
+    ensures vertex_gives_its_position { RowOccursAt Output Vertex (built_in_row (Position true)) }
+    ensures mesh_gives_it_with_a_vertex { RowOccursAt VertexOutput Mesh (built_in_row (Position false)) }
+    ensures fragment_is_given_it { RowOccursAt Input Fragment (built_in_row (Position false)) }
+    ensures fragment_gives_its_depth { RowOccursAt Output Fragment (built_in_row FragDepth) }
+    ensures samples_go_in { RowOccursAt Input Fragment (built_in_row SampleMask) }
+    ensures samples_go_out { RowOccursAt Output Fragment (built_in_row SampleMask) }
+    ensures primitive_is_culled { RowOccursAt PrimitiveOutput Mesh (built_in_row CullPrimitive) }
+    ensures vertex_is_not { ¬ RowOccursAt VertexOutput Mesh (built_in_row CullPrimitive) }
+    ensures task_gives_its_size { RowOccursAt Output Task (built_in_row MeshTaskSize) }
+    ensures vertex_has_no_subgroup { ¬ RowOccursAt Input Vertex (built_in_row SubgroupSize) }
+    ensures miss_has_one { RowOccursAt Input Miss (built_in_row SubgroupSize) }
+    ensures count_of_vertices_goes_nowhere { ¬ RowOccursAt VertexOutput Mesh (built_in_row VertexCount) }
     ensures hit_has_its_primitive_for_free { IsFree ClosestHit (built_in_row PrimitiveIndex).exception }
     ensures fragment_has_not { ¬ IsFree Fragment (built_in_row PrimitiveIndex).exception }
 {}
 
 /// How values between vertices are found.
 pub fn between_vertices()
-    ensures at_each_sample { goes_with Linear Sample ≡ true }
-    ensures flat_at_a_vertex { goes_with Flat First ≡ true }
-    ensures flat_in_a_fragment { goes_with Flat Center ≡ false }
-    ensures perspective_at_a_vertex { goes_with Perspective First ≡ false }
-    ensures each_vertex_nowhere { goes_with PerVertex Center ≡ false }
+    ensures at_each_sample { sampling_fits Linear Sample ≡ true }
+    ensures flat_at_a_vertex { sampling_fits Flat First ≡ true }
+    ensures flat_in_a_fragment { sampling_fits Flat Center ≡ false }
+    ensures perspective_at_a_vertex { sampling_fits Perspective First ≡ false }
+    ensures each_vertex_nowhere { sampling_fits PerVertex Center ≡ false }
     ensures float_is_found { InterpolationOK Float (Some Linear) }
     ensures float_is_not { ¬ InterpolationOK Float None }
     ensures integer_is_flat { ¬ InterpolationOK Uint (Some Perspective) }
     ensures fragment_is_given_it { NeedsInterpolation Input Fragment false }
     ensures not_with_a_primitive { ¬ NeedsInterpolation Input Fragment true }
     ensures fragment_gives_none { ¬ NeedsInterpolation Output Fragment false }
-    ensures mesh_belongs_to_a_primitive { PrimitiveOK PrimitiveOutput Mesh true }
-    ensures vertex_does_not { ¬ PrimitiveOK Output Vertex true }
-    ensures fragment_may { PrimitiveOK Input Fragment true }
+    ensures mesh_belongs_to_a_primitive { PerPrimitiveOK PrimitiveOutput Mesh true }
+    ensures vertex_does_not { ¬ PerPrimitiveOK Output Vertex true }
+    ensures fragment_may { PerPrimitiveOK Input Fragment true }
 {}
 
 /// Which varyings there are: of an argument by its index, of a result, and of structs that are not bound themselves.

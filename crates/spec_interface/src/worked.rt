@@ -9,7 +9,7 @@ ghost use Rattle.ir_kinds.specs.declared.bindings.BuiltIn.TheVariants.{LineIndic
 ghost use Rattle.ir_kinds.specs.declared.spaces.AddressSpace.TheVariants.{Function, IncomingRayPayload, Private, RayPayload, Storage, TaskPayload, Uniform};
 ghost use Rattle.ir_kinds.specs.declared.stages.MeshOutputTopology.TheVariants.{Lines, Points};
 ghost use Rattle.ir_kinds.specs.declared.stages.ShaderStage.TheVariants.{AnyHit, Compute, Fragment, Mesh, RayGeneration, Task, Vertex};
-ghost use Rattle.spec_interface.specs.judged.Members.{member, topologies, types_bound};
+ghost use Rattle.spec_interface.specs.judged.Members.{member, member_topologies, types_bound};
 ghost use Rattle.spec_interface.specs.declared.parts.MeshPart.TheVariants as part;
 ghost use Rattle.spec_interface.specs.judged.Stages.{SizeOK, stage_capability};
 ghost use Rattle.spec_interface.specs.judged.Uses.{allowed_uses, is_reached};
@@ -54,8 +54,8 @@ pub fn payloads()
 
 /// The built-in values that the members of structs are bound to, their types being 5 and 6.
 pub fn members()
-    ensures lines { topologies (member 5 LineIndices ∷ member 6 PrimitiveIndex ∷ []) ≡ Lines ∷ [] }
-    ensures two { topologies (member 5 LineIndices ∷ member 6 PointIndex ∷ []) ≡ Lines ∷ Points ∷ [] }
-    ensures no_lines { topologies (member 5 PrimitiveIndex ∷ []) ≡ [] }
+    ensures lines { member_topologies (member 5 LineIndices ∷ member 6 PrimitiveIndex ∷ []) ≡ Lines ∷ [] }
+    ensures two { member_topologies (member 5 LineIndices ∷ member 6 PointIndex ∷ []) ≡ Lines ∷ Points ∷ [] }
+    ensures no_lines { member_topologies (member 5 PrimitiveIndex ∷ []) ≡ [] }
     ensures counts { types_bound part.VertexCount (member 5 PrimitiveIndex ∷ member 6 VertexCount ∷ []) ≡ 6 ∷ [] }
 {}

@@ -8,7 +8,7 @@ use Rattle.ir_kinds.specs.declared.values.SwitchValue.TheVariants.{I32, U32, Def
 use Rattle.ir_blocks.specs.judged.Plain.{PlainStatement, emit, block, if_, switch, loop, break, continue, return, kill, operation, call, PlainBlock, stop, next, PlainCases, no_case, case}
 use Rattle.ir_blocks.specs.judged.Shapes.{shape_of, Part, inner, accepting, rejecting, case_at, case_body, loop_body, loop_continuing}
 use Rattle.ir_blocks.specs.judged.Places.{Place, here, later, inside, OccursAt, statement, loop_condition}
-use Rattle.ir_blocks.specs.judged.Tails.{Ends, goes_on, empty, after_last, further, in_tail}
+use Rattle.ir_blocks.specs.judged.Tails.{CaseEnds, goes_on, empty, after_last, further, in_tail}
 use Rattle.ir_types.specs.judged.ExpressionPlain.{PlainExpression, plain}
 use Rattle.ir_types.specs.declared.expressions.Expression.TheVariants.{GlobalVariable, ImageSample}
 use Rattle.ir_items.specs.judged.Plain.{PlainFunction, PlainModule}
@@ -20,7 +20,7 @@ use Rattle.spec_runs.specs.found.Ended.{HasNoOpenEnd}
 use Rattle.spec_runs.specs.judged.Events.{Event, entered, executed, introduced_expression, used, passed, returned, fell_off, escaped}
 use Rattle.spec_runs.specs.judged.FinalSwitches.{BreaksFrom, break_here, break_later, break_inside, in_block as open_block, in_accept, in_reject, LeavesFinalSwitch, of_last, of_tail, of_rest}
 use Rattle.spec_runs.specs.judged.Good.{FallsOK}
-use Rattle.spec_runs.specs.judged.Machine.{Frame, Configuration, Completion, normal, by_break, by_continue, by_return, halted, Outcome, completes, happen, step, answered, pair_of, denotes, mentioned_at, mentions, uses, operands_of, begins, introduces_one, introduces, leave_scope, sequence, Loop, Task, in_block, in_loop, Evaluation, side, is_value, is_default, Cases, either_cases, from_first, unless_none, chosen, fall, eval_cases, at_switch, leave_switch, next_turn, stay_or_leave, eval_condition, after_continuing, eval_continuing, after_body, eval_turn, callee_frame, enters, leave_call, eval_call, eval_statement, eval_task, eval, finish, entry_frame, initial, trace_of}
+use Rattle.spec_runs.specs.judged.Machine.{Frame, Configuration, Completion, normal, by_break, by_continue, by_return, halted, Outcome, completes, happen, step, answered, pair_of, global_denoted, mentioned_at, mentions, uses, introduced_operands, begins, introduces_one, introduces, leave_scope, sequence, Loop, Task, in_block, in_loop, Evaluation, taken_branch, is_value, is_default, Cases, either_cases, from_first, unless_none, chosen, fall, eval_cases, at_switch, leave_switch, next_turn, stay_or_leave, eval_condition, after_continuing, eval_continuing, after_body, eval_turn, callee_frame, enters, leave_call, eval_call, eval_statement, eval_task, eval, finish, entry_frame, initial, trace_of}
 use Rattle.spec_runs.specs.judged.Reached.{reached_from}
 use Rattle.spec_runs.specs.judged.Scoping.{UsedOperands}
 use Rattle.spec_runs.proofs.Invariance.{all-append, all-flat_map}
@@ -41,7 +41,7 @@ any_pair None sampler = tt
 
 any_mentioned : (frame : Frame) (o : Option PlainExpression) → AllByRecursion FallsOK (mentioned_at frame o)
 any_mentioned frame (Some (plain (GlobalVariable g))) = (tt, tt)
-any_mentioned frame (Some (plain (ImageSample image sampler gathers coordinate array_index offset level depth_ref clamp_to_edge))) = any_pair (denotes frame image) (denotes frame sampler)
+any_mentioned frame (Some (plain (ImageSample image sampler gathers coordinate array_index offset level depth_ref clamp_to_edge))) = any_pair (global_denoted frame image) (global_denoted frame sampler)
 any_mentioned frame _ = tt
 
 any_mentions : (frame : Frame) (es : List ℕ) → AllByRecursion FallsOK (mentions frame es)
@@ -64,7 +64,7 @@ module _ (u : UsedOperands) (frame : Frame) where
   good_introduces [] now g = g
   good_introduces (e ∷ es) now g =
       let begun : Configuration = happen (introduced_expression frame.function e ∷ mentions frame (e ∷ [])) now in
-      good_introduces es (introduces_one u frame e now) (good_uses frame (operands_of u (slice_get frame.function.expressions e)) begun (happen_good _ now g (tt, any_mentions frame (e ∷ []))))
+      good_introduces es (introduces_one u frame e now) (good_uses frame (introduced_operands u (slice_get frame.function.expressions e)) begun (happen_good _ now g (tt, any_mentions frame (e ∷ []))))
 
   introduces_last : (es : List ℕ) (now : Configuration) → (introduces u frame es now).last ≡ now.last
   introduces_last [] now = refl
@@ -169,7 +169,7 @@ EndsOne at s (by_return value) now = Unit {0}
 EndsOne at s halted now = Unit {0}
 
 abbrev EndsCases : (ℕ → Place → Place) → PlainCases → Completion → Configuration → Type 0
-EndsCases at cases normal now = falls_at_end true cases ≡ false → ((k : ℕ) → Ends cases k → HasNoOpenEnd (case_body cases k)) → (k : ℕ) × Ends cases k × LastIs (at k) (LeavesFinalSwitch (case_body cases k)) now
+EndsCases at cases normal now = falls_at_end true cases ≡ false → ((k : ℕ) → CaseEnds cases k → HasNoOpenEnd (case_body cases k)) → (k : ℕ) × CaseEnds cases k × LastIs (at k) (LeavesFinalSwitch (case_body cases k)) now
 EndsCases at cases by_break now = (k : ℕ) × LastIs (at k) (BreaksFrom (case_body cases k)) now
 EndsCases at cases (by_continue left_out) now = Unit {0}
 EndsCases at cases (by_return value) now = Unit {0}
@@ -191,11 +191,11 @@ break_among : {at other : ℕ → Place → Place} {cases some : PlainCases} →
 break_among from_here now h = h
 break_among (from_later f) now h = let x = break_among f now h in (suc x.0, x.1)
 
-tail_among : {at other : ℕ → Place → Place} {cases some : PlainCases} → From at cases other some → (now : Configuration) → (k : ℕ) × Ends some k × LastIs (other k) (LeavesFinalSwitch (case_body some k)) now → (k : ℕ) × Ends cases k × LastIs (at k) (LeavesFinalSwitch (case_body cases k)) now
+tail_among : {at other : ℕ → Place → Place} {cases some : PlainCases} → From at cases other some → (now : Configuration) → (k : ℕ) × CaseEnds some k × LastIs (other k) (LeavesFinalSwitch (case_body some k)) now → (k : ℕ) × CaseEnds cases k × LastIs (at k) (LeavesFinalSwitch (case_body cases k)) now
 tail_among from_here now h = h
 tail_among (from_later f) now h = let x = tail_among f now h in (suc x.0, x.1, x.2)
 
-closed_among : {at other : ℕ → Place → Place} {cases some : PlainCases} → From at cases other some → ((k : ℕ) → Ends cases k → HasNoOpenEnd (case_body cases k)) → (k : ℕ) → Ends some k → HasNoOpenEnd (case_body some k)
+closed_among : {at other : ℕ → Place → Place} {cases some : PlainCases} → From at cases other some → ((k : ℕ) → CaseEnds cases k → HasNoOpenEnd (case_body cases k)) → (k : ℕ) → CaseEnds some k → HasNoOpenEnd (case_body some k)
 closed_among from_here h = h
 closed_among (from_later f) h = closed_among f (λ k e. h (suc k) e)
 
@@ -314,7 +314,7 @@ module _ (u : UsedOperands) (m : PlainModule) (closed : (function : ℕ) (f : Pl
       }
   statement_met (if_ h accept reject) at rest now ok last g = answered_met now.answers now _ (EndsOne at (if_ h accept reject)) (λ s. tt) g (λ n more. by_side (int_eq n (pos 0)) (record now { answers = more }) g)
     where
-      by_side : (rejects : Bool) (s : Configuration) → Good s → Met (leave_scope now (go frame (side rejects at accept reject) s)) (EndsOne at (if_ h accept reject))
+      by_side : (rejects : Bool) (s : Configuration) → Good s → Met (leave_scope now (go frame (taken_branch rejects at accept reject) s)) (EndsOne at (if_ h accept reject))
       by_side true s q =
           let met = sound.at (in_block (λ p. at (inside rejecting p)) reject) s (λ p. ok (inside rejecting p)) q in
           record {

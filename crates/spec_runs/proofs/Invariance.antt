@@ -16,8 +16,8 @@ use Rattle.spec_statements.proofs.ScopeLaws.{none_held}
 use Rattle.spec_runs.specs.judged.Events.{Event, executed, introduced_expression, used, passed, returned, fell_off}
 use Rattle.spec_runs.specs.judged.Reached.{reached_from}
 use Rattle.spec_statements.specs.found.SureLevel.{visible_by, holds_continue_in, holds_continue, holds_continue_in_cases}
-use Rattle.spec_runs.specs.judged.Scoping.{UsedOperands, Scoping, IsLawful, AreThere}
-use Rattle.spec_runs.specs.judged.Machine.{Frame, Configuration, Completion, normal, by_break, by_continue, by_return, halted, Outcome, completes, happen, step, answered, mentioned_at, mentions, uses, operands_of, begins, introduces_one, introduces, leave_scope, sequence, Loop, Task, in_block, in_loop, Evaluation, side, is_value, is_default, Cases, either_cases, from_first, unless_none, chosen, fall, eval_cases, at_switch, leave_switch, next_turn, stay_or_leave, eval_condition, after_continuing, eval_continuing, after_body, eval_turn, callee_frame, enters, leave_call, eval_call, eval_statement, eval_task, eval, finish, entry_frame, initial}
+use Rattle.spec_runs.specs.judged.Scoping.{UsedOperands, Scoping, IsLawful, AreUsable}
+use Rattle.spec_runs.specs.judged.Machine.{Frame, Configuration, Completion, normal, by_break, by_continue, by_return, halted, Outcome, completes, happen, step, answered, mentioned_at, mentions, uses, introduced_operands, begins, introduces_one, introduces, leave_scope, sequence, Loop, Task, in_block, in_loop, Evaluation, taken_branch, is_value, is_default, Cases, either_cases, from_first, unless_none, chosen, fall, eval_cases, at_switch, leave_switch, next_turn, stay_or_leave, eval_condition, after_continuing, eval_continuing, after_body, eval_turn, callee_frame, enters, leave_call, eval_call, eval_statement, eval_task, eval, finish, entry_frame, initial}
 use Rattle.spec_runs.specs.found.Invariants.{IsInvariant, InvariantsHold}
 use Rattle.spec_runs.proofs.Control.{Control, control_of, enter, control_at, allows, may_allowed}
 
@@ -112,7 +112,7 @@ module _ (u : UsedOperands) (g : Scoping) (lawful : IsLawful g) (m : PlainModule
 
     -- all of these may be used
     abbrev Covers : List ℕ → Configuration → Type 0
-    Covers scope now = AreThere g f now.live now.skipped scope
+    Covers scope now = AreUsable g f now.live now.skipped scope
 
     -- how a statement may complete, where this is in scope before it
     abbrev EndsOne : (outer : List ℕ) → (goes : Bool) → Control → Completion → Configuration → Type 0
@@ -203,7 +203,7 @@ module _ (u : UsedOperands) (g : Scoping) (lawful : IsLawful g) (m : PlainModule
     good_uses q spot scope c now a v h =
         good_happen (map (used f now.live now.skipped) (u.at_spot spot)) now h
         (good_used (u.at_spot spot) now.live now.skipped
-        (λ o held. keeps.uses frame fine q now.live now.skipped (subst (AreThere g f now.live now.skipped) (sym a.scoped) v) o (subst (λ x. Contains (u.at_spot x) o) (sym a.stands) held)))
+        (λ o held. keeps.uses frame fine q now.live now.skipped (subst (AreUsable g f now.live now.skipped) (sym a.scoped) v) o (subst (λ x. Contains (u.at_spot x) o) (sym a.stands) held)))
 
     -- a statement begins
     good_begins : (s : PlainStatement) (q : Place) (scope : List ℕ) (c : Control) (now : Configuration) → Safe g f q (statement s) scope c → Covers scope now → Good now → Good (begins u frame q s now)
@@ -222,8 +222,8 @@ module _ (u : UsedOperands) (g : Scoping) (lawful : IsLawful g) (m : PlainModule
         let brought : Contains (introduced s) e = subst (λ xs. Contains xs e) (sym is) (Contains-append_right before (e ∷ es) e (first_held e es)) in
         let begun : Configuration = happen (introduced_expression f e ∷ mentions frame (e ∷ [])) now in
         let good_begun : Good begun = good_happen _ now h (keeps.introduces frame fine q e (subst (λ x. Contains (introduced_at x) e) (sym a.stands) brought), good_mentions (e ∷ [])) in
-        let good_one : Good (introduces_one u frame e now) = good_happen _ begun good_begun (good_used (operands_of u (slice_get f.expressions e)) now.live now.skipped
-        (λ o held. keeps.uses_of_introduced frame fine q s a.stands before e es is now.live now.skipped (subst (λ xs. AreThere g f now.live now.skipped (xs ++ before)) (sym a.scoped) v) o held)) in
+        let good_one : Good (introduces_one u frame e now) = good_happen _ begun good_begun (good_used (introduced_operands u (slice_get f.expressions e)) now.live now.skipped
+        (λ o held. keeps.uses_of_introduced frame fine q s a.stands before e es is now.live now.skipped (subst (λ xs. AreUsable g f now.live now.skipped (xs ++ before)) (sym a.scoped) v) o held)) in
         let next_is : introduced s ≡ (before ++ (e ∷ [])) ++ es = is ∙ sym (append_assoc before (e ∷ []) es) in
         let there : Covers (scope ++ (before ++ (e ∷ []))) (introduces_one u frame e now) = subst (λ xs. Covers xs (introduces_one u frame e now)) (append_assoc scope before (e ∷ [])) (cover_live (scope ++ before) e now v) in
         let more = good_introduces s q scope c a (before ++ (e ∷ [])) es next_is (introduces_one u frame e now) there good_one in
@@ -339,7 +339,7 @@ module _ (u : UsedOperands) (g : Scoping) (lawful : IsLawful g) (m : PlainModule
     statement_one (if_ test accept reject) at rest outer c now a v h =
         answered_one frame fine outer (holds_continue_in accept || holds_continue_in reject) c now.answers now _ h (λ n more. by_side (int_eq n (pos 0)) (record now { answers = more }) v h)
       where
-        by_side : (rejects : Bool) (s : Configuration) → Over outer s → Good s → MeetsOne frame fine outer (holds_continue_in accept || holds_continue_in reject) c (leave_scope now (go frame (side rejects at accept reject) s))
+        by_side : (rejects : Bool) (s : Configuration) → Over outer s → Good s → MeetsOne frame fine outer (holds_continue_in accept || holds_continue_in reject) c (leave_scope now (go frame (taken_branch rejects at accept reject) s))
         by_side true s w q = leave_one frame fine outer _ _ c now _ (or_right (holds_continue_in accept) (holds_continue_in reject)) v (sound.at (in_block (λ p. at (inside rejecting p)) reject) outer c s (λ p. a (inside rejecting p)) w q)
         by_side false s w q = leave_one frame fine outer _ _ c now _ (or_left (holds_continue_in accept) (holds_continue_in reject)) v (sound.at (in_block (λ p. at (inside accepting p)) accept) outer c s (λ p. a (inside accepting p)) w q)
     statement_one (switch selector cases) at rest outer c now a v h =

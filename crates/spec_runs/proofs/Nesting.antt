@@ -8,7 +8,7 @@ use Rattle.ir_items.specs.judged.Plain.{PlainFunction, PlainModule}
 use Rattle.spec_statements.specs.judged.Tables.{introduced}
 use Rattle.spec_statements.specs.judged.Visible.{top_level}
 use Rattle.spec_runs.specs.judged.Laws.{NestingCutsNoRun}
-use Rattle.spec_runs.specs.judged.Machine.{Frame, Configuration, Completion, normal, by_break, by_continue, by_return, halted, Outcome, step, answered, uses, begins, introduces_one, introduces, leave_scope, sequence, Loop, Task, in_block, in_loop, Evaluation, side, chosen, fall, eval_cases, leave_switch, next_turn, stay_or_leave, eval_condition, after_continuing, eval_continuing, after_body, eval_turn, callee_frame, enters, leave_call, eval_call, eval_statement, eval_task, eval}
+use Rattle.spec_runs.specs.judged.Machine.{Frame, Configuration, Completion, normal, by_break, by_continue, by_return, halted, Outcome, step, answered, uses, begins, introduces_one, introduces, leave_scope, sequence, Loop, Task, in_block, in_loop, Evaluation, taken_branch, chosen, fall, eval_cases, leave_switch, next_turn, stay_or_leave, eval_condition, after_continuing, eval_continuing, after_body, eval_turn, callee_frame, enters, leave_call, eval_call, eval_statement, eval_task, eval}
 use Rattle.spec_runs.specs.judged.Scoping.{UsedOperands}
 
 -- no task makes steps
@@ -87,7 +87,7 @@ module _ (m : PlainModule) (go : Frame → Evaluation) (falls : Falls go) where
   statement_falls : (n : ℕ) (frame : Frame) (at : Place → Place) (s : PlainStatement) (now : Configuration) → now.steps ≤ n → Leaves n (eval_statement m go frame at s now)
   statement_falls n frame at (emit first end) now le = le
   statement_falls n frame at (block b) now le = go_falls n frame (in_block (λ p. at (inside inner p)) b) now le
-  statement_falls n frame at (if_ h accept reject) now le = answered_falls n now.answers now _ le (λ a s b. go_falls n frame (side (int_eq a (pos 0)) at accept reject) s b)
+  statement_falls n frame at (if_ h accept reject) now le = answered_falls n now.answers now _ le (λ a s b. go_falls n frame (taken_branch (int_eq a (pos 0)) at accept reject) s b)
   statement_falls n frame at (switch selector cases) now le =
       answered_falls n now.answers now _ le (λ a s b. let c = chosen a (λ k p. at (inside (case_at k) p)) cases in cases_fall n frame c.at c.cases s b)
   statement_falls n frame at (loop body continuing break_if) now le = go_falls n frame (in_loop (record { at = at; body = body; continuing = continuing; break_if = break_if })) now le
@@ -173,7 +173,7 @@ module _ (m : PlainModule) (go other : Frame → Evaluation) (k : ℕ) (falls : 
   statement_same : (frame : Frame) (at : Place → Place) (s : PlainStatement) (now : Configuration) → now.steps < k → eval_statement m go frame at s now ≡ eval_statement m other frame at s now
   statement_same frame at (emit first end) now lt = refl
   statement_same frame at (block b) now lt = ap (leave_scope now) (same.at frame (in_block (λ p. at (inside inner p)) b) now lt)
-  statement_same frame at (if_ h accept reject) now lt = answered_same k now.answers now _ _ lt (λ a s l. ap (leave_scope now) (same.at frame (side (int_eq a (pos 0)) at accept reject) s l))
+  statement_same frame at (if_ h accept reject) now lt = answered_same k now.answers now _ _ lt (λ a s l. ap (leave_scope now) (same.at frame (taken_branch (int_eq a (pos 0)) at accept reject) s l))
   statement_same frame at (switch selector cases) now lt =
       answered_same k now.answers now _ _ lt (λ a s l. let c = chosen a (λ n p. at (inside (case_at n) p)) cases in ap (leave_switch now) (cases_same frame c.at c.cases s l))
   statement_same frame at (loop body continuing break_if) now lt = ap (leave_scope now) (same.at frame (in_loop (record { at = at; body = body; continuing = continuing; break_if = break_if })) now lt)

@@ -11,8 +11,8 @@ use Rattle.spec_statements.specs.judged.Tables.{introduced}
 use Rattle.spec_statements.specs.found.SureLevel.{visible_by}
 use Rattle.spec_statements.specs.judged.Visible.{top_level, visible}
 use Rattle.spec_runs.specs.judged.Laws.{SkippedIsLawful, ScopeSuffices}
-use Rattle.spec_runs.specs.judged.Machine.{operands_of}
-use Rattle.spec_runs.specs.judged.Scoping.{UsedOperands, Scoping, IsThere, AreThere, IsScoped}
+use Rattle.spec_runs.specs.judged.Machine.{introduced_operands}
+use Rattle.spec_runs.specs.judged.Scoping.{UsedOperands, Scoping, IsUsable, AreUsable, IsScoped}
 
 -- where the top level leaves all that it introduces, what is visible is what a walk carries
 visible_is : (p : Place) (outer : List ℕ) (b : PlainBlock) → visible outer p b ≡ visible_by top_level outer p b
@@ -40,13 +40,13 @@ scope_suffices f ok = record {
 
 -- what is scoped may be used where all that is in scope is there
 module _ (u : UsedOperands) (g : Scoping) (f : PlainFunction) (scoped : IsScoped u g f) where
-  pub known : (live skipped scope : List ℕ) (o : ℕ) → AreThere g f live skipped scope → PreEmitted f o ⊎ Contains scope o → IsThere g f live skipped o
+  pub known : (live skipped scope : List ℕ) (o : ℕ) → AreUsable g f live skipped scope → PreEmitted f o ⊎ Contains scope o → IsUsable g f live skipped o
   known live skipped scope o there h = ⊎_elim (λ a. inl a) (λ held. there.each o held) h
 
-  pub introduced_known : (p : Place) (s : PlainStatement) → OccursAt f.body p s → (before : List ℕ) (e : ℕ) (after : List ℕ) → introduced s ≡ before ++ (e ∷ after) → (live skipped : List ℕ) → AreThere g f live skipped (visible_by g.level [] p f.body ++ before)
-      → (o : ℕ) → Contains (operands_of u (slice_get f.expressions e)) o → IsThere g f live skipped o
+  pub introduced_known : (p : Place) (s : PlainStatement) → OccursAt f.body p s → (before : List ℕ) (e : ℕ) (after : List ℕ) → introduced s ≡ before ++ (e ∷ after) → (live skipped : List ℕ) → AreUsable g f live skipped (visible_by g.level [] p f.body ++ before)
+      → (o : ℕ) → Contains (introduced_operands u (slice_get f.expressions e)) o → IsUsable g f live skipped o
   introduced_known p s stands before e after is live skipped there o held = by_get (slice_get f.expressions e) refl held
     where
-      by_get : (x : Option PlainExpression) → slice_get f.expressions e ≡ x → Contains (operands_of u x) o → IsThere g f live skipped o
+      by_get : (x : Option PlainExpression) → slice_get f.expressions e ≡ x → Contains (introduced_operands u x) o → IsUsable g f live skipped o
       by_get (Some x) at h = known live skipped (visible_by g.level [] p f.body ++ before) o there (scoped.at_introductions p s stands before e after is x at o h)
       by_get None at h = none_held o h

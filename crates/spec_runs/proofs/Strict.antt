@@ -7,7 +7,7 @@ use Rattle.ir_blocks.specs.judged.Plain.{PlainStatement, emit, block, if_, switc
 use Rattle.ir_types.specs.judged.ExpressionPlain.{PlainExpression}
 use Rattle.ir_items.specs.judged.Plain.{PlainFunction}
 use Rattle.spec_expressions.specs.judged.ExpressionNames.{expression_operands}
-use Rattle.spec_expressions.specs.judged.Operands.{Operands, these, each_of, of_statement, handles_of, is_looked_up, looked_up}
+use Rattle.spec_expressions.specs.judged.Operands.{Operands, these, each_of, statement_slots, handles_of, is_looked_up, looked_up}
 use Rattle.spec_expressions.specs.declared.operand.Scoping.{Scoping}
 use Rattle.spec_expressions.specs.declared.operand.Scoping.TheVariants.{Always, Strictly, Apart}
 use Rattle.spec_expressions.specs.declared.operand.Slot.{Slot}
@@ -108,7 +108,7 @@ are_needed (each_of Apart handles) e held = held
 
 checked_is_needed : (spot : Spot) (e : ℕ) → Contains (checked_at spot) e → Contains (needed_at spot) e
 checked_is_needed nothing e held = held
-checked_is_needed (statement s) e held = are_needed (of_statement s) e held
+checked_is_needed (statement s) e held = are_needed (statement_slots s) e held
 checked_is_needed (loop_condition break_if) e held = held
 
 -- ---- ranges

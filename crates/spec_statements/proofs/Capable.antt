@@ -15,8 +15,8 @@ use Rattle.spec_statements.specs.judged.Checks.{CheckOf}
 use Rattle.spec_statements.specs.judged.Conversions.{IsConverted}
 use Rattle.spec_statements.specs.judged.Expressions.{RequiredOf}
 use Rattle.spec_statements.specs.found.Laws.{MoreCapabilities, under}
-use Rattle.spec_statements.specs.judged.ExpressionResults.{IsAtomicValue, AreExchangeMembers, IsExchange, AtomicResultOK}
-use Rattle.spec_statements.specs.judged.Shapes.{IsAlone}
+use Rattle.spec_statements.specs.judged.ExpressionResults.{IsAtomicValue, AreExchangeMembers, IsExchange, AtomicResultTypeOK}
+use Rattle.spec_statements.specs.judged.Shapes.{IsScalarShape}
 use Rattle.spec_statements.specs.declared.shapes.Shaped.{Shaped}
 use Rattle.typing_layout.proofs.Capable.{more_capabilities as more_types}
 use Rattle.typing_layout.specs.judged.Widths.{ScalarOK, AtomicOK}
@@ -42,7 +42,7 @@ as_more few many kind None (Some x) more ok = ok
 as_more few many kind (Some width) (Some x) more ok = scalar_more few many _ more ok
 
 value_more : (few many : Capabilities) (x : Option Shaped) → IsWithin few.0 many.0
-    → IsSomeAnd x (λ x. IsAlone x.shape × AtomicOK few x.scalar) → IsSomeAnd x (λ x. IsAlone x.shape × AtomicOK many x.scalar)
+    → IsSomeAnd x (λ x. IsScalarShape x.shape × AtomicOK few x.scalar) → IsSomeAnd x (λ x. IsScalarShape x.shape × AtomicOK many x.scalar)
 value_more few many None more ok = ok
 value_more few many (Some x) more ok = (ok.0, atomic_more few many x.scalar more ok.1)
 
@@ -62,7 +62,7 @@ exchange_more few many types None more ok = ok
 exchange_more few many types (Some (plain_type i)) more ok = ok
 exchange_more few many types (Some (struct members span)) more ok = members_more few many types members more ok
 
-result_more : (few many : Capabilities) (types : List PlainType) (type : ℕ) (comparison : Bool) → IsWithin few.0 many.0 → AtomicResultOK few types type comparison → AtomicResultOK many types type comparison
+result_more : (few many : Capabilities) (types : List PlainType) (type : ℕ) (comparison : Bool) → IsWithin few.0 many.0 → AtomicResultTypeOK few types type comparison → AtomicResultTypeOK many types type comparison
 result_more few many types type false more ok = value_more few many _ more ok
 result_more few many types type true more ok = exchange_more few many types _ more ok
 

@@ -4,10 +4,10 @@ use Rattle.spec_expressions.specs.judged.Pairs.{SamplingPair}
 use Rattle.ir_items.specs.judged.Plain.{PlainFunction, PlainModule}
 use Rattle.typing_rules.specs.judged.Laws.{IsAmong}
 use Rattle.spec_expressions.proofs.Members.{among-get, get-among}
-use Rattle.spec_expressions.specs.judged.CallChains.{Step, Calls, HasPair}
+use Rattle.spec_expressions.specs.judged.CallChains.{HasPair}
 use Rattle.spec_expressions.specs.judged.Effects.{runs, effects_of}
 use Rattle.spec_expressions.specs.judged.Summaries.{Summary, CallsOne, CalleesKnown, IsWrongArgument, IsFormFault}
-use Rattle.spec_statements.specs.judged.Analysis.{SamplesWrongForm, PassesWrongForm, HasWrongForm}
+use Rattle.spec_statements.specs.judged.Analysis.{PassesWrongForm, HasWrongForm}
 use Rattle.spec_statements.specs.found.FunctionLaws.{FormsByCallees}
 
 some_is : {X : Type 0} {x y : X} → Some x ≡ Some y → x ≡ y

@@ -23,8 +23,8 @@ ghost use Rattle.spec_statements.specs.judged.Access.{AccessIndexOK, IsIndexOf, 
 ghost use Rattle.spec_statements.specs.judged.CooperativeMatrices.{CooperativeLoadOK, MultiplyAddOK};
 ghost use Rattle.spec_statements.specs.judged.Derivatives.{DerivativeOK};
 ghost use Rattle.spec_statements.specs.judged.Expressions.{RequiredOf};
-ghost use Rattle.spec_statements.specs.judged.ImageLoads.{IsAnswered, IsReadable, IsTexel};
-ghost use Rattle.spec_statements.specs.judged.ImageSamples.{HasNeighbours, ClampOK, IsClamped, IsFiltered, IsGathered, IsLevel, IsOffset, OutsideOK};
+ghost use Rattle.spec_statements.specs.judged.ImageLoads.{IsAnswered, IsReadable, IsTexelCoordinate};
+ghost use Rattle.spec_statements.specs.judged.ImageSamples.{HasNeighbours, ClampOK, IsClamped, IsFiltered, IsGathered, IsLevel, IsOffset, ExternalOK};
 ghost use Rattle.spec_statements.specs.found.Laws.{under};
 ghost use Rattle.spec_statements.specs.judged.Shapes.{ExactlyIf};
 ghost use Rattle.ir_types.specs.declared.expressions.ImageQuery.TheVariants.{Size, NumLevels, NumLayers, NumSamples};
@@ -93,9 +93,9 @@ pub fn selections()
 
 /// How images are sampled and loaded from, and what is required of them.
 pub fn images()
-    ensures texel { IsTexel D2 (form.Vector Bi (unsigned 4)) }
-    ensures texel_of_a_cube { ¬ IsTexel Cube (form.Vector Tri (signed 4)) }
-    ensures texel_by_floats { ¬ IsTexel D2 (form.Vector Bi (floating 4)) }
+    ensures texel { IsTexelCoordinate D2 (form.Vector Bi (unsigned 4)) }
+    ensures texel_of_a_cube { ¬ IsTexelCoordinate Cube (form.Vector Tri (signed 4)) }
+    ensures texel_by_floats { ¬ IsTexelCoordinate D2 (form.Vector Bi (floating 4)) }
     ensures integers_gathered { IsFiltered (class.Sampled kind.Sint false) (Some X) }
     ensures no_cubes_beside { ¬ HasNeighbours D3 }
     ensures layer_where_there_are_layers { ¬ ExactlyIf true None (λ place. place ≡ 0) }
@@ -126,9 +126,9 @@ pub fn samples()
     ensures floats_clamped { ClampOK (record { dim = D2; arrayed = false; class = class.Sampled kind.Float false }) true }
     ensures layers_not_clamped { ¬ ClampOK (record { dim = D2; arrayed = true; class = class.Sampled kind.Float false }) true }
     ensures outside_unclamped { ¬ ClampOK (record { dim = D2; arrayed = false; class = class.External }) false }
-    ensures outside_as_it_is { OutsideOK class.External None None Zero }
-    ensures outside_at_a_level { ¬ OutsideOK class.External None None (Exact 0) }
-    ensures outside_gathered { ¬ OutsideOK class.External (Some X) None Zero }
+    ensures outside_as_it_is { ExternalOK class.External None None Zero }
+    ensures outside_at_a_level { ¬ ExternalOK class.External None None (Exact 0) }
+    ensures outside_gathered { ¬ ExternalOK class.External (Some X) None Zero }
 {}
 
 /// Compositions among other kinds.

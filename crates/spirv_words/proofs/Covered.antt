@@ -1,7 +1,7 @@
 -- That words are cut in one way.
 use Rattle.std.proofs.Common.{◌≡◌, ◌≢◌, ℕ, ◌+◌, ◌/◌, ◌%◌, ◌<◌, ◌≤◌, List, [], ◌∷◌, ◌++◌, length, slice_index_or, refl, sym, ap, arith, ◌∙◌, ◌⊎◌, inl, inr}
 use Rattle.spirv_words.specs.declared.pieces.Piece.{Piece}
-use Rattle.spirv_words.specs.Pieces.{IsPiece, Covers, AreCut}
+use Rattle.spirv_words.specs.Pieces.{IsPiece, Covers}
 
 -- one more after
 pub covers_more : (words : List ℕ) (from at : ℕ) (pieces : List Piece) (piece : Piece) → Covers words from at pieces → IsPiece words at piece → Covers words from (at + piece.len) (pieces ++ piece ∷ [])

@@ -7,7 +7,7 @@ use Rattle.typing_forms.specs.declared.form.Form.TheVariants as form
 use Rattle.typing_forms.specs.declared.resolution.TypeResolution.{TypeResolution}
 use Rattle.ir_types.specs.judged.ExpressionPlain.{PlainExpression}
 use Rattle.spec_expressions.specs.judged.Context.{Context}
-use Rattle.spec_expressions.specs.judged.Typing.{rule}
+use Rattle.spec_expressions.specs.judged.Typing.{expression_rule}
 use Rattle.spec_expressions.specs.declared.faults.TypingFault.{TypingFault}
 use Rattle.typing_errors.specs.declared.operands.Given.{Given}
 use Rattle.typing_errors.specs.Answers.{form_given}
@@ -20,5 +20,5 @@ given_form types None = form.Nothing
 -- what the rule of its kind says of an expression whose operands have the types that are given
 abbrev pub rule_given : Context → PlainExpression → Given → Result Form TypingFault
 rule_given context expression given =
-    rule context expression (given_form context.types given.first) (given_form context.types given.second)
+    expression_rule context expression (given_form context.types given.first) (given_form context.types given.second)
     (given_form context.types given.third) (given_form context.types given.fourth)

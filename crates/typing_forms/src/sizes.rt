@@ -2,7 +2,8 @@
 
 ghost use Rattle.std.specs.Prelude.{◌≡◌, ◌*◌, ◌≤◌, ◌<◌, ◌^◌};
 ghost use Rattle.ir_types.specs.judged.Plain.{inner_view};
-ghost use Rattle.typing_forms.specs.judged.Sizes.{column_size, cooperative_count, counted, type_size};
+ghost use Rattle.ir_kinds.specs.judged.Scalars.{cooperative_count};
+ghost use Rattle.typing_forms.specs.judged.Sizes.{column_size, counted, type_size};
 
 use ir_kinds::{CooperativeSize, VectorSize};
 use ir_types::{ArraySize, TypeInner};

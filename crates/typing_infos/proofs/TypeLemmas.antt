@@ -16,9 +16,8 @@ use Rattle.spec_expressions.proofs.Members.{get-within}
 use Rattle.spec_expressions.specs.judged.Context.{Context}
 use Rattle.spec_expressions.specs.judged.Typing.{typing_operands, HasTypeAmong}
 use Rattle.typing_forms.specs.declared.resolution.TypeResolution.{TypeResolution}
-use Rattle.typing_forms.specs.declared.form.Form.{Form}
 use Rattle.typing_errors.specs.Answers.{form_given}
-use Rattle.typing_infos.specs.Types.{TypedSoFar, TypedBefore, IsFirstUntyped, AreTypes, OperandsBelow, IsTypedBy}
+use Rattle.typing_infos.specs.Types.{TypedSoFar, TypedBefore, IsFirstUntyped, OperandsBelow, IsTypedBy}
 use Rattle.typing_infos.specs.declared.refusal.TypingRefusal.{TypingRefusal}
 use Rattle.typing_infos.specs.declared.refusal.TypingRefusal.TheVariants.{Memory, Fault}
 

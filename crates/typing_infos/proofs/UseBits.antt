@@ -7,7 +7,6 @@ use Rattle.std.proofs.lemmas.Bool.{cases_eq, cases_lt}
 use Rattle.std.proofs.lemmas.List.{get_or-set_same, get_or-set_other, get_or_past}
 use Rattle.std.proofs.lemmas.List.Elements.{All-head, All-tail}
 use Rattle.std.proofs.lemmas.Nat.Bits.{bit_at_or, bit_at-lt, bit_at-zero}
-use Rattle.typing_rules.specs.judged.Laws.{IsAmong}
 use Rattle.spec_expressions.specs.declared.global_use.GlobalUse.{GlobalUse}
 use Rattle.spec_expressions.specs.judged.Summaries.{no_use, HasUseBit}
 use Rattle.typing_infos.specs.Infos.{joined_use, marked, with_uses, NotesUse, Dominates}

@@ -2,7 +2,7 @@
 
 ghost use Rattle.std.specs.Prelude.{◌≡◌, ◌<◌, ◌⊎◌, ◌↔◌, ◌||◌, ℕ, Some, All, IsTrue, false, length, slice_get, bit_and};
 ghost use Rattle.bitflags.specs.Sets.{known_bits};
-ghost use Rattle.ir_flags.specs.Words.{shader_stages};
+ghost use Rattle.ir_flags.specs.Words.{shader_stage_bits};
 ghost use Rattle.typing_infos.specs.Infos.{summary_of, NotesUse, Dominates};
 ghost use Rattle.spec_expressions.specs.judged.Summaries.{HasUseBit};
 
@@ -51,7 +51,7 @@ pub struct FunctionParts {
 impl FunctionInfo {
     /// The info with these parts, for all stages.
     pub fn of_parts(parts: FunctionParts) -> FunctionInfo
-        ensures stages { result.available_stages.0 ≡ known_bits shader_stages }
+        ensures stages { result.available_stages.0 ≡ known_bits shader_stage_bits }
         ensures blending { result.dual_source_blending ≡ false }
         ensures may_kill { result.may_kill ≡ parts.may_kill }
         ensures sampling_set { result.sampling_set ≡ parts.sampling_set }

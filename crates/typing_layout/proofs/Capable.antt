@@ -9,7 +9,7 @@ use Rattle.ir_kinds.specs.declared.scalars.ScalarKind.TheVariants as kind
 use Rattle.ir_types.specs.judged.Plain.{PlainInner, PlainType, struct as written_struct, plain}
 use Rattle.typing_layout.specs.judged.Tree.{Tree, scalar, vector, matrix, cooperative_matrix, atomic, pointer, value_pointer, array, struct, image, sampler, acceleration_structure, ray_query, binding_array}
 use Rattle.typing_layout.specs.judged.Blends.{BlendOK, BlendsOK}
-use Rattle.typing_layout.specs.judged.Images.{VerticesOK}
+use Rattle.typing_layout.specs.judged.Images.{VertexReturnOK}
 use Rattle.typing_layout.specs.found.TreeLaws.{MoreCapabilities}
 use Rattle.typing_layout.specs.judged.Rules.{ShapeOK}
 use Rattle.typing_layout.specs.judged.Widths.{IsWidthAllowed, IsKindAllowed, IsAtomicInteger, IsAtomicKind}
@@ -42,7 +42,7 @@ atomic_more few many kind.Bool width more ok = ok
 atomic_more few many AbstractInt width more ok = ok
 atomic_more few many AbstractFloat width more ok = ok
 
-vertices_more : (few many : Capabilities) (v : Bool) → IsWithin few.0 many.0 → VerticesOK few v → VerticesOK many v
+vertices_more : (few many : Capabilities) (v : Bool) → IsWithin few.0 many.0 → VertexReturnOK few v → VertexReturnOK many v
 vertices_more few many v more ok is = has_more few.0 many.0 _ more (ok is)
 
 shape_more : (few many : Capabilities) (resolved : Bool) (t : Tree) → IsWithin few.0 many.0 → ShapeOK few resolved t → ShapeOK many resolved t

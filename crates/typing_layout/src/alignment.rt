@@ -152,7 +152,7 @@ impl From<VectorSize> for Alignment {
 
 impl From<CooperativeSize> for Alignment {
     ghost use Rattle.std.specs.Prelude.{◌≡◌};
-    ghost use Rattle.typing_forms.specs.judged.Sizes.{cooperative_count};
+    ghost use Rattle.ir_kinds.specs.judged.Scalars.{cooperative_count};
 
     ghost from_gives = { λ size a. a ≡ cooperative_count size };
 

@@ -4,7 +4,7 @@ use Rattle.ir_kinds.specs.declared.scalars.Scalar.{Scalar}
 use Rattle.typing_rules.specs.declared.patterns.Pattern.{Pattern}
 use Rattle.typing_rules.specs.declared.rules.ConstructorSize.{ConstructorSize}
 use Rattle.typing_rules.specs.declared.rules.Rule.{Rule}
-use Rattle.typing_rules.specs.judged.MathTable.{rule_of, row, rules_over}
+use Rattle.typing_rules.specs.judged.MathTable.{math_rule, row, rules_over}
 use Rattle.typing_overloads.specs.Products.{required_type, required_by}
 use Rattle.typing_rules.specs.judged.Laws.{arity}
 use Rattle.typing_overloads.specs.Sets.{fewest_arguments, most_arguments}
@@ -14,7 +14,7 @@ length_mapped : {A B : Type 0} (f : A → B) (xs : List A) → length (map f xs)
 length_mapped f [] = refl
 length_mapped f (x ∷ xs) = ap (λ n. suc n) (length_mapped f xs)
 
-arity_by : (p : Pattern) (n : ConstructorSize) (s : Scalar) → arity (rule_of p n s) ≡ length (required_by p)
+arity_by : (p : Pattern) (n : ConstructorSize) (s : Scalar) → arity (math_rule p n s) ≡ length (required_by p)
 arity_by p n s = ap length (required_are p n s) ∙ length_mapped (required_type n s) (required_by p)
 
 -- each rule has so many arguments

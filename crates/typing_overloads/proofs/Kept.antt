@@ -11,8 +11,8 @@ use Rattle.typing_rules.specs.declared.rules.ConstructorSize.{ConstructorSize}
 use Rattle.typing_rules.specs.declared.rules.Rule.{Rule}
 use Rattle.typing_rules.specs.declared.rules.ValueType.{ValueType}
 use Rattle.typing_rules.specs.judged.Ranks.{rank_if, accepts, accepts_if, accepts_inner, is_abstract_kind, is_concrete}
-use Rattle.typing_rules.specs.judged.MathTable.{arguments_of, rule_of, row, rules_over}
-use Rattle.typing_rules.specs.judged.Types.{constructor_place, listed, value_type_of}
+use Rattle.typing_rules.specs.judged.MathTable.{arguments_of, math_rule, row, rules_over}
+use Rattle.typing_rules.specs.judged.Types.{constructor_place, argument_list, value_type_of}
 use Rattle.typing_rules.specs.found.Bits.{marks}
 use Rattle.typing_rules.specs.found.Members.{scalars, scalars_in, sizes, sizes_in}
 use Rattle.typing_overloads.specs.declared.required.Required.{Required}
@@ -21,47 +21,47 @@ use Rattle.typing_overloads.proofs.Masks.{chosen_by_both}
 
 -- ---- products
 
-row_step : (q : Rule → Bool) (f : Scalar → Bool) (p : Pattern) (n : ConstructorSize) (s : Scalar) (ss : List Scalar) (b : Bool) → f s ≡ b → q (rule_of p n s) ≡ b
+row_step : (q : Rule → Bool) (f : Scalar → Bool) (p : Pattern) (n : ConstructorSize) (s : Scalar) (ss : List Scalar) (b : Bool) → f s ≡ b → q (math_rule p n s) ≡ b
     → filter q (row p ss n) ≡ row p (filter f ss) n → filter q (row p (s ∷ ss) n) ≡ row p (filter f (s ∷ ss)) n
 row_step q f p n s ss true e h again =
-    ap (λ b. cond b (rule_of p n s ∷ filter q (row p ss n)) (filter q (row p ss n))) h ∙ ap (λ zs. rule_of p n s ∷ zs) again
+    ap (λ b. cond b (math_rule p n s ∷ filter q (row p ss n)) (filter q (row p ss n))) h ∙ ap (λ zs. math_rule p n s ∷ zs) again
     ∙ ap (λ b. row p (cond b (s ∷ filter f ss) (filter f ss)) n) (sym e)
 row_step q f p n s ss false e h again =
-    ap (λ b. cond b (rule_of p n s ∷ filter q (row p ss n)) (filter q (row p ss n))) h ∙ again ∙ ap (λ b. row p (cond b (s ∷ filter f ss) (filter f ss)) n) (sym e)
+    ap (λ b. cond b (math_rule p n s ∷ filter q (row p ss n)) (filter q (row p ss n))) h ∙ again ∙ ap (λ b. row p (cond b (s ∷ filter f ss) (filter f ss)) n) (sym e)
 
 -- of a row whose shape passes, the scalars that pass are left
-row_kept : (q : Rule → Bool) (f : Scalar → Bool) (p : Pattern) (n : ConstructorSize) → ((s : Scalar) → q (rule_of p n s) ≡ f s) → (ss : List Scalar)
+row_kept : (q : Rule → Bool) (f : Scalar → Bool) (p : Pattern) (n : ConstructorSize) → ((s : Scalar) → q (math_rule p n s) ≡ f s) → (ss : List Scalar)
     → filter q (row p ss n) ≡ row p (filter f ss) n
 row_kept q f p n h [] = refl
 row_kept q f p n h (s ∷ ss) = row_step q f p n s ss (f s) refl (h s) (row_kept q f p n h ss)
 
 -- of another row nothing is left
-row_dropped : (q : Rule → Bool) (p : Pattern) (n : ConstructorSize) → ((s : Scalar) → q (rule_of p n s) ≡ false) → (ss : List Scalar) → filter q (row p ss n) ≡ []
+row_dropped : (q : Rule → Bool) (p : Pattern) (n : ConstructorSize) → ((s : Scalar) → q (math_rule p n s) ≡ false) → (ss : List Scalar) → filter q (row p ss n) ≡ []
 row_dropped q p n h [] = refl
-row_dropped q p n h (s ∷ ss) = ap (λ b. cond b (rule_of p n s ∷ filter q (row p ss n)) (filter q (row p ss n))) (h s) ∙ row_dropped q p n h ss
+row_dropped q p n h (s ∷ ss) = ap (λ b. cond b (math_rule p n s ∷ filter q (row p ss n)) (filter q (row p ss n))) (h s) ∙ row_dropped q p n h ss
 
 rows_step : (q : Rule → Bool) (f : Scalar → Bool) (g : ConstructorSize → Bool) (p : Pattern) (ss : List Scalar) (n : ConstructorSize) (ns : List ConstructorSize) (b : Bool) → g n ≡ b
-    → ((s : Scalar) → q (rule_of p n s) ≡ b && f s) → filter q (rules_over p ss ns) ≡ rules_over p (filter f ss) (filter g ns)
+    → ((s : Scalar) → q (math_rule p n s) ≡ b && f s) → filter q (rules_over p ss ns) ≡ rules_over p (filter f ss) (filter g ns)
     → filter q (row p ss n) ++ filter q (rules_over p ss ns) ≡ rules_over p (filter f ss) (filter g (n ∷ ns))
 rows_step q f g p ss n ns true e h again =
     ap₂ (λ xs ys. xs ++ ys) (row_kept q f p n h ss) again ∙ ap (λ b. rules_over p (filter f ss) (cond b (n ∷ filter g ns) (filter g ns))) (sym e)
 rows_step q f g p ss n ns false e h again =
     ap₂ (λ xs ys. xs ++ ys) (row_dropped q p n h ss) again ∙ ap (λ b. rules_over p (filter f ss) (cond b (n ∷ filter g ns) (filter g ns))) (sym e)
 
-product_kept : (q : Rule → Bool) (f : Scalar → Bool) (g : ConstructorSize → Bool) (p : Pattern) → ((n : ConstructorSize) (s : Scalar) → q (rule_of p n s) ≡ g n && f s)
+product_kept : (q : Rule → Bool) (f : Scalar → Bool) (g : ConstructorSize → Bool) (p : Pattern) → ((n : ConstructorSize) (s : Scalar) → q (math_rule p n s) ≡ g n && f s)
     → (ss : List Scalar) (ns : List ConstructorSize) → filter q (rules_over p ss ns) ≡ rules_over p (filter f ss) (filter g ns)
 product_kept q f g p h ss [] = refl
 product_kept q f g p h ss (n ∷ ns) =
     filter-append q (row p ss n) (rules_over p ss ns) ∙ rows_step q f g p ss n ns (g n) refl (h n) (product_kept q f g p h ss ns)
 
-nothing_kept : (q : Rule → Bool) (p : Pattern) → ((n : ConstructorSize) (s : Scalar) → q (rule_of p n s) ≡ false) → (ss : List Scalar) (ns : List ConstructorSize)
+nothing_kept : (q : Rule → Bool) (p : Pattern) → ((n : ConstructorSize) (s : Scalar) → q (math_rule p n s) ≡ false) → (ss : List Scalar) (ns : List ConstructorSize)
     → filter q (rules_over p ss ns) ≡ []
 nothing_kept q p h ss [] = refl
 nothing_kept q p h ss (n ∷ ns) = filter-append q (row p ss n) (rules_over p ss ns) ∙ ap₂ (λ xs ys. xs ++ ys) (row_dropped q p n (h n) ss) (nothing_kept q p h ss ns)
 
 -- ---- what is required for at a place
 
-pub required_are : (p : Pattern) (n : ConstructorSize) (s : Scalar) → listed (arguments_of p n s) ≡ map (required_type n s) (required_by p)
+pub required_are : (p : Pattern) (n : ConstructorSize) (s : Scalar) → argument_list (arguments_of p n s) ≡ map (required_type n s) (required_by p)
 required_are pattern.Same n s = refl
 required_are pattern.SameTwo n s = refl
 required_are pattern.SameThree n s = refl
@@ -80,7 +80,7 @@ required_are pattern.FromWord n s = refl
 required_are pattern.FromTwoWords n s = refl
 
 asked_there : (p : Pattern) (place : ℕ) (o : Option Required) → slice_get (required_by p) place ≡ o → (n : ConstructorSize) (s : Scalar)
-    → slice_get (listed (arguments_of p n s)) place ≡ option_map (required_type n s) o
+    → slice_get (argument_list (arguments_of p n s)) place ≡ option_map (required_type n s) o
 asked_there p place o e n s = ap (λ xs. slice_get xs place) (required_are p n s) ∙ slice_get-map (required_type n s) (required_by p) place ∙ ap (option_map (required_type n s)) e
 
 some_rank : (b : Bool) (o : Option ℕ) → is_some (cond b o None) ≡ b && is_some o
@@ -94,7 +94,7 @@ abbrev takes_scalar : ValueType → Required → Scalar → Bool
 takes_scalar given a s = is_some (rank given.scalar (required_scalar a.scalar s))
 
 accepts_by : (place : ℕ) (given : ValueType) (p : Pattern) (a : Required) → slice_get (required_by p) place ≡ Some a → (n : ConstructorSize) (s : Scalar)
-    → accepts place given (rule_of p n s) ≡ takes_size given a n && takes_scalar given a s
+    → accepts place given (math_rule p n s) ≡ takes_size given a n && takes_scalar given a s
 accepts_by place given p a e n s =
     ap (λ o. is_some (rank_if given o)) (asked_there p place (Some a) e n s) ∙ some_rank (takes_size given a n) (rank given.scalar (required_scalar a.scalar s))
 
@@ -122,7 +122,7 @@ thrice : (b : Bool) → b && (b && (b && true)) ≡ b
 thrice true = refl
 thrice false = refl
 
-concrete_by : (p : Pattern) (n : ConstructorSize) (s : Scalar) → is_concrete (rule_of p n s) ≡ all_concrete p s
+concrete_by : (p : Pattern) (n : ConstructorSize) (s : Scalar) → is_concrete (math_rule p n s) ≡ all_concrete p s
 concrete_by pattern.Same n s = once (not (is_abstract_kind s.kind))
 concrete_by pattern.SameTwo n s = twice (not (is_abstract_kind s.kind))
 concrete_by pattern.SameThree n s = thrice (not (is_abstract_kind s.kind))

@@ -8,7 +8,7 @@ use Rattle.typing_rules.specs.declared.rules.ConstructorSize.TheVariants as size
 use Rattle.typing_rules.specs.declared.rules.Rule.{Rule}
 use Rattle.typing_rules.specs.declared.rules.ValueType.{ValueType}
 use Rattle.typing_rules.specs.judged.Ranks.{is_abstract_kind}
-use Rattle.typing_rules.specs.judged.MathTable.{i32, u32, column_size, row_size, rules_over}
+use Rattle.typing_rules.specs.judged.MathTable.{i32, u32, vector_of_columns, vector_of_rows, rules_over}
 use Rattle.typing_rules.specs.judged.Types.{value_type}
 use Rattle.typing_rules.specs.found.Members.{scalars_in, sizes_in}
 use Rattle.typing_overloads.specs.declared.required.Required.{Required}
@@ -24,8 +24,8 @@ use Rattle.typing_overloads.specs.declared.product.Product.{Product}
 abbrev pub required_size : RequiredSize → ConstructorSize → ConstructorSize
 required_size sizes.Same n = n
 required_size sizes.Scalar n = size.Scalar
-required_size sizes.Column n = column_size n
-required_size sizes.Row n = row_size n
+required_size sizes.Column n = vector_of_columns n
+required_size sizes.Row n = vector_of_rows n
 
 -- the scalar, of the scalar that the rule is made of
 abbrev pub required_scalar : RequiredScalar → Scalar → Scalar

@@ -4,7 +4,7 @@ use Rattle.std.specs.List.{fold, flat_map}
 use Rattle.typing_rules.specs.declared.rules.Rule.{Rule}
 use Rattle.typing_rules.specs.declared.rules.ValueType.{ValueType}
 use Rattle.typing_rules.specs.judged.Laws.{arity}
-use Rattle.typing_rules.specs.judged.Types.{listed}
+use Rattle.typing_rules.specs.judged.Types.{argument_list}
 
 -- the least number of arguments, and 0 where there is no rule
 abbrev pub fewest_arguments : List Rule → ℕ
@@ -22,4 +22,4 @@ one_or_none None = []
 
 -- what the rules require at a place, without those that have no such argument
 abbrev pub arguments_at : ℕ → List Rule → List ValueType
-arguments_at place rules = flat_map (λ rule. one_or_none (slice_get (listed rule.arguments) place)) rules
+arguments_at place rules = flat_map (λ rule. one_or_none (slice_get (argument_list rule.arguments) place)) rules

@@ -68,7 +68,7 @@ pub trait MathFunctionExt: Sized {
 impl MathFunctionExt for MathFunction {
     ghost use Rattle.typing_rules.specs.judged.MathTable as tables;
 
-    ghost table = { tables.table };
+    ghost table = { tables.math_overloads };
 
     fn overloads(self, alloc: Global) -> Result<AnyOverloadSet, AllocError> {
         match self {

@@ -1,7 +1,7 @@
 //! What the rules of a pattern require at each place, and which of them take a type there.
 
 ghost use Rattle.std.specs.Prelude.{◌≡◌, ◌==◌, is_some, length, map, slice_get};
-ghost use Rattle.typing_rules.specs.judged.MathTable.{column_size, row_size};
+ghost use Rattle.typing_rules.specs.judged.MathTable.{vector_of_columns, vector_of_rows};
 ghost use Rattle.typing_rules.specs.judged.Types.{constructor_place};
 ghost use Rattle.typing_forms.specs.judged.Ranks.{rank};
 ghost use Rattle.typing_rules.specs.found.Bits.{marks};
@@ -202,7 +202,7 @@ const fn all_or_none(given: ConstructorSize) -> ConstructorSet
 
 // The shapes with so many columns.
 const fn with_columns(given: ConstructorSize) -> ConstructorSet
-    ensures { marks result.0 sizes ≡ map (λ n. constructor_place given == constructor_place (column_size n)) sizes }
+    ensures { marks result.0 sizes ≡ map (λ n. constructor_place given == constructor_place (vector_of_columns n)) sizes }
 {
     match given {
         ConstructorSize::Scalar => ConstructorSet::SCALAR,
@@ -215,7 +215,7 @@ const fn with_columns(given: ConstructorSize) -> ConstructorSet
 
 // The shapes with so many rows.
 const fn with_rows(given: ConstructorSize) -> ConstructorSet
-    ensures { marks result.0 sizes ≡ map (λ n. constructor_place given == constructor_place (row_size n)) sizes }
+    ensures { marks result.0 sizes ≡ map (λ n. constructor_place given == constructor_place (vector_of_rows n)) sizes }
 {
     match given {
         ConstructorSize::Scalar => ConstructorSet::SCALAR,

@@ -9,7 +9,7 @@ use Rattle.typing_rules.specs.judged.Laws.{IsAmong}
 use Rattle.spec_expressions.proofs.TypingLaws.{faulty_has_none}
 use Rattle.spec_expressions.specs.judged.Context.{Context}
 use Rattle.spec_expressions.specs.found.Laws.{IsFaulty}
-use Rattle.spec_expressions.specs.judged.Typing.{form_read, operand_form, rule, rule_at, typing_operands, HasTypeAmong, has}
+use Rattle.spec_expressions.specs.judged.Typing.{form_read, operand_form, expression_rule, rule_at, typing_operands, HasTypeAmong, has}
 use Rattle.spec_expressions.specs.declared.faults.TypingFault.{TypingFault}
 use Rattle.typing_errors.specs.Answers.{form_given, fault_of, told, ReportsFault, IsAnswer}
 use Rattle.typing_errors.specs.Operands.{given_form}
@@ -36,9 +36,9 @@ pub read_at : (types : List PlainType) (forms : ℕ → Form) (post : ℕ → Bo
     → given_form types found ≡ operand_form forms xs k
 read_at types forms post xs k operand found at same reads = reads (λ o r is p. same o r (named xs k o operand at is) p) ∙ ap (form_read forms) at
 
-pub same_rule : (context : Context) (x : PlainExpression) (a b c d p q r s : Form) → a ≡ p → b ≡ q → c ≡ r → d ≡ s → rule context x a b c d ≡ rule context x p q r s
+pub same_rule : (context : Context) (x : PlainExpression) (a b c d p q r s : Form) → a ≡ p → b ≡ q → c ≡ r → d ≡ s → expression_rule context x a b c d ≡ expression_rule context x p q r s
 same_rule context x a b c d p q r s e f g h =
-    ap (λ z. rule context x z b c d) e ∙ ap (λ z. rule context x p z c d) f ∙ ap (λ z. rule context x p q z d) g ∙ ap (λ z. rule context x p q r z) h
+    ap (λ z. expression_rule context x z b c d) e ∙ ap (λ z. expression_rule context x p z c d) f ∙ ap (λ z. expression_rule context x p q z d) g ∙ ap (λ z. expression_rule context x p q r z) h
 
 -- what is reported of one outcome is reported of the same
 pub told_same : (types : List PlainType) (v w : Result Form TypingFault) (result : Result TypeResolution ResolveRefusal) → v ≡ w → told types (Some v) result ≡ Some v → told types (Some w) result ≡ Some w
@@ -67,8 +67,8 @@ pub by_reads : (context : Context) (x : PlainExpression) (forms : ℕ → Form) 
     → (((o : ℕ) (z : Bor TypeResolution) → b ≡ Some o → post o z → form_given context.types z.now ≡ forms o) → given_form context.types q ≡ form_read forms b)
     → (((o : ℕ) (z : Bor TypeResolution) → c ≡ Some o → post o z → form_given context.types z.now ≡ forms o) → given_form context.types r ≡ form_read forms c)
     → (((o : ℕ) (z : Bor TypeResolution) → d ≡ Some o → post o z → form_given context.types z.now ≡ forms o) → given_form context.types s ≡ form_read forms d)
-    → told context.types (Some (rule context x (given_form context.types p) (given_form context.types q) (given_form context.types r) (given_form context.types s))) result
-    ≡ Some (rule context x (given_form context.types p) (given_form context.types q) (given_form context.types r) (given_form context.types s))
+    → told context.types (Some (expression_rule context x (given_form context.types p) (given_form context.types q) (given_form context.types r) (given_form context.types s))) result
+    ≡ Some (expression_rule context x (given_form context.types p) (given_form context.types q) (given_form context.types r) (given_form context.types s))
     → ((o : ℕ) (z : Bor TypeResolution) → IsAmong o (typing_operands x) → post o z → form_given context.types z.now ≡ forms o)
     → told context.types (Some (rule_at context x forms)) result ≡ Some (rule_at context x forms)
 by_reads context x forms post a b c d p q r s result ea eb ec ed ra rb rc rd t same =

@@ -3,7 +3,7 @@
 ghost use Rattle.std.specs.Prelude.{◌≡◌, List, None, map, option_map, slice_get};
 ghost use Rattle.ir_kinds.specs.judged.Scalars.{component_count};
 ghost use Rattle.ir_types.specs.judged.Plain.{PlainType, inner_view, member_view};
-ghost use Rattle.spec_expressions.specs.judged.Access.{pointer_to, pointed_element, element, access_type, one_of, member_of, pointed_part, access_index_type};
+ghost use Rattle.spec_expressions.specs.judged.Access.{pointer_to, pointed_element, element, access_type, part_in_bounds, member_of, pointed_part, access_index_type};
 ghost use Rattle.typing_forms.specs.judged.Forms.{form_in};
 ghost use Rattle.typing_forms.specs.judged.Resolutions.{types_view, inner_at};
 ghost use Rattle.typing_errors.specs.Answers.{form_given, form_answer};
@@ -189,7 +189,7 @@ fn one_of(
     count: VectorSize,
     part: TypeInner,
 ) -> Result<TypeResolution, TypingFault>
-    ensures { (types : List PlainType) → form_answer types result ≡ one_of base index (component_count count) (form_in types None (inner_view part)) }
+    ensures { (types : List PlainType) → form_answer types result ≡ part_in_bounds base index (component_count count) (form_in types None (inner_view part)) }
 {
     if index < u32::from(count) {
         Ok(TypeResolution::Value(part))

@@ -2,9 +2,9 @@
 
 ghost use Rattle.std.specs.Prelude.{◌≡◌, IfOk, Some};
 ghost use Rattle.ir_types.specs.judged.Plain.{inner_view};
-ghost use Rattle.typing_rules.specs.judged.MathTable.{table};
+ghost use Rattle.typing_rules.specs.judged.MathTable.{math_overloads};
 ghost use Rattle.typing_rules.specs.judged.Types.{value_type_of};
-ghost use Rattle.spec_expressions.specs.judged.Maths.{value_of, taking, concluded, math_of, math_type};
+ghost use Rattle.spec_expressions.specs.judged.Maths.{value_of, matching_rules, concluded, math_of, math_type};
 ghost use Rattle.typing_overloads.specs.Either.{any_rules};
 ghost use Rattle.typing_errors.specs.Answers.{form_answer};
 ghost use Rattle.typing_errors.specs.Operands.{given_form};
@@ -44,7 +44,7 @@ fn argument_inner(of: Form) -> TypeInner
 // The rules of a function that take these arguments. The error is out of memory.
 #[tactic(auto, using(crate::proofs::Taken::taken_one, crate::proofs::Taken::taken_all))]
 fn taking(alloc: Global, fun: MathFunction, given: &[Form]) -> Result<AnyOverloadSet, AllocError>
-    ensures { IfOk result (λ set. any_rules set ≡ taking 0 given.now (table fun)) }
+    ensures { IfOk result (λ set. any_rules set ≡ matching_rules 0 given.now (math_overloads fun)) }
 {
     let mut rules = fun.overloads(alloc)?;
     for place in 0..given.len() {

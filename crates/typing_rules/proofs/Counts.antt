@@ -7,12 +7,12 @@ use Rattle.ir_kinds.specs.declared.maths.MathFunction.{MathFunction}
 use Rattle.ir_kinds.specs.declared.maths.MathFunction.TheVariants as math
 use Rattle.typing_rules.specs.declared.rules.Rule.{Rule}
 use Rattle.typing_rules.specs.judged.Laws.{arity, ArgumentCounts}
-use Rattle.typing_rules.specs.judged.MathTable.{table}
+use Rattle.typing_rules.specs.judged.MathTable.{math_overloads}
 
 abbrev all_counted : ℕ → List Rule → Bool
 all_counted n rules = list_all (λ rule. arity rule == n) rules
 
-counted : (function : MathFunction) → all_counted (argument_count function) (table function) ≡ true
+counted : (function : MathFunction) → all_counted (argument_count function) (math_overloads function) ≡ true
 counted math.Abs = refl
 counted math.Min = refl
 counted math.Max = refl
@@ -102,4 +102,4 @@ all_have n (r ∷ rs) e zero d lt = one_counted n r (and_parts _ _ e).0
 all_have n (r ∷ rs) e (suc k) d lt = all_have n rs (and_parts _ _ e).1 k d (omega arith)
 
 pub argument_counts : ArgumentCounts
-argument_counts function = all_have (argument_count function) (table function) (counted function)
+argument_counts function = all_have (argument_count function) (math_overloads function) (counted function)

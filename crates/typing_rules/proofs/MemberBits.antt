@@ -6,7 +6,7 @@ use Rattle.std.specs.List.{position_or_len}
 use Rattle.std.proofs.lemmas.Nat.{pow_pos}
 use Rattle.std.proofs.lemmas.Nat.Bits.{and_pow, bit_at-suc, bit_at_lowest, bit_at-lt}
 use Rattle.ir_flags.specs.Sets.{Has}
-use Rattle.ir_kinds.specs.judged.Scalars.{is_scalar}
+use Rattle.ir_kinds.specs.judged.Scalars.{same_scalar}
 use Rattle.ir_kinds.specs.declared.scalars.Scalar.{Scalar}
 use Rattle.typing_rules.specs.judged.Types.{constructor_place}
 use Rattle.typing_rules.specs.found.Bits.{put_if, chosen, MembersByBits}
@@ -99,7 +99,7 @@ by_bits place xs p set k x e = ((λ h. one_way (bit_of place 0 set xs x p h)), (
 -- ---- scalars and shapes
 
 scalar_place : Scalar → ℕ
-scalar_place s = position_or_len (is_scalar s) scalars
+scalar_place s = position_or_len (same_scalar s) scalars
 
 scalars_placed : Placed scalar_place 0 scalars
 unfolding scalar_place

@@ -4,11 +4,11 @@ use Rattle.std.specs.Prelude.{◌&&◌, ◌==◌, nat_le, is_some, filter, slice
 use Rattle.ir_kinds.specs.declared.scalars.ScalarKind.{ScalarKind}
 use Rattle.ir_kinds.specs.declared.scalars.ScalarKind.TheVariants as kind
 use Rattle.ir_kinds.specs.declared.scalars.Scalar.{Scalar}
-use Rattle.ir_kinds.specs.judged.Scalars.{kind_place, is_scalar, abstract_int, abstract_float}
+use Rattle.ir_kinds.specs.judged.Scalars.{kind_place, same_scalar, abstract_int, abstract_float}
 use Rattle.typing_forms.specs.judged.Ranks.{rank, conversion, rank_in, float_ranks, integer_ranks}
 use Rattle.typing_rules.specs.declared.rules.ValueType.{ValueType}
 use Rattle.typing_rules.specs.declared.rules.Rule.{Rule}
-use Rattle.typing_rules.specs.judged.Types.{constructor_place, value_type_of, listed}
+use Rattle.typing_rules.specs.judged.Types.{constructor_place, value_type_of, argument_list}
 use Rattle.typing_rules.specs.judged.Ranks.{type_rank, rank_if, rank_at, accepts_if, is_concrete}
 use Rattle.typing_rules.specs.judged.Laws.{Demand, supplied, concrete, meets, left_by, IsAmong}
 
@@ -39,10 +39,10 @@ all_before _ _ = true
 
 -- no argument has a smaller rank to s than to r
 abbrev pub before : Rule → Rule → Bool
-before r s = all_before (listed r.arguments) (listed s.arguments)
+before r s = all_before (argument_list r.arguments) (argument_list s.arguments)
 
 abbrev pub same_type : ValueType → ValueType → Bool
-same_type a b = same_size a b && is_scalar a.scalar b.scalar
+same_type a b = same_size a b && same_scalar a.scalar b.scalar
 
 -- the first has the type of one of the others, or nothing is taken for both of these
 abbrev pub type_covers : ValueType → ValueType → ValueType → Bool
@@ -57,7 +57,7 @@ all_cover (q ∷ qs) (a ∷ ats) (b ∷ bs) = type_covers q a b && all_cover qs 
 -- q is left wherever r and s are
 abbrev pub covers : Rule → Rule → Rule → Bool
 covers q r s =
-    all_cover (listed q.arguments) (listed r.arguments) (listed s.arguments)
+    all_cover (argument_list q.arguments) (argument_list r.arguments) (argument_list s.arguments)
     && (if is_concrete r && is_concrete s then is_concrete q else true)
 
 -- what is reported already, or one of these rules is left wherever r and s are
@@ -131,7 +131,7 @@ kind_back kind.Bool = refl
 kind_back kind.AbstractInt = refl
 kind_back kind.AbstractFloat = refl
 
-is_same_scalar : (a b : Scalar) → is_scalar a b ≡ true → a ≡ b
+is_same_scalar : (a b : Scalar) → same_scalar a b ≡ true → a ≡ b
 is_same_scalar a b h =
     let p = both (kind_place a.kind == kind_place b.kind) (a.width == b.width) h in
     let numbers : kind_place a.kind ≡ kind_place b.kind = search (rules, p.0) in
@@ -149,15 +149,15 @@ converted false false a b x y h e g = absurd (cc)
 
 scalars_before : (f a b : Scalar) (x y : ℕ) → scalar_before a b ≡ true → rank f a ≡ Some x → rank f b ≡ Some y → x ≤ y
 scalars_before f a b x y h e g =
-    elim (chosen (is_scalar f a) (conversion f a) x e) [
+    elim (chosen (same_scalar f a) (conversion f a) x e) [
       | inl l ↦ omega (arith, l.1)
       | inr r ↦
-          elim (chosen (is_scalar f b) (conversion f b) y g) [
+          elim (chosen (same_scalar f b) (conversion f b) y g) [
             | inl l ↦
                 (let same : f ≡ b = is_same_scalar f b l.0 in
                 let z : x ≡ 0 = zero_of x (rank b a) (both (none_or_zero (rank b a)) _ h).0 (subst (λ (s : Scalar). rank s a ≡ Some x) same e) in
                 omega (arith, z))
-            | inr q ↦ converted (is_scalar f abstract_int) (is_scalar f abstract_float) a b x y (both (none_or_zero (rank b a)) _ h).1 r.1 q.1
+            | inr q ↦ converted (same_scalar f abstract_int) (same_scalar f abstract_float) a b x y (both (none_or_zero (rank b a)) _ h).1 r.1 q.1
           ]
     ]
 
@@ -187,7 +187,7 @@ has_rank f a h = elim (same_size f a) as (λ (c : Bool). is_some (if c then rank
 
 same_rank : (f q a : ValueType) → same_type q a ≡ true → is_some (type_rank f a) ≡ true → is_some (type_rank f q) ≡ true
 same_rank f q a h k =
-    let p = both (same_size q a) (is_scalar q.scalar a.scalar) h in
+    let p = both (same_size q a) (same_scalar q.scalar a.scalar) h in
     let n : constructor_place q.size ≡ constructor_place a.size = search (rules, p.0) in
     let s : q.scalar ≡ a.scalar = is_same_scalar q.scalar a.scalar p.1 in
     let P : ℕ → Scalar → Type 0 = λ m t. is_some (if constructor_place f.size == m then rank f.scalar t else None) ≡ true in
@@ -207,13 +207,13 @@ cover_at (q ∷ qs) (a ∷ ats) (b ∷ bs) (suc i) f h k l = cover_at qs ats bs 
 
 cover_if : (q r s : Rule) (i : ℕ) (o : Option ValueType) → covers q r s ≡ true → accepts_if i o r ≡ true → accepts_if i o s ≡ true → accepts_if i o q ≡ true
 cover_if q r s i (Some f) h k l =
-    cover_at (listed q.arguments) (listed r.arguments) (listed s.arguments) i f (both (all_cover (listed q.arguments) (listed r.arguments) (listed s.arguments)) _ h).0 k l
+    cover_at (argument_list q.arguments) (argument_list r.arguments) (argument_list s.arguments) i f (both (all_cover (argument_list q.arguments) (argument_list r.arguments) (argument_list s.arguments)) _ h).0 k l
 cover_if q r s i None h k l = k
 
 covered : (q r s : Rule) (demand : Demand) → covers q r s ≡ true → meets demand r ≡ true → meets demand s ≡ true → meets demand q ≡ true
 covered q r s (supplied i given) h k l = cover_if q r s i (value_type_of given) h k l
 covered q r s concrete h k l =
-    chosen_test (is_concrete r && is_concrete s) (is_concrete q) (both (all_cover (listed q.arguments) (listed r.arguments) (listed s.arguments)) _ h).1 (joined _ _ k l)
+    chosen_test (is_concrete r && is_concrete s) (is_concrete q) (both (all_cover (argument_list q.arguments) (argument_list r.arguments) (argument_list s.arguments)) _ h).1 (joined _ _ k l)
 
 -- ---- all demands together
 
@@ -317,5 +317,5 @@ best_left rs o ds r s e m i f x y a b =
           (let c : rank_at i f s ≡ Some x = subst (λ (u : Rule). rank_at i f u ≡ Some x) same a in
           let d : x ≡ y = cc (c, b) in
           omega (arith, d))
-      | inr h ↦ before_at (listed r.arguments) (listed s.arguments) i f x y h a b
+      | inr h ↦ before_at (argument_list r.arguments) (argument_list s.arguments) i f x y h a b
     ]

@@ -2,11 +2,11 @@
 use Rattle.std.proofs.Common.{◌≡◌, true, refl}
 use Rattle.ir_kinds.specs.declared.maths.MathFunction.{MathFunction}
 use Rattle.ir_kinds.specs.declared.maths.MathFunction.TheVariants as math
-use Rattle.typing_rules.specs.judged.MathTable.{table}
+use Rattle.typing_rules.specs.judged.MathTable.{math_overloads}
 use Rattle.typing_rules.specs.judged.Laws.{PreferredIsBest}
 use Rattle.typing_rules.proofs.Order.{ordered, best_left}
 
-tables : (function : MathFunction) → ordered (table function) ≡ true
+tables : (function : MathFunction) → ordered (math_overloads function) ≡ true
 tables math.Abs = refl
 tables math.Min = refl
 tables math.Max = refl
@@ -89,4 +89,4 @@ tables math.Dot4U8Packed = refl
 
 pub preferred_is_best : PreferredIsBest
 preferred_is_best function demands preferred other first left place given supplied type x y is_type rank_first rank_other =
-    best_left (table function) (tables function) demands preferred other first left place type x y rank_first rank_other
+    best_left (math_overloads function) (tables function) demands preferred other first left place type x y rank_first rank_other

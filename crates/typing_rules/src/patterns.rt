@@ -2,7 +2,7 @@
 
 ghost use Rattle.std.specs.Prelude.{◌≡◌};
 ghost use Rattle.typing_rules.specs.judged.Types.{value_type};
-ghost use Rattle.typing_rules.specs.judged.MathTable.{vector_size, column_size, row_size, transposed, arguments_of, conclusion_of, rule_of};
+ghost use Rattle.typing_rules.specs.judged.MathTable.{vector_size, vector_of_columns, vector_of_rows, transposed, arguments_of, conclusion_of, math_rule};
 
 use crate::rules::{Arguments, Conclusion, ConstructorSize, Rule, ValueType};
 use ir_kinds::{PredeclaredType, Scalar, VectorSize};
@@ -62,7 +62,7 @@ impl ConstructorSize {
 
     // A vector with one component for each column.
     const fn column_size(self) -> ConstructorSize
-        ensures { result ≡ column_size self }
+        ensures { result ≡ vector_of_columns self }
     {
         match self {
             ConstructorSize::Matrix { columns, .. } => ConstructorSize::Vector(columns),
@@ -72,7 +72,7 @@ impl ConstructorSize {
 
     // A vector with one component for each row.
     const fn row_size(self) -> ConstructorSize
-        ensures { result ≡ row_size self }
+        ensures { result ≡ vector_of_rows self }
     {
         match self {
             ConstructorSize::Matrix { rows, .. } => ConstructorSize::Vector(rows),
@@ -161,7 +161,7 @@ impl Pattern {
 
     /// The rule that is made of a shape and a scalar.
     pub const fn rule(self, size: ConstructorSize, scalar: Scalar) -> Rule
-        ensures { result ≡ rule_of self size scalar }
+        ensures { result ≡ math_rule self size scalar }
     {
         Rule {
             arguments: self.arguments(size, scalar),

@@ -2,7 +2,7 @@
 
 ghost use Rattle.std.specs.Prelude.{◌≡◌, length, slice_get};
 ghost use Rattle.ir_types.specs.judged.Plain.{plain, inner_view};
-ghost use Rattle.typing_rules.specs.judged.Types.{constructor_place, inner_of, value_type_of, listed};
+ghost use Rattle.typing_rules.specs.judged.Types.{constructor_place, inner_of, value_type_of, argument_list};
 ghost use Rattle.typing_rules.specs.judged.Ranks.{type_rank, rank_at, accepts_inner, is_abstract_kind, is_concrete};
 
 use ir_kinds::{PredeclaredType, Scalar, ScalarKind, VectorSize};
@@ -147,7 +147,7 @@ pub enum Arguments {
 impl Arguments {
     /// How many there are.
     pub const fn len(&self) -> usize
-        ensures { result ≡ length (listed self.now) }
+        ensures { result ≡ length (argument_list self.now) }
     {
         match *self {
             Arguments::One(_) => 1,
@@ -159,7 +159,7 @@ impl Arguments {
 
     /// The type at a place, counted from 0, or `None` where there is no such argument.
     pub const fn get(&self, place: usize) -> Option<ValueType>
-        ensures { result ≡ slice_get (listed self.now) place }
+        ensures { result ≡ slice_get (argument_list self.now) place }
     {
         match (*self, place) {
             (Arguments::One(first), 0)

@@ -1,7 +1,7 @@
 //! Sets of scalars.
 
 ghost use Rattle.std.specs.Prelude.{◌≡◌, ◌<◌, Some, filter, is_some, length, map, slice_get};
-ghost use Rattle.ir_kinds.specs.judged.Scalars.{is_scalar};
+ghost use Rattle.ir_kinds.specs.judged.Scalars.{same_scalar};
 ghost use Rattle.typing_forms.specs.judged.Ranks.{rank};
 ghost use Rattle.typing_rules.specs.found.Bits.{chosen, marks};
 ghost use Rattle.typing_rules.specs.found.Members.{scalars, scalars_in, single_scalars};
@@ -155,7 +155,7 @@ impl ScalarSet {
     /// The set of one scalar, and the empty set for a scalar that is none of the twelve (naga's
     /// `ScalarSet::singleton`).
     pub const fn singleton(scalar: Scalar) -> ScalarSet
-        ensures { scalars_in result.0 ≡ filter (is_scalar scalar) scalars }
+        ensures { scalars_in result.0 ≡ filter (same_scalar scalar) scalars }
     {
         match (scalar.kind, scalar.width) {
             (ScalarKind::AbstractInt, 8) => ScalarSet::ABSTRACT_INT,

@@ -1,16 +1,16 @@
 -- A tally after all effects, in the order of the text.
 use Rattle.std.proofs.Common.{◌≡◌, ℕ, ◌+◌, true, List, [], ◌∷◌, ◌++◌, map, Option, Some, None, slice_get, refl, sym, ap, ◌∙◌}
-use Rattle.ir_types.specs.judged.ExpressionPlain.{PlainExpression, compose, plain}
+use Rattle.ir_types.specs.judged.ExpressionPlain.{PlainExpression, plain}
 use Rattle.ir_types.specs.declared.expressions.Expression.TheVariants as x
 use Rattle.ir_blocks.specs.judged.Plain.{PlainStatement, emit, block, if_, switch, loop, break, continue, return, kill, operation, call, PlainBlock, stop, next, PlainCases, no_case, case}
 use Rattle.spec_expressions.specs.judged.OperandUses.{Operand, expression_uses, statement_uses}
 use Rattle.spec_expressions.specs.judged.Effects.{Effect, takes, samples, runs, discards, sampling_at, expression_effects, expressions_effects, leaving_effects, statement_effects, effects_in, effects_inside, effects_in_cases}
-use Rattle.spec_expressions.specs.judged.CallChains.{place}
-use Rattle.typing_summaries.specs.Tallies.{Counted, Paired, Known, Tallied, take_one, take_all, pair_one, sample_one, count_all, expression_done, expressions_done, join_summary, leave, statement_done, done_in, done_inside, done_in_cases}
+use Rattle.spec_expressions.specs.judged.CallChains.{global_or_argument}
+use Rattle.typing_summaries.specs.Tallies.{Known, Tallied, take_one, pair_one, sample_one, count_all, expression_done, expressions_done, join_summary, leave, statement_done, done_in, done_inside, done_in_cases}
 
 abbrev pub do_one : Known → Effect → Tallied → Tallied
 do_one k (takes o) t = record { counted = take_one k.globals o t.counted; paired = t.paired; may_kill = t.may_kill }
-do_one k (samples e image sampler) t = record { counted = t.counted; paired = pair_one (Some e) (Some e) (place k.expressions image) (place k.expressions sampler) t.paired; may_kill = t.may_kill }
+do_one k (samples e image sampler) t = record { counted = t.counted; paired = pair_one (Some e) (Some e) (global_or_argument k.expressions image) (global_or_argument k.expressions sampler) t.paired; may_kill = t.may_kill }
 do_one k (runs function arguments) t = join_summary k arguments (slice_get k.summaries function) t
 do_one k discards t = record { counted = t.counted; paired = t.paired; may_kill = true }
 

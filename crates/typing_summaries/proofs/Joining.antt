@@ -8,9 +8,9 @@ use Rattle.spec_expressions.specs.declared.sampling.GlobalOrArgument.{GlobalOrAr
 use Rattle.spec_expressions.specs.declared.sampling.GlobalOrArgument.TheVariants.{Global, Argument}
 use Rattle.spec_expressions.specs.judged.Pairs.{SamplingPair, pair_eq}
 use Rattle.typing_infos.specs.Marks.{EachOnce, marks_of}
-use Rattle.spec_expressions.specs.judged.CallChains.{place, seen_through}
+use Rattle.spec_expressions.specs.judged.CallChains.{global_or_argument, seen_through}
 use Rattle.typing_summaries.specs.Fronts.{BeginsWith}
-use Rattle.typing_summaries.specs.Pairings.{Paired, pair_one, passed_for, pass_up, pass_all_up}
+use Rattle.typing_summaries.specs.Pairings.{Paired, pair_one, passed_for, pass_all_up}
 use Rattle.typing_summaries.specs.Passed.{PassesOn, PassesAllOn}
 use Rattle.typing_summaries.proofs.Equal.{pair_same, pair_self}
 use Rattle.typing_summaries.proofs.Marked.{HasArgument, is_marked}
@@ -106,21 +106,21 @@ all_same meaning arguments pairs marks are passes = λ p among.
 
 module _ (expressions : List PlainExpression) (arguments : List ℕ) where
   -- each pair comes up as it is
-  as_they_are : (pairs : List SamplingPair) (t : Paired) → PassesAllOn (place expressions) arguments pairs → pass_all_up expressions arguments pairs t ≡ record { pairs = insert_all pair_eq t.pairs pairs; wrong = t.wrong }
+  as_they_are : (pairs : List SamplingPair) (t : Paired) → PassesAllOn (global_or_argument expressions) arguments pairs → pass_all_up expressions arguments pairs t ≡ record { pairs = insert_all pair_eq t.pairs pairs; wrong = t.wrong }
   as_they_are [] t same = refl
   as_they_are (p ∷ pairs) t same =
       let here = same p (inl refl) in
       ap (pass_all_up expressions arguments pairs) (λ i. pair_one (passed_for arguments p.0) (passed_for arguments p.1) (here.0 i) (here.1 i) t)
       ∙ as_they_are pairs (record { pairs = insert_key pair_eq t.pairs p; wrong = t.wrong }) (λ q among. same q (inr among))
 
-  pub shared_is : (pairs : List SamplingPair) (t s : Paired) → PassesAllOn (place expressions) arguments pairs → EachOnce pairs → EachOnce t.pairs → BeginsWith pair_eq pairs t.pairs → s.pairs ≡ pairs → s.wrong ≡ t.wrong
+  pub shared_is : (pairs : List SamplingPair) (t s : Paired) → PassesAllOn (global_or_argument expressions) arguments pairs → EachOnce pairs → EachOnce t.pairs → BeginsWith pair_eq pairs t.pairs → s.pairs ≡ pairs → s.wrong ≡ t.wrong
       → s ≡ pass_all_up expressions arguments pairs t
   shared_is pairs t s same once own begins are wrong =
       let front = front_is pairs t.pairs begins in
       let all : insert_all pair_eq t.pairs pairs ≡ pairs = ap (insert_all pair_eq t.pairs) front.1 ∙ front_joined t.pairs front.0 own (subst EachOnce front.1 once) ∙ sym front.1 in
       (λ i. record { pairs = (are ∙ sym all) i; wrong = wrong i }) ∙ sym (as_they_are pairs t same)
 
-  pub there_is : (pairs : List SamplingPair) (t : Paired) → PassesAllOn (place expressions) arguments pairs → BeginsWith pair_eq t.pairs pairs → t ≡ pass_all_up expressions arguments pairs t
+  pub there_is : (pairs : List SamplingPair) (t : Paired) → PassesAllOn (global_or_argument expressions) arguments pairs → BeginsWith pair_eq t.pairs pairs → t ≡ pass_all_up expressions arguments pairs t
   there_is pairs t same begins =
       let all : insert_all pair_eq t.pairs pairs ≡ t.pairs = all_there pair_eq t.pairs pairs (begins_there pair_eq t.pairs pairs begins) in
       sym (as_they_are pairs t same ∙ (λ i. record { pairs = all i; wrong = t.wrong }))

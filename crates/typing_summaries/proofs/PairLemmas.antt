@@ -9,10 +9,10 @@ use Rattle.spec_expressions.specs.declared.sampling.GlobalOrArgument.{GlobalOrAr
 use Rattle.spec_expressions.specs.declared.sampling.GlobalOrArgument.TheVariants.{Global, Argument}
 use Rattle.spec_expressions.specs.judged.Pairs.{SamplingPair, pair_eq}
 use Rattle.typing_summaries.proofs.Equal.{pair_same}
-use Rattle.spec_expressions.specs.judged.CallChains.{place, seen_through, argument_means}
+use Rattle.spec_expressions.specs.judged.CallChains.{global_or_argument, seen_through, argument_means}
 use Rattle.spec_expressions.specs.judged.Summaries.{ComesUp, IsWrongArgument}
 use Rattle.spec_expressions.proofs.Members.{among-left, among-right, among-cases}
-use Rattle.typing_summaries.specs.Tallies.{Paired, with_pair, with_wrong, first_wrong, part_wrong, pair_one, passed_for, pass_up, pass_all_up}
+use Rattle.typing_summaries.specs.Tallies.{Paired, with_wrong, first_wrong, part_wrong, pair_one, passed_for, pass_up, pass_all_up}
 
 pub some_is : {X : Type 0} {x y : X} → Some x ≡ Some y → x ≡ y
 some_is e = cc (e)
@@ -67,7 +67,7 @@ pub passed_pairs : (expressions : List PlainExpression) (arguments : List ℕ) (
 passed_pairs expressions arguments [] t p = (λ h. inl h, λ s. elim s [ inl l ↦ l | inr c ↦ elim c.1 [ ] ])
 passed_pairs expressions arguments (q ∷ qs) t p =
     let rest = passed_pairs expressions arguments qs (pass_up expressions arguments q t) p in
-    let one = paired_one (passed_for arguments q.0) (passed_for arguments q.1) (seen_through (place expressions) arguments (Some q.0)) (seen_through (place expressions) arguments (Some q.1)) t p in (
+    let one = paired_one (passed_for arguments q.0) (passed_for arguments q.1) (seen_through (global_or_argument expressions) arguments (Some q.0)) (seen_through (global_or_argument expressions) arguments (Some q.1)) t p in (
       λ h. elim (rest.0 h) [
         | inl l ↦ elim (one.0 l) [ inl a ↦ inl a | inr m ↦ inr (q, inl refl, record { image = m.0; sampler = m.1 }) ]
         | inr c ↦ inr (c.0, inr c.1, c.2)
@@ -75,7 +75,7 @@ passed_pairs expressions arguments (q ∷ qs) t p =
       λ s. rest.1 (elim s [
         | inl l ↦ inl (one.1 (inl l))
         | inr c ↦ elim c.1 [
-          | inl e ↦ inl (one.1 (inr (subst (λ z. Means (seen_through (place expressions) arguments (Some z.0)) (seen_through (place expressions) arguments (Some z.1)) p) (sym e) (c.2.image, c.2.sampler))))
+          | inl e ↦ inl (one.1 (inr (subst (λ z. Means (seen_through (global_or_argument expressions) arguments (Some z.0)) (seen_through (global_or_argument expressions) arguments (Some z.1)) p) (sym e) (c.2.image, c.2.sampler))))
           | inr h ↦ inr (c.0, h, c.2)
         ]
       ]),
@@ -141,13 +141,13 @@ pair_comes wi ws None b t e (inr h) = part_comes ws b (with_wrong wi t) e h
 
 -- ---- what is wrong with arguments
 
-argument_wrong : (expressions : List PlainExpression) (arguments : List ℕ) (part : GlobalOrArgument) (e : ℕ) → WrongPart (passed_for arguments part) (seen_through (place expressions) arguments (Some part)) e → IsWrongArgument expressions arguments part e
+argument_wrong : (expressions : List PlainExpression) (arguments : List ℕ) (part : GlobalOrArgument) (e : ℕ) → WrongPart (passed_for arguments part) (seen_through (global_or_argument expressions) arguments (Some part)) e → IsWrongArgument expressions arguments part e
 argument_wrong expressions arguments (Global g) e h = none_some h.0
-argument_wrong expressions arguments (Argument n) e h = (n, refl, h.0, sym (ap (argument_means (place expressions)) h.0) ∙ h.1)
+argument_wrong expressions arguments (Argument n) e h = (n, refl, h.0, sym (ap (argument_means (global_or_argument expressions)) h.0) ∙ h.1)
 
-wrong_argument : (expressions : List PlainExpression) (arguments : List ℕ) (part : GlobalOrArgument) (e : ℕ) → IsWrongArgument expressions arguments part e → WrongPart (passed_for arguments part) (seen_through (place expressions) arguments (Some part)) e
+wrong_argument : (expressions : List PlainExpression) (arguments : List ℕ) (part : GlobalOrArgument) (e : ℕ) → IsWrongArgument expressions arguments part e → WrongPart (passed_for arguments part) (seen_through (global_or_argument expressions) arguments (Some part)) e
 wrong_argument expressions arguments part e (n, is, at, none) =
-    subst (λ z. WrongPart (passed_for arguments z) (seen_through (place expressions) arguments (Some z)) e) (sym is) (at, ap (argument_means (place expressions)) at ∙ none)
+    subst (λ z. WrongPart (passed_for arguments z) (seen_through (global_or_argument expressions) arguments (Some z)) e) (sym is) (at, ap (argument_means (global_or_argument expressions)) at ∙ none)
 
 -- an argument that is passed for a part of one of these pairs is wrong
 abbrev pub SomeWrong : List PlainExpression → List ℕ → List SamplingPair → ℕ → Type 0
@@ -156,7 +156,7 @@ SomeWrong expressions arguments qs e = (q : SamplingPair) × IsAmong q qs × (Is
 pub passed_here : (expressions : List PlainExpression) (arguments : List ℕ) (qs : List SamplingPair) (t : Paired) (e : ℕ) → (pass_all_up expressions arguments qs t).wrong ≡ Some e → (t.wrong ≡ Some e) ⊎ SomeWrong expressions arguments qs e
 passed_here expressions arguments [] t e h = inl h
 passed_here expressions arguments (q ∷ qs) t e h = elim (passed_here expressions arguments qs (pass_up expressions arguments q t) e h) [
-  | inl l ↦ elim (pair_here (passed_for arguments q.0) (passed_for arguments q.1) (seen_through (place expressions) arguments (Some q.0)) (seen_through (place expressions) arguments (Some q.1)) t e l) [
+  | inl l ↦ elim (pair_here (passed_for arguments q.0) (passed_for arguments q.1) (seen_through (global_or_argument expressions) arguments (Some q.0)) (seen_through (global_or_argument expressions) arguments (Some q.1)) t e l) [
     | inl m ↦ inl m
     | inr w ↦ inr (q, inl refl, elim w [ inl a ↦ inl (argument_wrong expressions arguments q.0 e a) | inr b ↦ inr (argument_wrong expressions arguments q.1 e b) ])
   ]
@@ -167,7 +167,7 @@ pub passed_stays : (expressions : List PlainExpression) (arguments : List ℕ) (
 passed_stays expressions arguments [] t h = h
 passed_stays expressions arguments (q ∷ qs) t h =
     passed_stays expressions arguments qs (pass_up expressions arguments q t)
-    (pair_stays (passed_for arguments q.0) (passed_for arguments q.1) (seen_through (place expressions) arguments (Some q.0)) (seen_through (place expressions) arguments (Some q.1)) t h)
+    (pair_stays (passed_for arguments q.0) (passed_for arguments q.1) (seen_through (global_or_argument expressions) arguments (Some q.0)) (seen_through (global_or_argument expressions) arguments (Some q.1)) t h)
 
 pub passed_comes : (expressions : List PlainExpression) (arguments : List ℕ) (qs : List SamplingPair) (t : Paired) (e : ℕ) (q : SamplingPair) → IsAmong q qs → IsWrongArgument expressions arguments q.0 e ⊎ IsWrongArgument expressions arguments q.1 e → IsSome (pass_all_up expressions arguments qs t).wrong
 passed_comes expressions arguments [] t e q among w = elim among [ ]
@@ -175,5 +175,5 @@ passed_comes expressions arguments (r ∷ qs) t e q (inr h) w = passed_comes exp
 passed_comes expressions arguments (r ∷ qs) t e q (inl is) w =
     let v : IsWrongArgument expressions arguments r.0 e ⊎ IsWrongArgument expressions arguments r.1 e = subst (λ z. IsWrongArgument expressions arguments z.0 e ⊎ IsWrongArgument expressions arguments z.1 e) (sym is) w in
     passed_stays expressions arguments qs (pass_up expressions arguments r t)
-    (pair_comes (passed_for arguments r.0) (passed_for arguments r.1) (seen_through (place expressions) arguments (Some r.0)) (seen_through (place expressions) arguments (Some r.1)) t e
+    (pair_comes (passed_for arguments r.0) (passed_for arguments r.1) (seen_through (global_or_argument expressions) arguments (Some r.0)) (seen_through (global_or_argument expressions) arguments (Some r.1)) t e
     (elim v [ inl a ↦ inl (wrong_argument expressions arguments r.0 e a) | inr b ↦ inr (wrong_argument expressions arguments r.1 e b) ]))

@@ -3,7 +3,7 @@ use Rattle.std.proofs.Common.{◌≡◌, ℕ, zero, suc, ◌+◌, ◌<◌, ◌�
 use Rattle.std.proofs.lemmas.List.{append-nil, append_assoc}
 use Rattle.spec_expressions.specs.declared.sampling.GlobalOrArgument.{GlobalOrArgument}
 use Rattle.spec_expressions.specs.judged.CallChains.{argument_means}
-use Rattle.typing_summaries.specs.Parts.{part_if, parts_of, AllStand}
+use Rattle.typing_summaries.specs.Parts.{part_if, parts_of}
 
 module _ (meaning : ℕ → Option GlobalOrArgument) where
   at_place : (marks : List Bool) (arguments : List ℕ) (i : ℕ) → i < length marks → i < length arguments

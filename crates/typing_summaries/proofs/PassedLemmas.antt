@@ -17,12 +17,12 @@ use Rattle.typing_summaries.proofs.Marked.{is_marked}
 use Rattle.typing_infos.specs.Infos.{summary_of}
 use Rattle.typing_infos.specs.Marks.{marks_of}
 use Rattle.typing_infos.specs.declared.function_info.FunctionInfo.{FunctionInfo}
-use Rattle.spec_expressions.specs.judged.CallChains.{place, seen_through, argument_means}
+use Rattle.spec_expressions.specs.judged.CallChains.{global_or_argument, seen_through}
 use Rattle.spec_expressions.specs.judged.Summaries.{Summary}
 use Rattle.spec_expressions.proofs.Members.{among-cases}
 use Rattle.typing_summaries.specs.Joined.{IsKept, IsWrong, IsCovered, AreJoined}
 use Rattle.typing_summaries.specs.Parts.{parts_of, AllStand}
-use Rattle.typing_summaries.specs.Tallies.{Known, Paired, with_pair, with_wrong, first_wrong, part_wrong, pair_one, passed_for, pass_up, pass_all_up}
+use Rattle.typing_summaries.specs.Tallies.{Known, Paired, with_wrong, first_wrong, part_wrong, pair_one, passed_for, pass_up, pass_all_up}
 use Rattle.typing_summaries.specs.declared.joined.Passed.{Passed}
 use Rattle.spec_expressions.specs.contracts.sampling.GlobalOrArgumentPartialEq as each
 use Rattle.typing_summaries.specs.contracts.joined.PassedPartialEq as impl
@@ -82,7 +82,7 @@ one_holds wi ws a b x y t ea eb = subst (λ z. HasPair (x, y) (pair_one wi ws z 
 
 module _ (expressions : List PlainExpression) (arguments : List ℕ) where
   abbrev seen : GlobalOrArgument → Option GlobalOrArgument
-  seen part = seen_through (place expressions) arguments (Some part)
+  seen part = seen_through (global_or_argument expressions) arguments (Some part)
 
   all_have : (pairs : List SamplingPair) (t : Paired) (p : SamplingPair) → HasPair p t.pairs → HasPair p (pass_all_up expressions arguments pairs t).pairs
   all_have [] t p e = e
@@ -137,21 +137,21 @@ module _ (expressions : List PlainExpression) (arguments : List ℕ) where
 -- ---- the same parts
 
 module _ (expressions : List PlainExpression) (pairs : List SamplingPair) where
-  seen_same : (xs ys : List ℕ) → parts_of (place expressions) (marks_of pairs) xs ≡ parts_of (place expressions) (marks_of pairs) ys → (part : GlobalOrArgument) → ((n : ℕ) → part ≡ Argument n → slice_get (marks_of pairs) n ≡ Some true)
+  seen_same : (xs ys : List ℕ) → parts_of (global_or_argument expressions) (marks_of pairs) xs ≡ parts_of (global_or_argument expressions) (marks_of pairs) ys → (part : GlobalOrArgument) → ((n : ℕ) → part ≡ Argument n → slice_get (marks_of pairs) n ≡ Some true)
       → seen expressions xs part ≡ seen expressions ys part
   seen_same xs ys same (Global g) marked = refl
-  seen_same xs ys same (Argument n) marked = same_means (place expressions) (marks_of pairs) xs ys n same (marked n refl)
+  seen_same xs ys same (Argument n) marked = same_means (global_or_argument expressions) (marks_of pairs) xs ys n same (marked n refl)
 
-  covered_same : (xs ys : List ℕ) (held : List SamplingPair) → parts_of (place expressions) (marks_of pairs) xs ≡ parts_of (place expressions) (marks_of pairs) ys → IsCovered expressions xs pairs held → IsCovered expressions ys pairs held
+  covered_same : (xs ys : List ℕ) (held : List SamplingPair) → parts_of (global_or_argument expressions) (marks_of pairs) xs ≡ parts_of (global_or_argument expressions) (marks_of pairs) ys → IsCovered expressions xs pairs held → IsCovered expressions ys pairs held
   covered_same xs ys held same holds = λ q among image sampler ei es.
       holds q among image sampler (seen_same xs ys same q.0 (λ n is. is_marked pairs q n among (inl is)) ∙ ei) (seen_same xs ys same q.1 (λ n is. is_marked pairs q n among (inr is)) ∙ es)
 
-  part_stands : (xs : List ℕ) (parts : List (Option GlobalOrArgument)) → parts ≡ parts_of (place expressions) (marks_of pairs) xs → AllStand (marks_of pairs) parts → (part : GlobalOrArgument)
+  part_stands : (xs : List ℕ) (parts : List (Option GlobalOrArgument)) → parts ≡ parts_of (global_or_argument expressions) (marks_of pairs) xs → AllStand (marks_of pairs) parts → (part : GlobalOrArgument)
       → ((n : ℕ) → part ≡ Argument n → slice_get (marks_of pairs) n ≡ Some true) → Means (seen expressions xs part)
   part_stands xs parts are stand (Global g) marked = (Global g, refl)
   part_stands xs parts are stand (Argument n) marked =
       let s = stand n (marked n refl) in
-      (s.0, part_means (place expressions) (marks_of pairs) xs n s.0 (marked n refl) (ap (λ ps. slice_get ps n) (sym are) ∙ s.1))
+      (s.0, part_means (global_or_argument expressions) (marks_of pairs) xs n s.0 (marked n refl) (ap (λ ps. slice_get ps n) (sym are) ∙ s.1))
 
 -- ---- what was joined
 
@@ -196,9 +196,9 @@ among_kept true joined p q among = inl among
 among_kept false joined p q among = elim (among-cases joined (p ∷ []) q among) [ inl l ↦ inl l | inr r ↦ elim r [ inl e ↦ inr e | inr n ↦ elim n [ ] ] ]
 
 module _ (k : Known) (callee : ℕ) (pairs : List SamplingPair) (kept : IsKept k callee pairs) (arguments : List ℕ) (marks : List Bool) (marked : marks ≡ marks_of pairs)
-    (p : Passed) (of : p.callee ≡ callee) (parts : p.parts.items ≡ parts_of (place k.expressions) marks arguments) where
-  by_marks : p.parts.items ≡ parts_of (place k.expressions) (marks_of pairs) arguments
-  by_marks = parts ∙ ap (λ ms. parts_of (place k.expressions) ms arguments) marked
+    (p : Passed) (of : p.callee ≡ callee) (parts : p.parts.items ≡ parts_of (global_or_argument k.expressions) marks arguments) where
+  by_marks : p.parts.items ≡ parts_of (global_or_argument k.expressions) (marks_of pairs) arguments
+  by_marks = parts ∙ ap (λ ms. parts_of (global_or_argument k.expressions) ms arguments) marked
 
   pairs_of : (s : Summary) (c : ℕ) → c ≡ callee → slice_get k.summaries c ≡ Some s → s.pairs ≡ pairs
   pairs_of s c is found = ap (λ z. z.pairs) (some_is (sym found ∙ ap (slice_get k.summaries) is ∙ kept.found)) ∙ kept.same
@@ -209,7 +209,7 @@ module _ (k : Known) (callee : ℕ) (pairs : List SamplingPair) (kept : IsKept k
   adds_nothing joined t are there settled =
       let h = held p joined there in
       let found : slice_get k.summaries h.0.callee ≡ Some kept.summary = ap (slice_get k.summaries) (sym h.2.0 ∙ of) ∙ kept.found in
-      let same : parts_of (place k.expressions) (marks_of kept.summary.pairs) arguments ≡ h.0.parts.items = ap (λ z. parts_of (place k.expressions) (marks_of z) arguments) kept.same ∙ (sym by_marks ∙ h.2.1) in
+      let same : parts_of (global_or_argument k.expressions) (marks_of kept.summary.pairs) arguments ≡ h.0.parts.items = ap (λ z. parts_of (global_or_argument k.expressions) (marks_of z) arguments) kept.same ∙ (sym by_marks ∙ h.2.1) in
       let all : IsCovered k.expressions arguments pairs t.pairs = subst (λ z. IsCovered k.expressions arguments z t.pairs) kept.same (are h.0 h.1 kept.summary found arguments same) in
       sym (all_stay k.expressions arguments pairs t all (λ q among. elim settled [
         | inl w ↦ inl w
@@ -225,8 +225,8 @@ module _ (k : Known) (callee : ℕ) (pairs : List SamplingPair) (kept : IsKept k
     | inl before ↦ λ r in_pairs image sampler ei es. all_have k.expressions arguments pairs t (image, sampler) (are q before s found others same r in_pairs image sampler ei es)
     | inr is ↦
         let own = pairs_of s q.callee (ap (λ z. z.callee) (sym is) ∙ of) found in
-        let alike : parts_of (place k.expressions) (marks_of pairs) arguments ≡ parts_of (place k.expressions) (marks_of pairs) others =
-        sym by_marks ∙ (ap (λ z. z.parts.items) is ∙ (sym same ∙ ap (λ z. parts_of (place k.expressions) (marks_of z) others) own)) in
+        let alike : parts_of (global_or_argument k.expressions) (marks_of pairs) arguments ≡ parts_of (global_or_argument k.expressions) (marks_of pairs) others =
+        sym by_marks ∙ (ap (λ z. z.parts.items) is ∙ (sym same ∙ ap (λ z. parts_of (global_or_argument k.expressions) (marks_of z) others) own)) in
         subst (λ z. IsCovered k.expressions others z (pass_all_up k.expressions arguments pairs t).pairs) (sym own)
         (covered_same k.expressions pairs arguments others (pass_all_up k.expressions arguments pairs t).pairs alike (covered k.expressions arguments pairs t))
   ]

@@ -5,13 +5,11 @@ use Rattle.std.specs.Int.{bit_at}
 use Rattle.std.proofs.lemmas.Bool.{cases_eq, ne_eqb}
 use Rattle.std.proofs.lemmas.List.{get_or-set_same, get_or-set_other}
 use Rattle.typing_rules.specs.judged.Laws.{IsAmong}
-use Rattle.spec_expressions.specs.declared.global_use.GlobalUse.{GlobalUse}
 use Rattle.spec_expressions.specs.judged.Pairs.{SamplingPair}
-use Rattle.spec_expressions.specs.judged.OperandUses.{Operand}
 use Rattle.spec_expressions.specs.judged.Effects.{Effect, takes, samples, runs, discards, places_of}
-use Rattle.spec_expressions.specs.judged.CallChains.{place}
+use Rattle.spec_expressions.specs.judged.CallChains.{global_or_argument}
 use Rattle.spec_expressions.specs.judged.Values.{known_at}
-use Rattle.spec_expressions.specs.judged.Summaries.{Summary, no_use, HasUseBit, HasBit}
+use Rattle.spec_expressions.specs.judged.Summaries.{Summary, HasUseBit, HasBit}
 use Rattle.typing_summaries.specs.Tallies.{Known, Tallied, bumped, join_summary}
 use Rattle.typing_summaries.proofs.Effects.{do_one, do_all}
 use Rattle.typing_infos.proofs.UseBits.{one_use, marked_length}
@@ -100,7 +98,7 @@ longer_after k g (x ∷ rest) t lt = longer_after k g rest (do_one k x t) (longe
 
 abbrev pub GivesPair : Known → SamplingPair → Effect → Type 0
 GivesPair k p (takes o) = ⊥
-GivesPair k p (samples e image sampler) = Means (place k.expressions image) (place k.expressions sampler) p
+GivesPair k p (samples e image sampler) = Means (global_or_argument k.expressions image) (global_or_argument k.expressions sampler) p
 GivesPair k p (runs function arguments) = (s : Summary) × (slice_get k.summaries function ≡ Some s) × SomeComesUp k.expressions arguments s.pairs p
 GivesPair k p discards = ⊥
 
@@ -120,7 +118,7 @@ joined_pair_of k p arguments (Some s) t =
 
 pair_step : (k : Known) (p : SamplingPair) (x : Effect) (t : Tallied) → Anything t → HasPairIn p (do_one k x t) ↔ (HasPairIn p t ⊎ GivesPair k p x)
 pair_step k p (takes o) t ok = same_side
-pair_step k p (samples e image sampler) t ok = paired_one (Some e) (Some e) (place k.expressions image) (place k.expressions sampler) t.paired p
+pair_step k p (samples e image sampler) t ok = paired_one (Some e) (Some e) (global_or_argument k.expressions image) (global_or_argument k.expressions sampler) t.paired p
 pair_step k p (runs function arguments) t ok = joined_pair_of k p arguments (slice_get k.summaries function) t
 pair_step k p discards t ok = same_side
 
@@ -167,7 +165,7 @@ kills_after k effects t = after_all k MayKillIn (GivesKill k) Anything (λ x t o
 
 abbrev pub GivesWrong : Known → ℕ → Effect → Type 0
 GivesWrong k e (takes o) = ⊥
-GivesWrong k e (samples at image sampler) = WrongPair (Some at) (Some at) (place k.expressions image) (place k.expressions sampler) e
+GivesWrong k e (samples at image sampler) = WrongPair (Some at) (Some at) (global_or_argument k.expressions image) (global_or_argument k.expressions sampler) e
 GivesWrong k e (runs function arguments) = (s : Summary) × (slice_get k.summaries function ≡ Some s) × SomeWrong k.expressions arguments s.pairs e
 GivesWrong k e discards = ⊥
 
@@ -177,7 +175,7 @@ joined_here k arguments (Some s) t e h = elim (passed_here k.expressions argumen
 
 here_one : (k : Known) (e : ℕ) (x : Effect) (t : Tallied) → (do_one k x t).paired.wrong ≡ Some e → (t.paired.wrong ≡ Some e) ⊎ GivesWrong k e x
 here_one k e (takes o) t h = inl h
-here_one k e (samples at image sampler) t h = pair_here (Some at) (Some at) (place k.expressions image) (place k.expressions sampler) t.paired e h
+here_one k e (samples at image sampler) t h = pair_here (Some at) (Some at) (global_or_argument k.expressions image) (global_or_argument k.expressions sampler) t.paired e h
 here_one k e (runs function arguments) t h = joined_here k arguments (slice_get k.summaries function) t e h
 here_one k e discards t h = inl h
 
@@ -194,7 +192,7 @@ joined_stays k arguments (Some s) t h = passed_stays k.expressions arguments s.p
 
 stays_one : (k : Known) (x : Effect) (t : Tallied) → IsSome t.paired.wrong → IsSome (do_one k x t).paired.wrong
 stays_one k (takes o) t h = h
-stays_one k (samples at image sampler) t h = pair_stays (Some at) (Some at) (place k.expressions image) (place k.expressions sampler) t.paired h
+stays_one k (samples at image sampler) t h = pair_stays (Some at) (Some at) (global_or_argument k.expressions image) (global_or_argument k.expressions sampler) t.paired h
 stays_one k (runs function arguments) t h = joined_stays k arguments (slice_get k.summaries function) t h
 stays_one k discards t h = h
 
@@ -210,7 +208,7 @@ joined_comes k arguments (Some u) t e s is w =
 
 comes_one : (k : Known) (e : ℕ) (x : Effect) (t : Tallied) → GivesWrong k e x → IsSome (do_one k x t).paired.wrong
 comes_one k e (takes o) t g = elim g [ ]
-comes_one k e (samples at image sampler) t g = pair_comes (Some at) (Some at) (place k.expressions image) (place k.expressions sampler) t.paired e g
+comes_one k e (samples at image sampler) t g = pair_comes (Some at) (Some at) (global_or_argument k.expressions image) (global_or_argument k.expressions sampler) t.paired e g
 comes_one k e (runs function arguments) t g = joined_comes k arguments (slice_get k.summaries function) t e g.0 g.1 g.2
 comes_one k e discards t g = elim g [ ]
 

@@ -5,22 +5,19 @@ use Rattle.std.specs.Int.{bit_at}
 use Rattle.std.proofs.lemmas.Bool.{cases_eq, eqb-true, ne_eqb, eq-eqb}
 use Rattle.std.proofs.lemmas.List.{get_or-replicate, length-replicate}
 use Rattle.typing_rules.specs.judged.Laws.{IsAmong}
-use Rattle.ir_types.specs.judged.ExpressionPlain.{PlainExpression, compose, plain}
+use Rattle.ir_types.specs.judged.ExpressionPlain.{PlainExpression, plain}
 use Rattle.ir_types.specs.declared.expressions.Expression.TheVariants as x
-use Rattle.ir_blocks.specs.judged.Plain.{PlainBlock}
 use Rattle.ir_items.specs.judged.Plain.{PlainFunction}
 use Rattle.spec_expressions.specs.declared.global_use.GlobalUse.{GlobalUse}
 use Rattle.spec_expressions.specs.declared.global_use.TheConstants.GlobalUse.{QUERY}
 use Rattle.spec_expressions.specs.judged.Pairs.{SamplingPair}
-use Rattle.spec_expressions.specs.judged.OperandUses.{Operand}
-use Rattle.spec_expressions.specs.judged.Effects.{Effect, takes, samples, runs, discards, expressions_effects, effects_in, effects_of, places_of}
-use Rattle.spec_expressions.specs.judged.Values.{StartsAt, AreStarts}
-use Rattle.spec_expressions.specs.judged.CallChains.{place, UsesDirectly, Names, Samples, Discards}
-use Rattle.spec_expressions.specs.judged.Summaries.{Summary, no_use, HasUseBit, HasBit, CallsOne, ComesUp, JoinsUse, IsJoined, IsWrongArgument, IsFormFault}
+use Rattle.spec_expressions.specs.judged.Effects.{takes, samples, runs, discards, expressions_effects, effects_in, effects_of, places_of}
+use Rattle.spec_expressions.specs.judged.Values.{AreStarts}
+use Rattle.spec_expressions.specs.judged.CallChains.{global_or_argument, NamesGlobal, Samples, Discards}
+use Rattle.spec_expressions.specs.judged.Summaries.{Summary, no_use, HasUseBit, CallsOne, ComesUp, JoinsUse, IsFormFault}
 use Rattle.typing_summaries.specs.Tallies.{Known, Tallied, queried, name_one, name_all, nothing_tallied, expressions_done, done_in, named, whole_tally}
-use Rattle.typing_summaries.specs.Tallied.{summary_in, IsTally}
+use Rattle.typing_summaries.specs.Tallied.{IsTally}
 use Rattle.typing_summaries.proofs.Effects.{do_all, do_append, do_expressions, do_in}
-use Rattle.typing_infos.specs.Infos.{marked}
 use Rattle.typing_infos.proofs.UseBits.{zero_has_none, marked_length, one_use, marked_same, marked_other}
 use Rattle.typing_summaries.proofs.UseLemmas.{some_bit}
 use Rattle.typing_summaries.proofs.PairLemmas.{IsSome, SomeComesUp, SomeWrong, WrongPair}
@@ -165,7 +162,7 @@ module _ (f : PlainFunction) (globals : List (Option ℕ)) (summaries : List Sum
   joins_bit : (g k : ℕ) → g < n → JoinsUse f summaries g k → HasUseBit done.counted.uses g k
   joins_bit g k lt j = (uses_after known_of g k (effects_of f) begin (begin_longer g lt)).1 (inr (joined_uses g k j))
 
-  joined_all : (g k : ℕ) → g < n → HasUseBit (name_all f.expressions done.counted.uses) g k ↔ (JoinsUse f summaries g k ⊎ ((bit_at QUERY.0 k ≡ 1) × Names g f × ((j : ℕ) → JoinsUse f summaries g j → ⊥)))
+  joined_all : (g k : ℕ) → g < n → HasUseBit (name_all f.expressions done.counted.uses) g k ↔ (JoinsUse f summaries g k ⊎ ((bit_at QUERY.0 k ≡ 1) × NamesGlobal g f × ((j : ℕ) → JoinsUse f summaries g j → ⊥)))
   joined_all g k lt =
       let N = named_all f.expressions done.counted.uses g k (longer_after known_of g (effects_of f) begin (begin_longer g lt)) in (
         λ h. elim (N.to h) [
@@ -178,13 +175,13 @@ module _ (f : PlainFunction) (globals : List (Option ℕ)) (summaries : List Sum
         ],
       )
 
-  pairs_joined : (p : SamplingPair) → Given (GivesPair known_of p) (effects_of f) → Samples (place f.expressions) f p ⊎ ((arguments : List ℕ) × (t : Summary) × (q : SamplingPair) × CallsOne f summaries arguments t × IsAmong q t.pairs × ComesUp f.expressions arguments q p)
+  pairs_joined : (p : SamplingPair) → Given (GivesPair known_of p) (effects_of f) → Samples (global_or_argument f.expressions) f p ⊎ ((arguments : List ℕ) × (t : Summary) × (q : SamplingPair) × CallsOne f summaries arguments t × IsAmong q t.pairs × ComesUp f.expressions arguments q p)
   pairs_joined p (takes o, among, n) = elim n [ ]
   pairs_joined p (samples e i s, among, m) = inl (record { expression = e; image = i; sampler = s; sampling = among; image_means = m.0; sampler_means = m.1 })
   pairs_joined p (runs callee arguments, among, (s, found, c)) = inr (arguments, s, c.0, record { callee = callee; call = among; found = found }, c.1, c.2)
   pairs_joined p (discards, among, n) = elim n [ ]
 
-  joined_pairs : (p : SamplingPair) → Samples (place f.expressions) f p ⊎ ((arguments : List ℕ) × (t : Summary) × (q : SamplingPair) × CallsOne f summaries arguments t × IsAmong q t.pairs × ComesUp f.expressions arguments q p) → Given (GivesPair known_of p) (effects_of f)
+  joined_pairs : (p : SamplingPair) → Samples (global_or_argument f.expressions) f p ⊎ ((arguments : List ℕ) × (t : Summary) × (q : SamplingPair) × CallsOne f summaries arguments t × IsAmong q t.pairs × ComesUp f.expressions arguments q p) → Given (GivesPair known_of p) (effects_of f)
   joined_pairs p (inl s) = (samples s.expression s.image s.sampler, s.sampling, (s.image_means, s.sampler_means))
   joined_pairs p (inr (arguments, t, q, c, among, up)) = (runs c.callee arguments, c.call, (t, c.found, (q, among, up)))
 

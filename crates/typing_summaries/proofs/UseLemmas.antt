@@ -5,15 +5,11 @@ use Rattle.std.specs.Int.{bit_at}
 use Rattle.std.proofs.lemmas.Bool.{cases_eq, cases_lt, ne_eqb}
 use Rattle.std.proofs.lemmas.List.{get_or-set_same, get_or-set_other}
 use Rattle.std.proofs.lemmas.Nat.Bits.{bit_at_or, bit_at-lt, bit_at-zero, bit_at_lowest, bit_at-suc}
-use Rattle.typing_rules.specs.judged.Laws.{IsAmong}
 use Rattle.spec_expressions.specs.declared.global_use.GlobalUse.{GlobalUse}
-use Rattle.spec_expressions.specs.judged.OperandUses.{Operand}
-use Rattle.spec_expressions.specs.judged.Effects.{Effect, takes, samples, runs, discards}
-use Rattle.spec_expressions.specs.judged.Values.{known_at}
-use Rattle.spec_expressions.specs.judged.Summaries.{Summary, no_use, HasUseBit, HasBit}
+use Rattle.spec_expressions.specs.judged.Summaries.{HasUseBit}
 use Rattle.typing_infos.specs.Infos.{marked}
 use Rattle.typing_infos.proofs.UseBits.{or_bits, zero_has_none, marked_length, one_use}
-use Rattle.typing_summaries.specs.Tallies.{Known, Tallied, Counted, merged_from, merged, take_one, pair_one, pass_all_up, join_summary}
+use Rattle.typing_summaries.specs.Tallies.{merged_from, merged}
 use Rattle.typing_summaries.proofs.Effects.{do_one, do_all}
 
 some_is : {X : Type 0} {x y : X} → Some x ≡ Some y → x ≡ y

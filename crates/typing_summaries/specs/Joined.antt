@@ -6,7 +6,7 @@ use Rattle.ir_types.specs.judged.ExpressionPlain.{PlainExpression}
 use Rattle.spec_expressions.specs.declared.sampling.GlobalOrArgument.{GlobalOrArgument}
 use Rattle.spec_expressions.specs.judged.Pairs.{SamplingPair, pair_eq}
 use Rattle.typing_infos.specs.Marks.{marks_of}
-use Rattle.spec_expressions.specs.judged.CallChains.{place, seen_through}
+use Rattle.spec_expressions.specs.judged.CallChains.{global_or_argument, seen_through}
 use Rattle.spec_expressions.specs.judged.Summaries.{Summary}
 use Rattle.typing_summaries.specs.Parts.{parts_of}
 use Rattle.typing_summaries.specs.Tallies.{Known, Paired}
@@ -25,11 +25,11 @@ IsWrong t = (e : ℕ) × (t.wrong ≡ Some e)
 -- each pair of a callee that is passed these arguments is kept, as the caller sees it, where both parts denote something there
 abbrev pub IsCovered : List PlainExpression → (arguments : List ℕ) → (pairs held : List SamplingPair) → Type 0
 IsCovered expressions arguments pairs held =
-    (q : SamplingPair) → IsAmong q pairs → (image sampler : GlobalOrArgument) → seen_through (place expressions) arguments (Some q.0) ≡ Some image
-    → seen_through (place expressions) arguments (Some q.1) ≡ Some sampler → list_any (pair_eq (image, sampler)) held ≡ true
+    (q : SamplingPair) → IsAmong q pairs → (image sampler : GlobalOrArgument) → seen_through (global_or_argument expressions) arguments (Some q.0) ≡ Some image
+    → seen_through (global_or_argument expressions) arguments (Some q.1) ≡ Some sampler → list_any (pair_eq (image, sampler)) held ≡ true
 
 -- so for each callee with what it was joined for, whatever the arguments are for which that is passed
 abbrev pub AreJoined : Known → List Passed → List SamplingPair → Type 0
 AreJoined k joined held =
     (p : Passed) → IsAmong p joined → (s : Summary) → slice_get k.summaries p.callee ≡ Some s → (arguments : List ℕ)
-    → parts_of (place k.expressions) (marks_of s.pairs) arguments ≡ p.parts.items → IsCovered k.expressions arguments s.pairs held
+    → parts_of (global_or_argument k.expressions) (marks_of s.pairs) arguments ≡ p.parts.items → IsCovered k.expressions arguments s.pairs held

@@ -6,7 +6,7 @@ use Rattle.ir_types.specs.declared.expressions.Expression.TheVariants.{ImageSamp
 use Rattle.spec_expressions.specs.declared.sampling.GlobalOrArgument.{GlobalOrArgument}
 use Rattle.spec_expressions.specs.declared.sampling.GlobalOrArgument.TheVariants.{Global, Argument}
 use Rattle.spec_expressions.specs.judged.Pairs.{SamplingPair, pair_eq}
-use Rattle.spec_expressions.specs.judged.CallChains.{place, seen_through}
+use Rattle.spec_expressions.specs.judged.CallChains.{global_or_argument, seen_through}
 use Rattle.typing_summaries.specs.Listed.{listed}
 use Rattle.typing_summaries.specs.declared.pairs.Sampled.{Sampled}
 
@@ -48,7 +48,7 @@ passed_for arguments (Argument number) = slice_get arguments number
 abbrev pub pass_up : List PlainExpression → List ℕ → SamplingPair → Paired → Paired
 pass_up expressions arguments p t =
     pair_one (passed_for arguments p.0) (passed_for arguments p.1)
-    (seen_through (place expressions) arguments (Some p.0)) (seen_through (place expressions) arguments (Some p.1)) t
+    (seen_through (global_or_argument expressions) arguments (Some p.0)) (seen_through (global_or_argument expressions) arguments (Some p.1)) t
 
 abbrev pub pass_all_up : List PlainExpression → List ℕ → List SamplingPair → Paired → Paired
 pass_all_up expressions arguments [] t = t
@@ -57,5 +57,5 @@ pass_all_up expressions arguments (p ∷ rest) t = pass_all_up expressions argum
 -- the sampling that the expression at a place is, if it is one
 abbrev pub sample_one : List PlainExpression → ℕ → PlainExpression → Paired → Paired
 sample_one expressions e (plain (ImageSample image sampler gathers coordinate array_index offset level depth_ref clamp_to_edge)) t =
-    pair_one (Some e) (Some e) (place expressions image) (place expressions sampler) t
+    pair_one (Some e) (Some e) (global_or_argument expressions image) (global_or_argument expressions sampler) t
 sample_one expressions e _ t = t

@@ -1,6 +1,5 @@
 -- What a tally of a function says.
 use Rattle.std.specs.Prelude.{◌≡◌, ◌↔◌, ℕ, ◌-◌, ◌^◌, ◌<◌, min, List, length, Option, Some, None, slice_index}
-use Rattle.ir_types.specs.judged.ExpressionPlain.{PlainExpression}
 use Rattle.ir_items.specs.judged.Plain.{PlainFunction}
 use Rattle.spec_expressions.specs.judged.Effects.{effects_of, places_of}
 use Rattle.spec_expressions.specs.judged.Summaries.{Summary, IsJoined, IsFormFault}

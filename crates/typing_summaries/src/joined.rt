@@ -4,7 +4,7 @@ ghost use Rattle.std.specs.Prelude.{◌≡◌, ◌⊎◌, IfOk, IsTrue, OnOk, ma
 ghost use Rattle.ir_types.specs.judged.ExpressionPlain.{expression_view};
 ghost use Rattle.ir_items.specs.found.GlobalView.{values_of};
 ghost use Rattle.typing_infos.specs.Marks.{marks_of};
-ghost use Rattle.spec_expressions.specs.judged.CallChains.{place};
+ghost use Rattle.spec_expressions.specs.judged.CallChains.{global_or_argument};
 ghost use Rattle.typing_summaries.specs.Parts.{part_if, parts_of, Stands, AllStand};
 ghost use Rattle.typing_summaries.specs.Joined.{IsKept, IsWrong, AreJoined};
 ghost use Rattle.typing_summaries.specs.Tallies.{known, paired, pass_all_up};
@@ -34,7 +34,7 @@ fn part_if(
     marked: bool,
     argument: Handle<key::Expression>,
 ) -> Option<GlobalOrArgument>
-    ensures { result ≡ part_if marked (place (map expression_view (values_of expressions.now)) argument) }
+    ensures { result ≡ part_if marked (global_or_argument (map expression_view (values_of expressions.now)) argument) }
 {
     if marked {
         place(expressions, argument)
@@ -51,7 +51,7 @@ fn parts_of(
     marks: &[bool],
     arguments: &[Handle<key::Expression>],
 ) -> Result<Vec<Option<GlobalOrArgument>>, AllocError>
-    ensures { IfOk result (λ parts. parts.items ≡ parts_of (place (map expression_view (values_of expressions.now))) marks.now arguments.now) }
+    ensures { IfOk result (λ parts. parts.items ≡ parts_of (global_or_argument (map expression_view (values_of expressions.now))) marks.now arguments.now) }
 {
     let count = marks.len().min(arguments.len());
     let mut parts = Vec::with_capacity(alloc, count)?;

@@ -4,7 +4,7 @@ ghost use Rattle.std.specs.Prelude.{◌≡◌, ℕ, Some, IfOk, IsTrue, OnOk, No
 ghost use Rattle.ir_types.specs.judged.ExpressionPlain.{expression_view};
 ghost use Rattle.ir_items.specs.found.GlobalView.{values_of};
 ghost use Rattle.typing_infos.specs.Marks.{EachOnce};
-ghost use Rattle.spec_expressions.specs.judged.CallChains.{place, seen_through};
+ghost use Rattle.spec_expressions.specs.judged.CallChains.{global_or_argument, seen_through};
 ghost use Rattle.std.specs.Prelude.{map};
 ghost use Rattle.typing_summaries.specs.Pairings.{Paired, paired, with_pair, with_wrong, first_wrong, part_wrong, pair_one, passed_for, pass_up, pass_all_up};
 ghost use Rattle.typing_summaries.specs.Passed.{PassesOn, PassesAllOn};
@@ -41,7 +41,7 @@ fn seen(
     arguments: &[Handle<key::Expression>],
     below: GlobalOrArgument,
 ) -> Part
-    ensures means { result.means ≡ seen_through (place (map expression_view (values_of expressions.now))) arguments.now (Some below) }
+    ensures means { result.means ≡ seen_through (global_or_argument (map expression_view (values_of expressions.now))) arguments.now (Some below) }
     ensures wrong { result.wrong ≡ passed_for arguments.now below }
 {
     match below {
@@ -68,7 +68,7 @@ fn passes_on(
     arguments: &[Handle<key::Expression>],
     number: usize,
 ) -> bool
-    ensures { IsTrue result → PassesOn (place (map expression_view (values_of expressions.now))) arguments.now number }
+    ensures { IsTrue result → PassesOn (global_or_argument (map expression_view (values_of expressions.now))) arguments.now number }
 {
     match arguments.get(number) {
         Some(argument) => match place(expressions, *argument) {
@@ -89,7 +89,7 @@ fn passes_if_marked(
     marks: &[bool],
     number: usize,
 ) -> bool
-    ensures { IsTrue result → slice_get marks.now number ≡ Some true → PassesOn (place (map expression_view (values_of expressions.now))) arguments.now number }
+    ensures { IsTrue result → slice_get marks.now number ≡ Some true → PassesOn (global_or_argument (map expression_view (values_of expressions.now))) arguments.now number }
 {
     match marks.get(number) {
         Some(marked) => {
@@ -109,7 +109,7 @@ fn passes_marked_on(
     arguments: &[Handle<key::Expression>],
     marks: &[bool],
 ) -> bool
-    ensures { IsTrue result → (n : ℕ) → slice_get marks.now n ≡ Some true → PassesOn (place (map expression_view (values_of expressions.now))) arguments.now n }
+    ensures { IsTrue result → (n : ℕ) → slice_get marks.now n ≡ Some true → PassesOn (global_or_argument (map expression_view (values_of expressions.now))) arguments.now n }
 {
     for number in 0..marks.len() {
         if !passes_if_marked(expressions, arguments, marks, number) {
@@ -126,7 +126,7 @@ fn passes_all_on(
     callee: &SampledPairs,
 ) -> bool
     ensures once { IsTrue result → EachOnce callee.now.items }
-    ensures same { IsTrue result → PassesAllOn (place (map expression_view (values_of expressions.now))) arguments.now callee.now.items }
+    ensures same { IsTrue result → PassesAllOn (global_or_argument (map expression_view (values_of expressions.now))) arguments.now callee.now.items }
 {
     match callee.marks() {
         Some(marks) => passes_marked_on(expressions, arguments, marks),

@@ -4,7 +4,7 @@ ghost use Rattle.std.specs.Prelude.{◌≡◌, Some, map, slice_get, option_map}
 ghost use Rattle.std.specs.Option.{option_copied};
 ghost use Rattle.ir_types.specs.judged.ExpressionPlain.{expression_view};
 ghost use Rattle.ir_items.specs.found.GlobalView.{values_of};
-ghost use Rattle.spec_expressions.specs.judged.CallChains.{place, base_denotes, denotes};
+ghost use Rattle.spec_expressions.specs.judged.CallChains.{global_or_argument, base_denotes, denotes};
 
 use ir_arena::arena::Arena;
 use ir_arena::handle::Handle;
@@ -60,7 +60,7 @@ fn means(expressions: &Expressions, expression: &Expression) -> Option<GlobalOrA
 /// What the expression at a handle denotes: a global variable, where it is one or an access directly on one, or an
 /// argument.
 pub fn place(expressions: &Expressions, handle: Handle<key::Expression>) -> Option<GlobalOrArgument>
-    ensures { result ≡ place (map expression_view (values_of expressions.now)) handle }
+    ensures { result ≡ global_or_argument (map expression_view (values_of expressions.now)) handle }
 {
     match get(expressions, handle) {
         Some(expression) => means(expressions, expression),

@@ -3,7 +3,7 @@
 ghost use Rattle.std.specs.Prelude.{◌≡◌, Some, map, OnOk};
 ghost use Rattle.ir_types.specs.judged.ExpressionPlain.{expression_view};
 ghost use Rattle.ir_items.specs.found.GlobalView.{values_of};
-ghost use Rattle.spec_expressions.specs.judged.CallChains.{place};
+ghost use Rattle.spec_expressions.specs.judged.CallChains.{global_or_argument};
 ghost use Rattle.typing_summaries.specs.Pairings.{paired, sample_one};
 
 use crate::pairs::{Part, Sampled};
@@ -18,7 +18,7 @@ fn own_part(
     operand: Handle<key::Expression>,
     sampling: Handle<key::Expression>,
 ) -> Part
-    ensures means { result.means ≡ place (map expression_view (values_of expressions.now)) operand }
+    ensures means { result.means ≡ global_or_argument (map expression_view (values_of expressions.now)) operand }
     ensures wrong { result.wrong ≡ Some sampling }
 {
     Part {

@@ -6,7 +6,6 @@ use Rattle.ir_flags.specs.declared.settings.TheConstants.ValidationFlags.{CONTRO
 use Rattle.ir_kinds.specs.declared.diagnostics.Severity.{Severity}
 use Rattle.ir_blocks.specs.judged.Plain.{PlainBlock}
 use Rattle.spec_expressions.specs.declared.uniformity.Uniformity.{Uniformity}
-use Rattle.spec_expressions.specs.judged.Uniformity.{Required}
 use Rattle.spec_expressions.specs.found.Found.{required_in}
 use Rattle.spec_expressions.proofs.FoundLaws.{asked_sound, asked_complete}
 use Rattle.typing_uniformity.specs.Requiring.{asks, AreNext, varies_of, required_of, look_of, required_view}

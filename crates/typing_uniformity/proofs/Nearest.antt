@@ -7,10 +7,10 @@ use Rattle.ir_arena.specs.declared.span.Span.{Span}
 use Rattle.ir_items.specs.found.GlobalView.{values_of}
 use Rattle.ir_kinds.specs.declared.diagnostics.Severity.{Severity}
 use Rattle.ir_kinds.specs.declared.diagnostics.StandardFilterableTriggeringRule.{StandardFilterableTriggeringRule}
-use Rattle.ir_items.specs.judged.GlobalPlain.{PlainNode, standard}
+use Rattle.ir_items.specs.judged.GlobalPlain.{PlainFilterNode, standard}
 use Rattle.ir_items.specs.found.Filters.{ParentsPrecede}
 use Rattle.ir_kinds.specs.declared.diagnostics.StandardFilterableTriggeringRule.TheVariants.{DerivativeUniformity}
-use Rattle.spec_expressions.specs.judged.Severity.{IsTrail, IsFirst, IsNearest}
+use Rattle.spec_expressions.specs.judged.Severity.{FilterChain, IsNearest}
 use Rattle.typing_uniformity.specs.Nearest.{AreNearest}
 
 -- the plain item at a handle
@@ -30,24 +30,24 @@ pub ahead_before : (o : Option ℕ) (handle : ℕ) → ((place : ℕ) → o ≡ 
 ahead_before None handle before = omega arith
 ahead_before (Some place) handle before = let h : place < handle = before place refl in omega arith
 
-abbrev Trail : List PlainNode → Option ℕ → Type 0
-Trail nodes start = (trail : List PlainNode) × IsTrail nodes start trail
+abbrev Trail : List PlainFilterNode → Option ℕ → Type 0
+Trail nodes start = (trail : List PlainFilterNode) × FilterChain nodes start trail
 
 -- there is a trail from every handle
-trail_at : (nodes : List PlainNode) → ParentsPrecede nodes → (handle : ℕ) (o : Option PlainNode) → slice_get nodes handle ≡ o → ((node : PlainNode) → ahead node.parent ≤ handle → Trail nodes node.parent) → Trail nodes (Some handle)
+trail_at : (nodes : List PlainFilterNode) → ParentsPrecede nodes → (handle : ℕ) (o : Option PlainFilterNode) → slice_get nodes handle ≡ o → ((node : PlainFilterNode) → ahead node.parent ≤ handle → Trail nodes node.parent) → Trail nodes (Some handle)
 trail_at nodes precede handle None e rest = ([], e)
 trail_at nodes precede handle (Some node) e rest =
     let up : ahead node.parent ≤ handle = ahead_before node.parent handle (λ p is. precede handle p node e is) in
     let more = rest node up in (node ∷ more.0, (e, more.1))
 
-trail_from : (nodes : List PlainNode) → ParentsPrecede nodes → (bound : ℕ) (start : Option ℕ) → ahead start ≤ bound → Trail nodes start
+trail_from : (nodes : List PlainFilterNode) → ParentsPrecede nodes → (bound : ℕ) (start : Option ℕ) → ahead start ≤ bound → Trail nodes start
 trail_from nodes precede bound None h = ([], refl)
 trail_from nodes precede zero (Some handle) h = absurd (omega arith)
 trail_from nodes precede (suc bound) (Some handle) h =
     trail_at nodes precede handle (slice_get nodes handle) refl (λ node up. trail_from nodes precede bound node.parent (omega arith))
 
 -- a node with the rule ends the search
-pub found : (nodes : List PlainNode) → ParentsPrecede nodes → (handle : ℕ) (node : PlainNode) (rule : StandardFilterableTriggeringRule)
+pub found : (nodes : List PlainFilterNode) → ParentsPrecede nodes → (handle : ℕ) (node : PlainFilterNode) (rule : StandardFilterableTriggeringRule)
     → slice_get nodes handle ≡ Some node → node.rule ≡ standard rule → IsNearest nodes (Some handle) rule (Some node.severity)
 found nodes precede handle node rule e h =
     let up : ahead node.parent ≤ handle = ahead_before node.parent handle (λ p is. precede handle p node e is) in
@@ -55,12 +55,12 @@ found nodes precede handle node rule e h =
     (node ∷ rest.0, (e, rest.1), inl (h, refl))
 
 -- another leads on to its parent
-pub passed : (nodes : List PlainNode) (handle : ℕ) (node : PlainNode) (rule : StandardFilterableTriggeringRule) (s : Option Severity)
+pub passed : (nodes : List PlainFilterNode) (handle : ℕ) (node : PlainFilterNode) (rule : StandardFilterableTriggeringRule) (s : Option Severity)
     → slice_get nodes handle ≡ Some node → (¬ (node.rule ≡ standard rule)) → IsNearest nodes node.parent rule s → IsNearest nodes (Some handle) rule s
 passed nodes handle node rule s e other behind = (node ∷ behind.0, (e, behind.1), inr (other, behind.2))
 
 -- the severity at a node is its own, or that of the nodes after it
-pub own_or_behind : (nodes : List PlainNode) → ParentsPrecede nodes → (handle : ℕ) (node : PlainNode) (behind s : Option Severity) → slice_get nodes handle ≡ Some node → IsNearest nodes node.parent DerivativeUniformity behind
+pub own_or_behind : (nodes : List PlainFilterNode) → ParentsPrecede nodes → (handle : ℕ) (node : PlainFilterNode) (behind s : Option Severity) → slice_get nodes handle ≡ Some node → IsNearest nodes node.parent DerivativeUniformity behind
     → (node.rule ≡ standard DerivativeUniformity) × (s ≡ Some node.severity) ⊎ (¬ (node.rule ≡ standard DerivativeUniformity)) × (s ≡ behind) → IsNearest nodes (Some handle) DerivativeUniformity s
 own_or_behind nodes precede handle node behind s e at (inl own) =
     subst (IsNearest nodes (Some handle) DerivativeUniformity) (sym own.1) (found nodes precede handle node DerivativeUniformity e own.0)
@@ -78,14 +78,14 @@ one_longer : (known : List (Option Severity)) (o : Option Severity) → length (
 one_longer [] o = refl
 one_longer (k ∷ known) o = let e = one_longer known o in omega (arith, e)
 
-behind_all : (nodes : List PlainNode) (known : List (Option Severity)) (o : Option Severity) → AreNearest nodes known → IsNearest nodes (Some (length known)) DerivativeUniformity o → AreNearest nodes (known ++ o ∷ [])
+behind_all : (nodes : List PlainFilterNode) (known : List (Option Severity)) (o : Option Severity) → AreNearest nodes known → IsNearest nodes (Some (length known)) DerivativeUniformity o → AreNearest nodes (known ++ o ∷ [])
 behind_all nodes known o are is = λ handle found at. elim (last_or_before known o found handle at) [
   | inl before ↦ are handle found before
   | inr last ↦ subst (λ k. IsNearest nodes (Some k) DerivativeUniformity found) (sym last.0) (subst (IsNearest nodes (Some (length known)) DerivativeUniformity) last.1 is)
 ]
 
 -- one more node of which the severity is known
-pub one_more : (nodes : List PlainNode) (known : List (Option Severity)) (o : Option Severity) (more : List (Option Severity)) (place : ℕ) → more ≡ known ++ o ∷ [] → length known ≡ place → AreNearest nodes known
+pub one_more : (nodes : List PlainFilterNode) (known : List (Option Severity)) (o : Option Severity) (more : List (Option Severity)) (place : ℕ) → more ≡ known ++ o ∷ [] → length known ≡ place → AreNearest nodes known
     → IsNearest nodes (Some place) DerivativeUniformity o → (length more ≡ place + 1) × AreNearest nodes more
 one_more nodes known o more place pushed many are is = (
   ap length pushed ∙ (one_longer known o ∙ ap (λ n. n + 1) many),
@@ -93,5 +93,5 @@ one_more nodes known o more place pushed many are is = (
 )
 
 -- of no node anything is known
-pub nothing_known : (nodes : List PlainNode) → AreNearest nodes []
+pub nothing_known : (nodes : List PlainFilterNode) → AreNearest nodes []
 nothing_known nodes = λ handle found at. absurd (cc (at))

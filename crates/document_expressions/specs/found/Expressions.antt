@@ -21,7 +21,7 @@ use Rattle.document_forms.specs.found.Inverse.{bind_some, map_some, chosen, guar
 use Rattle.document_forms.specs.found.KindLaws.{AreSound, kind_sound, kind_complete, tagged_complete}
 use Rattle.document_forms.specs.found.Forms.{a_u8, a_u16, a_u64, a_i16, a_i32, a_i64, a_handle, a_u32, a_size, a_side, a_bool, a_word, maybe, a_list, ends, row_by_kind, by_kind}
 use Rattle.document_forms.specs.found.Rows.{row1, row2, row3, row5, row6, row9}
-use Rattle.document_expressions.specs.judged.Form.{ALiteral, ALevel, AQuery, letter_code, APattern, AnExpression}
+use Rattle.document_expressions.specs.judged.Form.{ALiteral, ASampleLevel, AnImageQuery, letter_code, APattern, AnExpression}
 use Rattle.document_expressions.specs.found.Kinds.{expression_kinds, literal_kinds, level_kinds, query_kinds}
 use Rattle.document_expressions.specs.declared.kinds.ExpressionKind.{ExpressionKind}
 use Rattle.document_expressions.specs.declared.kinds.ExpressionKind.TheVariants as expression_kind
@@ -115,18 +115,18 @@ level_with level_kind.Exact ds = option_map level.Exact ((row1 a_handle).find ds
 level_with level_kind.Bias ds = option_map level.Bias ((row1 a_handle).find ds)
 level_with level_kind.Gradient ds = option_map (λ t. level.Gradient t.0 t.1) ((row2 a_handle a_handle).find ds)
 
-pub level_sound : AreSound level_with (λ x ds. ALevel x (array ds)) level_kinds
+pub level_sound : AreSound level_with (λ x ds. ASampleLevel x (array ds)) level_kinds
 unfolding level_with
 level_sound = (
-  kind_sound ends (λ t. level.Auto) (codes "Auto") (λ x ds. ALevel x (array ds)) (λ t ds h. (refl, h)),
+  kind_sound ends (λ t. level.Auto) (codes "Auto") (λ x ds. ASampleLevel x (array ds)) (λ t ds h. (refl, h)),
   (
-    kind_sound ends (λ t. level.Zero) (codes "Zero") (λ x ds. ALevel x (array ds)) (λ t ds h. (refl, h)),
+    kind_sound ends (λ t. level.Zero) (codes "Zero") (λ x ds. ASampleLevel x (array ds)) (λ t ds h. (refl, h)),
     (
-      kind_sound (row1 a_handle) level.Exact (codes "Exact") (λ x ds. ALevel x (array ds)) (λ t ds h. (refl, h)),
+      kind_sound (row1 a_handle) level.Exact (codes "Exact") (λ x ds. ASampleLevel x (array ds)) (λ t ds h. (refl, h)),
       (
-        kind_sound (row1 a_handle) level.Bias (codes "Bias") (λ x ds. ALevel x (array ds)) (λ t ds h. (refl, h)),
+        kind_sound (row1 a_handle) level.Bias (codes "Bias") (λ x ds. ASampleLevel x (array ds)) (λ t ds h. (refl, h)),
         (
-          kind_sound (row2 a_handle a_handle) (λ t. level.Gradient t.0 t.1) (codes "Gradient") (λ x ds. ALevel x (array ds)) (λ t ds h. (refl, h)),
+          kind_sound (row2 a_handle a_handle) (λ t. level.Gradient t.0 t.1) (codes "Gradient") (λ x ds. ASampleLevel x (array ds)) (λ t ds h. (refl, h)),
           tt,
         ),
       ),
@@ -134,7 +134,7 @@ level_sound = (
   ),
 )
 
-pub level_complete : (x : SampleLevel) → (d : Data) → ALevel x d → depth d ≤ deepest → tagged_of level_kinds level_with d ≡ Some x
+pub level_complete : (x : SampleLevel) → (d : Data) → ASampleLevel x d → depth d ≤ deepest → tagged_of level_kinds level_with d ≡ Some x
 unfolding level_with
 level_complete level.Auto = tagged_complete level_kinds level_with ends (λ t. level.Auto) (codes "Auto") level_kind.Auto refl (λ ds. refl) tt
 level_complete level.Zero = tagged_complete level_kinds level_with ends (λ t. level.Zero) (codes "Zero") level_kind.Zero refl (λ ds. refl) tt
@@ -143,7 +143,7 @@ level_complete (level.Bias e) = tagged_complete level_kinds level_with (row1 a_h
 level_complete (level.Gradient x y) = tagged_complete level_kinds level_with (row2 a_handle a_handle) (λ t. level.Gradient t.0 t.1) (codes "Gradient") level_kind.Gradient refl (λ ds. refl) (x, y)
 
 abbrev pub a_level : FormOf SampleLevel
-a_level = by_kind level_kinds level_with ALevel level_sound level_complete
+a_level = by_kind level_kinds level_with ASampleLevel level_sound level_complete
 
 unfoldable pub query_with : QueryKind → Items → Option ImageQuery
 query_with query_kind.Size ds = option_map query.Size ((row1 (maybe a_handle)).find ds)
@@ -151,23 +151,23 @@ query_with query_kind.NumLevels ds = option_map (λ t. query.NumLevels) (ends.fi
 query_with query_kind.NumLayers ds = option_map (λ t. query.NumLayers) (ends.find ds)
 query_with query_kind.NumSamples ds = option_map (λ t. query.NumSamples) (ends.find ds)
 
-pub query_sound : AreSound query_with (λ x ds. AQuery x (array ds)) query_kinds
+pub query_sound : AreSound query_with (λ x ds. AnImageQuery x (array ds)) query_kinds
 unfolding query_with
 query_sound = (
-  kind_sound (row1 (maybe a_handle)) query.Size (codes "Size") (λ x ds. AQuery x (array ds)) (λ t ds h. (refl, h)),
+  kind_sound (row1 (maybe a_handle)) query.Size (codes "Size") (λ x ds. AnImageQuery x (array ds)) (λ t ds h. (refl, h)),
   (
-    kind_sound ends (λ t. query.NumLevels) (codes "NumLevels") (λ x ds. AQuery x (array ds)) (λ t ds h. (refl, h)),
+    kind_sound ends (λ t. query.NumLevels) (codes "NumLevels") (λ x ds. AnImageQuery x (array ds)) (λ t ds h. (refl, h)),
     (
-      kind_sound ends (λ t. query.NumLayers) (codes "NumLayers") (λ x ds. AQuery x (array ds)) (λ t ds h. (refl, h)),
+      kind_sound ends (λ t. query.NumLayers) (codes "NumLayers") (λ x ds. AnImageQuery x (array ds)) (λ t ds h. (refl, h)),
       (
-        kind_sound ends (λ t. query.NumSamples) (codes "NumSamples") (λ x ds. AQuery x (array ds)) (λ t ds h. (refl, h)),
+        kind_sound ends (λ t. query.NumSamples) (codes "NumSamples") (λ x ds. AnImageQuery x (array ds)) (λ t ds h. (refl, h)),
         tt,
       ),
     ),
   ),
 )
 
-pub query_complete : (x : ImageQuery) → (d : Data) → AQuery x d → depth d ≤ deepest → tagged_of query_kinds query_with d ≡ Some x
+pub query_complete : (x : ImageQuery) → (d : Data) → AnImageQuery x d → depth d ≤ deepest → tagged_of query_kinds query_with d ≡ Some x
 unfolding query_with
 query_complete (query.Size e) = tagged_complete query_kinds query_with (row1 (maybe a_handle)) query.Size (codes "Size") query_kind.Size refl (λ ds. refl) e
 query_complete query.NumLevels = tagged_complete query_kinds query_with ends (λ t. query.NumLevels) (codes "NumLevels") query_kind.NumLevels refl (λ ds. refl) tt
@@ -175,7 +175,7 @@ query_complete query.NumLayers = tagged_complete query_kinds query_with ends (λ
 query_complete query.NumSamples = tagged_complete query_kinds query_with ends (λ t. query.NumSamples) (codes "NumSamples") query_kind.NumSamples refl (λ ds. refl) tt
 
 abbrev pub a_query : FormOf ImageQuery
-a_query = by_kind query_kinds query_with AQuery query_sound query_complete
+a_query = by_kind query_kinds query_with AnImageQuery query_sound query_complete
 
 -- ---- the pattern of a swizzle
 

@@ -6,7 +6,7 @@ use Rattle.ir_kinds.specs.declared.scalars.VectorSize.{VectorSize}
 use Rattle.ir_kinds.specs.declared.scalars.CooperativeSize.{CooperativeSize}
 use Rattle.document_forms.specs.declared.limits.TheConstants.{MAX_HANDLE, MAX_U8, MAX_U16, MAX_U32, MAX_U64, MAX_I16, MAX_I32, MAX_I64}
 use Rattle.document_forms.specs.found.Exact.{deepest, IsExact, FormOf, RowOf}
-use Rattle.document_forms.specs.judged.Form.{ANumber, ASigned, ASize, ASide, ABool, AText, AWord, ASet, Maybe, AList, AnArray, Ends, ◌▸◌}
+use Rattle.document_forms.specs.judged.Form.{ANumber, ASigned, AVectorSize, ACooperativeSize, ABool, AText, AWord, ASet, Maybe, AList, AnArray, Ends, ◌▸◌}
 use Rattle.document_forms.specs.found.Decide.{number_of, signed_of, size_of, side_of, word_in, set_of, optional, all_of, end, behind, array_of, of_kind, tagged_of}
 use Rattle.document_forms.specs.found.PartLaws.{number_exact, signed_exact, size_exact, side_exact, bool_exact, text_exact, word_exact, optional_exact}
 use Rattle.document_forms.specs.found.ListLaws.{list_exact, set_exact}
@@ -44,10 +44,10 @@ abbrev pub a_i64 : FormOf ℤ
 a_i64 = a_signed MAX_I64
 
 abbrev pub a_size : FormOf VectorSize
-a_size = record { find = size_of; Written = ASize; exact = size_exact }
+a_size = record { find = size_of; Written = AVectorSize; exact = size_exact }
 
 abbrev pub a_side : FormOf CooperativeSize
-a_side = record { find = side_of; Written = ASide; exact = side_exact }
+a_side = record { find = side_of; Written = ACooperativeSize; exact = side_exact }
 
 abbrev pub a_bool : FormOf Bool
 a_bool = record { find = as_bool; Written = ABool; exact = bool_exact }

@@ -8,7 +8,7 @@ use Rattle.ir_kinds.specs.declared.scalars.VectorSize.TheVariants.{Bi, Tri, Quad
 use Rattle.ir_kinds.specs.declared.scalars.CooperativeSize.{CooperativeSize}
 use Rattle.ir_kinds.specs.declared.scalars.CooperativeSize.TheVariants.{Eight, Sixteen}
 use Rattle.document_forms.specs.found.Exact.{deepest, IsExact}
-use Rattle.document_forms.specs.judged.Form.{ANumber, Fits, ASigned, ABool, AText, AWord, ASize, ASide, Maybe}
+use Rattle.document_forms.specs.judged.Form.{ANumber, Fits, ASigned, ABool, AText, AWord, AVectorSize, ACooperativeSize, Maybe}
 use Rattle.document_forms.specs.found.Decide.{whole_of, number_of, small, below_zero, or_else, signed_of, size_of, side_of, word_in, is_null, optional}
 use Rattle.document_forms.specs.found.Inverse.{bind_some, map_some, chosen, guarded, both_true, some_is, as_str_some, as_bool_some, as_number_some, whole_some, is_null_true}
 
@@ -72,43 +72,43 @@ signed_exact high = record { sound = found; complete = there }
     there d (pos n) h le = rw h.0 (rw (le-leb n high h.1) refl)
     there d (negsuc n) h le = rw h.0 (rw (le-leb n high h.1) refl)
 
-pub size_exact : IsExact size_of ASize
+pub size_exact : IsExact size_of AVectorSize
 size_exact = record { sound = found; complete = there }
   where
-    found : (d : Data) (s : VectorSize) → size_of d ≡ Some s → ASize s d
+    found : (d : Data) (s : VectorSize) → size_of d ≡ Some s → AVectorSize s d
     found d s e =
         let a = bind_some _ (whole_of d) s e in
         let d_is = whole_some d a.0 a.1 in
         elim (chosen (nat_eq a.0 2) _ _ _ a.2) [
-          | inl b ↦ subst (λ x. ASize x d) (some_is Bi s b.1) (d_is ∙ ap (λ n. number (unsigned n)) (eqb-true a.0 2 b.0))
+          | inl b ↦ subst (λ x. AVectorSize x d) (some_is Bi s b.1) (d_is ∙ ap (λ n. number (unsigned n)) (eqb-true a.0 2 b.0))
           | inr b ↦ elim (chosen (nat_eq a.0 3) _ _ _ b.1) [
-            | inl c ↦ subst (λ x. ASize x d) (some_is Tri s c.1) (d_is ∙ ap (λ n. number (unsigned n)) (eqb-true a.0 3 c.0))
+            | inl c ↦ subst (λ x. AVectorSize x d) (some_is Tri s c.1) (d_is ∙ ap (λ n. number (unsigned n)) (eqb-true a.0 3 c.0))
             | inr c ↦
                 let g = guarded (nat_eq a.0 4) (Some Quad) s c.1 in
-                subst (λ x. ASize x d) (some_is Quad s g.1) (d_is ∙ ap (λ n. number (unsigned n)) (eqb-true a.0 4 g.0))
+                subst (λ x. AVectorSize x d) (some_is Quad s g.1) (d_is ∙ ap (λ n. number (unsigned n)) (eqb-true a.0 4 g.0))
           ]
         ]
 
-    there : (d : Data) (s : VectorSize) → ASize s d → depth d ≤ deepest → size_of d ≡ Some s
+    there : (d : Data) (s : VectorSize) → AVectorSize s d → depth d ≤ deepest → size_of d ≡ Some s
     there d Bi h le = rw h refl
     there d Tri h le = rw h refl
     there d Quad h le = rw h refl
 
-pub side_exact : IsExact side_of ASide
+pub side_exact : IsExact side_of ACooperativeSize
 side_exact = record { sound = found; complete = there }
   where
-    found : (d : Data) (s : CooperativeSize) → side_of d ≡ Some s → ASide s d
+    found : (d : Data) (s : CooperativeSize) → side_of d ≡ Some s → ACooperativeSize s d
     found d s e =
         let a = bind_some _ (whole_of d) s e in
         let d_is = whole_some d a.0 a.1 in
         elim (chosen (nat_eq a.0 8) _ _ _ a.2) [
-          | inl b ↦ subst (λ x. ASide x d) (some_is Eight s b.1) (d_is ∙ ap (λ n. number (unsigned n)) (eqb-true a.0 8 b.0))
+          | inl b ↦ subst (λ x. ACooperativeSize x d) (some_is Eight s b.1) (d_is ∙ ap (λ n. number (unsigned n)) (eqb-true a.0 8 b.0))
           | inr b ↦
               let g = guarded (nat_eq a.0 16) (Some Sixteen) s b.1 in
-              subst (λ x. ASide x d) (some_is Sixteen s g.1) (d_is ∙ ap (λ n. number (unsigned n)) (eqb-true a.0 16 g.0))
+              subst (λ x. ACooperativeSize x d) (some_is Sixteen s g.1) (d_is ∙ ap (λ n. number (unsigned n)) (eqb-true a.0 16 g.0))
         ]
 
-    there : (d : Data) (s : CooperativeSize) → ASide s d → depth d ≤ deepest → side_of d ≡ Some s
+    there : (d : Data) (s : CooperativeSize) → ACooperativeSize s d → depth d ≤ deepest → side_of d ≡ Some s
     there d Eight h le = rw h refl
     there d Sixteen h le = rw h refl
 

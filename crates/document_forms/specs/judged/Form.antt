@@ -3,9 +3,8 @@ use Rattle.std.specs.Prelude.{◌≡◌, ℕ, ℤ, pos, negsuc, ◌≤◌, Bool,
 use Rattle.serde_json.specs.Data.{Data, null, boolean, number, unsigned, string, array, Items, no_items, item}
 use Rattle.serde_json.specs.Find.{of_integer}
 use Rattle.ir_kinds.specs.declared.scalars.VectorSize.{VectorSize}
-use Rattle.ir_kinds.specs.declared.scalars.VectorSize.TheVariants.{Bi, Tri, Quad}
 use Rattle.ir_kinds.specs.declared.scalars.CooperativeSize.{CooperativeSize}
-use Rattle.ir_kinds.specs.declared.scalars.CooperativeSize.TheVariants.{Eight, Sixteen}
+use Rattle.ir_kinds.specs.judged.Scalars.{component_count, cooperative_count}
 use Rattle.document_words.specs.Lookup.{lookup}
 use Rattle.document_forms.specs.declared.limits.TheConstants.{MAX_HANDLE, MAX_U8, MAX_U16, MAX_U32, MAX_U64, MAX_I16, MAX_I32, MAX_I64}
 
@@ -49,21 +48,11 @@ abbrev pub AI64 : ℤ → Data → Type 0
 AI64 z d = ASigned MAX_I64 z d
 
 -- how many components a vector has
-abbrev pub components_of : VectorSize → ℕ
-components_of Bi = 2
-components_of Tri = 3
-components_of Quad = 4
+abbrev pub AVectorSize : VectorSize → Data → Type 0
+AVectorSize s d = d ≡ number (unsigned (component_count s))
 
-abbrev pub ASize : VectorSize → Data → Type 0
-ASize s d = d ≡ number (unsigned (components_of s))
-
--- how many columns or rows a cooperative matrix has
-abbrev pub side_of : CooperativeSize → ℕ
-side_of Eight = 8
-side_of Sixteen = 16
-
-abbrev pub ASide : CooperativeSize → Data → Type 0
-ASide s d = d ≡ number (unsigned (side_of s))
+abbrev pub ACooperativeSize : CooperativeSize → Data → Type 0
+ACooperativeSize s d = d ≡ number (unsigned (cooperative_count s))
 
 -- ---- truth values, texts, words
 
@@ -74,6 +63,7 @@ abbrev pub AText : List ℕ → Data → Type 0
 AText w d = d ≡ string w
 
 -- a word of a table, beside which this stands
+-- a word of the table, and what it denotes there
 abbrev pub AWord : {A : Type 0} → List (List ℕ × A) → A → Data → Type 0
 AWord table x (string w) = lookup w table ≡ Some x
 AWord table x _ = ⊥

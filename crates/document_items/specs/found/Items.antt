@@ -6,7 +6,7 @@ use Rattle.ir_kinds.specs.declared.stages.ShaderStage.{ShaderStage}
 use Rattle.ir_kinds.specs.declared.stages.EarlyDepthTest.{EarlyDepthTest}
 use Rattle.ir_kinds.specs.declared.stages.EarlyDepthTest.TheVariants as early
 use Rattle.ir_items.specs.declared.entries.MeshStageInfo.{MeshStageInfo}
-use Rattle.ir_items.specs.judged.GlobalPlain.{PlainConstant, PlainOverride, PlainGlobal, PlainRule, standard, unknown, user, PlainNode}
+use Rattle.ir_items.specs.judged.GlobalPlain.{PlainConstant, PlainOverride, PlainGlobal, PlainRule, standard, unknown, user, PlainFilterNode}
 use Rattle.document_words.specs.Unions.{decoration_union}
 use Rattle.document_words.specs.Tables.{severities, standard_rules, conservative_depths, topologies, entry_stages, memory_decorations}
 use Rattle.document_forms.specs.found.Exact.{deepest, IsExact, FormOf}
@@ -17,7 +17,7 @@ use Rattle.document_forms.specs.found.Forms.{a_u16, a_handle, a_u32, a_text, a_w
 use Rattle.document_forms.specs.found.Rows.{row1, row2, row3, row4, row6, row8}
 use Rattle.document_items.specs.found.Types.{a_space, a_resource}
 use Rattle.document_items.specs.found.Kinds.{rule_kinds, early_kinds}
-use Rattle.document_items.specs.judged.ItemForm.{AConstant, AnOverride, AGlobal, ARule, AFilter, AllFilters, AnEarly, TheSizes, AMesh}
+use Rattle.document_items.specs.judged.ItemForm.{AConstant, AnOverride, AGlobal, ARule, AFilter, AllFilters, AnEarlyDepthTest, TheSizes, AMesh}
 use Rattle.document_items.specs.declared.kinds.RuleKind.{RuleKind}
 use Rattle.document_items.specs.declared.kinds.RuleKind.TheVariants as rule_kind
 use Rattle.document_items.specs.declared.kinds.EarlyKind.{EarlyKind}
@@ -63,10 +63,10 @@ rule_complete (user tool name) = tagged_complete rule_kinds rule_with (row2 a_te
 abbrev pub a_rule : FormOf PlainRule
 a_rule = by_kind rule_kinds rule_with ARule rule_sound rule_complete
 
-abbrev pub a_filter : FormOf PlainNode
+abbrev pub a_filter : FormOf PlainFilterNode
 a_filter = made (an_array (row3 (a_word severities) a_rule (maybe a_handle))) (λ t. record { severity = t.0; rule = t.1; parent = t.2 }) (λ n. (n.severity, n.rule, n.parent)) AFilter (λ n. refl) (λ t d h. h) (λ n d h. h)
 
-abbrev pub the_filters : FormOf (List PlainNode × Option ℕ)
+abbrev pub the_filters : FormOf (List PlainFilterNode × Option ℕ)
 the_filters = made (an_array (row2 (a_list a_filter) (maybe a_handle))) (λ t. t) (λ t. t) AllFilters (λ t. refl) (λ t d h. h) (λ t d h. h)
 
 -- ---- what an entry point has beside its function
@@ -78,23 +78,23 @@ unfoldable pub early_with : EarlyKind → Items → Option EarlyDepthTest
 early_with early_kind.Force ds = option_map (λ t. early.Force) (ends.find ds)
 early_with early_kind.Allow ds = option_map early.Allow ((row1 (a_word conservative_depths)).find ds)
 
-pub early_sound : AreSound early_with (λ x ds. AnEarly x (array ds)) early_kinds
-unfolding early_with AnEarly
+pub early_sound : AreSound early_with (λ x ds. AnEarlyDepthTest x (array ds)) early_kinds
+unfolding early_with AnEarlyDepthTest
 early_sound = (
-  kind_sound ends (λ t. early.Force) (codes "Force") (λ x ds. AnEarly x (array ds)) (λ t ds h. (refl, h)),
+  kind_sound ends (λ t. early.Force) (codes "Force") (λ x ds. AnEarlyDepthTest x (array ds)) (λ t ds h. (refl, h)),
   (
-    kind_sound (row1 (a_word conservative_depths)) early.Allow (codes "Allow") (λ x ds. AnEarly x (array ds)) (λ t ds h. (refl, h)),
+    kind_sound (row1 (a_word conservative_depths)) early.Allow (codes "Allow") (λ x ds. AnEarlyDepthTest x (array ds)) (λ t ds h. (refl, h)),
     tt,
   ),
 )
 
-pub early_complete : (x : EarlyDepthTest) → (d : Data) → AnEarly x d → depth d ≤ deepest → tagged_of early_kinds early_with d ≡ Some x
-unfolding early_with AnEarly
+pub early_complete : (x : EarlyDepthTest) → (d : Data) → AnEarlyDepthTest x d → depth d ≤ deepest → tagged_of early_kinds early_with d ≡ Some x
+unfolding early_with AnEarlyDepthTest
 early_complete early.Force = tagged_complete early_kinds early_with ends (λ t. early.Force) (codes "Force") early_kind.Force refl (λ ds. refl) tt
 early_complete (early.Allow conservative) = tagged_complete early_kinds early_with (row1 (a_word conservative_depths)) early.Allow (codes "Allow") early_kind.Allow refl (λ ds. refl) conservative
 
 abbrev pub an_early : FormOf EarlyDepthTest
-an_early = by_kind early_kinds early_with AnEarly early_sound early_complete
+an_early = by_kind early_kinds early_with AnEarlyDepthTest early_sound early_complete
 
 -- the numbers as a list
 abbrev pub size_list : ℕ × ℕ × ℕ → List ℕ

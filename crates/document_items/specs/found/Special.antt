@@ -13,7 +13,7 @@ use Rattle.ir_kinds.specs.declared.predeclared.PredeclaredType.{PredeclaredType}
 use Rattle.ir_kinds.specs.declared.predeclared.PredeclaredType.TheVariants as predeclared_types
 use Rattle.ir_kinds.specs.contracts.predeclared.PredeclaredTypePartialEq.TheImpl as same
 use Rattle.ir_kinds.specs.contracts.predeclared.PredeclaredTypeEq.TheImpl.Laws as laws
-use Rattle.ir_items.specs.judged.GlobalPlain.{PlainSpecial}
+use Rattle.ir_items.specs.judged.GlobalPlain.{PlainSpecialTypes}
 use Rattle.document_words.specs.Tables.{scalars}
 use Rattle.document_forms.specs.found.Exact.{deepest, IsExact, FormOf}
 use Rattle.document_forms.specs.judged.Form.{AList}
@@ -164,5 +164,5 @@ the_pairs = record { find = pairs_of; Written = ThePairs; exact = pairs_exact }
 
 -- ---- the special types
 
-abbrev pub the_special : FormOf PlainSpecial
+abbrev pub the_special : FormOf PlainSpecialTypes
 the_special = made (an_array (row4 (maybe a_handle) (maybe a_handle) (maybe a_handle) the_pairs)) (λ t. record { ray_desc = t.0; ray_intersection = t.1; ray_vertex_return = t.2; predeclared = t.3 }) (λ s. (s.ray_desc, s.ray_intersection, s.ray_vertex_return, s.predeclared)) ASpecial (λ s. refl) (λ t d h. h) (λ s d h. h)

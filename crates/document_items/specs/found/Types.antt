@@ -32,7 +32,7 @@ use Rattle.document_forms.specs.found.RowLaws.{end_exact}
 use Rattle.document_forms.specs.found.KindLaws.{AreSound, kind_sound, tagged_complete, lookup_keeps}
 use Rattle.document_forms.specs.found.Forms.{a_handle, a_u32, a_size, a_side, a_bool, a_text, a_word, a_set, maybe, a_list, ends, an_array, made, by_kind}
 use Rattle.document_forms.specs.found.Rows.{row1, row2, row3, row4, row5}
-use Rattle.document_items.specs.judged.Form.{APositive, ABuiltIn, ABinding, AResource, ASpace, AnArraySize, AClass, AMember, AnInner, AType}
+use Rattle.document_items.specs.judged.Form.{APositive, ABuiltIn, ABinding, AResource, ASpace, AnArraySize, AnImageClass, AMember, AnInner, AType}
 use Rattle.document_items.specs.found.Kinds.{storage_kinds, array_size_kinds, class_kinds, binding_kinds, inner_kinds}
 use Rattle.document_items.specs.declared.kinds.StorageKind.{StorageKind}
 use Rattle.document_items.specs.declared.kinds.StorageKind.TheVariants as storage_kind
@@ -296,31 +296,31 @@ class_with class_kind.Depth ds = option_map image_classes.Depth ((row1 a_bool).f
 class_with class_kind.External ds = option_map (λ t. image_classes.External) (ends.find ds)
 class_with class_kind.Storage ds = option_map (λ t. image_classes.Storage t.0 t.1) ((row2 (a_word storage_formats) (a_set storage_access (record { 0 = 0 }) access_union)).find ds)
 
-pub class_sound : AreSound class_with (λ x ds. AClass x (array ds)) class_kinds
-unfolding class_with AClass
+pub class_sound : AreSound class_with (λ x ds. AnImageClass x (array ds)) class_kinds
+unfolding class_with AnImageClass
 class_sound = (
-  kind_sound (row2 (a_word scalar_kinds) a_bool) (λ t. image_classes.Sampled t.0 t.1) (codes "Sampled") (λ x ds. AClass x (array ds)) (λ t ds h. (refl, h)),
+  kind_sound (row2 (a_word scalar_kinds) a_bool) (λ t. image_classes.Sampled t.0 t.1) (codes "Sampled") (λ x ds. AnImageClass x (array ds)) (λ t ds h. (refl, h)),
   (
-    kind_sound (row1 a_bool) image_classes.Depth (codes "Depth") (λ x ds. AClass x (array ds)) (λ t ds h. (refl, h)),
+    kind_sound (row1 a_bool) image_classes.Depth (codes "Depth") (λ x ds. AnImageClass x (array ds)) (λ t ds h. (refl, h)),
     (
-      kind_sound ends (λ t. image_classes.External) (codes "External") (λ x ds. AClass x (array ds)) (λ t ds h. (refl, h)),
+      kind_sound ends (λ t. image_classes.External) (codes "External") (λ x ds. AnImageClass x (array ds)) (λ t ds h. (refl, h)),
       (
-        kind_sound (row2 (a_word storage_formats) (a_set storage_access (record { 0 = 0 }) access_union)) (λ t. image_classes.Storage t.0 t.1) (codes "Storage") (λ x ds. AClass x (array ds)) (λ t ds h. (refl, h)),
+        kind_sound (row2 (a_word storage_formats) (a_set storage_access (record { 0 = 0 }) access_union)) (λ t. image_classes.Storage t.0 t.1) (codes "Storage") (λ x ds. AnImageClass x (array ds)) (λ t ds h. (refl, h)),
         tt,
       ),
     ),
   ),
 )
 
-pub class_complete : (x : ImageClass) → (d : Data) → AClass x d → depth d ≤ deepest → tagged_of class_kinds class_with d ≡ Some x
-unfolding class_with AClass
+pub class_complete : (x : ImageClass) → (d : Data) → AnImageClass x d → depth d ≤ deepest → tagged_of class_kinds class_with d ≡ Some x
+unfolding class_with AnImageClass
 class_complete (image_classes.Sampled kind multi) = tagged_complete class_kinds class_with (row2 (a_word scalar_kinds) a_bool) (λ t. image_classes.Sampled t.0 t.1) (codes "Sampled") class_kind.Sampled refl (λ ds. refl) (kind, multi)
 class_complete (image_classes.Depth multi) = tagged_complete class_kinds class_with (row1 a_bool) image_classes.Depth (codes "Depth") class_kind.Depth refl (λ ds. refl) multi
 class_complete image_classes.External = tagged_complete class_kinds class_with ends (λ t. image_classes.External) (codes "External") class_kind.External refl (λ ds. refl) tt
 class_complete (image_classes.Storage format access) = tagged_complete class_kinds class_with (row2 (a_word storage_formats) (a_set storage_access (record { 0 = 0 }) access_union)) (λ t. image_classes.Storage t.0 t.1) (codes "Storage") class_kind.Storage refl (λ ds. refl) (format, access)
 
 abbrev pub a_class : FormOf ImageClass
-a_class = by_kind class_kinds class_with AClass class_sound class_complete
+a_class = by_kind class_kinds class_with AnImageClass class_sound class_complete
 
 -- ---- types
 

@@ -16,7 +16,7 @@ use Rattle.ir_types.specs.declared.types.TypeInner.TheVariants as inner
 use Rattle.ir_types.specs.judged.Plain.{PlainMember, PlainInner, struct, plain, PlainType}
 use Rattle.document_words.specs.Unions.{access_union}
 use Rattle.document_words.specs.Tables.{scalars, scalar_kinds, cooperative_roles, image_dimensions, storage_formats, interpolations, samplings, built_ins, spaces, storage_access}
-use Rattle.document_forms.specs.judged.Form.{AHandle, AU32, ASize, ASide, ABool, AText, AWord, ASet, Maybe, AnArray, AList, Ends, ◌▸◌, Tagged}
+use Rattle.document_forms.specs.judged.Form.{AHandle, AU32, AVectorSize, ACooperativeSize, ABool, AText, AWord, ASet, Maybe, AnArray, AList, Ends, ◌▸◌, Tagged}
 
 -- a number that is not 0
 abbrev pub APositive : ℕ → Data → Type 0
@@ -50,25 +50,25 @@ AnArraySize (array_sizes.Constant count) = Tagged (codes "Constant") (APositive 
 AnArraySize (array_sizes.Pending length) = Tagged (codes "Pending") (AHandle length ▸ Ends)
 AnArraySize array_sizes.Dynamic = Tagged (codes "Dynamic") Ends
 
-unfoldable pub AClass : ImageClass → Data → Type 0
-AClass (image_classes.Sampled kind multi) = Tagged (codes "Sampled") (AWord scalar_kinds kind ▸ ABool multi ▸ Ends)
-AClass (image_classes.Depth multi) = Tagged (codes "Depth") (ABool multi ▸ Ends)
-AClass image_classes.External = Tagged (codes "External") Ends
-AClass (image_classes.Storage format access) = Tagged (codes "Storage") (AWord storage_formats format ▸ ASet storage_access (record { 0 = 0 }) access_union access ▸ Ends)
+unfoldable pub AnImageClass : ImageClass → Data → Type 0
+AnImageClass (image_classes.Sampled kind multi) = Tagged (codes "Sampled") (AWord scalar_kinds kind ▸ ABool multi ▸ Ends)
+AnImageClass (image_classes.Depth multi) = Tagged (codes "Depth") (ABool multi ▸ Ends)
+AnImageClass image_classes.External = Tagged (codes "External") Ends
+AnImageClass (image_classes.Storage format access) = Tagged (codes "Storage") (AWord storage_formats format ▸ ASet storage_access (record { 0 = 0 }) access_union access ▸ Ends)
 
 abbrev pub AMember : PlainMember → Data → Type 0
 AMember m = AnArray (Maybe AText m.name ▸ AHandle m.ty ▸ Maybe ABinding m.binding ▸ AU32 m.offset ▸ Ends)
 
 unfoldable pub AnInner : PlainInner → Data → Type 0
 AnInner (plain (inner.Scalar scalar)) = Tagged (codes "Scalar") (AWord scalars scalar ▸ Ends)
-AnInner (plain (inner.Vector size scalar)) = Tagged (codes "Vector") (ASize size ▸ AWord scalars scalar ▸ Ends)
-AnInner (plain (inner.Matrix columns rows scalar)) = Tagged (codes "Matrix") (ASize columns ▸ ASize rows ▸ AWord scalars scalar ▸ Ends)
-AnInner (plain (inner.CooperativeMatrix columns rows scalar role)) = Tagged (codes "CooperativeMatrix") (ASide columns ▸ ASide rows ▸ AWord scalars scalar ▸ AWord cooperative_roles role ▸ Ends)
+AnInner (plain (inner.Vector size scalar)) = Tagged (codes "Vector") (AVectorSize size ▸ AWord scalars scalar ▸ Ends)
+AnInner (plain (inner.Matrix columns rows scalar)) = Tagged (codes "Matrix") (AVectorSize columns ▸ AVectorSize rows ▸ AWord scalars scalar ▸ Ends)
+AnInner (plain (inner.CooperativeMatrix columns rows scalar role)) = Tagged (codes "CooperativeMatrix") (ACooperativeSize columns ▸ ACooperativeSize rows ▸ AWord scalars scalar ▸ AWord cooperative_roles role ▸ Ends)
 AnInner (plain (inner.Atomic scalar)) = Tagged (codes "Atomic") (AWord scalars scalar ▸ Ends)
 AnInner (plain (inner.Pointer base space)) = Tagged (codes "Pointer") (AHandle base ▸ ASpace space ▸ Ends)
-AnInner (plain (inner.ValuePointer size scalar space)) = Tagged (codes "ValuePointer") (Maybe ASize size ▸ AWord scalars scalar ▸ ASpace space ▸ Ends)
+AnInner (plain (inner.ValuePointer size scalar space)) = Tagged (codes "ValuePointer") (Maybe AVectorSize size ▸ AWord scalars scalar ▸ ASpace space ▸ Ends)
 AnInner (plain (inner.Array base size stride)) = Tagged (codes "Array") (AHandle base ▸ AnArraySize size ▸ AU32 stride ▸ Ends)
-AnInner (plain (inner.Image dim arrayed class)) = Tagged (codes "Image") (AWord image_dimensions dim ▸ ABool arrayed ▸ AClass class ▸ Ends)
+AnInner (plain (inner.Image dim arrayed class)) = Tagged (codes "Image") (AWord image_dimensions dim ▸ ABool arrayed ▸ AnImageClass class ▸ Ends)
 AnInner (plain (inner.Sampler comparison)) = Tagged (codes "Sampler") (ABool comparison ▸ Ends)
 AnInner (plain (inner.AccelerationStructure vertex_return)) = Tagged (codes "AccelerationStructure") (ABool vertex_return ▸ Ends)
 AnInner (plain (inner.RayQuery vertex_return)) = Tagged (codes "RayQuery") (ABool vertex_return ▸ Ends)

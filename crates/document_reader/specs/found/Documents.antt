@@ -11,7 +11,7 @@ use Rattle.ir_flags.specs.declared.stages.SubgroupOperationSet.{SubgroupOperatio
 use Rattle.ir_flags.specs.declared.settings.Settings.{Settings}
 use Rattle.ir_types.specs.judged.Plain.{PlainType}
 use Rattle.ir_types.specs.judged.ExpressionPlain.{PlainExpression}
-use Rattle.ir_items.specs.judged.GlobalPlain.{PlainConstant, PlainOverride, PlainGlobal, PlainNode, PlainSpecial}
+use Rattle.ir_items.specs.judged.GlobalPlain.{PlainConstant, PlainOverride, PlainGlobal, PlainFilterNode, PlainSpecialTypes}
 use Rattle.ir_items.specs.judged.Plain.{PlainFunction, PlainEntry, PlainModule}
 use Rattle.document_words.specs.Tables.{flags, capabilities, stages, operations}
 use Rattle.document_words.specs.Unions.{flag_union, capability_union, stage_union, operation_union}
@@ -61,7 +61,7 @@ the_subgroups = an_array (row2 (a_set stages (record { 0 = 0 }) stage_union) (a_
 -- ---- the lists after the types
 
 abbrev pub ListParts : Type 0
-ListParts = PlainSpecial × (List PlainNode × Option ℕ) × List PlainConstant × List PlainOverride × List PlainExpression × List PlainGlobal × List PlainFunction × List PlainEntry
+ListParts = PlainSpecialTypes × (List PlainFilterNode × Option ℕ) × List PlainConstant × List PlainOverride × List PlainExpression × List PlainGlobal × List PlainFunction × List PlainEntry
 
 abbrev pub the_lists : RowOf ListParts
 the_lists = row8 the_special (an_array (row2 (a_list a_filter) (maybe a_handle))) (a_list a_constant) (a_list an_override) (a_list an_expression) (a_list a_global) (a_list a_function) (a_list an_entry)

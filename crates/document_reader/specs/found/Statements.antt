@@ -23,7 +23,7 @@ use Rattle.document_forms.specs.found.Inverse.{map_some}
 use Rattle.document_forms.specs.found.KindLaws.{AreSound, kind_sound, tagged_complete, tagged_sound}
 use Rattle.document_forms.specs.found.Forms.{a_i32, a_handle, a_u32, a_bool, a_word, a_set, maybe, a_list, ends, an_array, by_kind}
 use Rattle.document_forms.specs.found.Rows.{row1, row2, row3, row4, row5}
-use Rattle.document_reader.specs.judged.StatementForm.{AValue, AnAtomic, AGather, AQueryFunction, APipeline, AnAct, AStatement, TheStatements, TheCases, ABody}
+use Rattle.document_reader.specs.judged.StatementForm.{ASwitchValue, AnAtomicFunction, AGatherMode, ARayQueryFunction, ARayPipelineFunction, AnOperation, AStatement, TheStatements, TheCases, ABody}
 use Rattle.document_reader.specs.found.Kinds.{value_kinds, atomic_kinds, gather_kinds, ray_query_kinds, pipeline_kinds, statement_kinds}
 use Rattle.document_reader.specs.declared.kinds.ValueKind.{ValueKind}
 use Rattle.document_reader.specs.declared.kinds.ValueKind.TheVariants as value_kind
@@ -45,27 +45,27 @@ value_with value_kind.I32 ds = option_map (λ t. switch_values.I32 t) ((row1 a_i
 value_with value_kind.U32 ds = option_map (λ t. switch_values.U32 t) ((row1 a_u32).find ds)
 value_with value_kind.Default ds = option_map (λ t. switch_values.Default) (ends.find ds)
 
-pub value_sound : AreSound value_with (λ x ds. AValue x (array ds)) value_kinds
-unfolding value_with AValue
+pub value_sound : AreSound value_with (λ x ds. ASwitchValue x (array ds)) value_kinds
+unfolding value_with ASwitchValue
 value_sound = (
-  kind_sound (row1 a_i32) (λ t. switch_values.I32 t) (codes "I32") (λ x ds. AValue x (array ds)) (λ t ds h. (refl, h)),
+  kind_sound (row1 a_i32) (λ t. switch_values.I32 t) (codes "I32") (λ x ds. ASwitchValue x (array ds)) (λ t ds h. (refl, h)),
   (
-    kind_sound (row1 a_u32) (λ t. switch_values.U32 t) (codes "U32") (λ x ds. AValue x (array ds)) (λ t ds h. (refl, h)),
+    kind_sound (row1 a_u32) (λ t. switch_values.U32 t) (codes "U32") (λ x ds. ASwitchValue x (array ds)) (λ t ds h. (refl, h)),
     (
-      kind_sound ends (λ t. switch_values.Default) (codes "Default") (λ x ds. AValue x (array ds)) (λ t ds h. (refl, h)),
+      kind_sound ends (λ t. switch_values.Default) (codes "Default") (λ x ds. ASwitchValue x (array ds)) (λ t ds h. (refl, h)),
       tt,
     ),
   ),
 )
 
-pub value_complete : (x : SwitchValue) → (d : Data) → AValue x d → depth d ≤ deepest → tagged_of value_kinds value_with d ≡ Some x
-unfolding value_with AValue
+pub value_complete : (x : SwitchValue) → (d : Data) → ASwitchValue x d → depth d ≤ deepest → tagged_of value_kinds value_with d ≡ Some x
+unfolding value_with ASwitchValue
 value_complete (switch_values.I32 a) = tagged_complete value_kinds value_with (row1 a_i32) (λ t. switch_values.I32 t) (codes "I32") value_kind.I32 refl (λ ds. refl) a
 value_complete (switch_values.U32 a) = tagged_complete value_kinds value_with (row1 a_u32) (λ t. switch_values.U32 t) (codes "U32") value_kind.U32 refl (λ ds. refl) a
 value_complete switch_values.Default = tagged_complete value_kinds value_with ends (λ t. switch_values.Default) (codes "Default") value_kind.Default refl (λ ds. refl) tt
 
 abbrev pub a_value : FormOf SwitchValue
-a_value = by_kind value_kinds value_with AValue value_sound value_complete
+a_value = by_kind value_kinds value_with ASwitchValue value_sound value_complete
 
 unfoldable pub atomic_with : AtomicKind → Items → Option AtomicFunction
 atomic_with atomic_kind.Add ds = option_map (λ t. atomic_functions.Add) (ends.find ds)
@@ -77,24 +77,24 @@ atomic_with atomic_kind.Min ds = option_map (λ t. atomic_functions.Min) (ends.f
 atomic_with atomic_kind.Max ds = option_map (λ t. atomic_functions.Max) (ends.find ds)
 atomic_with atomic_kind.Exchange ds = option_map (λ t. atomic_functions.Exchange t) ((row1 (maybe a_handle)).find ds)
 
-pub atomic_sound : AreSound atomic_with (λ x ds. AnAtomic x (array ds)) atomic_kinds
-unfolding atomic_with AnAtomic
+pub atomic_sound : AreSound atomic_with (λ x ds. AnAtomicFunction x (array ds)) atomic_kinds
+unfolding atomic_with AnAtomicFunction
 atomic_sound = (
-  kind_sound ends (λ t. atomic_functions.Add) (codes "Add") (λ x ds. AnAtomic x (array ds)) (λ t ds h. (refl, h)),
+  kind_sound ends (λ t. atomic_functions.Add) (codes "Add") (λ x ds. AnAtomicFunction x (array ds)) (λ t ds h. (refl, h)),
   (
-    kind_sound ends (λ t. atomic_functions.Subtract) (codes "Subtract") (λ x ds. AnAtomic x (array ds)) (λ t ds h. (refl, h)),
+    kind_sound ends (λ t. atomic_functions.Subtract) (codes "Subtract") (λ x ds. AnAtomicFunction x (array ds)) (λ t ds h. (refl, h)),
     (
-      kind_sound ends (λ t. atomic_functions.And) (codes "And") (λ x ds. AnAtomic x (array ds)) (λ t ds h. (refl, h)),
+      kind_sound ends (λ t. atomic_functions.And) (codes "And") (λ x ds. AnAtomicFunction x (array ds)) (λ t ds h. (refl, h)),
       (
-        kind_sound ends (λ t. atomic_functions.ExclusiveOr) (codes "ExclusiveOr") (λ x ds. AnAtomic x (array ds)) (λ t ds h. (refl, h)),
+        kind_sound ends (λ t. atomic_functions.ExclusiveOr) (codes "ExclusiveOr") (λ x ds. AnAtomicFunction x (array ds)) (λ t ds h. (refl, h)),
         (
-          kind_sound ends (λ t. atomic_functions.InclusiveOr) (codes "InclusiveOr") (λ x ds. AnAtomic x (array ds)) (λ t ds h. (refl, h)),
+          kind_sound ends (λ t. atomic_functions.InclusiveOr) (codes "InclusiveOr") (λ x ds. AnAtomicFunction x (array ds)) (λ t ds h. (refl, h)),
           (
-            kind_sound ends (λ t. atomic_functions.Min) (codes "Min") (λ x ds. AnAtomic x (array ds)) (λ t ds h. (refl, h)),
+            kind_sound ends (λ t. atomic_functions.Min) (codes "Min") (λ x ds. AnAtomicFunction x (array ds)) (λ t ds h. (refl, h)),
             (
-              kind_sound ends (λ t. atomic_functions.Max) (codes "Max") (λ x ds. AnAtomic x (array ds)) (λ t ds h. (refl, h)),
+              kind_sound ends (λ t. atomic_functions.Max) (codes "Max") (λ x ds. AnAtomicFunction x (array ds)) (λ t ds h. (refl, h)),
               (
-                kind_sound (row1 (maybe a_handle)) (λ t. atomic_functions.Exchange t) (codes "Exchange") (λ x ds. AnAtomic x (array ds)) (λ t ds h. (refl, h)),
+                kind_sound (row1 (maybe a_handle)) (λ t. atomic_functions.Exchange t) (codes "Exchange") (λ x ds. AnAtomicFunction x (array ds)) (λ t ds h. (refl, h)),
                 tt,
               ),
             ),
@@ -105,8 +105,8 @@ atomic_sound = (
   ),
 )
 
-pub atomic_complete : (x : AtomicFunction) → (d : Data) → AnAtomic x d → depth d ≤ deepest → tagged_of atomic_kinds atomic_with d ≡ Some x
-unfolding atomic_with AnAtomic
+pub atomic_complete : (x : AtomicFunction) → (d : Data) → AnAtomicFunction x d → depth d ≤ deepest → tagged_of atomic_kinds atomic_with d ≡ Some x
+unfolding atomic_with AnAtomicFunction
 atomic_complete atomic_functions.Add = tagged_complete atomic_kinds atomic_with ends (λ t. atomic_functions.Add) (codes "Add") atomic_kind.Add refl (λ ds. refl) tt
 atomic_complete atomic_functions.Subtract = tagged_complete atomic_kinds atomic_with ends (λ t. atomic_functions.Subtract) (codes "Subtract") atomic_kind.Subtract refl (λ ds. refl) tt
 atomic_complete atomic_functions.And = tagged_complete atomic_kinds atomic_with ends (λ t. atomic_functions.And) (codes "And") atomic_kind.And refl (λ ds. refl) tt
@@ -117,7 +117,7 @@ atomic_complete atomic_functions.Max = tagged_complete atomic_kinds atomic_with 
 atomic_complete (atomic_functions.Exchange a) = tagged_complete atomic_kinds atomic_with (row1 (maybe a_handle)) (λ t. atomic_functions.Exchange t) (codes "Exchange") atomic_kind.Exchange refl (λ ds. refl) a
 
 abbrev pub an_atomic : FormOf AtomicFunction
-an_atomic = by_kind atomic_kinds atomic_with AnAtomic atomic_sound atomic_complete
+an_atomic = by_kind atomic_kinds atomic_with AnAtomicFunction atomic_sound atomic_complete
 
 unfoldable pub gather_with : GatherKind → Items → Option GatherMode
 gather_with gather_kind.BroadcastFirst ds = option_map (λ t. gather_modes.BroadcastFirst) (ends.find ds)
@@ -129,24 +129,24 @@ gather_with gather_kind.ShuffleXor ds = option_map (λ t. gather_modes.ShuffleXo
 gather_with gather_kind.QuadBroadcast ds = option_map (λ t. gather_modes.QuadBroadcast t) ((row1 a_handle).find ds)
 gather_with gather_kind.QuadSwap ds = option_map (λ t. gather_modes.QuadSwap t) ((row1 (a_word directions)).find ds)
 
-pub gather_sound : AreSound gather_with (λ x ds. AGather x (array ds)) gather_kinds
-unfolding gather_with AGather
+pub gather_sound : AreSound gather_with (λ x ds. AGatherMode x (array ds)) gather_kinds
+unfolding gather_with AGatherMode
 gather_sound = (
-  kind_sound ends (λ t. gather_modes.BroadcastFirst) (codes "BroadcastFirst") (λ x ds. AGather x (array ds)) (λ t ds h. (refl, h)),
+  kind_sound ends (λ t. gather_modes.BroadcastFirst) (codes "BroadcastFirst") (λ x ds. AGatherMode x (array ds)) (λ t ds h. (refl, h)),
   (
-    kind_sound (row1 a_handle) (λ t. gather_modes.Broadcast t) (codes "Broadcast") (λ x ds. AGather x (array ds)) (λ t ds h. (refl, h)),
+    kind_sound (row1 a_handle) (λ t. gather_modes.Broadcast t) (codes "Broadcast") (λ x ds. AGatherMode x (array ds)) (λ t ds h. (refl, h)),
     (
-      kind_sound (row1 a_handle) (λ t. gather_modes.Shuffle t) (codes "Shuffle") (λ x ds. AGather x (array ds)) (λ t ds h. (refl, h)),
+      kind_sound (row1 a_handle) (λ t. gather_modes.Shuffle t) (codes "Shuffle") (λ x ds. AGatherMode x (array ds)) (λ t ds h. (refl, h)),
       (
-        kind_sound (row1 a_handle) (λ t. gather_modes.ShuffleDown t) (codes "ShuffleDown") (λ x ds. AGather x (array ds)) (λ t ds h. (refl, h)),
+        kind_sound (row1 a_handle) (λ t. gather_modes.ShuffleDown t) (codes "ShuffleDown") (λ x ds. AGatherMode x (array ds)) (λ t ds h. (refl, h)),
         (
-          kind_sound (row1 a_handle) (λ t. gather_modes.ShuffleUp t) (codes "ShuffleUp") (λ x ds. AGather x (array ds)) (λ t ds h. (refl, h)),
+          kind_sound (row1 a_handle) (λ t. gather_modes.ShuffleUp t) (codes "ShuffleUp") (λ x ds. AGatherMode x (array ds)) (λ t ds h. (refl, h)),
           (
-            kind_sound (row1 a_handle) (λ t. gather_modes.ShuffleXor t) (codes "ShuffleXor") (λ x ds. AGather x (array ds)) (λ t ds h. (refl, h)),
+            kind_sound (row1 a_handle) (λ t. gather_modes.ShuffleXor t) (codes "ShuffleXor") (λ x ds. AGatherMode x (array ds)) (λ t ds h. (refl, h)),
             (
-              kind_sound (row1 a_handle) (λ t. gather_modes.QuadBroadcast t) (codes "QuadBroadcast") (λ x ds. AGather x (array ds)) (λ t ds h. (refl, h)),
+              kind_sound (row1 a_handle) (λ t. gather_modes.QuadBroadcast t) (codes "QuadBroadcast") (λ x ds. AGatherMode x (array ds)) (λ t ds h. (refl, h)),
               (
-                kind_sound (row1 (a_word directions)) (λ t. gather_modes.QuadSwap t) (codes "QuadSwap") (λ x ds. AGather x (array ds)) (λ t ds h. (refl, h)),
+                kind_sound (row1 (a_word directions)) (λ t. gather_modes.QuadSwap t) (codes "QuadSwap") (λ x ds. AGatherMode x (array ds)) (λ t ds h. (refl, h)),
                 tt,
               ),
             ),
@@ -157,8 +157,8 @@ gather_sound = (
   ),
 )
 
-pub gather_complete : (x : GatherMode) → (d : Data) → AGather x d → depth d ≤ deepest → tagged_of gather_kinds gather_with d ≡ Some x
-unfolding gather_with AGather
+pub gather_complete : (x : GatherMode) → (d : Data) → AGatherMode x d → depth d ≤ deepest → tagged_of gather_kinds gather_with d ≡ Some x
+unfolding gather_with AGatherMode
 gather_complete gather_modes.BroadcastFirst = tagged_complete gather_kinds gather_with ends (λ t. gather_modes.BroadcastFirst) (codes "BroadcastFirst") gather_kind.BroadcastFirst refl (λ ds. refl) tt
 gather_complete (gather_modes.Broadcast a) = tagged_complete gather_kinds gather_with (row1 a_handle) (λ t. gather_modes.Broadcast t) (codes "Broadcast") gather_kind.Broadcast refl (λ ds. refl) a
 gather_complete (gather_modes.Shuffle a) = tagged_complete gather_kinds gather_with (row1 a_handle) (λ t. gather_modes.Shuffle t) (codes "Shuffle") gather_kind.Shuffle refl (λ ds. refl) a
@@ -169,7 +169,7 @@ gather_complete (gather_modes.QuadBroadcast a) = tagged_complete gather_kinds ga
 gather_complete (gather_modes.QuadSwap a) = tagged_complete gather_kinds gather_with (row1 (a_word directions)) (λ t. gather_modes.QuadSwap t) (codes "QuadSwap") gather_kind.QuadSwap refl (λ ds. refl) a
 
 abbrev pub a_gather : FormOf GatherMode
-a_gather = by_kind gather_kinds gather_with AGather gather_sound gather_complete
+a_gather = by_kind gather_kinds gather_with AGatherMode gather_sound gather_complete
 
 unfoldable pub ray_query_with : RayQueryKind → Items → Option RayQueryFunction
 ray_query_with ray_query_kind.Initialize ds = option_map (λ t. query_functions.Initialize t.0 t.1) ((row2 a_handle a_handle).find ds)
@@ -178,18 +178,18 @@ ray_query_with ray_query_kind.GenerateIntersection ds = option_map (λ t. query_
 ray_query_with ray_query_kind.ConfirmIntersection ds = option_map (λ t. query_functions.ConfirmIntersection) (ends.find ds)
 ray_query_with ray_query_kind.Terminate ds = option_map (λ t. query_functions.Terminate) (ends.find ds)
 
-pub ray_query_sound : AreSound ray_query_with (λ x ds. AQueryFunction x (array ds)) ray_query_kinds
-unfolding ray_query_with AQueryFunction
+pub ray_query_sound : AreSound ray_query_with (λ x ds. ARayQueryFunction x (array ds)) ray_query_kinds
+unfolding ray_query_with ARayQueryFunction
 ray_query_sound = (
-  kind_sound (row2 a_handle a_handle) (λ t. query_functions.Initialize t.0 t.1) (codes "Initialize") (λ x ds. AQueryFunction x (array ds)) (λ t ds h. (refl, h)),
+  kind_sound (row2 a_handle a_handle) (λ t. query_functions.Initialize t.0 t.1) (codes "Initialize") (λ x ds. ARayQueryFunction x (array ds)) (λ t ds h. (refl, h)),
   (
-    kind_sound (row1 a_handle) (λ t. query_functions.Proceed t) (codes "Proceed") (λ x ds. AQueryFunction x (array ds)) (λ t ds h. (refl, h)),
+    kind_sound (row1 a_handle) (λ t. query_functions.Proceed t) (codes "Proceed") (λ x ds. ARayQueryFunction x (array ds)) (λ t ds h. (refl, h)),
     (
-      kind_sound (row1 a_handle) (λ t. query_functions.GenerateIntersection t) (codes "GenerateIntersection") (λ x ds. AQueryFunction x (array ds)) (λ t ds h. (refl, h)),
+      kind_sound (row1 a_handle) (λ t. query_functions.GenerateIntersection t) (codes "GenerateIntersection") (λ x ds. ARayQueryFunction x (array ds)) (λ t ds h. (refl, h)),
       (
-        kind_sound ends (λ t. query_functions.ConfirmIntersection) (codes "ConfirmIntersection") (λ x ds. AQueryFunction x (array ds)) (λ t ds h. (refl, h)),
+        kind_sound ends (λ t. query_functions.ConfirmIntersection) (codes "ConfirmIntersection") (λ x ds. ARayQueryFunction x (array ds)) (λ t ds h. (refl, h)),
         (
-          kind_sound ends (λ t. query_functions.Terminate) (codes "Terminate") (λ x ds. AQueryFunction x (array ds)) (λ t ds h. (refl, h)),
+          kind_sound ends (λ t. query_functions.Terminate) (codes "Terminate") (λ x ds. ARayQueryFunction x (array ds)) (λ t ds h. (refl, h)),
           tt,
         ),
       ),
@@ -197,8 +197,8 @@ ray_query_sound = (
   ),
 )
 
-pub ray_query_complete : (x : RayQueryFunction) → (d : Data) → AQueryFunction x d → depth d ≤ deepest → tagged_of ray_query_kinds ray_query_with d ≡ Some x
-unfolding ray_query_with AQueryFunction
+pub ray_query_complete : (x : RayQueryFunction) → (d : Data) → ARayQueryFunction x d → depth d ≤ deepest → tagged_of ray_query_kinds ray_query_with d ≡ Some x
+unfolding ray_query_with ARayQueryFunction
 ray_query_complete (query_functions.Initialize a b) = tagged_complete ray_query_kinds ray_query_with (row2 a_handle a_handle) (λ t. query_functions.Initialize t.0 t.1) (codes "Initialize") ray_query_kind.Initialize refl (λ ds. refl) (a, b)
 ray_query_complete (query_functions.Proceed a) = tagged_complete ray_query_kinds ray_query_with (row1 a_handle) (λ t. query_functions.Proceed t) (codes "Proceed") ray_query_kind.Proceed refl (λ ds. refl) a
 ray_query_complete (query_functions.GenerateIntersection a) = tagged_complete ray_query_kinds ray_query_with (row1 a_handle) (λ t. query_functions.GenerateIntersection t) (codes "GenerateIntersection") ray_query_kind.GenerateIntersection refl (λ ds. refl) a
@@ -206,24 +206,24 @@ ray_query_complete query_functions.ConfirmIntersection = tagged_complete ray_que
 ray_query_complete query_functions.Terminate = tagged_complete ray_query_kinds ray_query_with ends (λ t. query_functions.Terminate) (codes "Terminate") ray_query_kind.Terminate refl (λ ds. refl) tt
 
 abbrev pub a_ray_query : FormOf RayQueryFunction
-a_ray_query = by_kind ray_query_kinds ray_query_with AQueryFunction ray_query_sound ray_query_complete
+a_ray_query = by_kind ray_query_kinds ray_query_with ARayQueryFunction ray_query_sound ray_query_complete
 
 unfoldable pub pipeline_with : PipelineKind → Items → Option RayPipelineFunction
 pipeline_with pipeline_kind.TraceRay ds = option_map (λ t. pipeline_functions.TraceRay t.0 t.1 t.2) ((row3 a_handle a_handle a_handle).find ds)
 
-pub pipeline_sound : AreSound pipeline_with (λ x ds. APipeline x (array ds)) pipeline_kinds
-unfolding pipeline_with APipeline
+pub pipeline_sound : AreSound pipeline_with (λ x ds. ARayPipelineFunction x (array ds)) pipeline_kinds
+unfolding pipeline_with ARayPipelineFunction
 pipeline_sound = (
-  kind_sound (row3 a_handle a_handle a_handle) (λ t. pipeline_functions.TraceRay t.0 t.1 t.2) (codes "TraceRay") (λ x ds. APipeline x (array ds)) (λ t ds h. (refl, h)),
+  kind_sound (row3 a_handle a_handle a_handle) (λ t. pipeline_functions.TraceRay t.0 t.1 t.2) (codes "TraceRay") (λ x ds. ARayPipelineFunction x (array ds)) (λ t ds h. (refl, h)),
   tt,
 )
 
-pub pipeline_complete : (x : RayPipelineFunction) → (d : Data) → APipeline x d → depth d ≤ deepest → tagged_of pipeline_kinds pipeline_with d ≡ Some x
-unfolding pipeline_with APipeline
+pub pipeline_complete : (x : RayPipelineFunction) → (d : Data) → ARayPipelineFunction x d → depth d ≤ deepest → tagged_of pipeline_kinds pipeline_with d ≡ Some x
+unfolding pipeline_with ARayPipelineFunction
 pipeline_complete (pipeline_functions.TraceRay a b c) = tagged_complete pipeline_kinds pipeline_with (row3 a_handle a_handle a_handle) (λ t. pipeline_functions.TraceRay t.0 t.1 t.2) (codes "TraceRay") pipeline_kind.TraceRay refl (λ ds. refl) (a, b, c)
 
 abbrev pub a_pipeline : FormOf RayPipelineFunction
-a_pipeline = by_kind pipeline_kinds pipeline_with APipeline pipeline_sound pipeline_complete
+a_pipeline = by_kind pipeline_kinds pipeline_with ARayPipelineFunction pipeline_sound pipeline_complete
 
 -- ---- statements, where `inside` finds the blocks inside
 
@@ -278,7 +278,7 @@ abbrev pub block_at : ℕ → Data → Option PlainBlock
 block_at n d = option_map block_of (all_of (statement_at n) d)
 
 abbrev pub ACase : PlainCase → Data → Type 0
-ACase c = AnArray (AValue c.value ▸ AnArray (TheStatements c.body) ▸ ABool c.falls ▸ Ends)
+ACase c = AnArray (ASwitchValue c.value ▸ AnArray (TheStatements c.body) ▸ ABool c.falls ▸ Ends)
 
 -- ---- what holds of other parts of an array
 
@@ -326,7 +326,7 @@ module _ (inside : Data → Option PlainBlock) (sound : (d : Data) (b : PlainBlo
   cases_found (x ∷ xs) (item d ds) h = (case_sound d x h.0, cases_found xs ds h.1)
 
   statements_sound : AreSound (statement_with inside) (λ x ds. AStatement x (array ds)) statement_kinds
-  unfolding statement_with AnAct
+  unfolding statement_with AnOperation
   statements_sound = (
     kind_sound (row2 a_u32 a_u32) (λ t. emit t.0 t.1) (codes "Emit") (λ x ds. AStatement x (array ds)) (λ t ds h. (refl, h)),
     (
@@ -471,7 +471,7 @@ module _ (n : ℕ) (bound : suc n ≤ deepest) (complete_at : (d : Data) (s : Pl
       (case_there d (record { value = value; body = body; falls = falls }) h.0 (omega arith), cases_there rest ds h.1 (omega arith))
 
   there : (d : Data) (s : PlainStatement) → AStatement s d → depth d ≤ suc n → tagged_of statement_kinds (statement_with (block_at n)) d ≡ Some s
-  unfolding statement_with AnAct
+  unfolding statement_with AnOperation
   there d (block b) h le = tagged_complete statement_kinds (statement_with (block_at n)) (row1 (a_found (block_at n))) (λ t. block t) (codes "Block") statement_kind.Block refl (λ ds. refl) b d (tagged_within _ _ _ n d le h (λ es l row. starts_map _ _ _ _ n es l row (λ x m k. block_there n complete_at x b k m) (λ fs l k. k))) (omega arith)
   there d (if_ test a r) h le = tagged_complete statement_kinds (statement_with (block_at n)) (row3 a_handle (a_found (block_at n)) (a_found (block_at n))) (λ t. if_ t.0 t.1 t.2) (codes "If") statement_kind.If refl (λ ds. refl) (test, a, r) d (tagged_within _ _ _ n d le h (λ es l row. starts_map _ _ _ _ n es l row (λ x m k. k) (λ fs l k. starts_map _ _ _ _ n fs l k (λ x m k. block_there n complete_at x a k m) (λ gs l k. starts_map _ _ _ _ n gs l k (λ x m k. block_there n complete_at x r k m) (λ hs l k. k))))) (omega arith)
   there d (switch selector cs) h le = tagged_complete statement_kinds (statement_with (block_at n)) (row2 a_handle (a_list (a_found (case_with (block_at n))))) (λ t. switch t.0 (cases_of t.1)) (codes "Switch") statement_kind.Switch refl (λ ds. refl) (selector, cases_list cs) d (tagged_within _ _ _ n d le h (λ es l row. starts_map _ _ _ _ n es l row (λ x m k. k) (λ fs l k. starts_map _ _ _ _ n fs l k (λ x m k. array_within _ _ n x (omega arith) k (λ gs l k. cases_there cs gs k l)) (λ gs l k. k)))) (omega arith) ∙ ap (λ c. Some (switch selector c)) (cases_back cs)
@@ -497,7 +497,7 @@ module _ (n : ℕ) (bound : suc n ≤ deepest) (complete_at : (d : Data) (s : Pl
   there d (operation (ray_pipeline fun)) h le = tagged_complete statement_kinds (statement_with (block_at n)) (row1 a_pipeline) (λ t. operation (ray_pipeline t)) (codes "RayPipelineFunction") statement_kind.RayPipelineFunction refl (λ ds. refl) fun d h (omega arith)
 
 deep : (s : PlainStatement) (d : Data) → AStatement s d → depth d ≤ 0 → ⊥
-unfolding AnAct
+unfolding AnOperation
 deep (block b) d h le = tagged_deep _ _ d h le
 deep (if_ test a r) d h le = tagged_deep _ _ d h le
 deep (switch selector cs) d h le = tagged_deep _ _ d h le

@@ -2,8 +2,8 @@
 use Rattle.serde_json.specs.Data.{Data}
 use Rattle.ir_items.specs.judged.Plain.{PlainEntry}
 use Rattle.document_forms.specs.judged.Form.{AHandle, AText, Maybe, AnArray, Ends, ◌▸◌}
-use Rattle.document_items.specs.judged.ItemForm.{AStage, AnEarly, TheSizes, AMesh}
+use Rattle.document_items.specs.judged.ItemForm.{AStage, AnEarlyDepthTest, TheSizes, AMesh}
 use Rattle.document_reader.specs.judged.FunctionForm.{AFunction}
 
 abbrev pub AnEntry : PlainEntry → Data → Type 0
-AnEntry e = AnArray (AStage e.stage ▸ AText e.name ▸ Maybe AnEarly e.early ▸ TheSizes e.sizes ▸ Maybe AMesh e.mesh ▸ Maybe AHandle e.payload ▸ AFunction e.function ▸ Ends)
+AnEntry e = AnArray (AStage e.stage ▸ AText e.name ▸ Maybe AnEarlyDepthTest e.early ▸ TheSizes e.sizes ▸ Maybe AMesh e.mesh ▸ Maybe AHandle e.payload ▸ AFunction e.function ▸ Ends)

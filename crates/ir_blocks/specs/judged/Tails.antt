@@ -6,17 +6,17 @@ use Rattle.ir_blocks.specs.judged.Shapes.{Shape, simple, calls, nests, chooses, 
 use Rattle.ir_blocks.specs.judged.Places.{Place, here, later, inside, OccursAt}
 
 -- the case is there and doesn't fall through
-abbrev pub Ends : PlainCases → ℕ → Type 0
-Ends no_case k = ⊥
-Ends (case value body falls rest) zero = falls ≡ false
-Ends (case value body falls rest) (suc k) = Ends rest k
+abbrev pub CaseEnds : PlainCases → ℕ → Type 0
+CaseEnds no_case k = ⊥
+CaseEnds (case value body falls rest) zero = falls ≡ false
+CaseEnds (case value body falls rest) (suc k) = CaseEnds rest k
 
 -- a part that is a tail block where the statement is the last of a tail block
 abbrev pub IsTailPart : Shape → Part → Type 0
 IsTailPart (nests b) inner = Unit {0}
 IsTailPart (chooses accept reject) accepting = Unit {0}
 IsTailPart (chooses accept reject) rejecting = Unit {0}
-IsTailPart (switches cases) (case_at k) = Ends cases k
+IsTailPart (switches cases) (case_at k) = CaseEnds cases k
 IsTailPart _ _ = ⊥
 
 -- whether control goes on after the statement by itself: it leaves nothing, and is no block, if or switch

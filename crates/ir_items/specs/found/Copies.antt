@@ -3,7 +3,7 @@ use Rattle.std.specs.Prelude.{List, map}
 use Rattle.ir_arena.specs.declared.span.Span.{Span}
 use Rattle.ir_types.specs.judged.Plain.{PlainType, type_view}
 use Rattle.ir_types.specs.judged.ExpressionPlain.{PlainExpression, expression_view}
-use Rattle.ir_items.specs.judged.GlobalPlain.{PlainConstant, PlainOverride, PlainGlobal, PlainNode}
+use Rattle.ir_items.specs.judged.GlobalPlain.{PlainConstant, PlainOverride, PlainGlobal, PlainFilterNode}
 use Rattle.ir_items.specs.judged.Plain.{PlainLocal, PlainFunction, PlainEntry, PlainModule}
 use Rattle.ir_blocks.specs.found.Spans.{BlockSpans}
 use Rattle.ir_arena.specs.found.Copies.{entry_of}
@@ -41,7 +41,7 @@ spanned_entry e = record { plain = entry_view e; function = spanned_function e.f
 pub record SpannedModule : Type 0 where
   pub plain : PlainModule
   pub types : List (PlainType × Span)
-  pub filters : List (PlainNode × Span)
+  pub filters : List (PlainFilterNode × Span)
   pub constants : List (PlainConstant × Span)
   pub overrides : List (PlainOverride × Span)
   pub global_expressions : List (PlainExpression × Span)

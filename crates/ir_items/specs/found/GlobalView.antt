@@ -1,7 +1,7 @@
 -- The plain data that the items of a module beside its functions hold.
 use Rattle.std.specs.Prelude.{List, [], None, option_map, string_bytes, map}
 use Rattle.ir_arena.specs.declared.span.Span.{Span}
-use Rattle.ir_items.specs.judged.GlobalPlain.{PlainConstant, PlainOverride, PlainGlobal, PlainRule, standard, unknown, user, PlainNode, PlainSpecial}
+use Rattle.ir_items.specs.judged.GlobalPlain.{PlainConstant, PlainOverride, PlainGlobal, PlainRule, standard, unknown, user, PlainFilterNode, PlainSpecialTypes}
 use Rattle.ir_items.specs.declared.globals.Constant.{Constant}
 use Rattle.ir_items.specs.declared.globals.Override.{Override}
 use Rattle.ir_items.specs.declared.globals.GlobalVariable.{GlobalVariable}
@@ -35,10 +35,10 @@ rule_view (rule.Standard r) = standard r
 rule_view (rule.Unknown name) = unknown (string_bytes name)
 rule_view (rule.User tool name) = user (string_bytes tool) (string_bytes name)
 
-abbrev pub node_view : DiagnosticFilterNode → PlainNode
+abbrev pub node_view : DiagnosticFilterNode → PlainFilterNode
 node_view n = record { severity = n.inner.new_severity; rule = rule_view n.inner.triggering_rule; parent = n.parent }
 
-abbrev pub special_view : SpecialTypes → PlainSpecial
+abbrev pub special_view : SpecialTypes → PlainSpecialTypes
 special_view s = record {
   ray_desc = s.ray_desc;
   ray_intersection = s.ray_intersection;
@@ -46,5 +46,5 @@ special_view s = record {
   predeclared = s.predeclared_types.entries;
 }
 
-abbrev pub no_special : PlainSpecial
+abbrev pub no_special : PlainSpecialTypes
 no_special = record { ray_desc = None; ray_intersection = None; ray_vertex_return = None; predeclared = [] }

@@ -31,12 +31,14 @@ pub data PlainRule : Type 0 where
   unknown : (name : List ℕ) → PlainRule
   user : (tool name : List ℕ) → PlainRule
 
-pub record PlainNode : Type 0 where
+-- A diagnostic filter, and the one around it.
+pub record PlainFilterNode : Type 0 where
   pub severity : Severity
   pub rule : PlainRule
   pub parent : Option ℕ
 
-pub record PlainSpecial : Type 0 where
+-- The types that a module keeps for ray queries, and for results of built-in functions.
+pub record PlainSpecialTypes : Type 0 where
   pub ray_desc : Option ℕ
   pub ray_intersection : Option ℕ
   pub ray_vertex_return : Option ℕ

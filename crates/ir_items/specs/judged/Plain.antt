@@ -8,7 +8,7 @@ use Rattle.ir_types.specs.judged.ExpressionPlain.{PlainExpression}
 use Rattle.ir_items.specs.declared.entries.MeshStageInfo.{MeshStageInfo}
 use Rattle.ir_items.specs.declared.functions.FunctionResult.{FunctionResult}
 use Rattle.ir_blocks.specs.judged.Plain.{PlainBlock}
-use Rattle.ir_items.specs.judged.GlobalPlain.{PlainConstant, PlainOverride, PlainGlobal, PlainNode, PlainSpecial}
+use Rattle.ir_items.specs.judged.GlobalPlain.{PlainConstant, PlainOverride, PlainGlobal, PlainFilterNode, PlainSpecialTypes}
 
 pub record PlainArgument : Type 0 where
   pub name : Option (List ℕ)
@@ -40,8 +40,8 @@ pub record PlainEntry : Type 0 where
 
 pub record PlainModule : Type 0 where
   pub types : List PlainType
-  pub special : PlainSpecial
-  pub filters : List PlainNode
+  pub special : PlainSpecialTypes
+  pub filters : List PlainFilterNode
   pub leaf : Option ℕ
   pub constants : List PlainConstant
   pub overrides : List PlainOverride

@@ -5,6 +5,8 @@ use Rattle.ir_kinds.specs.declared.scalars.ScalarKind.{ScalarKind}
 use Rattle.ir_kinds.specs.declared.scalars.ScalarKind.TheVariants as kind
 use Rattle.ir_kinds.specs.declared.scalars.VectorSize.{VectorSize}
 use Rattle.ir_kinds.specs.declared.scalars.VectorSize.TheVariants.{Bi, Tri, Quad}
+use Rattle.ir_kinds.specs.declared.scalars.CooperativeSize.{CooperativeSize}
+use Rattle.ir_kinds.specs.declared.scalars.CooperativeSize.TheVariants.{Eight, Sixteen}
 use Rattle.ir_kinds.specs.declared.scalars.SwizzleComponent.{SwizzleComponent}
 use Rattle.ir_kinds.specs.declared.scalars.SwizzleComponent.TheVariants.{X, Y, Z, W}
 
@@ -38,8 +40,8 @@ kind_place kind.Bool = 3
 kind_place kind.AbstractInt = 4
 kind_place kind.AbstractFloat = 5
 
-abbrev pub is_scalar : Scalar → Scalar → Bool
-is_scalar a b = (kind_place a.kind == kind_place b.kind) && (a.width == b.width)
+abbrev pub same_scalar : Scalar → Scalar → Bool
+same_scalar a b = (kind_place a.kind == kind_place b.kind) && (a.width == b.width)
 
 -- ---- vectors
 
@@ -48,6 +50,11 @@ abbrev pub component_count : VectorSize → ℕ
 component_count Bi = 2
 component_count Tri = 3
 component_count Quad = 4
+
+-- how many columns or rows a cooperative matrix has
+abbrev pub cooperative_count : CooperativeSize → ℕ
+cooperative_count Eight = 8
+cooperative_count Sixteen = 16
 
 -- a component's place in its vector
 abbrev pub component_place : SwizzleComponent → ℕ

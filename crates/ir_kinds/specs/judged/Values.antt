@@ -3,7 +3,7 @@ use Rattle.std.specs.Prelude.{ℕ, pos, negsuc, ◌+◌, ◌-◌, ◌*◌, ◌^�
 use Rattle.ir_kinds.specs.declared.scalars.Scalar.{Scalar}
 use Rattle.ir_kinds.specs.declared.values.Literal.{Literal}
 use Rattle.ir_kinds.specs.declared.values.Literal.TheVariants as literal
-use Rattle.ir_kinds.specs.judged.Scalars.{signed, unsigned, floating, boolean, abstract_int, abstract_float, is_scalar}
+use Rattle.ir_kinds.specs.judged.Scalars.{signed, unsigned, floating, boolean, abstract_int, abstract_float, same_scalar}
 
 -- the scalar of a literal
 abbrev pub literal_scalar : Literal → Scalar
@@ -62,7 +62,7 @@ all_units = units (signed 2) (literal.I16 (pos 0)) (literal.I16 (pos 1)) (Some (
 -- the row of this scalar among these, if there is one
 abbrev pub units_in : List Units → Scalar → Option Units
 units_in [] scalar = None
-units_in (row ∷ rows) scalar = if is_scalar row.scalar scalar then Some row else units_in rows scalar
+units_in (row ∷ rows) scalar = if same_scalar row.scalar scalar then Some row else units_in rows scalar
 
 abbrev pub units_of : Scalar → Option Units
 units_of scalar = units_in all_units scalar

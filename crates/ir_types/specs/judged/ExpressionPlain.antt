@@ -72,36 +72,10 @@ always_in_scope (Literal value) = true
 always_in_scope (Constant handle) = true
 always_in_scope (Override handle) = true
 always_in_scope (ZeroValue type) = true
-always_in_scope (Compose type components) = false
-always_in_scope (Access base index) = false
-always_in_scope (AccessIndex base index) = false
-always_in_scope (Splat size value) = false
-always_in_scope (Swizzle size vector pattern) = false
 always_in_scope (FunctionArgument index) = true
 always_in_scope (GlobalVariable handle) = true
 always_in_scope (LocalVariable handle) = true
-always_in_scope (Load pointer) = false
-always_in_scope (ImageSample image sampler gather coordinate array_index offset level depth_ref clamp_to_edge) = false
-always_in_scope (ImageLoad image coordinate array_index sample level) = false
-always_in_scope (ImageQuery image query) = false
-always_in_scope (Unary op expr) = false
-always_in_scope (Binary op left right) = false
-always_in_scope (Select condition accept reject) = false
-always_in_scope (Derivative axis ctrl expr) = false
-always_in_scope (Relational fun argument) = false
-always_in_scope (Math fun arg arg1 arg2 arg3) = false
-always_in_scope (As expr kind convert) = false
-always_in_scope (CallResult function) = false
-always_in_scope (AtomicResult type comparison) = false
-always_in_scope (WorkGroupUniformLoadResult type) = false
-always_in_scope (ArrayLength array) = false
-always_in_scope (RayQueryVertexPositions query committed) = false
-always_in_scope RayQueryProceedResult = false
-always_in_scope (RayQueryGetIntersection query committed) = false
-always_in_scope SubgroupBallotResult = false
-always_in_scope (SubgroupOperationResult type) = false
-always_in_scope (CooperativeLoad columns rows role block) = false
-always_in_scope (CooperativeMultiplyAdd a b c) = false
+always_in_scope _ = false
 
 -- an index that is not known before the shader runs
 abbrev pub is_dynamic : Expression → Bool

@@ -1,7 +1,7 @@
 -- What is known of reports.
 use Rattle.std.specs.Prelude.{◌≡◌, ◌↔◌, ◌<◌, ℕ, List, false, IsTrue, length, slice_index_or}
 use Rattle.ir_items.specs.judged.Plain.{PlainEntry, PlainModule}
-use Rattle.spec_expressions.specs.judged.CallChains.{Names, Reaches}
+use Rattle.spec_expressions.specs.judged.CallChains.{NamesGlobal, Reaches}
 use Rattle.spec_expressions.specs.judged.Summaries.{no_use}
 use Rattle.spec_expressions.specs.judged.ModuleHandles.{HandlesOK}
 use Rattle.judgement.specs.judged.Lines.{is_own, is_used}
@@ -20,7 +20,7 @@ OneReport = (m : PlainModule) (a b : List ℕ) → IsReport m a → IsReport m b
 abbrev pub NamedAreReported : Type 0
 NamedAreReported =
     (m : PlainModule) (number : ℕ) (e : PlainEntry) (lines : List ℕ) (r : IsEntryReport m number e lines) (g : ℕ) → g < length m.globals → is_own e g ≡ false
-    → IsTrue (is_used (slice_index_or r.uses g no_use)) ↔ Reaches m e.function (Names g)
+    → IsTrue (is_used (slice_index_or r.uses g no_use)) ↔ Reaches m e.function (NamesGlobal g)
 
 -- there is no module whose handles are in order and that has no report
 abbrev pub SomeReport : Type 0

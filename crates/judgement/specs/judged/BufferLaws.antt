@@ -8,7 +8,7 @@ use Rattle.ir_items.specs.judged.Plain.{PlainModule}
 use Rattle.ir_types.specs.judged.Plain.{PlainType}
 use Rattle.judgement.specs.judged.Sound.{StrideOK, LeavesOK, IsBuffer}
 use Rattle.spec_interface.specs.judged.Globals.{GlobalsOK}
-use Rattle.spec_interface.specs.judged.Spaces.{counted}
+use Rattle.spec_interface.specs.judged.Spaces.{effective_type}
 use Rattle.judgement.specs.judged.ModuleSteps.{ModuleOK}
 use Rattle.judgement.specs.judged.Lines.{is_buffer, buffer_line, buffer_of}
 use Rattle.typing_layout.specs.judged.Layout.{size, alignment}
@@ -18,7 +18,7 @@ use Rattle.typing_layout.specs.judged.View.{type_tree}
 
 -- the type that counts of a global variable: of a binding array that of its elements
 abbrev pub buffer_type : List PlainType → PlainGlobal → Tree
-buffer_type types v = type_tree types (counted types v.ty)
+buffer_type types v = type_tree types (effective_type types v.ty)
 
 -- The line of the report for the global variable with a number gives the size and the alignment of a type whose leaves are
 -- aligned, apart and within that size, unless some stride inside it is shorter than its element.

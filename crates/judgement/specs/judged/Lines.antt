@@ -1,14 +1,14 @@
 -- The lines of a report, each ended by a line feed.
-use Rattle.std.specs.Prelude.{ℕ, suc, List, [], ◌∷◌, ◌++◌, Bool, true, false, ◌||◌, ◌&&◌, not, ◌==◌, if◌then◌else◌, Option, Some, None, option_map, bit_and, flat_map, codes, decimal}
+use Rattle.std.specs.Prelude.{ℕ, suc, List, [], ◌∷◌, ◌++◌, Bool, true, false, ◌||◌, ◌&&◌, not, ◌==◌, if◌then◌else◌, Option, Some, None, bit_and, flat_map, codes, decimal}
 use Rattle.spec_expressions.specs.declared.global_use.GlobalUse.{GlobalUse}
 use Rattle.spec_expressions.specs.declared.global_use.TheConstants.GlobalUse.{READ, WRITE, QUERY, ATOMIC}
 use Rattle.ir_items.specs.judged.GlobalPlain.{PlainGlobal}
 use Rattle.ir_items.specs.judged.Plain.{PlainEntry, PlainModule}
-use Rattle.ir_items.specs.declared.entries.MeshStageInfo.{MeshStageInfo}
 use Rattle.ir_kinds.specs.declared.spaces.AddressSpace.{AddressSpace}
 use Rattle.ir_kinds.specs.declared.spaces.AddressSpace.TheVariants.{Function, Private, WorkGroup, Uniform, Storage, Handle, Immediate, TaskPayload, RayPayload, IncomingRayPayload}
 use Rattle.ir_types.specs.judged.Plain.{PlainType}
-use Rattle.spec_interface.specs.judged.Spaces.{counted}
+use Rattle.spec_interface.specs.judged.Spaces.{effective_type}
+use Rattle.spec_interface.specs.judged.Uses.{mesh_output}
 use Rattle.typing_layout.specs.judged.Layout.{size, alignment}
 use Rattle.typing_layout.specs.judged.View.{type_tree}
 
@@ -39,16 +39,12 @@ buffer_line number bytes step = codes "buffer " ++ decimal number ++ codes " siz
 -- of a global variable, where it is a buffer: of a binding array by what one element takes
 abbrev pub buffer_of : List PlainType → (number : ℕ) → PlainGlobal → List ℕ
 buffer_of types number v =
-    if is_buffer v.space then buffer_line number (size (type_tree types (counted types v.ty))) (alignment (type_tree types (counted types v.ty))) else []
+    if is_buffer v.space then buffer_line number (size (type_tree types (effective_type types v.ty))) (alignment (type_tree types (effective_type types v.ty))) else []
 
 abbrev pub buffers : PlainModule → List ℕ
 buffers m = each_from (buffer_of m.types) 0 m.globals
 
 -- ---- global variables of an entry point
-
--- the variable that holds what a mesh shader gives, where it is one
-abbrev pub mesh_output : PlainEntry → Option ℕ
-mesh_output e = option_map (λ (mesh : MeshStageInfo). mesh.output_variable) e.mesh
 
 abbrev pub is_at : Option ℕ → ℕ → Bool
 is_at None g = false

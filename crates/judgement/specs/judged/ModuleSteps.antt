@@ -25,13 +25,13 @@ pub data ModuleStep : Type 0 where
   override : ModuleStep
 
 -- their order
-abbrev pub rank : ModuleStep → ℕ
-rank layout = 0
-rank type = 1
-rank typing = 2
-rank expression = 3
-rank constant = 4
-rank override = 5
+abbrev pub step_rank : ModuleStep → ℕ
+step_rank layout = 0
+step_rank type = 1
+step_rank typing = 2
+step_rank expression = 3
+step_rank constant = 4
+step_rank override = 5
 
 -- how many items a step checks
 abbrev pub item_count : PlainModule → ModuleStep → ℕ
@@ -63,7 +63,7 @@ pub record ModuleOK (s : Settings) (resolved : Bool) (m : PlainModule) : Type 0 
 -- The handles are in order, and each item passes the steps before one.
 pub record IsReached (s : Settings) (resolved : Bool) (m : PlainModule) (step : ModuleStep) : Type 0 where
   pub handles : HandlesOK m
-  pub earlier : (other : ModuleStep) → rank other < rank step → StepPasses s resolved m other
+  pub earlier : (other : ModuleStep) → step_rank other < step_rank step → StepPasses s resolved m other
 
 -- An item of a step does not pass it, and each before it does.
 pub record FailsFirst (s : Settings) (resolved : Bool) (m : PlainModule) (step : ModuleStep) (index : ℕ) : Type 0 where

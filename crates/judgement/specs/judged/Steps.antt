@@ -42,7 +42,7 @@ IsFinding s m (Refused Typing i) = IsFirstFailing s false m step.typing i
 IsFinding s m (Refused Expression i) = IsFirstFailing s false m step.expression i
 IsFinding s m (Refused Constant i) = IsFirstFailing s false m step.constant i
 IsFinding s m (Refused Override i) = IsFirstFailing s false m step.override i
-IsFinding s m (Refused Global i) = ModuleOK s false m × globals.IsFirstFailing s.flags s.capabilities m i
-IsFinding s m (Refused Function i) = ModuleOK s false m × GlobalsOK s.flags s.capabilities m × functions.IsFirstFailing s m i
+IsFinding s m (Refused Global i) = ModuleOK s false m × globals.IsFirstFailingGlobal s.flags s.capabilities m i
+IsFinding s m (Refused Function i) = ModuleOK s false m × GlobalsOK s.flags s.capabilities m × functions.IsFirstFailingFunction s m i
 IsFinding s m (Refused Entry i) =
-    ModuleOK s false m × GlobalsOK s.flags s.capabilities m × FunctionsOK s m × entries.IsFirstFailing s m i
+    ModuleOK s false m × GlobalsOK s.flags s.capabilities m × FunctionsOK s m × entries.IsFirstFailingEntry s m i

@@ -2,14 +2,14 @@
 use Rattle.std.specs.Prelude.{◌≡◌, ◌<◌, ◌++◌, ℕ, [], ◌∷◌, false, IsTrue, List, Option, Some, length, slice_get, slice_index_or}
 use Rattle.ir_blocks.specs.judged.Places.{Place, OccursAt}
 use Rattle.ir_blocks.specs.judged.Plain.{PlainBlock, PlainStatement, call, operation}
-use Rattle.ir_types.specs.judged.ExpressionPlain.{PlainExpression, plain}
+use Rattle.ir_types.specs.judged.ExpressionPlain.{plain}
 use Rattle.ir_types.specs.declared.expressions.Expression.TheVariants as x
 use Rattle.ir_flags.specs.Sets.{Has}
 use Rattle.ir_flags.specs.declared.settings.TheConstants.ValidationFlags.{BINDINGS, BLOCKS, EXPRESSIONS}
 use Rattle.ir_flags.specs.declared.settings.Settings.{Settings}
 use Rattle.ir_items.specs.judged.Plain.{PlainEntry, PlainFunction, PlainModule}
 use Rattle.ir_kinds.specs.declared.bindings.ResourceBinding.{ResourceBinding}
-use Rattle.spec_expressions.specs.judged.CallChains.{Step, IsChain, end_of}
+use Rattle.spec_expressions.specs.judged.CallChains.{Step, IsChain, chain_end}
 use Rattle.spec_expressions.specs.judged.Effects.{runs, effects_of}
 use Rattle.spec_expressions.specs.judged.Summaries.{no_use}
 use Rattle.spec_interface.specs.judged.Modules.{EntriesOK}
@@ -32,7 +32,7 @@ abbrev pub AreRun : PlainModule → PlainFunction → List Step → List ℕ →
 AreRun m f [] [] = Unit {0}
 AreRun m f [] (i ∷ earlier) = ⊥
 AreRun m f (s ∷ before) [] = ⊥
-AreRun m f (s ∷ before) (i ∷ earlier) = (slice_get (effects_of (end_of f before)) s.at ≡ Some (runs i s.arguments)) × (slice_get m.functions i ≡ Some s.function) × AreRun m f before earlier
+AreRun m f (s ∷ before) (i ∷ earlier) = (slice_get (effects_of (chain_end f before)) s.at ≡ Some (runs i s.arguments)) × (slice_get m.functions i ≡ Some s.function) × AreRun m f before earlier
 
 -- each is below the one that stands next
 abbrev pub Rise : List ℕ → Type 0

@@ -41,7 +41,7 @@ abbrev pub NamedIsReported : (lines : List ℕ) → Event → Type 0
 NamedIsReported lines (named g) = ReportsGlobal lines g
 NamedIsReported lines _ = Unit {0}
 
--- and of a pair that is sampled
+-- a line lists each pair that is sampled
 abbrev pub SampledIsReported : (lines : List ℕ) → Event → Type 0
 SampledIsReported lines (sampled image sampler) = ReportsPair lines image sampler
 SampledIsReported lines _ = Unit {0}

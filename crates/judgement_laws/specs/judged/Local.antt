@@ -1,7 +1,7 @@
 -- What a report says of an entry point depends on what that reaches alone.
 use Rattle.std.specs.Prelude.{◌≡◌, ℕ, List, Some, slice_get}
 use Rattle.ir_items.specs.judged.Plain.{PlainEntry, PlainFunction, PlainModule}
-use Rattle.spec_expressions.specs.judged.CallChains.{Step, IsChain, end_of}
+use Rattle.spec_expressions.specs.judged.CallChains.{Step, IsChain, chain_end}
 use Rattle.spec_expressions.specs.judged.Effects.{effects_of, runs}
 use Rattle.judgement.specs.judged.Reports.{IsEntryReport, IsReport}
 use Rattle.judgement_laws.specs.judged.Lines.{HasLines}
@@ -9,7 +9,7 @@ use Rattle.judgement_laws.specs.judged.Lines.{HasLines}
 -- each function that is called at the end of a chain of calls from f is the same in both modules
 abbrev pub AgreeFrom : PlainModule → PlainModule → PlainFunction → Type 0
 AgreeFrom m n f =
-    (chain : List Step) → IsChain m f chain → (at callee : ℕ) (arguments : List ℕ) → slice_get (effects_of (end_of f chain)) at ≡ Some (runs callee arguments)
+    (chain : List Step) → IsChain m f chain → (at callee : ℕ) (arguments : List ℕ) → slice_get (effects_of (chain_end f chain)) at ≡ Some (runs callee arguments)
     → slice_get m.functions callee ≡ slice_get n.functions callee
 
 -- The modules differ in functions alone, and in none that the entry point reaches by call statements. One may have more than the other.

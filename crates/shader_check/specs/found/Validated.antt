@@ -59,7 +59,7 @@ pub record IsValidated (s : Settings) (resolved : Bool) (m : PlainModule) (info 
 
 -- It is the first entry point that is not accepted, and this is wrong with it.
 pub record IsEntryFault (s : Settings) (m : PlainModule) (e : InvalidEntryPoint) : Type 0 where
-  pub first : entries.IsFirstFailing s m e.index
+  pub first : entries.IsFirstFailingEntry s m e.index
   pub summaries : List Summary
   pub many : length summaries ≡ length m.functions
   pub known : AreSummaries m summaries

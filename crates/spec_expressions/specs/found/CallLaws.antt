@@ -4,7 +4,7 @@ use Rattle.std.specs.Int.{bit_at}
 use Rattle.ir_items.specs.judged.Plain.{PlainFunction, PlainModule}
 use Rattle.spec_expressions.specs.declared.global_use.TheConstants.GlobalUse.{QUERY}
 use Rattle.spec_expressions.specs.judged.Pairs.{SamplingPair}
-use Rattle.spec_expressions.specs.judged.CallChains.{place, Step, Calls, UsesDirectly, Names, IsUnusedFrom, HasUse, Samples, HasPair, Discards, MayKill}
+use Rattle.spec_expressions.specs.judged.CallChains.{global_or_argument, Step, Calls, UsesDirectly, NamesGlobal, IsUnusedFrom, HasUse, Samples, HasPair, Discards, MayKill}
 use Rattle.spec_expressions.specs.judged.Summaries.{Summary, ComesUp, IsJoined, IsSummary, CalleesKnown, AreSummaries, CallsBelow, AgreeOnCallees}
 
 -- A use is the function's own or that of a callee, or is QUERY of a global variable that the function names while nothing
@@ -12,13 +12,13 @@ use Rattle.spec_expressions.specs.judged.Summaries.{Summary, ComesUp, IsJoined, 
 abbrev pub UsesByCalls : Type 0
 UsesByCalls =
     (m : PlainModule) (f : PlainFunction) (g k : ℕ)
-    → HasUse m f g k ↔ (UsesDirectly g k f ⊎ (((s : Step) × Calls m f s × HasUse m s.function g k) ⊎ ((bit_at QUERY.0 k ≡ 1) × Names g f × IsUnusedFrom m g f)))
+    → HasUse m f g k ↔ (UsesDirectly g k f ⊎ (((s : Step) × Calls m f s × HasUse m s.function g k) ⊎ ((bit_at QUERY.0 k ≡ 1) × NamesGlobal g f × IsUnusedFrom m g f)))
 
 -- A pair is the function's own, or comes up from a callee, the arguments substituted.
 abbrev pub PairsByCalls : Type 0
 PairsByCalls =
     (m : PlainModule) (f : PlainFunction) (p : SamplingPair)
-    → HasPair m f p ↔ (Samples (place f.expressions) f p
+    → HasPair m f p ↔ (Samples (global_or_argument f.expressions) f p
     ⊎ ((s : Step) × (q : SamplingPair) × Calls m f s × HasPair m s.function q × ComesUp f.expressions s.arguments q p))
 
 -- The function ends the fragment itself, or a callee may.

@@ -17,7 +17,7 @@ pointer_to types base space = pointing base space (inner_at types base)
 
 -- ---- an index that is computed
 
--- a pointer to an element of what a pointer leads to
+-- a pointer to an element of what a pointer leads to; one to a vector is a value pointer, and has its own row
 abbrev pub pointed_element : List PlainType → AddressSpace → Option PlainInner → Option Form
 pointed_element types space (Some (plain (inner.Matrix columns rows s))) = Some (form.ValuePointer (Some rows) s space)
 pointed_element types space (Some (plain (inner.Array base size stride))) = Some (pointer_to types base space)
@@ -41,8 +41,8 @@ access_type types base of = ok_or (element types of) (InvalidAccess base true)
 -- ---- an index that is written
 
 -- the part is there where the index is below the number of parts
-abbrev pub one_of : (base index count : ℕ) → Form → Result Form TypingFault
-one_of base index count found = if nat_lt index count then Ok found else Err (OutOfBoundsIndex base index)
+abbrev pub part_in_bounds : (base index count : ℕ) → Form → Result Form TypingFault
+part_in_bounds base index count found = if nat_lt index count then Ok found else Err (OutOfBoundsIndex base index)
 
 -- the same of the members of a struct, each of which is given as a type says
 abbrev pub member : (base index : ℕ) → (ℕ → Form) → List PlainMember → Result Form TypingFault
@@ -51,23 +51,23 @@ member base index given members = ok_or (option_map (λ m. given m.ty) (slice_ge
 -- a pointer to a part of what a pointer leads to
 abbrev pub pointed_part : List PlainType → (base index : ℕ) → AddressSpace → Option PlainInner → Result Form TypingFault
 pointed_part types base index space (Some (struct members span)) = member base index (λ type. pointer_to types type space) members
-pointed_part types base index space (Some (plain (inner.Matrix columns rows s))) = one_of base index (component_count columns) (form.ValuePointer (Some rows) s space)
+pointed_part types base index space (Some (plain (inner.Matrix columns rows s))) = part_in_bounds base index (component_count columns) (form.ValuePointer (Some rows) s space)
 pointed_part types base index space (Some (plain (inner.Array element size stride))) = Ok (pointer_to types element space)
 pointed_part types base index space (Some (plain (inner.BindingArray element size))) = Ok (pointer_to types element space)
 pointed_part types base index space _ = Err (InvalidAccess base false)
 
--- a member of a struct by its handle
+-- the type of a member of a struct, by the member's index
 abbrev pub member_of : List PlainType → (base index : ℕ) → Option PlainInner → Result Form TypingFault
 member_of types base index (Some (struct members span)) = member base index (form_of_type types) members
 member_of types base index _ = Err (InvalidAccess base false)
 
 -- a part of a value: as an element, or a member of a struct; through a pointer, a pointer to it
 abbrev pub access_index_type : List PlainType → (base index : ℕ) → (of : Form) → Result Form TypingFault
-access_index_type types base index (form.Vector n s) = one_of base index (component_count n) (form.Scalar s)
-access_index_type types base index (form.Matrix columns rows s) = one_of base index (component_count columns) (form.Vector rows s)
+access_index_type types base index (form.Vector n s) = part_in_bounds base index (component_count n) (form.Scalar s)
+access_index_type types base index (form.Matrix columns rows s) = part_in_bounds base index (component_count columns) (form.Vector rows s)
 access_index_type types base index (form.Array element size stride) = Ok (form_of_type types element)
 access_index_type types base index (form.BindingArray element size) = Ok (form_of_type types element)
 access_index_type types base index (form.Struct handle) = member_of types base index (inner_at types handle)
-access_index_type types base index (form.ValuePointer (Some n) s space) = one_of base index (component_count n) (form.ValuePointer None s space)
+access_index_type types base index (form.ValuePointer (Some n) s space) = part_in_bounds base index (component_count n) (form.ValuePointer None s space)
 access_index_type types base index (form.Pointer pointee space) = pointed_part types base index space (inner_at types pointee)
 access_index_type types base index _ = Err (InvalidAccess base false)

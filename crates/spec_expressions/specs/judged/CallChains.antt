@@ -10,7 +10,7 @@ use Rattle.spec_expressions.specs.declared.sampling.GlobalOrArgument.{GlobalOrAr
 use Rattle.spec_expressions.specs.declared.sampling.GlobalOrArgument.TheVariants.{Global, Argument}
 use Rattle.spec_expressions.specs.judged.Pairs.{SamplingPair}
 use Rattle.spec_expressions.specs.judged.OperandUses.{Operand}
-use Rattle.spec_expressions.specs.judged.Effects.{Effect, takes, samples, runs, discards, effects_of}
+use Rattle.spec_expressions.specs.judged.Effects.{takes, samples, runs, discards, effects_of}
 use Rattle.spec_expressions.specs.judged.Values.{StartsAt}
 
 -- ---- what an expression denotes
@@ -29,8 +29,8 @@ denotes expressions _ = None
 
 -- what the expression at a place denotes in its function: a global variable, where it is one or an access directly on
 -- one, or an argument
-abbrev pub place : List PlainExpression → ℕ → Option GlobalOrArgument
-place expressions e = denotes expressions (slice_get expressions e)
+abbrev pub global_or_argument : List PlainExpression → ℕ → Option GlobalOrArgument
+global_or_argument expressions e = denotes expressions (slice_get expressions e)
 
 -- ---- chains
 
@@ -47,14 +47,14 @@ pub record Calls (m : PlainModule) (f : PlainFunction) (s : Step) : Type 0 where
   pub found : slice_get m.functions callee ≡ Some s.function
 
 -- the function that a chain from f has reached; the last step stands first
-abbrev pub end_of : PlainFunction → List Step → PlainFunction
-end_of f [] = f
-end_of f (s ∷ before) = s.function
+abbrev pub chain_end : PlainFunction → List Step → PlainFunction
+chain_end f [] = f
+chain_end f (s ∷ before) = s.function
 
 -- each step is a call statement of the function reached before it
 abbrev pub IsChain : PlainModule → PlainFunction → List Step → Type 0
 IsChain m f [] = ⊤
-IsChain m f (s ∷ before) = Calls m (end_of f before) s × IsChain m f before
+IsChain m f (s ∷ before) = Calls m (chain_end f before) s × IsChain m f before
 
 -- what an argument of a call denotes in the caller, whose expressions mean this
 abbrev pub argument_means : (ℕ → Option GlobalOrArgument) → Option ℕ → Option GlobalOrArgument
@@ -68,15 +68,15 @@ seen_through meaning arguments (Some (Global g)) = Some (Global g)
 seen_through meaning arguments (Some (Argument number)) = argument_means meaning (slice_get arguments number)
 
 -- what expression e of the function reached denotes where the chain began
-abbrev pub bound : PlainFunction → List Step → ℕ → Option GlobalOrArgument
-bound f [] e = place f.expressions e
-bound f (s ∷ before) e = seen_through (bound f before) s.arguments (place s.function.expressions e)
+abbrev pub meaning_at_start : PlainFunction → List Step → ℕ → Option GlobalOrArgument
+meaning_at_start f [] e = global_or_argument f.expressions e
+meaning_at_start f (s ∷ before) e = seen_through (meaning_at_start f before) s.arguments (global_or_argument s.function.expressions e)
 
 -- some function on a chain from f is such
 pub record Reaches (m : PlainModule) (f : PlainFunction) (P : PlainFunction → Type 0) : Type 0 where
   pub chain : List Step
   pub is_chain : IsChain m f chain
-  pub holds : P (end_of f chain)
+  pub holds : P (chain_end f chain)
 
 -- ---- uses
 
@@ -88,8 +88,8 @@ pub record UsesDirectly (g k : ℕ) (f : PlainFunction) : Type 0 where
   pub bit : bit_at operand.use_bits k ≡ 1
 
 -- an expression of the function is the global variable
-abbrev pub Names : ℕ → PlainFunction → Type 0
-Names g f = (e : ℕ) × (slice_get f.expressions e ≡ Some (plain (GlobalVariable g)))
+abbrev pub NamesGlobal : ℕ → PlainFunction → Type 0
+NamesGlobal g f = (e : ℕ) × (slice_get f.expressions e ≡ Some (plain (GlobalVariable g)))
 
 -- nothing reached from the function uses the global variable directly
 abbrev pub IsUnusedFrom : PlainModule → ℕ → PlainFunction → Type 0
@@ -98,7 +98,7 @@ IsUnusedFrom m g f = (k : ℕ) → Reaches m f (UsesDirectly g k) → ⊥
 -- The function uses the global variable with this bit: something reached from it does so directly, or, for QUERY, something
 -- reached names it while nothing reached from there uses it directly.
 abbrev pub HasUse : PlainModule → PlainFunction → (g k : ℕ) → Type 0
-HasUse m f g k = Reaches m f (UsesDirectly g k) ⊎ ((bit_at QUERY.0 k ≡ 1) × Reaches m f (λ h. Names g h × IsUnusedFrom m g h))
+HasUse m f g k = Reaches m f (UsesDirectly g k) ⊎ ((bit_at QUERY.0 k ≡ 1) × Reaches m f (λ h. NamesGlobal g h × IsUnusedFrom m g h))
 
 -- ---- pairs
 
@@ -115,7 +115,7 @@ pub record Samples (meaning : ℕ → Option GlobalOrArgument) (f : PlainFunctio
 pub record HasPair (m : PlainModule) (f : PlainFunction) (p : SamplingPair) : Type 0 where
   pub chain : List Step
   pub is_chain : IsChain m f chain
-  pub sampled : Samples (bound f chain) (end_of f chain) p
+  pub sampled : Samples (meaning_at_start f chain) (chain_end f chain) p
 
 -- ---- ends of the fragment
 

@@ -4,7 +4,7 @@ use Rattle.ir_types.specs.judged.Plain.{PlainType}
 use Rattle.ir_types.specs.judged.ExpressionPlain.{PlainExpression, compose, plain}
 use Rattle.ir_types.specs.declared.expressions.Expression.{Expression}
 use Rattle.ir_types.specs.declared.expressions.Expression.TheVariants as x
-use Rattle.ir_items.specs.judged.GlobalPlain.{PlainConstant, PlainOverride, PlainGlobal, PlainSpecial}
+use Rattle.ir_items.specs.judged.GlobalPlain.{PlainConstant, PlainOverride, PlainGlobal, PlainSpecialTypes}
 use Rattle.ir_items.specs.judged.Plain.{PlainArgument, PlainLocal, PlainFunction, PlainModule}
 use Rattle.typing_forms.specs.declared.form.Form.{Form}
 use Rattle.typing_forms.specs.declared.form.Form.TheVariants as form
@@ -12,7 +12,7 @@ use Rattle.typing_forms.specs.judged.Forms.{form_of_type}
 
 pub record Context : Type 0 where
   pub types : List PlainType
-  pub special : PlainSpecial
+  pub special : PlainSpecialTypes
   pub constants : List PlainConstant
   pub overrides : List PlainOverride
   pub globals : List PlainGlobal

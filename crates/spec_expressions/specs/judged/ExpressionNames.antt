@@ -3,13 +3,13 @@ use Rattle.std.specs.Prelude.{ℕ, List, Option, Some, None}
 use Rattle.ir_types.specs.judged.ExpressionPlain.{PlainExpression, compose, plain}
 use Rattle.ir_types.specs.declared.expressions.Expression.{Expression}
 use Rattle.ir_types.specs.declared.expressions.Expression.TheVariants as x
-use Rattle.spec_expressions.specs.judged.Operands.{of_expression, handles_of}
+use Rattle.spec_expressions.specs.judged.Operands.{expression_slots, handles_of}
 use Rattle.spec_expressions.specs.declared.target.Target.{Target}
 use Rattle.spec_expressions.specs.declared.target.Target.TheVariants as target
 
 -- the operands of an expression, in order
 abbrev pub expression_operands : PlainExpression → List ℕ
-expression_operands x = handles_of (of_expression x)
+expression_operands x = handles_of (expression_slots x)
 
 -- what an expression names beside its operands, if it names anything
 abbrev pub item_of : Expression → Option Target

@@ -3,7 +3,7 @@ use Rattle.std.specs.Prelude.{ℕ, List, [], ◌∷◌, Option, Some, None, Bool
 use Rattle.ir_kinds.specs.declared.predeclared.PredeclaredType.{PredeclaredType}
 use Rattle.ir_kinds.specs.declared.predeclared.PredeclaredType.TheVariants.{AtomicCompareExchangeWeakResult, ModfResult, FrexpResult}
 use Rattle.ir_kinds.specs.declared.scalars.VectorSize.{VectorSize}
-use Rattle.ir_kinds.specs.judged.Scalars.{is_scalar, component_count}
+use Rattle.ir_kinds.specs.judged.Scalars.{same_scalar, component_count}
 use Rattle.ir_types.specs.judged.Plain.{plain}
 use Rattle.typing_forms.specs.judged.Resolutions.{PlainResolution, by_handle, by_value}
 use Rattle.typing_rules.specs.declared.rules.Conclusion.{Conclusion}
@@ -16,16 +16,16 @@ is_size (Some n) (Some m) = component_count n == component_count m
 is_size _ _ = false
 
 -- whether two keys are one
-abbrev pub is_key : PredeclaredType → PredeclaredType → Bool
-is_key (AtomicCompareExchangeWeakResult s) (AtomicCompareExchangeWeakResult t) = is_scalar s t
-is_key (ModfResult n s) (ModfResult m t) = is_size n m && is_scalar s t
-is_key (FrexpResult n s) (FrexpResult m t) = is_size n m && is_scalar s t
-is_key _ _ = false
+abbrev pub predeclared_matches : PredeclaredType → PredeclaredType → Bool
+predeclared_matches (AtomicCompareExchangeWeakResult s) (AtomicCompareExchangeWeakResult t) = same_scalar s t
+predeclared_matches (ModfResult n s) (ModfResult m t) = is_size n m && same_scalar s t
+predeclared_matches (FrexpResult n s) (FrexpResult m t) = is_size n m && same_scalar s t
+predeclared_matches _ _ = false
 
 -- the handle of the type that a module has for a key
 abbrev pub handle_for : PredeclaredType → List (PredeclaredType × ℕ) → Option ℕ
 handle_for key [] = None
-handle_for key (entry ∷ more) = if is_key key entry.0 then Some entry.1 else handle_for key more
+handle_for key (entry ∷ more) = if predeclared_matches key entry.0 then Some entry.1 else handle_for key more
 
 -- a value's type by what it is made of, and a predeclared struct by its handle, if the module has it
 abbrev pub given_type : Conclusion → List (PredeclaredType × ℕ) → Option PlainResolution

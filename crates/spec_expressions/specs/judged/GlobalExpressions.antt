@@ -13,52 +13,25 @@ use Rattle.typing_layout.specs.declared.constness.ExpressionKind.{ExpressionKind
 use Rattle.typing_layout.specs.declared.constness.ExpressionKind.TheVariants.{Const, Override, Runtime}
 
 -- What is required of a global expression beside its type.
-pub data Required : Type 0 where
+pub data GlobalRequirement : Type 0 where
   -- the literal may be used
-  of_literal : Literal → Required
+  of_literal : Literal → GlobalRequirement
   -- the components make the value
-  of_composition : (type : ℕ) → (components : List ℕ) → Required
+  of_composition : (type : ℕ) → (components : List ℕ) → GlobalRequirement
   -- nothing
-  of_value : Required
-  -- it was worked out as soon as its operands were known, and another expression put in its place
-  to_work_out : Required
+  of_value : GlobalRequirement
+  -- it should have been folded to another expression as soon as its operands were known
+  must_be_folded : GlobalRequirement
 
-abbrev pub required_of : PlainExpression → Required
+abbrev pub required_of : PlainExpression → GlobalRequirement
 required_of (compose type components) = of_composition type components
 required_of (plain (x.Literal value)) = of_literal value
 required_of (plain (x.Constant constant)) = of_value
 required_of (plain (x.Override override)) = of_value
 required_of (plain (x.ZeroValue type)) = of_value
 required_of (plain (x.Compose type components)) = of_composition type components.items
-required_of (plain (x.Access base index)) = to_work_out
-required_of (plain (x.AccessIndex base index)) = to_work_out
 required_of (plain (x.Splat size value)) = of_value
-required_of (plain (x.Swizzle size vector pattern)) = to_work_out
-required_of (plain (x.FunctionArgument number)) = to_work_out
-required_of (plain (x.GlobalVariable global)) = to_work_out
-required_of (plain (x.LocalVariable local)) = to_work_out
-required_of (plain (x.Load pointer)) = to_work_out
-required_of (plain (x.ImageSample image sampler gather coordinate array_index offset level depth_ref clamp_to_edge)) = to_work_out
-required_of (plain (x.ImageLoad image coordinate array_index sample level)) = to_work_out
-required_of (plain (x.ImageQuery image query)) = to_work_out
-required_of (plain (x.Unary op expr)) = to_work_out
-required_of (plain (x.Binary op left right)) = to_work_out
-required_of (plain (x.Select condition accept reject)) = to_work_out
-required_of (plain (x.Derivative axis ctrl expr)) = to_work_out
-required_of (plain (x.Relational fun argument)) = to_work_out
-required_of (plain (x.Math fun arg arg1 arg2 arg3)) = to_work_out
-required_of (plain (x.As expr kind convert)) = to_work_out
-required_of (plain (x.CallResult function)) = to_work_out
-required_of (plain (x.AtomicResult type comparison)) = to_work_out
-required_of (plain (x.WorkGroupUniformLoadResult type)) = to_work_out
-required_of (plain (x.ArrayLength array)) = to_work_out
-required_of (plain (x.RayQueryVertexPositions query committed)) = to_work_out
-required_of (plain x.RayQueryProceedResult) = to_work_out
-required_of (plain (x.RayQueryGetIntersection query committed)) = to_work_out
-required_of (plain x.SubgroupBallotResult) = to_work_out
-required_of (plain (x.SubgroupOperationResult type)) = to_work_out
-required_of (plain (x.CooperativeLoad columns rows role block)) = to_work_out
-required_of (plain (x.CooperativeMultiplyAdd a b c)) = to_work_out
+required_of _ = must_be_folded
 
 -- what has to be worked out may still stand: it waits for the values of overrides, and they are not resolved
 abbrev pub MayWait : (resolved : Bool) → ExpressionKind → Type 0
@@ -66,11 +39,11 @@ MayWait resolved Const = ⊥
 MayWait resolved Override = resolved ≡ false
 MayWait resolved Runtime = ⊥
 
-abbrev pub IsMet : Capabilities → (resolved : Bool) → PlainModule → ExpressionKind → Required → Type 0
+abbrev pub IsMet : Capabilities → (resolved : Bool) → PlainModule → ExpressionKind → GlobalRequirement → Type 0
 IsMet capabilities resolved m kind (of_literal value) = LiteralOK capabilities value
 IsMet capabilities resolved m kind (of_composition type components) = ComponentsOK (outside m) m.global_expressions type components
 IsMet capabilities resolved m kind of_value = Unit {0}
-IsMet capabilities resolved m kind to_work_out = MayWait resolved kind
+IsMet capabilities resolved m kind must_be_folded = MayWait resolved kind
 
 -- The global expression at a handle: its value is known before a shader runs, and what is required of its kind is met.
 pub record GlobalExpressionOK (capabilities : Capabilities) (resolved : Bool) (m : PlainModule) (handle : ℕ) : Type 0 where

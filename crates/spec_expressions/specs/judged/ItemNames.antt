@@ -1,7 +1,7 @@
 -- What the items of a module name beside expressions and the parts of functions, a row a kind.
 use Rattle.std.specs.Prelude.{ℕ, List, [], ◌∷◌, ◌++◌, map, Option, Some, None}
 use Rattle.std.specs.Option.{option_to_list}
-use Rattle.ir_items.specs.judged.GlobalPlain.{PlainSpecial}
+use Rattle.ir_items.specs.judged.GlobalPlain.{PlainSpecialTypes}
 use Rattle.ir_items.specs.judged.Plain.{PlainEntry}
 use Rattle.ir_items.specs.declared.entries.MeshStageInfo.{MeshStageInfo}
 use Rattle.ir_kinds.specs.declared.predeclared.PredeclaredType.{PredeclaredType}
@@ -36,7 +36,7 @@ pending_of (plain (inner.RayQuery vertex_return)) = None
 pending_of (plain (inner.BindingArray base size)) = pending_in size
 
 -- the types with a meaning of their own
-abbrev pub special_types : PlainSpecial → List ℕ
+abbrev pub special_types : PlainSpecialTypes → List ℕ
 special_types s = given (s.ray_desc ∷ s.ray_intersection ∷ s.ray_vertex_return ∷ []) ++ map (λ (p : PredeclaredType × ℕ). p.1) s.predeclared
 
 -- what a mesh shader names: the types that it gives, the global expressions that say how many, and the variable that holds

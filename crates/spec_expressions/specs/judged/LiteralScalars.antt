@@ -4,6 +4,6 @@ use Rattle.ir_kinds.specs.judged.Values.{literal_scalar}
 use Rattle.ir_kinds.specs.declared.values.Literal.{Literal}
 use Rattle.typing_layout.specs.judged.Widths.{ScalarOK}
 
--- there is its scalar
+-- a literal may be used where the capabilities allow its scalar
 abbrev pub LiteralOK : Capabilities → Literal → Type 0
 LiteralOK capabilities literal = ScalarOK capabilities (literal_scalar literal)

@@ -9,7 +9,7 @@ use Rattle.typing_rules.specs.declared.rules.ConstructorSize.TheVariants as size
 use Rattle.typing_rules.specs.declared.rules.Rule.{Rule}
 use Rattle.typing_rules.specs.declared.rules.ValueType.{ValueType}
 use Rattle.typing_rules.specs.judged.Ranks.{accepts_if}
-use Rattle.typing_rules.specs.judged.MathTable.{table}
+use Rattle.typing_rules.specs.judged.MathTable.{math_overloads}
 use Rattle.typing_rules.specs.judged.Types.{value_type}
 use Rattle.spec_expressions.specs.judged.Given.{given_type}
 use Rattle.spec_expressions.specs.judged.Context.{Context}
@@ -24,9 +24,9 @@ value_of (form.Matrix columns rows s) = Some (value_type (size.Matrix columns ro
 value_of _ = None
 
 -- the rules that take these arguments, the first of them at this place
-abbrev pub taking : (place : ℕ) → List Form → List Rule → List Rule
-taking place [] rules = rules
-taking place (given ∷ more) rules = taking (suc place) more (filter (accepts_if place (value_of given)) rules)
+abbrev pub matching_rules : (place : ℕ) → List Form → List Rule → List Rule
+matching_rules place [] rules = rules
+matching_rules place (given ∷ more) rules = matching_rules (suc place) more (filter (accepts_if place (value_of given)) rules)
 
 -- what the preferred rule gives: the first one that is left
 abbrev pub concluded : Context → Option Rule → Result Form TypingFault
@@ -44,7 +44,7 @@ arguments _ _ _ a b c d = None
 -- a function takes exactly as many arguments as it has
 abbrev pub math_of : Context → MathFunction → Option (List Form) → Result Form TypingFault
 math_of c fun (Some given) =
-    if length given == argument_count fun then concluded c (slice_get (taking 0 given (table fun)) 0) else Err BuiltinArgumentsInvalid
+    if length given == argument_count fun then concluded c (slice_get (matching_rules 0 given (math_overloads fun)) 0) else Err BuiltinArgumentsInvalid
 math_of c fun None = Err BuiltinArgumentsInvalid
 
 -- the arguments whose types make that of the whole: none, where one is left out before another

@@ -2,7 +2,7 @@
 use Rattle.std.specs.Prelude.{◌≡◌, ℕ, Option, Some, None, slice_get}
 use Rattle.ir_items.specs.judged.Plain.{PlainFunction, PlainEntry, PlainModule}
 use Rattle.spec_expressions.specs.judged.FunctionHandles.{HandlesInRange}
-use Rattle.spec_expressions.specs.judged.ModuleReferences.{Part, NamesIn, IsThereIn}
+use Rattle.spec_expressions.specs.judged.ModuleReferences.{ModulePart, NamesIn, IsThereIn}
 use Rattle.spec_expressions.specs.judged.Order.{Ordered, kind_of, place_of, DependsOn, IsBefore}
 use Rattle.spec_expressions.specs.judged.References.{Site, Named, item, operand, range, Names, IsThere}
 use Rattle.spec_expressions.specs.judged.StatementNames.{Emitted}
@@ -12,7 +12,7 @@ use Rattle.spec_expressions.specs.declared.target.Target.TheVariants as target
 
 -- All that is named is there, ranges lie in their lists, and each item comes after those that it depends on.
 pub record HandlesOK (m : PlainModule) : Type 0 where
-  pub there : (part : Part) (named : Named) → NamesIn m part named → IsThereIn m named
+  pub there : (part : ModulePart) (named : Named) → NamesIn m part named → IsThereIn m named
   pub functions : (i : ℕ) (f : PlainFunction) → slice_get m.functions i ≡ Some f → HandlesInRange m f
   pub entries : (k : ℕ) (x : PlainEntry) → slice_get m.entries k ≡ Some x → HandlesInRange m x.function
   pub back : (item depends : Ordered) → DependsOn m item depends → IsBefore depends item
@@ -33,7 +33,7 @@ named_at (range r) = None
 
 -- Something of the module is named that isn't there: by a part of it, of a function, or of the function of an entry point.
 pub data IsAbsent (m : PlainModule) : Named → Type 0 where
-  in_module : {part : Part} {named : Named} → NamesIn m part named → ¬ IsThereIn m named → IsAbsent m named
+  in_module : {part : ModulePart} {named : Named} → NamesIn m part named → ¬ IsThereIn m named → IsAbsent m named
   in_function : (i : ℕ) {f : PlainFunction} {site : Site} {named : Named} → slice_get m.functions i ≡ Some f → Names f site named → ¬ IsThere m f named
       → IsAbsent m named
   in_entry : (k : ℕ) {x : PlainEntry} {site : Site} {named : Named} → slice_get m.entries k ≡ Some x → Names x.function site named

@@ -2,7 +2,7 @@
 -- reported by the references of the function.
 use Rattle.std.specs.Prelude.{◌≡◌, ℕ, ◌<◌, length, Some, Contains, slice_get}
 use Rattle.ir_types.specs.judged.ExpressionPlain.{PlainExpression}
-use Rattle.ir_items.specs.judged.GlobalPlain.{PlainConstant, PlainOverride, PlainGlobal, PlainNode}
+use Rattle.ir_items.specs.judged.GlobalPlain.{PlainConstant, PlainOverride, PlainGlobal, PlainFilterNode}
 use Rattle.ir_items.specs.judged.Plain.{PlainEntry, PlainModule}
 use Rattle.ir_types.specs.judged.Plain.{PlainType}
 use Rattle.spec_expressions.specs.judged.ExpressionNames.{expression_operands, expression_item}
@@ -14,23 +14,23 @@ use Rattle.typing_forms.specs.judged.Order.{named_types}
 
 -- A part of a module that may name something, functions aside: an item of one of its lists, its special types, or the
 -- leaf of its filters. An entry point is meant without its function.
-pub data Part : Type 0 where
-  a_type : ℕ → Part
-  special : Part
-  filter : ℕ → Part
-  leaf : Part
-  constant : ℕ → Part
-  override : ℕ → Part
-  expression : ℕ → Part
-  variable : ℕ → Part
-  entry : ℕ → Part
+pub data ModulePart : Type 0 where
+  a_type : ℕ → ModulePart
+  special : ModulePart
+  filter : ℕ → ModulePart
+  leaf : ModulePart
+  constant : ℕ → ModulePart
+  override : ℕ → ModulePart
+  expression : ℕ → ModulePart
+  variable : ℕ → ModulePart
+  entry : ℕ → ModulePart
 
 -- The part of the module names it; an operand is a global expression.
-pub data NamesIn (m : PlainModule) : Part → Named → Type 0 where
+pub data NamesIn (m : PlainModule) : ModulePart → Named → Type 0 where
   type_names : {i t : ℕ} {x : PlainType} → slice_get m.types i ≡ Some x → Contains (named_types x.inner) t → NamesIn m (a_type i) (item (target.Type t))
   type_counts : {i o : ℕ} {x : PlainType} → slice_get m.types i ≡ Some x → pending_of x.inner ≡ Some o → NamesIn m (a_type i) (item (target.Override o))
   special_names : {t : ℕ} → Contains (special_types m.special) t → NamesIn m special (item (target.Type t))
-  filter_names : {i p : ℕ} {x : PlainNode} → slice_get m.filters i ≡ Some x → x.parent ≡ Some p → NamesIn m (filter i) (item (target.DiagnosticFilter p))
+  filter_names : {i p : ℕ} {x : PlainFilterNode} → slice_get m.filters i ≡ Some x → x.parent ≡ Some p → NamesIn m (filter i) (item (target.DiagnosticFilter p))
   leaf_names : {n : ℕ} → m.leaf ≡ Some n → NamesIn m leaf (item (target.DiagnosticFilter n))
   constant_type : {i : ℕ} {x : PlainConstant} → slice_get m.constants i ≡ Some x → NamesIn m (constant i) (item (target.Type x.ty))
   constant_value : {i : ℕ} {x : PlainConstant} → slice_get m.constants i ≡ Some x → NamesIn m (constant i) (operand x.init)

@@ -2,7 +2,7 @@
 use Rattle.std.specs.Prelude.{ℕ, List, map, filter_map, option_map, bit_or}
 use Rattle.ir_types.specs.judged.ExpressionPlain.{PlainExpression}
 use Rattle.ir_blocks.specs.judged.Plain.{PlainStatement}
-use Rattle.spec_expressions.specs.judged.Operands.{Operands, these, each_of, of_expression, of_statement}
+use Rattle.spec_expressions.specs.judged.Operands.{Operands, these, each_of, expression_slots, statement_slots}
 use Rattle.spec_expressions.specs.declared.operand.Slot.{Slot}
 use Rattle.spec_expressions.specs.declared.operand.Usage.{Usage}
 use Rattle.spec_expressions.specs.declared.operand.Usage.TheVariants.{Base, Read, Write, ReadWrite, Query, Atomic}
@@ -14,7 +14,7 @@ pub record Operand : Type 0 where
   pub handle : ℕ
   pub use_bits : ℕ
 
--- what is accessed says how its base is used
+-- the bits of a way of use; the base of an access has none, since what uses the access counts
 abbrev pub bits_of : Usage → ℕ
 bits_of Base = 0
 bits_of Read = READ.0
@@ -32,8 +32,8 @@ operands_in (these slots) = filter_map (λ (slot : Slot). option_map (operand sl
 operands_in (each_of when handles) = map (operand Read) handles
 
 abbrev pub expression_uses : PlainExpression → List Operand
-expression_uses x = operands_in (of_expression x)
+expression_uses x = operands_in (expression_slots x)
 
 -- Those of the statement itself, and not of the statements inside it.
 abbrev pub statement_uses : PlainStatement → List Operand
-statement_uses s = operands_in (of_statement s)
+statement_uses s = operands_in (statement_slots s)

@@ -67,68 +67,68 @@ query_level NumLayers = None
 query_level NumSamples = None
 
 -- those of an expression are expressions of the list that it stands in
-abbrev pub operands_of : Expression → Operands
-operands_of (x.Literal value) = these []
-operands_of (x.Constant constant) = these []
-operands_of (x.Override override) = these []
-operands_of (x.ZeroValue type) = these []
-operands_of (x.Compose type components) = each_of Strictly components.items
-operands_of (x.Access base index) = these (used Base base ∷ reads index ∷ [])
-operands_of (x.AccessIndex base index) = these (used Base base ∷ [])
-operands_of (x.Splat size value) = these (reads value ∷ [])
-operands_of (x.Swizzle size vector pattern) = these (reads vector ∷ [])
-operands_of (x.FunctionArgument number) = these []
-operands_of (x.GlobalVariable global) = these []
-operands_of (x.LocalVariable local) = these []
-operands_of (x.Load pointer) = these (reads pointer ∷ [])
-operands_of (x.ImageSample image sampler gathers coordinate array_index offset level depth_ref clamp_to_edge) =
+abbrev pub operand_slots : Expression → Operands
+operand_slots (x.Literal value) = these []
+operand_slots (x.Constant constant) = these []
+operand_slots (x.Override override) = these []
+operand_slots (x.ZeroValue type) = these []
+operand_slots (x.Compose type components) = each_of Strictly components.items
+operand_slots (x.Access base index) = these (used Base base ∷ reads index ∷ [])
+operand_slots (x.AccessIndex base index) = these (used Base base ∷ [])
+operand_slots (x.Splat size value) = these (reads value ∷ [])
+operand_slots (x.Swizzle size vector pattern) = these (reads vector ∷ [])
+operand_slots (x.FunctionArgument number) = these []
+operand_slots (x.GlobalVariable global) = these []
+operand_slots (x.LocalVariable local) = these []
+operand_slots (x.Load pointer) = these (reads pointer ∷ [])
+operand_slots (x.ImageSample image sampler gathers coordinate array_index offset level depth_ref clamp_to_edge) =
     these (reads image ∷ reads sampler ∷ reads coordinate ∷ reads_if array_index ∷ reads_if offset
     ∷ reads_if (level_first level) ∷ reads_if (level_second level) ∷ reads_if depth_ref ∷ [])
-operands_of (x.ImageLoad image coordinate array_index sample level) =
+operand_slots (x.ImageLoad image coordinate array_index sample level) =
     these (reads image ∷ reads coordinate ∷ reads_if array_index ∷ reads_if sample ∷ reads_if level ∷ [])
-operands_of (x.ImageQuery image query) = these (used Query image ∷ reads_if (query_level query) ∷ [])
-operands_of (x.Unary op expr) = these (reads expr ∷ [])
-operands_of (x.Binary op left right) = these (reads left ∷ reads right ∷ [])
-operands_of (x.Select condition accept reject) = these (reads condition ∷ reads accept ∷ reads reject ∷ [])
-operands_of (x.Derivative axis ctrl expr) = these (reads expr ∷ [])
-operands_of (x.Relational fun argument) = these (reads argument ∷ [])
-operands_of (x.Math fun arg arg1 arg2 arg3) = these (reads arg ∷ reads_if arg1 ∷ reads_if arg2 ∷ reads_if arg3 ∷ [])
-operands_of (x.As expr kind convert) = these (reads expr ∷ [])
-operands_of (x.CallResult function) = these []
-operands_of (x.AtomicResult type comparison) = these []
-operands_of (x.WorkGroupUniformLoadResult type) = these []
-operands_of (x.ArrayLength array) = these (used Query array ∷ [])
-operands_of (x.RayQueryVertexPositions query committed) = these (reads query ∷ [])
-operands_of x.RayQueryProceedResult = these []
-operands_of (x.RayQueryGetIntersection query committed) = these (reads query ∷ [])
-operands_of x.SubgroupBallotResult = these []
-operands_of (x.SubgroupOperationResult type) = these []
-operands_of (x.CooperativeLoad columns rows role data_block) = these (reads data_block.pointer ∷ reads data_block.stride ∷ [])
-operands_of (x.CooperativeMultiplyAdd a b c) = these (reads a ∷ reads b ∷ reads c ∷ [])
+operand_slots (x.ImageQuery image query) = these (used Query image ∷ reads_if (query_level query) ∷ [])
+operand_slots (x.Unary op expr) = these (reads expr ∷ [])
+operand_slots (x.Binary op left right) = these (reads left ∷ reads right ∷ [])
+operand_slots (x.Select condition accept reject) = these (reads condition ∷ reads accept ∷ reads reject ∷ [])
+operand_slots (x.Derivative axis ctrl expr) = these (reads expr ∷ [])
+operand_slots (x.Relational fun argument) = these (reads argument ∷ [])
+operand_slots (x.Math fun arg arg1 arg2 arg3) = these (reads arg ∷ reads_if arg1 ∷ reads_if arg2 ∷ reads_if arg3 ∷ [])
+operand_slots (x.As expr kind convert) = these (reads expr ∷ [])
+operand_slots (x.CallResult function) = these []
+operand_slots (x.AtomicResult type comparison) = these []
+operand_slots (x.WorkGroupUniformLoadResult type) = these []
+operand_slots (x.ArrayLength array) = these (used Query array ∷ [])
+operand_slots (x.RayQueryVertexPositions query committed) = these (reads query ∷ [])
+operand_slots x.RayQueryProceedResult = these []
+operand_slots (x.RayQueryGetIntersection query committed) = these (reads query ∷ [])
+operand_slots x.SubgroupBallotResult = these []
+operand_slots (x.SubgroupOperationResult type) = these []
+operand_slots (x.CooperativeLoad columns rows role data_block) = these (reads data_block.pointer ∷ reads data_block.stride ∷ [])
+operand_slots (x.CooperativeMultiplyAdd a b c) = these (reads a ∷ reads b ∷ reads c ∷ [])
 
 abbrev pub all_strictly : Operands → Operands
 all_strictly (these slots) = these (map (scoped Strictly) slots)
 all_strictly (each_of when handles) = each_of Strictly handles
 
 -- they have to be in scope where the expression is emitted and scope is strict
-abbrev pub of_expression : PlainExpression → Operands
-of_expression (compose type components) = each_of Strictly components
-of_expression (plain expression) = all_strictly (operands_of expression)
+abbrev pub expression_slots : PlainExpression → Operands
+expression_slots (compose type components) = each_of Strictly components
+expression_slots (plain expression) = all_strictly (operand_slots expression)
 
 -- ---- statements
 
 -- what an atomic function compares with
-abbrev pub compared : AtomicFunction → Option ℕ
-compared does.Add = None
-compared does.Subtract = None
-compared does.And = None
-compared does.ExclusiveOr = None
-compared does.InclusiveOr = None
-compared does.Min = None
-compared does.Max = None
-compared (does.Exchange compare) = compare
+abbrev pub comparand : AtomicFunction → Option ℕ
+comparand does.Add = None
+comparand does.Subtract = None
+comparand does.And = None
+comparand does.ExclusiveOr = None
+comparand does.InclusiveOr = None
+comparand does.Min = None
+comparand does.Max = None
+comparand (does.Exchange compare) = compare
 
--- what an atomic operation compares with is looked at where it has a result
+-- when the comparand of an atomic operation has to be in scope: always where it has a result, else where scope is strict
 abbrev pub where_answered : (result : Option ℕ) → Scoping
 where_answered (Some result) = Always
 where_answered None = Strictly
@@ -160,9 +160,9 @@ of_operation (control_barrier barrier) = []
 of_operation (memory_barrier barrier) = []
 of_operation (store pointer value) = scoped Strictly (used Write pointer) ∷ reads value ∷ []
 of_operation (image_store image coordinate array_index value) = scoped Strictly (used Write image) ∷ reads coordinate ∷ reads_if array_index ∷ reads value ∷ []
-of_operation (atomic pointer fun value result) = used ReadWrite pointer ∷ reads value ∷ scoped (where_answered result) (reads_if (compared fun)) ∷ []
+of_operation (atomic pointer fun value result) = used ReadWrite pointer ∷ reads value ∷ scoped (where_answered result) (reads_if (comparand fun)) ∷ []
 of_operation (image_atomic image coordinate array_index fun value) =
-    scoped Strictly (used Atomic image) ∷ reads coordinate ∷ reads_if array_index ∷ reads value ∷ scoped Strictly (reads_if (compared fun)) ∷ []
+    scoped Strictly (used Atomic image) ∷ reads coordinate ∷ reads_if array_index ∷ reads value ∷ scoped Strictly (reads_if (comparand fun)) ∷ []
 of_operation (uniform_load pointer result) = reads pointer ∷ []
 of_operation (ray_query query fun) = scoped Strictly (reads query) ∷ of_query fun
 of_operation (ballot result predicate) = reads_if predicate ∷ []
@@ -172,18 +172,18 @@ of_operation (cooperative_store target place) = reads target ∷ scoped Strictly
 of_operation (ray_pipeline fun) = of_pipeline fun
 
 -- Those of the statement itself, a loop's condition among them, and not of the statements inside it. Its result is none.
-abbrev pub of_statement : PlainStatement → Operands
-of_statement (emit first end) = these []
-of_statement (block b) = these []
-of_statement (if_ condition accept reject) = these (reads condition ∷ [])
-of_statement (switch selector cases) = these (reads selector ∷ [])
-of_statement (loop body continuing break_if) = these (scoped Apart (reads_if break_if) ∷ [])
-of_statement break = these []
-of_statement continue = these []
-of_statement (return value) = these (reads_if value ∷ [])
-of_statement kill = these []
-of_statement (operation a) = these (of_operation a)
-of_statement (call function arguments result) = each_of Always arguments
+abbrev pub statement_slots : PlainStatement → Operands
+statement_slots (emit first end) = these []
+statement_slots (block b) = these []
+statement_slots (if_ condition accept reject) = these (reads condition ∷ [])
+statement_slots (switch selector cases) = these (reads selector ∷ [])
+statement_slots (loop body continuing break_if) = these (scoped Apart (reads_if break_if) ∷ [])
+statement_slots break = these []
+statement_slots continue = these []
+statement_slots (return value) = these (reads_if value ∷ [])
+statement_slots kill = these []
+statement_slots (operation a) = these (of_operation a)
+statement_slots (call function arguments result) = each_of Always arguments
 
 -- ---- what is read off
 

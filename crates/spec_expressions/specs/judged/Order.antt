@@ -1,7 +1,7 @@
 -- Which items have to come after others, and when they do.
 use Rattle.std.specs.Prelude.{◌≡◌, ℕ, ◌<◌, ◌≤◌, Some, Contains, slice_get}
 use Rattle.ir_types.specs.judged.ExpressionPlain.{PlainExpression}
-use Rattle.ir_items.specs.judged.GlobalPlain.{PlainConstant, PlainOverride, PlainNode}
+use Rattle.ir_items.specs.judged.GlobalPlain.{PlainConstant, PlainOverride, PlainFilterNode}
 use Rattle.ir_items.specs.judged.Plain.{PlainFunction, PlainEntry, PlainModule}
 use Rattle.ir_types.specs.judged.Plain.{PlainType}
 use Rattle.spec_expressions.specs.judged.ExpressionNames.{expression_operands, expression_item}
@@ -57,7 +57,7 @@ pub data DependsOn (m : PlainModule) : Ordered → Ordered → Type 0 where
   type_on_expression : {i o init e t : ℕ} {x : PlainType} {override : PlainOverride} {y : PlainExpression} → slice_get m.types i ≡ Some x
       → pending_of x.inner ≡ Some o → slice_get m.overrides o ≡ Some override → override.init ≡ Some init
       → e ≤ init → slice_get m.global_expressions e ≡ Some y → NamesType m y t → DependsOn m (a_type i) (a_type t)
-  filter_on_parent : {i p : ℕ} {x : PlainNode} → slice_get m.filters i ≡ Some x → x.parent ≡ Some p → DependsOn m (a_filter i) (a_filter p)
+  filter_on_parent : {i p : ℕ} {x : PlainFilterNode} → slice_get m.filters i ≡ Some x → x.parent ≡ Some p → DependsOn m (a_filter i) (a_filter p)
   expression_on_operand : {e o : ℕ} {x : PlainExpression} → slice_get m.global_expressions e ≡ Some x → Contains (expression_operands x) o
       → DependsOn m (an_expression e) (an_expression o)
   expression_on_constant : {e c : ℕ} {x : PlainExpression} {constant : PlainConstant} → slice_get m.global_expressions e ≡ Some x

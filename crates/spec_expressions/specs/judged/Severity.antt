@@ -1,26 +1,26 @@
 -- How severe it is where a rule of diagnostic filters counts in a function.
 use Rattle.std.specs.Prelude.{◌≡◌, ◌⊎◌, ℕ, List, [], ◌∷◌, Option, Some, None, slice_get}
 use Rattle.std.specs.Option.{option_and_then}
-use Rattle.ir_items.specs.judged.GlobalPlain.{PlainNode, standard}
+use Rattle.ir_items.specs.judged.GlobalPlain.{PlainFilterNode, standard}
 use Rattle.ir_items.specs.judged.Plain.{PlainFunction, PlainModule}
 use Rattle.ir_kinds.specs.declared.diagnostics.Severity.{Severity}
 use Rattle.ir_kinds.specs.declared.diagnostics.Severity.TheVariants.{Error}
 use Rattle.ir_kinds.specs.declared.diagnostics.StandardFilterableTriggeringRule.{StandardFilterableTriggeringRule}
 
 -- the nodes from a handle on, each followed by its parent; where no node has the handle, there is none
-abbrev pub IsTrail : List PlainNode → Option ℕ → List PlainNode → Type 0
-IsTrail nodes start [] = option_and_then (slice_get nodes) start ≡ None
-IsTrail nodes start (node ∷ rest) = (option_and_then (slice_get nodes) start ≡ Some node) × IsTrail nodes node.parent rest
+abbrev pub FilterChain : List PlainFilterNode → Option ℕ → List PlainFilterNode → Type 0
+FilterChain nodes start [] = option_and_then (slice_get nodes) start ≡ None
+FilterChain nodes start (node ∷ rest) = (option_and_then (slice_get nodes) start ≡ Some node) × FilterChain nodes node.parent rest
 
 -- the severity of the first of these nodes that has the rule, if one has it
-abbrev pub IsFirst : StandardFilterableTriggeringRule → List PlainNode → Option Severity → Type 0
-IsFirst rule [] found = found ≡ None
-IsFirst rule (node ∷ rest) found =
-    (node.rule ≡ standard rule) × (found ≡ Some node.severity) ⊎ (¬ (node.rule ≡ standard rule)) × IsFirst rule rest found
+abbrev pub FirstSeverity : StandardFilterableTriggeringRule → List PlainFilterNode → Option Severity → Type 0
+FirstSeverity rule [] found = found ≡ None
+FirstSeverity rule (node ∷ rest) found =
+    (node.rule ≡ standard rule) × (found ≡ Some node.severity) ⊎ (¬ (node.rule ≡ standard rule)) × FirstSeverity rule rest found
 
 -- the severity of the nearest node with the rule, from a handle on, if there is one
-abbrev pub IsNearest : List PlainNode → Option ℕ → StandardFilterableTriggeringRule → Option Severity → Type 0
-IsNearest nodes start rule found = (trail : List PlainNode) × IsTrail nodes start trail × IsFirst rule trail found
+abbrev pub IsNearest : List PlainFilterNode → Option ℕ → StandardFilterableTriggeringRule → Option Severity → Type 0
+IsNearest nodes start rule found = (trail : List PlainFilterNode) × FilterChain nodes start trail × FirstSeverity rule trail found
 
 -- The severity of a rule in a function: that of the nearest filter from the function's leaf on; where there is none, that of
 -- the nearest from the module's leaf on; where there is none either, `Error`.

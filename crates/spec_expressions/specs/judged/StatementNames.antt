@@ -3,11 +3,11 @@ use Rattle.std.specs.Prelude.{ℕ, List, Option, Some, None}
 use Rattle.ir_blocks.specs.judged.Plain.{PlainOperation, control_barrier, memory_barrier, store, image_store, atomic, image_atomic, uniform_load, ray_query, ballot, collective, gather, cooperative_store, ray_pipeline, PlainStatement, emit, block, if_, switch, loop, break, continue, return, kill, operation, call}
 use Rattle.ir_blocks.specs.declared.operations.RayQueryFunction.{RayQueryFunction}
 use Rattle.ir_blocks.specs.declared.operations.RayQueryFunction.TheVariants as ray
-use Rattle.spec_expressions.specs.judged.Operands.{of_statement, handles_of}
+use Rattle.spec_expressions.specs.judged.Operands.{statement_slots, handles_of}
 
 -- the operands of a statement, in order
 abbrev pub statement_operands : PlainStatement → List ℕ
-statement_operands s = handles_of (of_statement s)
+statement_operands s = handles_of (statement_slots s)
 
 -- what a ray query's step puts its answer into
 abbrev pub ray_result : RayQueryFunction → Option ℕ

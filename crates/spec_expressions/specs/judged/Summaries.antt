@@ -10,7 +10,7 @@ use Rattle.spec_expressions.specs.declared.sampling.GlobalOrArgument.{GlobalOrAr
 use Rattle.spec_expressions.specs.declared.sampling.GlobalOrArgument.TheVariants.{Argument}
 use Rattle.spec_expressions.specs.judged.Pairs.{SamplingPair}
 use Rattle.spec_expressions.specs.judged.Effects.{samples, runs, effects_of}
-use Rattle.spec_expressions.specs.judged.CallChains.{place, seen_through, UsesDirectly, Names, HasUse, Samples, HasPair, Discards, MayKill}
+use Rattle.spec_expressions.specs.judged.CallChains.{global_or_argument, seen_through, UsesDirectly, NamesGlobal, HasUse, Samples, HasPair, Discards, MayKill}
 
 -- The use of each global variable of the module, the pairs, and whether the fragment may be ended.
 pub record Summary : Type 0 where
@@ -45,8 +45,8 @@ pub record CallsOne (f : PlainFunction) (summaries : List Summary) (arguments : 
 
 -- a pair of a callee to which these arguments are passed is this one in the caller
 pub record ComesUp (expressions : List PlainExpression) (arguments : List ℕ) (below above : SamplingPair) : Type 0 where
-  pub image : seen_through (place expressions) arguments (Some below.0) ≡ Some above.0
-  pub sampler : seen_through (place expressions) arguments (Some below.1) ≡ Some above.1
+  pub image : seen_through (global_or_argument expressions) arguments (Some below.0) ≡ Some above.0
+  pub sampler : seen_through (global_or_argument expressions) arguments (Some below.1) ≡ Some above.1
 
 -- a use of its own, or of one of its callees
 abbrev pub JoinsUse : PlainFunction → List Summary → (g k : ℕ) → Type 0
@@ -56,10 +56,10 @@ JoinsUse f summaries g k = UsesDirectly g k f ⊎ ((arguments : List ℕ) × (t 
 -- each global variable that f names and that has no kind of use by these. Of the summaries only those of callees count.
 pub record IsJoined (globals : ℕ) (f : PlainFunction) (summaries : List Summary) (s : Summary) : Type 0 where
   pub uses : (g k : ℕ) → g < globals
-      → HasBit s g k ↔ (JoinsUse f summaries g k ⊎ ((bit_at QUERY.0 k ≡ 1) × Names g f × ((j : ℕ) → JoinsUse f summaries g j → ⊥)))
+      → HasBit s g k ↔ (JoinsUse f summaries g k ⊎ ((bit_at QUERY.0 k ≡ 1) × NamesGlobal g f × ((j : ℕ) → JoinsUse f summaries g j → ⊥)))
   pub pairs : (p : SamplingPair)
       → IsAmong p s.pairs
-      ↔ (Samples (place f.expressions) f p
+      ↔ (Samples (global_or_argument f.expressions) f p
       ⊎ ((arguments : List ℕ) × (t : Summary) × (q : SamplingPair) × CallsOne f summaries arguments t × IsAmong q t.pairs × ComesUp f.expressions arguments q p))
   pub may_kill : IsTrue s.may_kill ↔ (Discards f ⊎ ((arguments : List ℕ) × (t : Summary) × CallsOne f summaries arguments t × IsTrue t.may_kill))
 
@@ -92,13 +92,13 @@ AgreeOnCallees f summaries others =
 
 -- an argument that denotes an image or a sampler is an expression that denotes neither a global variable nor an argument
 abbrev pub IsWrongArgument : List PlainExpression → (arguments : List ℕ) → GlobalOrArgument → ℕ → Type 0
-IsWrongArgument expressions arguments part e = (number : ℕ) × (part ≡ Argument number) × (slice_get arguments number ≡ Some e) × (place expressions e ≡ None)
+IsWrongArgument expressions arguments part e = (number : ℕ) × (part ≡ Argument number) × (slice_get arguments number ≡ Some e) × (global_or_argument expressions e ≡ None)
 
 -- At e stands a sampling whose image or sampler has another form, or an argument of another form that is passed for an image
 -- or a sampler of a callee's pair.
 abbrev pub IsFormFault : PlainFunction → List Summary → ℕ → Type 0
 IsFormFault f summaries e =
     ((image : ℕ) × (sampler : ℕ) × IsAmong (samples e image sampler) (effects_of f)
-    × ((place f.expressions image ≡ None) ⊎ (place f.expressions sampler ≡ None)))
+    × ((global_or_argument f.expressions image ≡ None) ⊎ (global_or_argument f.expressions sampler ≡ None)))
     ⊎ ((arguments : List ℕ) × (t : Summary) × (q : SamplingPair) × CallsOne f summaries arguments t × IsAmong q t.pairs
     × (IsWrongArgument f.expressions arguments q.0 e ⊎ IsWrongArgument f.expressions arguments q.1 e))

@@ -28,45 +28,45 @@ use Rattle.spec_expressions.specs.declared.faults.TypingFault.{TypingFault}
 -- ---- operands
 
 -- the operands whose types make that of the expression, in order
-abbrev pub operands_of : Expression → List ℕ
-operands_of (x.Literal value) = []
-operands_of (x.Constant constant) = []
-operands_of (x.Override override) = []
-operands_of (x.ZeroValue type) = []
-operands_of (x.Compose type components) = []
-operands_of (x.Access base index) = base ∷ []
-operands_of (x.AccessIndex base index) = base ∷ []
-operands_of (x.Splat size value) = value ∷ []
-operands_of (x.Swizzle size vector pattern) = vector ∷ []
-operands_of (x.FunctionArgument number) = []
-operands_of (x.GlobalVariable global) = []
-operands_of (x.LocalVariable local) = []
-operands_of (x.Load pointer) = pointer ∷ []
-operands_of (x.ImageSample image sampler gather coordinate array_index offset level depth_ref clamp_to_edge) = image ∷ []
-operands_of (x.ImageLoad image coordinate array_index sample level) = image ∷ []
-operands_of (x.ImageQuery image query) = image ∷ []
-operands_of (x.Unary op expr) = expr ∷ []
-operands_of (x.Binary op left right) = left ∷ right ∷ []
-operands_of (x.Select condition accept reject) = accept ∷ []
-operands_of (x.Derivative axis ctrl expr) = expr ∷ []
-operands_of (x.Relational fun argument) = argument ∷ []
-operands_of (x.Math fun arg arg1 arg2 arg3) = math_operands arg arg1 arg2 arg3
-operands_of (x.As expr kind convert) = expr ∷ []
-operands_of (x.CallResult function) = []
-operands_of (x.AtomicResult type comparison) = []
-operands_of (x.WorkGroupUniformLoadResult type) = []
-operands_of (x.ArrayLength array) = []
-operands_of (x.RayQueryVertexPositions query committed) = []
-operands_of x.RayQueryProceedResult = []
-operands_of (x.RayQueryGetIntersection query committed) = []
-operands_of x.SubgroupBallotResult = []
-operands_of (x.SubgroupOperationResult type) = []
-operands_of (x.CooperativeLoad columns rows role block) = block.pointer ∷ []
-operands_of (x.CooperativeMultiplyAdd a b c) = c ∷ []
+abbrev pub typed_operands : Expression → List ℕ
+typed_operands (x.Literal value) = []
+typed_operands (x.Constant constant) = []
+typed_operands (x.Override override) = []
+typed_operands (x.ZeroValue type) = []
+typed_operands (x.Compose type components) = []
+typed_operands (x.Access base index) = base ∷ []
+typed_operands (x.AccessIndex base index) = base ∷ []
+typed_operands (x.Splat size value) = value ∷ []
+typed_operands (x.Swizzle size vector pattern) = vector ∷ []
+typed_operands (x.FunctionArgument number) = []
+typed_operands (x.GlobalVariable global) = []
+typed_operands (x.LocalVariable local) = []
+typed_operands (x.Load pointer) = pointer ∷ []
+typed_operands (x.ImageSample image sampler gather coordinate array_index offset level depth_ref clamp_to_edge) = image ∷ []
+typed_operands (x.ImageLoad image coordinate array_index sample level) = image ∷ []
+typed_operands (x.ImageQuery image query) = image ∷ []
+typed_operands (x.Unary op expr) = expr ∷ []
+typed_operands (x.Binary op left right) = left ∷ right ∷ []
+typed_operands (x.Select condition accept reject) = accept ∷ []
+typed_operands (x.Derivative axis ctrl expr) = expr ∷ []
+typed_operands (x.Relational fun argument) = argument ∷ []
+typed_operands (x.Math fun arg arg1 arg2 arg3) = math_operands arg arg1 arg2 arg3
+typed_operands (x.As expr kind convert) = expr ∷ []
+typed_operands (x.CallResult function) = []
+typed_operands (x.AtomicResult type comparison) = []
+typed_operands (x.WorkGroupUniformLoadResult type) = []
+typed_operands (x.ArrayLength array) = []
+typed_operands (x.RayQueryVertexPositions query committed) = []
+typed_operands x.RayQueryProceedResult = []
+typed_operands (x.RayQueryGetIntersection query committed) = []
+typed_operands x.SubgroupBallotResult = []
+typed_operands (x.SubgroupOperationResult type) = []
+typed_operands (x.CooperativeLoad columns rows role block) = block.pointer ∷ []
+typed_operands (x.CooperativeMultiplyAdd a b c) = c ∷ []
 
 abbrev pub typing_operands : PlainExpression → List ℕ
 typing_operands (compose type components) = []
-typing_operands (plain expression) = operands_of expression
+typing_operands (plain expression) = typed_operands expression
 
 -- ---- one rule a kind
 
@@ -107,9 +107,9 @@ rule_of context (x.SubgroupOperationResult type) a b c d = Ok (subgroup_type con
 rule_of context (x.CooperativeLoad columns rows role block) a b c d = cooperative_load_type context.types columns rows role block.pointer a
 rule_of context (x.CooperativeMultiplyAdd p q r) a b c d = Ok (multiply_add_type a)
 
-abbrev pub rule : Context → PlainExpression → (a b c d : Form) → Result Form TypingFault
-rule context (compose type components) a b c d = Ok (compose_type context type)
-rule context (plain expression) a b c d = rule_of context expression a b c d
+abbrev pub expression_rule : Context → PlainExpression → (a b c d : Form) → Result Form TypingFault
+expression_rule context (compose type components) a b c d = Ok (compose_type context type)
+expression_rule context (plain expression) a b c d = rule_of context expression a b c d
 
 -- the form of an operand, where there is one
 abbrev pub form_read : (ℕ → Form) → Option ℕ → Form
@@ -119,10 +119,10 @@ form_read past None = form.Nothing
 abbrev pub operand_form : (ℕ → Form) → List ℕ → (place : ℕ) → Form
 operand_form past operands place = form_read past (slice_get operands place)
 
--- the same, where each expression has the form that past says
+-- the rule of an expression, where each of its operands has the form that past gives
 abbrev pub rule_at : Context → PlainExpression → (past : ℕ → Form) → Result Form TypingFault
 rule_at context expression past =
-    rule context expression (operand_form past (typing_operands expression) 0) (operand_form past (typing_operands expression) 1)
+    expression_rule context expression (operand_form past (typing_operands expression) 0) (operand_form past (typing_operands expression) 1)
     (operand_form past (typing_operands expression) 2) (operand_form past (typing_operands expression) 3)
 
 -- ---- the relation

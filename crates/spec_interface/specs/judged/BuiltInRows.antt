@@ -56,69 +56,69 @@ four_by_three = Value (matrix Quad Tri (floating 4))
 
 -- ---- rows
 
-abbrev pub row : (inputs outputs : ShaderStages) → (primitive : Bool) → BuiltInType → Option Capabilities → BuiltInRow
-row inputs outputs primitive type needed =
+abbrev pub row_with : (inputs outputs : ShaderStages) → (primitive : Bool) → BuiltInType → Option Capabilities → BuiltInRow
+row_with inputs outputs primitive type needed =
     record { inputs = inputs; outputs = outputs; primitive = primitive; ty = type; capability = needed; exception = exception.None }
 
 abbrev pub but : Exception → BuiltInRow → BuiltInRow
 but e r = record { inputs = r.inputs; outputs = r.outputs; primitive = r.primitive; ty = r.ty; capability = r.capability; exception = e }
 
 -- what is given by the stages before
-abbrev pub given : ShaderStages → BuiltInType → BuiltInRow
-given inputs type = row inputs NOWHERE false type None
+abbrev pub taken : ShaderStages → BuiltInType → BuiltInRow
+taken inputs type = row_with inputs NOWHERE false type None
 
 -- what is given to the stages after
 abbrev pub gives : ShaderStages → BuiltInType → BuiltInRow
-gives outputs type = row NOWHERE outputs false type None
+gives outputs type = row_with NOWHERE outputs false type None
 
 -- what is given to the stages after, where a capability is there
 abbrev pub gives_by : Capabilities → ShaderStages → BuiltInType → BuiltInRow
-gives_by needed outputs type = row NOWHERE outputs false type (Some needed)
+gives_by needed outputs type = row_with NOWHERE outputs false type (Some needed)
 
 -- what is given by the stages before, where a capability is there
-abbrev pub given_by : Capabilities → ShaderStages → BuiltInType → BuiltInRow
-given_by needed inputs type = row inputs NOWHERE false type (Some needed)
+abbrev pub taken_by : Capabilities → ShaderStages → BuiltInType → BuiltInRow
+taken_by needed inputs type = row_with inputs NOWHERE false type (Some needed)
 
 -- what is both, as all that rays know
 abbrev pub both : ShaderStages → BuiltInType → BuiltInRow
-both stages type = row stages stages false type None
+both stages type = row_with stages stages false type None
 
 -- what a mesh shader gives with a primitive alone
 abbrev pub with_primitive : BuiltInType → BuiltInRow
-with_primitive type = row NOWHERE NOWHERE true type (Some MESH_SHADER)
+with_primitive type = row_with NOWHERE NOWHERE true type (Some MESH_SHADER)
 
 -- what stands nowhere: a mesh shader has it in a variable
 abbrev pub never : BuiltInRow
-never = row NOWHERE NOWHERE false uint None
+never = row_with NOWHERE NOWHERE false uint None
 
 abbrev pub built_in_row : BuiltIn → BuiltInRow
-built_in_row PrimitiveIndex = but exception.FreeAtHits (row PRIMITIVES NOWHERE true uint (Some PRIMITIVE_INDEX))
-built_in_row (Position invariant) = row FRAGMENT RASTER false four_floats None
-built_in_row ViewIndex = given_by MULTIVIEW VIEWS uint
-built_in_row BaseInstance = given VERTEX uint
-built_in_row BaseVertex = given VERTEX uint
+built_in_row PrimitiveIndex = but exception.FreeAtHits (row_with PRIMITIVES NOWHERE true uint (Some PRIMITIVE_INDEX))
+built_in_row (Position invariant) = row_with FRAGMENT RASTER false four_floats None
+built_in_row ViewIndex = taken_by MULTIVIEW VIEWS uint
+built_in_row BaseInstance = taken VERTEX uint
+built_in_row BaseVertex = taken VERTEX uint
 built_in_row ClipDistances = gives_by CLIP_DISTANCES RASTER Distances
 built_in_row CullDistance = gives_by CULL_DISTANCE RASTER Distances
-built_in_row InstanceIndex = given INSTANCES uint
+built_in_row InstanceIndex = taken INSTANCES uint
 built_in_row PointSize = gives RASTER float
-built_in_row VertexIndex = given VERTEX uint
-built_in_row DrawIndex = but exception.NotAfterTasks (given_by DRAW_INDEX DRAWS uint)
+built_in_row VertexIndex = taken VERTEX uint
+built_in_row DrawIndex = but exception.NotAfterTasks (taken_by DRAW_INDEX DRAWS uint)
 built_in_row FragDepth = gives FRAGMENT float
-built_in_row PointCoord = given FRAGMENT two_floats
-built_in_row FrontFacing = given FRAGMENT truth
-built_in_row (Barycentric perspective) = given_by SHADER_BARYCENTRICS FRAGMENT three_floats
-built_in_row SampleIndex = given_by MULTISAMPLED_SHADING FRAGMENT uint
+built_in_row PointCoord = taken FRAGMENT two_floats
+built_in_row FrontFacing = taken FRAGMENT truth
+built_in_row (Barycentric perspective) = taken_by SHADER_BARYCENTRICS FRAGMENT three_floats
+built_in_row SampleIndex = taken_by MULTISAMPLED_SHADING FRAGMENT uint
 built_in_row SampleMask = both FRAGMENT uint
-built_in_row GlobalInvocationId = given COMPUTE_LIKE three_uints
-built_in_row LocalInvocationId = given COMPUTE_LIKE three_uints
-built_in_row LocalInvocationIndex = given COMPUTE_LIKE uint
-built_in_row WorkGroupId = given COMPUTE_LIKE three_uints
-built_in_row WorkGroupSize = given COMPUTE_LIKE three_uints
-built_in_row NumWorkGroups = given COMPUTE_LIKE three_uints
-built_in_row NumSubgroups = given_by SUBGROUP COMPUTE_LIKE uint
-built_in_row SubgroupId = but exception.RowsOnly (given_by SUBGROUP COMPUTE_LIKE uint)
-built_in_row SubgroupSize = given_by SUBGROUP SUBGROUPS uint
-built_in_row SubgroupInvocationId = but exception.RowsOnly (given_by SUBGROUP SUBGROUPS uint)
+built_in_row GlobalInvocationId = taken COMPUTE_LIKE three_uints
+built_in_row LocalInvocationId = taken COMPUTE_LIKE three_uints
+built_in_row LocalInvocationIndex = taken COMPUTE_LIKE uint
+built_in_row WorkGroupId = taken COMPUTE_LIKE three_uints
+built_in_row WorkGroupSize = taken COMPUTE_LIKE three_uints
+built_in_row NumWorkGroups = taken COMPUTE_LIKE three_uints
+built_in_row NumSubgroups = taken_by SUBGROUP COMPUTE_LIKE uint
+built_in_row SubgroupId = but exception.RowsOnly (taken_by SUBGROUP COMPUTE_LIKE uint)
+built_in_row SubgroupSize = taken_by SUBGROUP SUBGROUPS uint
+built_in_row SubgroupInvocationId = but exception.RowsOnly (taken_by SUBGROUP SUBGROUPS uint)
 built_in_row MeshTaskSize = gives_by MESH_SHADER TASK three_uints
 built_in_row CullPrimitive = with_primitive truth
 built_in_row PointIndex = with_primitive uint

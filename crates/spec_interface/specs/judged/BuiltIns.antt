@@ -25,11 +25,11 @@ use Rattle.typing_forms.specs.declared.form.Form.TheVariants as form
 -- ---- where it occurs
 
 -- a row says that it goes this way at a stage
-abbrev pub OccursAt : Direction → ShaderStage → BuiltInRow → Type 0
-OccursAt Input stage r = Has r.inputs.0 (stage_set stage).0
-OccursAt Output stage r = Has r.outputs.0 (stage_set stage).0
-OccursAt VertexOutput stage r = Has r.outputs.0 (stage_set stage).0
-OccursAt PrimitiveOutput stage r = Has r.outputs.0 (stage_set stage).0 ⊎ IsTrue r.primitive
+abbrev pub RowOccursAt : Direction → ShaderStage → BuiltInRow → Type 0
+RowOccursAt Input stage r = Has r.inputs.0 (stage_set stage).0
+RowOccursAt Output stage r = Has r.outputs.0 (stage_set stage).0
+RowOccursAt VertexOutput stage r = Has r.outputs.0 (stage_set stage).0
+RowOccursAt PrimitiveOutput stage r = Has r.outputs.0 (stage_set stage).0 ⊎ IsTrue r.primitive
 
 -- what needs no capability at a stage, though its row names one
 abbrev pub IsFree : ShaderStage → Exception → Type 0
@@ -39,26 +39,26 @@ IsFree stage exception.NotAfterTasks = ⊥
 IsFree stage exception.RowsOnly = ⊥
 
 -- workgroups are rows: they have one invocation in all ways but the first
-abbrev pub AreRows : List ℕ → Type 0
-AreRows sizes = (way many : ℕ) → 0 < way → slice_get sizes way ≡ Some many → many ≤ 1
+abbrev pub IsLinearWorkgroup : List ℕ → Type 0
+IsLinearWorkgroup sizes = (way many : ℕ) → 0 < way → slice_get sizes way ≡ Some many → many ≤ 1
 
 -- a mesh shader is ahead of all where no task hands it a payload
-abbrev pub IsAhead : VaryingContext → Type 0
-IsAhead c = c.stage ≡ Mesh → c.payload ≡ None
+abbrev pub HasNoTaskPayload : VaryingContext → Type 0
+HasNoTaskPayload c = c.stage ≡ Mesh → c.payload ≡ None
 
 -- what a row says besides
 abbrev pub ExceptionOK : VaryingContext → Exception → Type 0
 ExceptionOK c exception.None = Unit {0}
 ExceptionOK c exception.FreeAtHits = Unit {0}
-ExceptionOK c exception.NotAfterTasks = IsAhead c
-ExceptionOK c exception.RowsOnly = AreRows c.sizes
+ExceptionOK c exception.NotAfterTasks = HasNoTaskPayload c
+ExceptionOK c exception.RowsOnly = IsLinearWorkgroup c.sizes
 
 -- ---- of which type it is
 
 -- the elements of an array of so many
-abbrev pub array_of : Form → Option (ℕ × ArraySize)
-array_of (form.Array base size stride) = Some (base, size)
-array_of _ = None
+abbrev pub array_of_form : Form → Option (ℕ × ArraySize)
+array_of_form (form.Array base size stride) = Some (base, size)
+array_of_form _ = None
 
 -- it has so many elements, and no override says how many
 abbrev pub IsCounted : ArraySize → (ℕ → Type 0) → Type 0
@@ -68,7 +68,7 @@ IsCounted size.Dynamic P = ⊥
 
 -- floats of four bytes in a row, eight at most
 abbrev pub AreDistances : List PlainType → Form → Type 0
-AreDistances types t = IsSomeAnd (array_of t) (λ a. (form_of_type types a.0 ≡ form.Scalar (floating 4)) × IsCounted a.1 (λ count. count ≤ 8))
+AreDistances types t = IsSomeAnd (array_of_form t) (λ a. (form_of_type types a.0 ≡ form.Scalar (floating 4)) × IsCounted a.1 (λ count. count ≤ 8))
 
 abbrev pub IsOfType : List PlainType → BuiltInType → (type : ℕ) → Type 0
 IsOfType types (Value t) type = form_of_type types type ≡ t
@@ -78,7 +78,7 @@ IsOfType types Distances type = AreDistances types (form_of_type types type)
 
 pub record RowOK (c : VaryingContext) (type : ℕ) (r : BuiltInRow) : Type 0 where
   pub capable : IsFree c.stage r.exception ⊎ IfSome r.capability (λ x. Has c.capabilities.0 x.0)
-  pub stands : OccursAt c.direction c.stage r
+  pub stands : RowOccursAt c.direction c.stage r
   pub besides : ExceptionOK c r.exception
   pub typed : IsOfType c.types r.ty type
 

@@ -7,20 +7,20 @@ use Rattle.ir_flags.specs.declared.settings.Settings.{Settings}
 use Rattle.ir_items.specs.judged.Plain.{PlainEntry, PlainModule}
 use Rattle.spec_interface.specs.judged.Meshes.{MeshOK}
 use Rattle.spec_interface.specs.judged.Payloads.{PayloadOK}
-use Rattle.spec_interface.specs.judged.Results.{AnswerOK}
+use Rattle.spec_interface.specs.judged.Results.{StageResultOK}
 use Rattle.spec_interface.specs.judged.Stages.{StageOK}
 use Rattle.spec_interface.specs.judged.Uses.{EntryUses}
 use Rattle.spec_interface.specs.judged.UsedVariables.{VariablesOK}
 use Rattle.spec_statements.specs.judged.Functions.{Reading, FunctionOK, AllowsStage}
 use Rattle.spec_interface.specs.judged.Contexts.{stage_set}
-use Rattle.spec_interface.specs.judged.Varyings.{ArgumentsOK, ResultOK}
+use Rattle.spec_interface.specs.judged.Varyings.{ArgumentVaryingsOK, ResultVaryingsOK}
 
 -- What connects an entry point with other stages and with hosts: what it is given and gives, and the global variables, which it uses
 -- in this way.
 pub record ConnectionsOK (flags : ValidationFlags) (capabilities : Capabilities) (m : PlainModule) (e : PlainEntry) (Uses : ℕ → ℕ → Type 0) : Type 0 where
-  pub arguments : ArgumentsOK flags capabilities m e
-  pub result : ResultOK flags capabilities m e
-  pub answer : AnswerOK m.types e.stage e.function.result
+  pub arguments : ArgumentVaryingsOK flags capabilities m e
+  pub result : ResultVaryingsOK flags capabilities m e
+  pub answer : StageResultOK m.types e.stage e.function.result
   pub variables : VariablesOK flags m e Uses
   pub mesh : IfSome e.mesh (MeshOK flags capabilities m e)
 

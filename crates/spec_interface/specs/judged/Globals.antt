@@ -13,7 +13,7 @@ use Rattle.ir_kinds.specs.declared.spaces.AddressSpace.{AddressSpace}
 use Rattle.ir_kinds.specs.declared.spaces.AddressSpace.TheVariants.{Private}
 use Rattle.spec_expressions.specs.judged.Overrides.{IsKnownByOverrides}
 use Rattle.spec_expressions.specs.judged.Typing.{HasGlobalType}
-use Rattle.spec_interface.specs.judged.Spaces.{counted, ArraysOK, required, HasAll, space_capability, LiesIn, is_resource, is_storage}
+use Rattle.spec_interface.specs.judged.Spaces.{effective_type, ArraysOK, required, HasAll, space_capability, LiesIn, is_resource, is_storage}
 use Rattle.typing_layout.specs.judged.View.{type_tree}
 use Rattle.typing_forms.specs.judged.Forms.{form_of_type}
 use Rattle.typing_forms.specs.declared.form.Form.{Form}
@@ -35,9 +35,9 @@ pub record BeginsBy (HasForm : (expression : ℕ) → Form → Type 0) (m : Plai
 -- A module may have the variable, by a typing of its global expressions.
 pub record VariableBy (HasForm : (expression : ℕ) → Form → Type 0) (flags : ValidationFlags) (capabilities : Capabilities) (m : PlainModule) (v : PlainGlobal) : Type 0 where
   pub arrays : ArraysOK capabilities v.space m.types v.ty
-  pub needed : IfSome (space_capability v.space (inner_at m.types (counted m.types v.ty))) (λ c. Has capabilities.0 c.0)
-  pub lies : LiesIn flags v.space (inner_at m.types (counted m.types v.ty)) (type_tree m.types (counted m.types v.ty))
-  pub used : HasAll (required v.space) (type_tree m.types (counted m.types v.ty))
+  pub needed : IfSome (space_capability v.space (inner_at m.types (effective_type m.types v.ty))) (λ c. Has capabilities.0 c.0)
+  pub lies : LiesIn flags v.space (inner_at m.types (effective_type m.types v.ty)) (type_tree m.types (effective_type m.types v.ty))
+  pub used : HasAll (required v.space) (type_tree m.types (effective_type m.types v.ty))
   pub bound : Has flags.0 BINDINGS.0 → IsTrue (is_resource v.space) ↔ IsSome v.binding
   pub decorated : DecorationsOK capabilities v.space v.decorations
   pub begins : IfSome v.init (BeginsBy HasForm m v.space v.ty)
@@ -61,7 +61,7 @@ abbrev pub GlobalsOK : ValidationFlags → Capabilities → PlainModule → Type
 GlobalsOK flags capabilities m = (handle : ℕ) → handle < length m.globals → GlobalOK flags capabilities m handle
 
 -- The one at a handle is the first that is not.
-pub record IsFirstFailing (flags : ValidationFlags) (capabilities : Capabilities) (m : PlainModule) (handle : ℕ) : Type 0 where
+pub record IsFirstFailingGlobal (flags : ValidationFlags) (capabilities : Capabilities) (m : PlainModule) (handle : ℕ) : Type 0 where
   pub within : handle < length m.globals
   pub before : (other : ℕ) → other < handle → GlobalOK flags capabilities m other
   pub fails : ¬ GlobalOK flags capabilities m handle

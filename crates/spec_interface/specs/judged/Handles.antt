@@ -16,16 +16,7 @@ handle_kind (inner.Image dim arrayed class) = true
 handle_kind (inner.Sampler comparison) = true
 handle_kind (inner.AccelerationStructure vertex_return) = true
 handle_kind (inner.RayQuery vertex_return) = true
-handle_kind (inner.Scalar s) = false
-handle_kind (inner.Vector n s) = false
-handle_kind (inner.Matrix columns rows s) = false
-handle_kind (inner.CooperativeMatrix columns rows s role) = false
-handle_kind (inner.Atomic s) = false
-handle_kind (inner.Pointer base space) = false
-handle_kind (inner.ValuePointer n s space) = false
-handle_kind (inner.Array base n stride) = false
-handle_kind (inner.Struct members span) = false
-handle_kind (inner.BindingArray base n) = false
+handle_kind _ = false
 
 abbrev pub is_handle : Option PlainInner → Bool
 is_handle (Some (plain i)) = handle_kind i
@@ -98,8 +89,8 @@ class_array_capability (class.Storage format access) = Some STORAGE_TEXTURE_BIND
 class_array_capability class.External = None
 
 -- what binding arrays by handles of this need; of what is left there are none
-abbrev pub handles_capability : Option PlainInner → Option Capabilities
-handles_capability (Some (plain (inner.Image dim arrayed class))) = class_array_capability class
-handles_capability (Some (plain (inner.Sampler comparison))) = Some TEXTURE_AND_SAMPLER_BINDING_ARRAY
-handles_capability (Some (plain (inner.AccelerationStructure vertex_return))) = Some ACCELERATION_STRUCTURE_BINDING_ARRAY
-handles_capability _ = None
+abbrev pub handle_array_capability : Option PlainInner → Option Capabilities
+handle_array_capability (Some (plain (inner.Image dim arrayed class))) = class_array_capability class
+handle_array_capability (Some (plain (inner.Sampler comparison))) = Some TEXTURE_AND_SAMPLER_BINDING_ARRAY
+handle_array_capability (Some (plain (inner.AccelerationStructure vertex_return))) = Some ACCELERATION_STRUCTURE_BINDING_ARRAY
+handle_array_capability _ = None

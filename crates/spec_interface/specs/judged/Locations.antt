@@ -15,7 +15,7 @@ use Rattle.ir_types.specs.declared.types.ArraySize.{ArraySize}
 use Rattle.ir_types.specs.declared.types.ArraySize.TheVariants as size
 use Rattle.typing_layout.specs.judged.Flags.{HasFlag, IoShareable}
 use Rattle.typing_layout.specs.judged.View.{type_tree}
-use Rattle.spec_interface.specs.judged.BuiltIns.{array_of}
+use Rattle.spec_interface.specs.judged.BuiltIns.{array_of_form}
 use Rattle.spec_interface.specs.judged.Contexts.{VaryingContext}
 use Rattle.spec_interface.specs.declared.varyings.Direction.{Direction}
 use Rattle.spec_interface.specs.declared.varyings.Direction.TheVariants.{Input, Output, VertexOutput, PrimitiveOutput}
@@ -27,11 +27,11 @@ use Rattle.typing_forms.specs.declared.form.Form.TheVariants as form
 -- ---- primitives
 
 -- all that a mesh shader gives with a primitive belongs to it, and so may what a fragment is given; nothing else does
-abbrev pub PrimitiveOK : Direction → ShaderStage → (per_primitive : Bool) → Type 0
-PrimitiveOK Input stage per_primitive = IsTrue per_primitive → stage ≡ Fragment
-PrimitiveOK Output stage per_primitive = per_primitive ≡ false
-PrimitiveOK VertexOutput stage per_primitive = per_primitive ≡ false
-PrimitiveOK PrimitiveOutput stage per_primitive = per_primitive ≡ true
+abbrev pub PerPrimitiveOK : Direction → ShaderStage → (per_primitive : Bool) → Type 0
+PerPrimitiveOK Input stage per_primitive = IsTrue per_primitive → stage ≡ Fragment
+PerPrimitiveOK Output stage per_primitive = per_primitive ≡ false
+PerPrimitiveOK VertexOutput stage per_primitive = per_primitive ≡ false
+PerPrimitiveOK PrimitiveOutput stage per_primitive = per_primitive ≡ true
 
 -- ---- values of each vertex
 
@@ -42,44 +42,44 @@ three base (size.Pending override) = None
 three base size.Dynamic = None
 
 abbrev pub of_three : Form → Option ℕ
-of_three t = option_and_then (λ a. three a.0 a.1) (array_of t)
+of_three t = option_and_then (λ a. three a.0 a.1) (array_of_form t)
 
 -- the type that counts: where every vertex gives its own value, that of the elements
-abbrev pub counted : List PlainType → Option Interpolation → (type : ℕ) → Option ℕ
-counted types None type = Some type
-counted types (Some Perspective) type = Some type
-counted types (Some Linear) type = Some type
-counted types (Some Flat) type = Some type
-counted types (Some PerVertex) type = of_three (form_of_type types type)
+abbrev pub varying_type : List PlainType → Option Interpolation → (type : ℕ) → Option ℕ
+varying_type types None type = Some type
+varying_type types (Some Perspective) type = Some type
+varying_type types (Some Linear) type = Some type
+varying_type types (Some Flat) type = Some type
+varying_type types (Some PerVertex) type = of_three (form_of_type types type)
 
-pub record VerticesOK (c : VaryingContext) : Type 0 where
+pub record PerVertexOK (c : VaryingContext) : Type 0 where
   pub fragment : c.stage ≡ Fragment
   pub capable : Has c.capabilities.0 PER_VERTEX.0
 
 -- ---- how a value between vertices is found
 
-abbrev pub is_of_vertex : Sampling → Bool
-is_of_vertex Center = false
-is_of_vertex Centroid = false
-is_of_vertex Sample = false
-is_of_vertex First = true
-is_of_vertex Either = true
+abbrev pub is_flat_sampling : Sampling → Bool
+is_flat_sampling Center = false
+is_flat_sampling Centroid = false
+is_flat_sampling Sample = false
+is_flat_sampling First = true
+is_flat_sampling Either = true
 
 -- which places go with which way of finding a value; the values of each vertex are taken at none
-abbrev pub goes_with : Interpolation → Sampling → Bool
-goes_with Perspective s = not (is_of_vertex s)
-goes_with Linear s = not (is_of_vertex s)
-goes_with Flat s = is_of_vertex s
-goes_with PerVertex s = false
+abbrev pub sampling_fits : Interpolation → Sampling → Bool
+sampling_fits Perspective s = not (is_flat_sampling s)
+sampling_fits Linear s = not (is_flat_sampling s)
+sampling_fits Flat s = is_flat_sampling s
+sampling_fits PerVertex s = false
 
--- a value between vertices has to be found there
+-- where a value is interpolated between vertices
 abbrev pub NeedsInterpolation : Direction → ShaderStage → (per_primitive : Bool) → Type 0
 NeedsInterpolation Input stage per_primitive = (stage ≡ Fragment) × (per_primitive ≡ false)
 NeedsInterpolation Output stage per_primitive = (stage ≡ Vertex) ⊎ (stage ≡ Mesh)
 NeedsInterpolation VertexOutput stage per_primitive = (stage ≡ Vertex) ⊎ (stage ≡ Mesh)
 NeedsInterpolation PrimitiveOutput stage per_primitive = (stage ≡ Vertex) ⊎ (stage ≡ Mesh)
 
--- floats are found in some way, and integers lie in no way between
+-- floats have an interpolation, and integers are flat
 abbrev pub InterpolationOK : ScalarKind → Option Interpolation → Type 0
 InterpolationOK kind.Sint i = i ≡ Some Flat
 InterpolationOK kind.Uint i = i ≡ Some Flat
@@ -95,20 +95,20 @@ kind_of (form.Vector n s) = Some s.kind
 kind_of _ = None
 
 -- a scalar or a vector, which is interpolated where that is required
-abbrev pub IsValue : (between : Type 0) → Option Interpolation → Form → Type 0
-IsValue between i t = IsSomeAnd (kind_of t) (λ kind. between → InterpolationOK kind i)
+abbrev pub IsVaryingValue : (between : Type 0) → Option Interpolation → Form → Type 0
+IsVaryingValue between i t = IsSomeAnd (kind_of t) (λ kind. between → InterpolationOK kind i)
 
 -- ---- the whole
 
 -- A value of the type may go to the location.
 pub record LocationOK (c : VaryingContext) (type : ℕ) (l : Location) : Type 0 where
   pub capable : IsTrue l.per_primitive → Has c.capabilities.0 MESH_SHADER.0
-  pub primitive : PrimitiveOK c.direction c.stage l.per_primitive
-  pub vertices : l.interpolation ≡ Some PerVertex → VerticesOK c
+  pub primitive : PerPrimitiveOK c.direction c.stage l.per_primitive
+  pub vertices : l.interpolation ≡ Some PerVertex → PerVertexOK c
   pub element : ℕ
-  pub counts : counted c.types l.interpolation type ≡ Some element
+  pub counts : varying_type c.types l.interpolation type ≡ Some element
   pub shared : HasFlag IoShareable (type_tree c.types element)
-  pub value : l.interpolation ≢ Some PerVertex → IsValue (NeedsInterpolation c.direction c.stage l.per_primitive) l.interpolation (form_of_type c.types type)
+  pub value : l.interpolation ≢ Some PerVertex → IsVaryingValue (NeedsInterpolation c.direction c.stage l.per_primitive) l.interpolation (form_of_type c.types type)
   pub alone : l.blend_src ≡ None
-  pub sampled : (i : Interpolation) (s : Sampling) → l.interpolation ≡ Some i → l.sampling ≡ Some s → goes_with i s ≡ true
+  pub sampled : (i : Interpolation) (s : Sampling) → l.interpolation ≡ Some i → l.sampling ≡ Some s → sampling_fits i s ≡ true
   pub multisampled : l.sampling ≡ Some Sample → Has c.capabilities.0 MULTISAMPLED_SHADING.0

@@ -31,11 +31,11 @@ topology_of (Some (BuiltIn built_in.TriangleIndices)) = Some Triangles
 topology_of _ = None
 
 -- of each member that names vertices
-abbrev pub topologies : List PlainMember → List MeshOutputTopology
-topologies members = filter_map (λ (m : PlainMember). topology_of m.binding) members
+abbrev pub member_topologies : List PlainMember → List MeshOutputTopology
+member_topologies members = filter_map (λ (m : PlainMember). topology_of m.binding) members
 
 abbrev pub topologies_of : Option (List PlainMember) → List MeshOutputTopology
-topologies_of (Some members) = topologies members
+topologies_of (Some members) = member_topologies members
 topologies_of None = []
 
 -- of the struct that the type at a handle is
@@ -45,12 +45,12 @@ topologies_at types type = topologies_of (members_at types type)
 -- ---- what a mesh shader gives
 
 -- the part that is bound
-abbrev pub part_of : Option Binding → Option MeshPart
-part_of (Some (BuiltIn built_in.VertexCount)) = Some VertexCount
-part_of (Some (BuiltIn built_in.Vertices)) = Some Vertices
-part_of (Some (BuiltIn built_in.PrimitiveCount)) = Some PrimitiveCount
-part_of (Some (BuiltIn built_in.Primitives)) = Some Primitives
-part_of _ = None
+abbrev pub mesh_part_of : Option Binding → Option MeshPart
+mesh_part_of (Some (BuiltIn built_in.VertexCount)) = Some VertexCount
+mesh_part_of (Some (BuiltIn built_in.Vertices)) = Some Vertices
+mesh_part_of (Some (BuiltIn built_in.PrimitiveCount)) = Some PrimitiveCount
+mesh_part_of (Some (BuiltIn built_in.Primitives)) = Some Primitives
+mesh_part_of _ = None
 
 abbrev pub same_part : MeshPart → MeshPart → Bool
 same_part VertexCount VertexCount = true
@@ -65,7 +65,7 @@ is_part part (Some other) = same_part part other
 
 -- its type, where it is bound to the part
 abbrev pub type_bound : MeshPart → PlainMember → Option ℕ
-type_bound part m = if is_part part (part_of m.binding) then Some m.ty else None
+type_bound part m = if is_part part (mesh_part_of m.binding) then Some m.ty else None
 
 -- the types of the members that are bound to a part
 abbrev pub types_bound : MeshPart → List PlainMember → List ℕ

@@ -6,7 +6,7 @@ use Rattle.ir_kinds.specs.declared.bindings.ResourceBinding.{ResourceBinding}
 use Rattle.ir_kinds.specs.declared.spaces.AddressSpace.{AddressSpace}
 use Rattle.ir_kinds.specs.declared.spaces.AddressSpace.TheVariants.{TaskPayload}
 use Rattle.ir_kinds.specs.declared.stages.ShaderStage.{ShaderStage}
-use Rattle.ir_kinds.specs.declared.stages.ShaderStage.TheVariants.{Vertex, Fragment, Compute, Mesh, Task, RayGeneration, AnyHit, ClosestHit, Miss}
+use Rattle.ir_kinds.specs.declared.stages.ShaderStage.TheVariants.{Mesh, Task}
 
 -- where the global variable at a handle lies, and what a host binds it to
 abbrev pub space_at : PlainModule → ℕ → Option AddressSpace
@@ -17,15 +17,9 @@ binding_at m g = option_and_then (λ (v : PlainGlobal). v.binding) (slice_get m.
 
 -- a task shader hands a payload on, and a mesh shader may be handed one
 abbrev pub has_payload : ShaderStage → Bool
-has_payload Vertex = false
-has_payload Fragment = false
-has_payload Compute = false
 has_payload Mesh = true
 has_payload Task = true
-has_payload RayGeneration = false
-has_payload AnyHit = false
-has_payload ClosestHit = false
-has_payload Miss = false
+has_payload _ = false
 
 pub record PayloadOK (m : PlainModule) (e : PlainEntry) : Type 0 where
   pub handed : e.stage ≡ Task → IsSome e.payload

@@ -19,7 +19,7 @@ pub record GivesTaskSize (types : List PlainType) (r : Option FunctionResult) : 
 
 -- A vertex shader answers where a vertex lies, a task shader sizes, and a mesh shader nothing. How answers are bound is checked
 -- beside.
-pub record AnswerOK (types : List PlainType) (stage : ShaderStage) (r : Option FunctionResult) : Type 0 where
+pub record StageResultOK (types : List PlainType) (stage : ShaderStage) (r : Option FunctionResult) : Type 0 where
   pub vertex : stage ≡ Vertex → HasBuiltIn (result_varyings types r) (Position false)
   pub task : stage ≡ Task → GivesTaskSize types r
   pub mesh : stage ≡ Mesh → r ≡ None

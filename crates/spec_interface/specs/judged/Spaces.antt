@@ -10,13 +10,12 @@ use Rattle.ir_kinds.specs.declared.spaces.AddressSpace.{AddressSpace}
 use Rattle.ir_kinds.specs.declared.spaces.AddressSpace.TheVariants.{Function, Private, WorkGroup, Uniform, Storage, Handle, Immediate, TaskPayload, RayPayload, IncomingRayPayload}
 use Rattle.ir_types.specs.judged.Plain.{PlainInner, plain, PlainType}
 use Rattle.ir_types.specs.declared.types.TypeInner.TheVariants as inner
-use Rattle.typing_layout.specs.judged.Buffers.{IsStorage, IsUniform}
+use Rattle.typing_layout.specs.judged.Buffers.{FitsStorageBuffer, FitsUniformBuffer}
 use Rattle.typing_layout.specs.judged.Flags.{TypeFlag, Data, Sized, Copy, HostShareable, CreationResolved, Constructible, HasFlag, among}
 use Rattle.typing_layout.specs.judged.Immediates.{FitsImmediates}
-use Rattle.spec_interface.specs.judged.Handles.{is_handle, handle_capability, handles_capability}
+use Rattle.spec_interface.specs.judged.Handles.{is_handle, handle_capability, handle_array_capability}
 use Rattle.typing_layout.specs.judged.Layout.{size}
 use Rattle.typing_layout.specs.judged.Tree.{Tree}
-use Rattle.typing_layout.specs.judged.View.{type_tree}
 use Rattle.typing_forms.specs.judged.Resolutions.{inner_at}
 
 -- ---- binding arrays
@@ -27,14 +26,14 @@ array_base (Some (plain (inner.BindingArray base n))) = Some base
 array_base _ = None
 
 -- the type whose rules count: of a binding array that of its elements
-abbrev pub counted : List PlainType → (type : ℕ) → ℕ
-counted types type = unwrap_or (array_base (inner_at types type)) type
+abbrev pub effective_type : List PlainType → (type : ℕ) → ℕ
+effective_type types type = unwrap_or (array_base (inner_at types type)) type
 
 -- what a binding array of what is made of this needs in a space; in those that are left there is none
 abbrev pub array_capability : AddressSpace → (base : Option PlainInner) → Option Capabilities
 array_capability (Storage access) base = Some STORAGE_BUFFER_BINDING_ARRAY
 array_capability Uniform base = Some BUFFER_BINDING_ARRAY
-array_capability Handle base = handles_capability base
+array_capability Handle base = handle_array_capability base
 array_capability Function base = None
 array_capability Private base = None
 array_capability WorkGroup base = None
@@ -44,14 +43,14 @@ array_capability RayPayload base = None
 array_capability IncomingRayPayload base = None
 
 -- it may be a binding array of this
-pub record BindingArrayOK (capabilities : Capabilities) (space : AddressSpace) (base : Option PlainInner) : Type 0 where
+pub record HasArrayCapability (capabilities : Capabilities) (space : AddressSpace) (base : Option PlainInner) : Type 0 where
   pub capability : Capabilities
   pub needed : array_capability space base ≡ Some capability
   pub has : Has capabilities.0 capability.0
 
 -- if it is one
 abbrev pub ArraysOK : Capabilities → AddressSpace → List PlainType → (type : ℕ) → Type 0
-ArraysOK capabilities space types type = IfSome (array_base (inner_at types type)) (λ base. BindingArrayOK capabilities space (inner_at types base))
+ArraysOK capabilities space types type = IfSome (array_base (inner_at types type)) (λ base. HasArrayCapability capabilities space (inner_at types base))
 
 -- ---- flags
 
@@ -90,8 +89,8 @@ space_capability IncomingRayPayload i = Some RAY_TRACING_PIPELINE
 -- do, where that is required; none is written alone. A payload of a task takes some bytes.
 abbrev pub LiesIn : ValidationFlags → AddressSpace → Option PlainInner → Tree → Type 0
 LiesIn flags Function i t = ⊥
-LiesIn flags (Storage access) i t = (Has flags.0 STRUCT_LAYOUTS.0 → IsStorage t) × (access ≢ STORE)
-LiesIn flags Uniform i t = Has flags.0 STRUCT_LAYOUTS.0 → IsUniform t
+LiesIn flags (Storage access) i t = (Has flags.0 STRUCT_LAYOUTS.0 → FitsStorageBuffer t) × (access ≢ STORE)
+LiesIn flags Uniform i t = Has flags.0 STRUCT_LAYOUTS.0 → FitsUniformBuffer t
 LiesIn flags Handle i t = IsTrue (is_handle i)
 LiesIn flags Private i t = Unit {0}
 LiesIn flags WorkGroup i t = Unit {0}

@@ -32,7 +32,7 @@ stage_capability AnyHit = Some RAY_TRACING_PIPELINE
 stage_capability ClosestHit = Some RAY_TRACING_PIPELINE
 stage_capability Miss = Some RAY_TRACING_PIPELINE
 
--- how many invocations a workgroup may have one way, where there are workgroups; else none is said
+-- the size of a workgroup in one dimension: from 1 to the greatest where the stage runs in workgroups, else 0
 abbrev pub SizeOK : (workgroups : Bool) → ℕ → Type 0
 SizeOK true n = (1 ≤ n) × (n ≤ MAX_WORKGROUP_SIZE)
 SizeOK false n = n ≡ 0

@@ -11,7 +11,7 @@ use Rattle.ir_kinds.specs.declared.spaces.AddressSpace.TheVariants.{Immediate, T
 use Rattle.ir_types.specs.judged.Plain.{PlainInner}
 use Rattle.spec_interface.specs.judged.Payloads.{space_at, binding_at}
 use Rattle.spec_interface.specs.judged.Uses.{allowed_uses, is_reached}
-use Rattle.spec_interface.specs.judged.Spaces.{counted}
+use Rattle.spec_interface.specs.judged.Spaces.{effective_type}
 use Rattle.typing_layout.specs.judged.Layout.{size}
 use Rattle.typing_layout.specs.judged.View.{type_tree}
 use Rattle.typing_forms.specs.judged.Resolutions.{inner_at}
@@ -30,15 +30,15 @@ pub record OwnPayloadOK (m : PlainModule) (e : PlainEntry) (g : ℕ) (v : PlainG
   pub bytes : least_payload ≤ size (type_tree m.types v.ty)
 
 -- what the variable is made of; of a binding array what its elements are made of
-abbrev pub counted_inner : PlainModule → PlainGlobal → Option PlainInner
-counted_inner m v = inner_at m.types (counted m.types v.ty)
+abbrev pub effective_inner : PlainModule → PlainGlobal → Option PlainInner
+effective_inner m v = inner_at m.types (effective_type m.types v.ty)
 
 -- these ways to use the variable are allowed
 abbrev pub AllowsUses : PlainModule → PlainEntry → PlainGlobal → (Uses : (k : ℕ) → Type 0) → Type 0
-AllowsUses m e v Uses = (k : ℕ) → Uses k → bit_at (allowed_uses e.stage v.space (counted_inner m v)).0 k ≡ 1
+AllowsUses m e v Uses = (k : ℕ) → Uses k → bit_at (allowed_uses e.stage v.space (effective_inner m v)).0 k ≡ 1
 
 -- the entry point may use the variable in these ways
-pub record VariableOK (m : PlainModule) (e : PlainEntry) (g : ℕ) (v : PlainGlobal) (Uses : (k : ℕ) → Type 0) : Type 0 where
+pub record UsedVariableOK (m : PlainModule) (e : PlainEntry) (g : ℕ) (v : PlainGlobal) (Uses : (k : ℕ) → Type 0) : Type 0 where
   pub payload : v.space ≡ TaskPayload → OwnPayloadOK m e g v
   pub reached : IsTrue (is_reached e.stage v.space)
   pub allowed : AllowsUses m e v Uses
@@ -50,7 +50,7 @@ abbrev pub BindingsApart : PlainModule → (ℕ → ℕ → Type 0) → Type 0
 BindingsApart m Uses = (g h : ℕ) (b : ResourceBinding) → IsUsed Uses g → IsUsed Uses h → binding_at m g ≡ Some b → binding_at m h ≡ Some b → g ≡ h
 
 abbrev pub EachOK : PlainModule → PlainEntry → (ℕ → ℕ → Type 0) → Type 0
-EachOK m e Uses = (g : ℕ) (v : PlainGlobal) → slice_get m.globals g ≡ Some v → IsUsed Uses g → VariableOK m e g v (Uses g)
+EachOK m e Uses = (g : ℕ) (v : PlainGlobal) → slice_get m.globals g ≡ Some v → IsUsed Uses g → UsedVariableOK m e g v (Uses g)
 
 -- The entry point may use all that it uses; it uses one immediate at most, and no two variables that a host binds to the same.
 pub record VariablesOK (flags : ValidationFlags) (m : PlainModule) (e : PlainEntry) (Uses : ℕ → ℕ → Type 0) : Type 0 where

@@ -90,16 +90,16 @@ traces_rays ClosestHit = true
 traces_rays Miss = true
 
 -- it runs for a ray that has one
-abbrev pub is_run_for_rays : ShaderStage → Bool
-is_run_for_rays Vertex = false
-is_run_for_rays Fragment = false
-is_run_for_rays Compute = false
-is_run_for_rays Mesh = false
-is_run_for_rays Task = false
-is_run_for_rays RayGeneration = false
-is_run_for_rays AnyHit = true
-is_run_for_rays ClosestHit = true
-is_run_for_rays Miss = true
+abbrev pub sees_incoming_payload : ShaderStage → Bool
+sees_incoming_payload Vertex = false
+sees_incoming_payload Fragment = false
+sees_incoming_payload Compute = false
+sees_incoming_payload Mesh = false
+sees_incoming_payload Task = false
+sees_incoming_payload RayGeneration = false
+sees_incoming_payload AnyHit = true
+sees_incoming_payload ClosestHit = true
+sees_incoming_payload Miss = true
 
 -- a stage has variables in a space at all
 abbrev pub is_reached : ShaderStage → AddressSpace → Bool
@@ -112,7 +112,7 @@ is_reached stage space.Handle = true
 is_reached stage space.Immediate = true
 is_reached stage space.TaskPayload = true
 is_reached stage space.RayPayload = traces_rays stage
-is_reached stage space.IncomingRayPayload = is_run_for_rays stage
+is_reached stage space.IncomingRayPayload = sees_incoming_payload stage
 
 -- ---- what an entry point does with the variables that it names beside its function
 

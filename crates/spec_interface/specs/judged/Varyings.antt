@@ -108,8 +108,8 @@ abbrev pub ShowsAt : {A : Type 0} → (Bound → Option A) → List Varying → 
 ShowsAt shown vs place x = (v : Varying) × (slice_get vs place ≡ Some v) × (shown v.bound ≡ Some x)
 
 -- no two show the same
-abbrev pub AreApart : {A : Type 0} → (Bound → Option A) → List Varying → Type 0
-AreApart {A} shown vs = (first second : ℕ) (x : A) → first < second → ShowsAt shown vs first x → ¬ ShowsAt shown vs second x
+abbrev pub VaryingsApart : {A : Type 0} → (Bound → Option A) → List Varying → Type 0
+VaryingsApart {A} shown vs = (first second : ℕ) (x : A) → first < second → ShowsAt shown vs first x → ¬ ShowsAt shown vs second x
 
 -- the built-in value is among them
 abbrev pub HasBuiltIn : List Varying → BuiltIn → Type 0
@@ -132,16 +132,16 @@ BoundOK c (NoMember place) = ¬ Has c.flags.0 BINDINGS.0
 -- Each is as it should be, no built-in value stands twice, and no location is taken twice where that is required.
 pub record VaryingsOK (c : VaryingContext) (vs : List Varying) : Type 0 where
   pub each : (place : ℕ) (v : Varying) → slice_get vs place ≡ Some v → BoundOK c v.bound
-  pub once : AreApart built_in_of vs
-  pub apart : Has c.flags.0 BINDINGS.0 → AreApart location_of vs
+  pub once : VaryingsApart built_in_of vs
+  pub apart : Has c.flags.0 BINDINGS.0 → VaryingsApart location_of vs
 
 -- ---- of an entry point
 
-abbrev pub ArgumentsOK : ValidationFlags → Capabilities → PlainModule → PlainEntry → Type 0
-ArgumentsOK flags capabilities m e = VaryingsOK (context_of flags capabilities m e Input) (argument_varyings m.types e.function.arguments)
+abbrev pub ArgumentVaryingsOK : ValidationFlags → Capabilities → PlainModule → PlainEntry → Type 0
+ArgumentVaryingsOK flags capabilities m e = VaryingsOK (context_of flags capabilities m e Input) (argument_varyings m.types e.function.arguments)
 
-abbrev pub ResultOK : ValidationFlags → Capabilities → PlainModule → PlainEntry → Type 0
-ResultOK flags capabilities m e = VaryingsOK (context_of flags capabilities m e Output) (result_varyings m.types e.function.result)
+abbrev pub ResultVaryingsOK : ValidationFlags → Capabilities → PlainModule → PlainEntry → Type 0
+ResultVaryingsOK flags capabilities m e = VaryingsOK (context_of flags capabilities m e Output) (result_varyings m.types e.function.result)
 
 -- of a mesh shader whose vertices, or whose primitives, are of this type
 abbrev pub VertexOutputOK : ValidationFlags → Capabilities → PlainModule → PlainEntry → (type : ℕ) → Type 0

@@ -8,9 +8,9 @@ use Rattle.ir_items.specs.judged.Plain.{PlainFunction, PlainModule}
 use Rattle.spec_statements.specs.judged.Scope.{Introduces}
 use Rattle.spec_statements.specs.judged.Tables.{introduced}
 use Rattle.spec_runs.specs.judged.Events.{Event, entered, executed, introduced_expression, used, passed, returned, fell_off}
-use Rattle.spec_runs.specs.judged.Machine.{Frame, mentioned_at, operands_of, callee_frame, entry_frame, trace_of}
+use Rattle.spec_runs.specs.judged.Machine.{Frame, mentioned_at, introduced_operands, callee_frame, entry_frame, trace_of}
 use Rattle.spec_statements.specs.found.SureLevel.{visible_by}
-use Rattle.spec_runs.specs.judged.Scoping.{UsedOperands, Scoping, IsLawful, AreThere}
+use Rattle.spec_runs.specs.judged.Scoping.{UsedOperands, Scoping, IsLawful, AreUsable}
 
 -- In each frame that is fine the statements leave their blocks as they may, P holds of the events that may arise there, and the
 -- frames of calls are fine again. A use may arise where all that is in scope at its place is there, and an expression's uses as it
@@ -23,11 +23,11 @@ pub record IsInvariant (u : UsedOperands) (g : Scoping) (m : PlainModule) (Fine 
   pub executes : (frame : Frame) → Fine frame → (p : Place) (s : PlainStatement) → OccursAt frame.function.body p s → P (executed frame.function p)
   pub introduces : (frame : Frame) → Fine frame → (p : Place) (e : ℕ) → Introduces frame.function.body p e → P (introduced_expression frame.function e)
   pub mentions : (frame : Frame) → Fine frame → (e : ℕ) → AllByRecursion P (mentioned_at frame (slice_get frame.function.expressions e))
-  pub uses : (frame : Frame) → Fine frame → (p : Place) (live skipped : List ℕ) → AreThere g frame.function live skipped (visible_by g.level [] p frame.function.body)
+  pub uses : (frame : Frame) → Fine frame → (p : Place) (live skipped : List ℕ) → AreUsable g frame.function live skipped (visible_by g.level [] p frame.function.body)
       → (o : ℕ) → Contains (u.at_spot (spot_at p frame.function.body)) o → P (used frame.function live skipped o)
   pub uses_of_introduced : (frame : Frame) → Fine frame → (p : Place) (s : PlainStatement) → OccursAt frame.function.body p s → (before : List ℕ) (e : ℕ) (after : List ℕ) → introduced s ≡ before ++ (e ∷ after)
-      → (live skipped : List ℕ) → AreThere g frame.function live skipped (visible_by g.level [] p frame.function.body ++ before)
-      → (o : ℕ) → Contains (operands_of u (slice_get frame.function.expressions e)) o → P (used frame.function live skipped o)
+      → (live skipped : List ℕ) → AreUsable g frame.function live skipped (visible_by g.level [] p frame.function.body ++ before)
+      → (o : ℕ) → Contains (introduced_operands u (slice_get frame.function.expressions e)) o → P (used frame.function live skipped o)
   pub returns : (frame : Frame) → Fine frame → (p : Place) (value : Option ℕ) → OccursAt frame.function.body p (return value) → P (returned frame.function value)
   pub falls : (frame : Frame) → Fine frame → (last : Option Place) → P (fell_off frame.function last)
 

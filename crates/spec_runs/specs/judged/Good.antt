@@ -7,14 +7,14 @@ use Rattle.ir_blocks.specs.judged.Plain.{PlainStatement}
 use Rattle.ir_items.specs.judged.Plain.{PlainArgument, PlainFunction, PlainModule}
 use Rattle.spec_expressions.specs.declared.sampling.GlobalOrArgument.TheVariants.{Global}
 use Rattle.typing_forms.specs.judged.Forms.{form_of_type}
-use Rattle.spec_expressions.specs.judged.CallChains.{Reaches, Names, HasPair}
+use Rattle.spec_expressions.specs.judged.CallChains.{Reaches, NamesGlobal, HasPair}
 use Rattle.spec_expressions.specs.judged.Typing.{HasType}
 use Rattle.spec_statements.specs.judged.ExpressionStages.{stages_of}
 use Rattle.spec_statements.specs.judged.Scope.{PreEmitted}
 use Rattle.spec_statements.specs.judged.Stages.{statement_stages}
 use Rattle.spec_runs.specs.judged.Events.{Event, entered, executed, introduced_expression, named, sampled, used, passed, returned, fell_off, escaped}
 use Rattle.spec_runs.specs.judged.FinalSwitches.{LeavesFinalSwitch}
-use Rattle.spec_runs.specs.judged.Scoping.{Scoping, IsThere}
+use Rattle.spec_runs.specs.judged.Scoping.{Scoping, IsUsable}
 
 -- ---- depth
 
@@ -44,7 +44,7 @@ TypesOK m _ = Unit {0}
 
 -- An operand that is used may be used there, by what counts as being there; a stricter scope leaves out what a continue skipped.
 abbrev pub UsesOK : Scoping → Event → Type 0
-UsesOK g (used f live skipped e) = IsThere g f live skipped e
+UsesOK g (used f live skipped e) = IsUsable g f live skipped e
 UsesOK g _ = Unit {0}
 
 -- it is always in scope, live, or skipped by a continue
@@ -61,7 +61,7 @@ SurelyLiveOK _ = Unit {0}
 
 -- a global variable that is named is one of the module, and something reached from the function where the run begins names it
 abbrev pub NamedOK : PlainModule → PlainFunction → Event → Type 0
-NamedOK m f (named g) = (g < length m.globals) × Reaches m f (Names g)
+NamedOK m f (named g) = (g < length m.globals) × Reaches m f (NamesGlobal g)
 NamedOK m f _ = Unit {0}
 
 -- a pair that is sampled is one of that function

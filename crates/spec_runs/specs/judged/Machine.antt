@@ -12,7 +12,7 @@ use Rattle.ir_blocks.specs.judged.Plain.{PlainStatement, emit, block, if_, switc
 use Rattle.ir_blocks.specs.judged.Shapes.{inner, accepting, rejecting, case_at, loop_body, loop_continuing}
 use Rattle.ir_blocks.specs.judged.Places.{Place, here, later, inside, statement, loop_condition}
 use Rattle.ir_items.specs.judged.Plain.{PlainFunction, PlainEntry, PlainModule}
-use Rattle.spec_expressions.specs.judged.CallChains.{place}
+use Rattle.spec_expressions.specs.judged.CallChains.{global_or_argument}
 use Rattle.spec_expressions.specs.judged.StatementNames.{statement_operands}
 use Rattle.spec_statements.specs.judged.Tables.{introduced}
 use Rattle.spec_statements.specs.judged.Visible.{top_level}
@@ -76,19 +76,20 @@ answered (a ∷ more) now go = go a (record now { answers = more })
 
 -- ---- global variables
 
--- the global variable that something denotes, where the frame's arguments denote theirs
+-- what a frame says of an argument; nothing where it has no such argument
 abbrev pub argument_global : Option (Option ℕ) → Option ℕ
 argument_global (Some g) = g
 argument_global None = None
 
+-- the global variable that something denotes, where the frame's arguments denote these
 abbrev pub global_meant : List (Option ℕ) → Option GlobalOrArgument → Option ℕ
 global_meant arguments (Some (Global g)) = Some g
 global_meant arguments (Some (Argument n)) = argument_global (slice_get arguments n)
 global_meant arguments None = None
 
 -- the one that an expression denotes in a frame
-abbrev pub denotes : Frame → ℕ → Option ℕ
-denotes frame e = global_meant frame.arguments (place frame.function.expressions e)
+abbrev pub global_denoted : Frame → ℕ → Option ℕ
+global_denoted frame e = global_meant frame.arguments (global_or_argument frame.function.expressions e)
 
 abbrev pub pair_of : Option ℕ → Option ℕ → List Event
 pair_of (Some image) (Some sampler) = sampled image sampler ∷ []
@@ -98,7 +99,7 @@ pair_of None sampler = []
 -- a global variable is named, and a sampling samples what its image and its sampler denote
 abbrev pub mentioned_at : Frame → Option PlainExpression → List Event
 mentioned_at frame (Some (plain (GlobalVariable g))) = named g ∷ []
-mentioned_at frame (Some (plain (ImageSample image sampler gathers coordinate array_index offset level depth_ref clamp_to_edge))) = pair_of (denotes frame image) (denotes frame sampler)
+mentioned_at frame (Some (plain (ImageSample image sampler gathers coordinate array_index offset level depth_ref clamp_to_edge))) = pair_of (global_denoted frame image) (global_denoted frame sampler)
 mentioned_at frame _ = []
 
 -- what these expressions mention, and their operands at any depth
@@ -110,9 +111,9 @@ mentions frame expressions = flat_map (λ e. mentioned_at frame (slice_get frame
 abbrev pub uses : Frame → List ℕ → Configuration → Configuration
 uses frame operands now = happen (map (used frame.function now.live now.skipped) operands) now
 
-abbrev pub operands_of : UsedOperands → Option PlainExpression → List ℕ
-operands_of u (Some expression) = u.at_introduction expression
-operands_of u None = []
+abbrev pub introduced_operands : UsedOperands → Option PlainExpression → List ℕ
+introduced_operands u (Some expression) = u.at_introduction expression
+introduced_operands u None = []
 
 -- a statement begins: it is executed, its operands mention global variables, and are used
 abbrev pub begins : UsedOperands → Frame → Place → PlainStatement → Configuration → Configuration
@@ -123,7 +124,7 @@ begins u frame p s now =
 abbrev pub introduces_one : UsedOperands → Frame → ℕ → Configuration → Configuration
 introduces_one u frame e now =
     let begun = happen (introduced_expression frame.function e ∷ mentions frame (e ∷ [])) now in
-    record (uses frame (operands_of u (slice_get frame.function.expressions e)) begun) { live = now.live ++ (e ∷ []) }
+    record (uses frame (introduced_operands u (slice_get frame.function.expressions e)) begun) { live = now.live ++ (e ∷ []) }
 
 -- so are these, one after the other
 abbrev pub introduces : UsedOperands → Frame → List ℕ → Configuration → Configuration
@@ -136,7 +137,7 @@ introduces u frame (e ∷ es) now = introduces u frame es (introduces_one u fram
 abbrev pub leave_scope : Configuration → Outcome → Outcome
 leave_scope start r = completes r.completion (record r.after { live = start.live; skipped = start.skipped })
 
--- goes on after a normal completion, where the statements to come would introduce these
+-- goes on after a normal completion; what a continue leaves out is then what the statements to come would introduce
 abbrev pub sequence : (coming : List ℕ) → Completion → Configuration → (Configuration → Outcome) → Outcome
 sequence coming normal now go = go now
 sequence coming by_break now go = completes by_break now
@@ -163,10 +164,10 @@ Evaluation = Task → Configuration → Outcome
 
 -- ---- if and switch
 
--- 0 rejects
-abbrev pub side : (rejects : Bool) → (Place → Place) → (accept reject : PlainBlock) → Task
-side true at accept reject = in_block (λ p. at (inside rejecting p)) reject
-side false at accept reject = in_block (λ p. at (inside accepting p)) accept
+-- the branch that an if takes
+abbrev pub taken_branch : (rejects : Bool) → (Place → Place) → (accept reject : PlainBlock) → Task
+taken_branch true at accept reject = in_block (λ p. at (inside rejecting p)) reject
+taken_branch false at accept reject = in_block (λ p. at (inside accepting p)) accept
 
 abbrev pub is_value : SwitchValue → ℤ → Bool
 is_value (I32 z) a = int_eq z a
@@ -270,7 +271,7 @@ module _ (u : UsedOperands) (frame : Frame) (go : Evaluation) (l : Loop) (start 
 
 -- the callee's frame, one deeper
 abbrev pub callee_frame : Frame → PlainFunction → List ℕ → Frame
-callee_frame frame callee arguments = record { depth = frame.depth + 1; function = callee; arguments = map (denotes frame) arguments }
+callee_frame frame callee arguments = record { depth = frame.depth + 1; function = callee; arguments = map (global_denoted frame) arguments }
 
 -- nothing is live there yet
 abbrev pub enters : Frame → PlainFunction → List ℕ → Configuration → Configuration
@@ -300,7 +301,7 @@ eval_call (Some callee) go frame arguments now =
 abbrev pub eval_statement : PlainModule → (Frame → Evaluation) → Frame → (Place → Place) → PlainStatement → Configuration → Outcome
 eval_statement m go frame at (emit first end) now = completes normal now
 eval_statement m go frame at (block b) now = leave_scope now (go frame (in_block (λ p. at (inside inner p)) b) now)
-eval_statement m go frame at (if_ condition accept reject) now = answered now.answers now (λ a s. leave_scope now (go frame (side (int_eq a (pos 0)) at accept reject) s))
+eval_statement m go frame at (if_ condition accept reject) now = answered now.answers now (λ a s. leave_scope now (go frame (taken_branch (int_eq a (pos 0)) at accept reject) s))
 eval_statement m go frame at (switch selector cases) now =
     answered now.answers now (λ a s. let c = chosen a (λ n p. at (inside (case_at n) p)) cases in leave_switch now (eval_cases (go frame) c.at c.cases s))
 eval_statement m go frame at (loop body continuing break_if) now = leave_scope now (go frame (in_loop (record { at = at; body = body; continuing = continuing; break_if = break_if })) now)

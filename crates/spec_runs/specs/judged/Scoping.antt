@@ -43,12 +43,12 @@ abbrev pub without_skipped : Scoping
 without_skipped = record { level = sure_level; excuses = false }
 
 -- the expression may be used where these are live and these skipped
-abbrev pub IsThere : Scoping → PlainFunction → (live skipped : List ℕ) → (expression : ℕ) → Type 0
-IsThere g f live skipped e = PreEmitted f e ⊎ (Contains live e ⊎ (IsTrue g.excuses × Contains skipped e))
+abbrev pub IsUsable : Scoping → PlainFunction → (live skipped : List ℕ) → (expression : ℕ) → Type 0
+IsUsable g f live skipped e = PreEmitted f e ⊎ (Contains live e ⊎ (IsTrue g.excuses × Contains skipped e))
 
 -- so may each of these
-pub record AreThere (g : Scoping) (f : PlainFunction) (live skipped expressions : List ℕ) : Type 0 where
-  pub each : (e : ℕ) → Contains expressions e → IsThere g f live skipped e
+pub record AreUsable (g : Scoping) (f : PlainFunction) (live skipped expressions : List ℕ) : Type 0 where
+  pub each : (e : ℕ) → Contains expressions e → IsUsable g f live skipped e
 
 -- ---- what is in scope at a place
 

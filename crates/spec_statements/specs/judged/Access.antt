@@ -69,39 +69,7 @@ known_length types form.Nothing = None
 -- the literal that an expression is
 abbrev pub literal_in : Expression → Option Literal
 literal_in (x.Literal value) = Some value
-literal_in (x.Constant constant) = None
-literal_in (x.Override override) = None
-literal_in (x.ZeroValue type) = None
-literal_in (x.Compose type components) = None
-literal_in (x.Access base index) = None
-literal_in (x.AccessIndex base index) = None
-literal_in (x.Splat size value) = None
-literal_in (x.Swizzle size vector pattern) = None
-literal_in (x.FunctionArgument number) = None
-literal_in (x.GlobalVariable global) = None
-literal_in (x.LocalVariable local) = None
-literal_in (x.Load pointer) = None
-literal_in (x.ImageSample image sampler gather coordinate array_index offset level depth_ref clamp_to_edge) = None
-literal_in (x.ImageLoad image coordinate array_index sample level) = None
-literal_in (x.ImageQuery image query) = None
-literal_in (x.Unary op expr) = None
-literal_in (x.Binary op left right) = None
-literal_in (x.Select condition accept reject) = None
-literal_in (x.Derivative axis ctrl expr) = None
-literal_in (x.Relational fun argument) = None
-literal_in (x.Math fun arg arg1 arg2 arg3) = None
-literal_in (x.As expr kind convert) = None
-literal_in (x.CallResult function) = None
-literal_in (x.AtomicResult type comparison) = None
-literal_in (x.WorkGroupUniformLoadResult type) = None
-literal_in (x.ArrayLength array) = None
-literal_in (x.RayQueryVertexPositions query committed) = None
-literal_in x.RayQueryProceedResult = None
-literal_in (x.RayQueryGetIntersection query committed) = None
-literal_in x.SubgroupBallotResult = None
-literal_in (x.SubgroupOperationResult type) = None
-literal_in (x.CooperativeLoad columns rows role block) = None
-literal_in (x.CooperativeMultiplyAdd a b c) = None
+literal_in _ = None
 
 abbrev pub literal_of : PlainExpression → Option Literal
 literal_of (compose type components) = None

@@ -5,7 +5,7 @@ use Rattle.spec_expressions.specs.judged.Faults.{FunctionFault}
 use Rattle.ir_flags.specs.declared.settings.ValidationFlags.{ValidationFlags}
 use Rattle.ir_items.specs.judged.Plain.{PlainFunction, PlainModule}
 use Rattle.typing_rules.specs.judged.Laws.{IsAmong}
-use Rattle.spec_expressions.specs.judged.CallChains.{place, Step, Calls, HasPair}
+use Rattle.spec_expressions.specs.judged.CallChains.{global_or_argument, Step, Calls, HasPair}
 use Rattle.spec_expressions.specs.judged.Effects.{samples, effects_of}
 use Rattle.spec_expressions.specs.judged.Summaries.{IsWrongArgument}
 use Rattle.spec_expressions.specs.judged.Uniformity.{Required}
@@ -15,7 +15,7 @@ pub record SamplesWrongForm (f : PlainFunction) (e : ℕ) : Type 0 where
   pub image : ℕ
   pub sampler : ℕ
   pub sampling : IsAmong (samples e image sampler) (effects_of f)
-  pub wrong : (place f.expressions image ≡ None) ⊎ (place f.expressions sampler ≡ None)
+  pub wrong : (global_or_argument f.expressions image ≡ None) ⊎ (global_or_argument f.expressions sampler ≡ None)
 
 -- e is passed to a function for the image or the sampler of a pair that it has, and denotes neither
 pub record PassesWrongForm (m : PlainModule) (f : PlainFunction) (e : ℕ) : Type 0 where

@@ -17,4 +17,4 @@ pub record BlockContext : Type 0 where
 
 -- the form of the type of an expression
 abbrev pub form_at : BlockContext → ℕ → Form
-form_at c e = scene.form_at c.forms e
+form_at c e = scene.form_among c.forms e

@@ -15,8 +15,8 @@ use Rattle.spec_statements.specs.judged.Loads.{LoadOK, ArrayLengthOK}
 use Rattle.spec_statements.specs.judged.Maths.{MathOK}
 use Rattle.spec_statements.specs.judged.Operators.{UnaryOK, BinaryOK}
 use Rattle.spec_statements.specs.judged.ExpressionRayQueries.{VertexPositionsOK, IntersectionOK}
-use Rattle.spec_statements.specs.judged.ExpressionResults.{AtomicResultOK, UniformLoadOK}
-use Rattle.spec_statements.specs.judged.Scene.{Scene, form_at}
+use Rattle.spec_statements.specs.judged.ExpressionResults.{AtomicResultTypeOK, UniformLoadOK}
+use Rattle.spec_statements.specs.judged.Scene.{Scene, form_among}
 use Rattle.spec_statements.specs.judged.Selections.{SelectOK, RelationalOK}
 use Rattle.spec_statements.specs.judged.ExpressionSubgroups.{SubgroupOK}
 
@@ -27,15 +27,15 @@ CheckOf s (x.Constant constant) = Unit {0}
 CheckOf s (x.Override override) = Unit {0}
 CheckOf s (x.ZeroValue type) = ZeroOK s.types type
 CheckOf s (x.Compose type components) = Unit {0}
-CheckOf s (x.Access base index) = AccessOK s.types (form_at s.forms base) (form_at s.forms index) (slice_get s.expressions index)
-CheckOf s (x.AccessIndex base index) = AccessIndexOK s.types (form_at s.forms base) index
+CheckOf s (x.Access base index) = AccessOK s.types (form_among s.forms base) (form_among s.forms index) (slice_get s.expressions index)
+CheckOf s (x.AccessIndex base index) = AccessIndexOK s.types (form_among s.forms base) index
 CheckOf s (x.Splat size value) = Unit {0}
-CheckOf s (x.Swizzle size vector pattern) = SwizzleOK size pattern (form_at s.forms vector)
+CheckOf s (x.Swizzle size vector pattern) = SwizzleOK size pattern (form_among s.forms vector)
 CheckOf s (x.FunctionArgument number) = Unit {0}
 CheckOf s (x.GlobalVariable global) = Unit {0}
 CheckOf s (x.LocalVariable local) = Unit {0}
-CheckOf s (x.Load pointer) = LoadOK s.types (form_at s.forms pointer)
-CheckOf s (x.ImageSample image sampler gather coordinate array_index offset level depth_ref clamp_to_edge) = ImageSampleOK s.expressions s.forms (form_at s.forms image) (record {
+CheckOf s (x.Load pointer) = LoadOK s.types (form_among s.forms pointer)
+CheckOf s (x.ImageSample image sampler gather coordinate array_index offset level depth_ref clamp_to_edge) = ImageSampleOK s.expressions s.forms (form_among s.forms image) (record {
   sampler = sampler;
   gather = gather;
   coordinate = coordinate;
@@ -45,23 +45,23 @@ CheckOf s (x.ImageSample image sampler gather coordinate array_index offset leve
   depth_ref = depth_ref;
   clamp_to_edge = clamp_to_edge;
 })
-CheckOf s (x.ImageLoad image coordinate array_index sample level) = ImageLoadOK s.forms (form_at s.forms image) coordinate array_index sample level
-CheckOf s (x.ImageQuery image query) = ImageQueryOK s.forms (form_at s.forms image) query
-CheckOf s (x.Unary op expr) = UnaryOK op (form_at s.forms expr)
-CheckOf s (x.Binary op left right) = BinaryOK op (form_at s.forms left) (form_at s.forms right)
-CheckOf s (x.Select condition accept reject) = SelectOK (form_at s.forms condition) (form_at s.forms accept) (form_at s.forms reject)
-CheckOf s (x.Derivative axis ctrl expr) = DerivativeOK (form_at s.forms expr)
-CheckOf s (x.Relational fun argument) = RelationalOK fun (form_at s.forms argument)
+CheckOf s (x.ImageLoad image coordinate array_index sample level) = ImageLoadOK s.forms (form_among s.forms image) coordinate array_index sample level
+CheckOf s (x.ImageQuery image query) = ImageQueryOK s.forms (form_among s.forms image) query
+CheckOf s (x.Unary op expr) = UnaryOK op (form_among s.forms expr)
+CheckOf s (x.Binary op left right) = BinaryOK op (form_among s.forms left) (form_among s.forms right)
+CheckOf s (x.Select condition accept reject) = SelectOK (form_among s.forms condition) (form_among s.forms accept) (form_among s.forms reject)
+CheckOf s (x.Derivative axis ctrl expr) = DerivativeOK (form_among s.forms expr)
+CheckOf s (x.Relational fun argument) = RelationalOK fun (form_among s.forms argument)
 CheckOf s (x.Math fun arg arg1 arg2 arg3) = MathOK
-CheckOf s (x.As expr kind convert) = AsOK s.capabilities kind convert (form_at s.forms expr)
+CheckOf s (x.As expr kind convert) = AsOK s.capabilities kind convert (form_among s.forms expr)
 CheckOf s (x.CallResult function) = Unit {0}
-CheckOf s (x.AtomicResult type comparison) = AtomicResultOK s.capabilities s.types type comparison
+CheckOf s (x.AtomicResult type comparison) = AtomicResultTypeOK s.capabilities s.types type comparison
 CheckOf s (x.WorkGroupUniformLoadResult type) = UniformLoadOK s.types type
-CheckOf s (x.ArrayLength array) = ArrayLengthOK s.types (form_at s.forms array)
-CheckOf s (x.RayQueryVertexPositions query committed) = VertexPositionsOK s.types (form_at s.forms query)
+CheckOf s (x.ArrayLength array) = ArrayLengthOK s.types (form_among s.forms array)
+CheckOf s (x.RayQueryVertexPositions query committed) = VertexPositionsOK s.types (form_among s.forms query)
 CheckOf s x.RayQueryProceedResult = Unit {0}
-CheckOf s (x.RayQueryGetIntersection query committed) = IntersectionOK s.types (form_at s.forms query)
+CheckOf s (x.RayQueryGetIntersection query committed) = IntersectionOK s.types (form_among s.forms query)
 CheckOf s x.SubgroupBallotResult = SubgroupOK
 CheckOf s (x.SubgroupOperationResult type) = SubgroupOK
-CheckOf s (x.CooperativeLoad columns rows role block) = CooperativeLoadOK (form_at s.forms block.stride)
-CheckOf s (x.CooperativeMultiplyAdd a b c) = MultiplyAddOK (form_at s.forms a) (form_at s.forms b) (form_at s.forms c)
+CheckOf s (x.CooperativeLoad columns rows role block) = CooperativeLoadOK (form_among s.forms block.stride)
+CheckOf s (x.CooperativeMultiplyAdd a b c) = MultiplyAddOK (form_among s.forms a) (form_among s.forms b) (form_among s.forms c)

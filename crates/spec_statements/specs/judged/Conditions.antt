@@ -1,7 +1,7 @@
 -- Conditions.
 use Rattle.typing_forms.specs.declared.form.Form.{Form}
-use Rattle.spec_statements.specs.judged.Shapes.{IsMadeOf, IsAlone, IsTruth}
+use Rattle.spec_statements.specs.judged.Shapes.{IsMadeOf, IsScalarShape, IsBool}
 
 -- a truth value alone
 abbrev pub ConditionOK : (condition : Form) → Type 0
-ConditionOK = IsMadeOf IsAlone IsTruth
+ConditionOK = IsMadeOf IsScalarShape IsBool

@@ -11,20 +11,7 @@ use Rattle.spec_statements.specs.judged.Stores.{IsWritable}
 -- the scalar of a cooperative matrix
 abbrev pub matrix_scalar : Form → Option Scalar
 matrix_scalar (form.CooperativeMatrix columns rows s role) = Some s
-matrix_scalar (form.Scalar s) = None
-matrix_scalar (form.Vector n s) = None
-matrix_scalar (form.Matrix columns rows s) = None
-matrix_scalar (form.Atomic s) = None
-matrix_scalar (form.Pointer base space) = None
-matrix_scalar (form.ValuePointer n s space) = None
-matrix_scalar (form.Array base size stride) = None
-matrix_scalar (form.Struct handle) = None
-matrix_scalar (form.Image dim arrayed class) = None
-matrix_scalar (form.Sampler comparison) = None
-matrix_scalar (form.AccelerationStructure vertex_return) = None
-matrix_scalar (form.RayQuery vertex_return) = None
-matrix_scalar (form.BindingArray base size) = None
-matrix_scalar form.Nothing = None
+matrix_scalar _ = None
 
 -- A matrix goes where its scalars lie and may be written; the stride is of any type.
 pub record CooperativeStoreOK (c : BlockContext) (target : ℕ) (place : CooperativeData) : Type 0 where

@@ -8,18 +8,18 @@ use Rattle.typing_layout.specs.judged.View.{type_tree}
 use Rattle.typing_forms.specs.judged.Forms.{form_of_type}
 use Rattle.typing_forms.specs.judged.Resolutions.{inner_at}
 use Rattle.typing_forms.specs.declared.form.Form.{Form}
-use Rattle.spec_statements.specs.judged.Shapes.{shaped_of, IsAlone, IsTruth, IsMadeOf}
+use Rattle.spec_statements.specs.judged.Shapes.{shaped_of, IsScalarShape, IsBool, IsMadeOf}
 
 -- a scalar that atomics have
 abbrev pub IsAtomicValue : Capabilities → Form → Type 0
-IsAtomicValue capabilities t = IsSomeAnd (shaped_of t) (λ x. IsAlone x.shape × AtomicOK capabilities x.scalar)
+IsAtomicValue capabilities t = IsSomeAnd (shaped_of t) (λ x. IsScalarShape x.shape × AtomicOK capabilities x.scalar)
 
 -- the value that was there, which is as `IsOld` says, and whether it was exchanged
 pub record AreExchanged (IsOld : Form → Type 0) (types : List PlainType) (old exchanged : PlainMember) : Type 0 where
   pub old_name : old.name ≡ Some (codes "old_value")
   pub old_type : IsOld (form_of_type types old.ty)
   pub exchanged_name : exchanged.name ≡ Some (codes "exchanged")
-  pub exchanged_type : IsMadeOf IsAlone IsTruth (form_of_type types exchanged.ty)
+  pub exchanged_type : IsMadeOf IsScalarShape IsBool (form_of_type types exchanged.ty)
 
 abbrev pub AreExchangeMembers : (IsOld : Form → Type 0) → List PlainType → List PlainMember → Type 0
 AreExchangeMembers IsOld types [] = ⊥
@@ -38,9 +38,9 @@ abbrev pub IsExchange : Capabilities → List PlainType → Option PlainInner �
 IsExchange capabilities = IsExchangeOf (IsAtomicValue capabilities)
 
 -- an atomic operation answers a scalar, and an exchange that compares a struct of it
-abbrev pub AtomicResultOK : Capabilities → List PlainType → (type : ℕ) → (comparison : Bool) → Type 0
-AtomicResultOK capabilities types type false = IsAtomicValue capabilities (form_of_type types type)
-AtomicResultOK capabilities types type true = IsExchange capabilities types (inner_at types type)
+abbrev pub AtomicResultTypeOK : Capabilities → List PlainType → (type : ℕ) → (comparison : Bool) → Type 0
+AtomicResultTypeOK capabilities types type false = IsAtomicValue capabilities (form_of_type types type)
+AtomicResultTypeOK capabilities types type true = IsExchange capabilities types (inner_at types type)
 
 -- values of a size that is known, which can be composed
 abbrev pub UniformLoadOK : List PlainType → (type : ℕ) → Type 0

@@ -1,7 +1,7 @@
 -- Which stages may run an expression.
 use Rattle.std.specs.Prelude.{◌≡◌, ℕ, List, Some, slice_get, unwrap_or}
 use Rattle.bitflags.specs.Sets.{known_bits}
-use Rattle.ir_flags.specs.Words.{shader_stages}
+use Rattle.ir_flags.specs.Words.{shader_stage_bits}
 use Rattle.ir_flags.specs.declared.stages.ShaderStages.{ShaderStages}
 use Rattle.ir_flags.specs.declared.stages.TheConstants.ShaderStages.{FRAGMENT, COMPUTE}
 use Rattle.ir_types.specs.judged.ExpressionPlain.{PlainExpression, compose, plain}
@@ -11,7 +11,7 @@ use Rattle.ir_types.specs.declared.expressions.SampleLevel.{SampleLevel}
 use Rattle.ir_types.specs.declared.expressions.SampleLevel.TheVariants.{Auto, Zero, Exact, Bias, Gradient}
 
 abbrev pub all_stages : ShaderStages
-all_stages = record { 0 = known_bits shader_stages }
+all_stages = record { 0 = known_bits shader_stage_bits }
 
 -- neighbouring fragments tell how much detail is wanted, where that isn't said
 abbrev pub sample_stages : SampleLevel → ShaderStages

@@ -3,11 +3,11 @@ use Rattle.std.specs.Prelude.{◌≡◌, ℕ, Some, map, slice_get}
 use Rattle.ir_types.specs.judged.ExpressionPlain.{PlainExpression, compose, plain}
 use Rattle.spec_expressions.specs.judged.Compose.{ComposeOK}
 use Rattle.spec_statements.specs.judged.Checks.{CheckOf}
-use Rattle.spec_statements.specs.judged.Scene.{Scene, form_at}
+use Rattle.spec_statements.specs.judged.Scene.{Scene, form_among}
 
 -- the components of a composition make a value of its type; any other expression has its row
 abbrev pub RequiredOf : Scene → PlainExpression → Type 0
-RequiredOf s (compose type components) = ComposeOK s.types type (map (form_at s.forms) components)
+RequiredOf s (compose type components) = ComposeOK s.types type (map (form_among s.forms) components)
 RequiredOf s (plain expression) = CheckOf s expression
 
 -- what is required of the expression at a handle is met

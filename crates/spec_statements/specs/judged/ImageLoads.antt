@@ -10,8 +10,8 @@ use Rattle.ir_kinds.specs.declared.images.ImageClass.TheVariants.{Sampled, Depth
 use Rattle.ir_kinds.specs.declared.images.ImageDimension.{ImageDimension}
 use Rattle.ir_kinds.specs.declared.images.ImageDimension.TheVariants.{D1, D2, D3, Cube}
 use Rattle.typing_forms.specs.declared.form.Form.{Form}
-use Rattle.spec_statements.specs.judged.Scene.{form_at}
-use Rattle.spec_statements.specs.judged.Shapes.{shaped_of, IsInteger, IsIntegerScalar, ExactlyIf, along, picture_of}
+use Rattle.spec_statements.specs.judged.Scene.{form_among}
+use Rattle.spec_statements.specs.judged.Shapes.{shaped_of, IsInteger, IsIntegerScalar, ExactlyIf, coordinate_form, picture_of}
 use Rattle.spec_statements.specs.declared.shapes.Picture.{Picture}
 
 -- ---- loads
@@ -23,8 +23,8 @@ IsFlat D2 = Unit {0}
 IsFlat D3 = Unit {0}
 IsFlat Cube = ⊥
 
-abbrev pub IsTexel : ImageDimension → (coordinate : Form) → Type 0
-IsTexel dim coordinate = IsFlat dim × IsSomeAnd (shaped_of coordinate) (λ x. IsInteger x.scalar.kind × (coordinate ≡ along dim x.scalar))
+abbrev pub IsTexelCoordinate : ImageDimension → (coordinate : Form) → Type 0
+IsTexelCoordinate dim coordinate = IsFlat dim × IsSomeAnd (shaped_of coordinate) (λ x. IsInteger x.scalar.kind × (coordinate ≡ coordinate_form dim x.scalar))
 
 -- storage images are loaded from where they allow it
 abbrev pub IsReadable : ImageClass → Type 0
@@ -35,10 +35,10 @@ IsReadable (Storage format access) = Has access.0 LOAD.0
 
 -- a texel, with its layer, its sample and its level each exactly where the image has several
 pub record IsTexelLoad (forms : List Form) (image : Picture) (texel : ℕ) (array_index of_texel of_image : Option ℕ) : Type 0 where
-  pub coordinate : IsTexel image.dim (form_at forms texel)
-  pub layer : ExactlyIf image.arrayed array_index (λ layer. IsIntegerScalar (form_at forms layer))
-  pub sample : ExactlyIf (is_multisampled image.class) of_texel (λ sample. IsIntegerScalar (form_at forms sample))
-  pub level : ExactlyIf (is_mipmapped image.class) of_image (λ level. IsIntegerScalar (form_at forms level))
+  pub coordinate : IsTexelCoordinate image.dim (form_among forms texel)
+  pub layer : ExactlyIf image.arrayed array_index (λ layer. IsIntegerScalar (form_among forms layer))
+  pub sample : ExactlyIf (is_multisampled image.class) of_texel (λ sample. IsIntegerScalar (form_among forms sample))
+  pub level : ExactlyIf (is_mipmapped image.class) of_image (λ level. IsIntegerScalar (form_among forms level))
   pub readable : IsReadable image.class
 
 abbrev pub ImageLoadOK : (forms : List Form) → (image : Form) → (coordinate : ℕ) → (array_index sample level : Option ℕ) → Type 0
@@ -50,7 +50,7 @@ ImageLoadOK forms image coordinate array_index sample level =
 -- the size at a level, and how many levels there are, where there are several; how many layers; how many samples
 abbrev pub IsAnswered : (forms : List Form) → ImageQuery → Picture → Type 0
 IsAnswered forms (Size None) image = Unit {0}
-IsAnswered forms (Size (Some level)) image = (is_mipmapped image.class ≡ true) × IsIntegerScalar (form_at forms level)
+IsAnswered forms (Size (Some level)) image = (is_mipmapped image.class ≡ true) × IsIntegerScalar (form_among forms level)
 IsAnswered forms NumLevels image = is_mipmapped image.class ≡ true
 IsAnswered forms NumLayers image = image.arrayed ≡ true
 IsAnswered forms NumSamples image = is_multisampled image.class ≡ true

@@ -16,8 +16,8 @@ use Rattle.typing_forms.specs.declared.form.Form.{Form}
 use Rattle.typing_forms.specs.declared.form.Form.TheVariants as form
 use Rattle.typing_layout.specs.judged.Constness.{IsOfKind}
 use Rattle.typing_layout.specs.declared.constness.ExpressionKind.TheVariants.{Const}
-use Rattle.spec_statements.specs.judged.Scene.{form_at}
-use Rattle.spec_statements.specs.judged.Shapes.{IsIntegerScalar, ExactlyIf, along, picture_of, sampler_of}
+use Rattle.spec_statements.specs.judged.Scene.{form_among}
+use Rattle.spec_statements.specs.judged.Shapes.{IsIntegerScalar, ExactlyIf, coordinate_form, picture_of, sampler_of}
 use Rattle.spec_statements.specs.declared.shapes.Picture.{Picture}
 use Rattle.spec_statements.specs.declared.shapes.Sampling.{Sampling}
 
@@ -49,16 +49,16 @@ pub record IsGathered (image : Picture) (level : SampleLevel) (letter : SwizzleC
 -- an offset is constant, with so many texels each way; on cubes there is none
 pub record IsOffset (expressions : List PlainExpression) (forms : List Form) (dim : ImageDimension) (offset : ℕ) : Type 0 where
   pub known : IsOfKind expressions offset Const
-  pub texels : form_at forms offset ≡ along dim (signed 4)
+  pub texels : form_among forms offset ≡ coordinate_form dim (signed 4)
   pub flat : dim ≢ Cube
 
 -- a level is a float, of depths also an integer; slopes are as the coordinate
 abbrev pub IsLevel : (forms : List Form) → ImageClass → (coordinate : Form) → SampleLevel → Type 0
 IsLevel forms class coordinate Auto = Unit {0}
 IsLevel forms class coordinate Zero = Unit {0}
-IsLevel forms class coordinate (Exact level) = IsFloat32 (form_at forms level) ⊎ ((is_depth class ≡ true) × IsIntegerScalar (form_at forms level))
-IsLevel forms class coordinate (Bias bias) = IsFloat32 (form_at forms bias)
-IsLevel forms class coordinate (Gradient right below) = (form_at forms right ≡ coordinate) × (form_at forms below ≡ coordinate)
+IsLevel forms class coordinate (Exact level) = IsFloat32 (form_among forms level) ⊎ ((is_depth class ≡ true) × IsIntegerScalar (form_among forms level))
+IsLevel forms class coordinate (Bias bias) = IsFloat32 (form_among forms bias)
+IsLevel forms class coordinate (Gradient right below) = (form_among forms right ≡ coordinate) × (form_among forms below ≡ coordinate)
 
 -- of floats, in a flat image without layers
 abbrev pub IsClamped : Picture → Type 0
@@ -70,24 +70,24 @@ ClampOK image true = (image.class ≡ External) ⊎ IsClamped image
 ClampOK image false = image.class ≢ External
 
 -- images from outside are sampled at the finest level as they are
-abbrev pub OutsideOK : ImageClass → (gather : Option SwizzleComponent) → (offset : Option ℕ) → SampleLevel → Type 0
-OutsideOK class gather offset level = class ≡ External → (level ≡ Zero) × (gather ≡ None) × (offset ≡ None)
+abbrev pub ExternalOK : ImageClass → (gather : Option SwizzleComponent) → (offset : Option ℕ) → SampleLevel → Type 0
+ExternalOK class gather offset level = class ≡ External → (level ≡ Zero) × (gather ≡ None) × (offset ≡ None)
 
 pub record IsSampled (expressions : List PlainExpression) (forms : List Form) (image : Picture) (by : Sampling) : Type 0 where
   -- a sampler compares exactly where there is something to compare with: a float, and depths
-  pub sampler : IsSomeAnd (sampler_of (form_at forms by.sampler)) (λ comparison. comparison ≡ is_some by.depth_ref)
-  pub compared : IfSome by.depth_ref (λ reference. IsFloat32 (form_at forms reference) × (is_depth image.class ≡ true))
+  pub sampler : IsSomeAnd (sampler_of (form_among forms by.sampler)) (λ comparison. comparison ≡ is_some by.depth_ref)
+  pub compared : IfSome by.depth_ref (λ reference. IsFloat32 (form_among forms reference) × (is_depth image.class ≡ true))
   -- a texel has one sample
   pub single : is_multisampled image.class ≡ false
   pub filtered : IsFiltered image.class by.gather
   -- a place in the image, and a layer exactly where there are layers
-  pub coordinate : form_at forms by.coordinate ≡ along image.dim (floating 4)
-  pub layer : ExactlyIf image.arrayed by.array_index (λ layer. IsIntegerScalar (form_at forms layer))
+  pub coordinate : form_among forms by.coordinate ≡ coordinate_form image.dim (floating 4)
+  pub layer : ExactlyIf image.arrayed by.array_index (λ layer. IsIntegerScalar (form_among forms layer))
   pub offset : IfSome by.offset (IsOffset expressions forms image.dim)
   pub gathered : IfSome by.gather (IsGathered image by.level)
-  pub level : IsLevel forms image.class (form_at forms by.coordinate) by.level
+  pub level : IsLevel forms image.class (form_among forms by.coordinate) by.level
   pub clamped : ClampOK image by.clamp_to_edge
-  pub outside : OutsideOK image.class by.gather by.offset by.level
+  pub outside : ExternalOK image.class by.gather by.offset by.level
 
 abbrev pub ImageSampleOK : (expressions : List PlainExpression) → (forms : List Form) → (image : Form) → Sampling → Type 0
 ImageSampleOK expressions forms image by = IsSomeAnd (picture_of image) (λ picture. IsSampled expressions forms picture by)

@@ -29,14 +29,7 @@ pub record LocalOK (c : BlockContext) (local : PlainLocal) : Type 0 where
 abbrev pub IsGiven : AddressSpace → Type 0
 IsGiven space.Function = Unit {0}
 IsGiven space.Private = Unit {0}
-IsGiven space.WorkGroup = ⊥
-IsGiven space.Uniform = ⊥
-IsGiven (space.Storage access) = ⊥
-IsGiven space.Handle = ⊥
-IsGiven space.Immediate = ⊥
-IsGiven space.TaskPayload = ⊥
-IsGiven space.RayPayload = ⊥
-IsGiven space.IncomingRayPayload = ⊥
+IsGiven _ = ⊥
 
 -- entry says that the function is an entry point's, which alone has bindings
 pub record ArgumentOK (m : PlainModule) (entry : Bool) (a : PlainArgument) : Type 0 where

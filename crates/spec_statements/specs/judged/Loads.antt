@@ -1,6 +1,6 @@
 -- What is loaded, and what has a length.
 use Rattle.std.specs.Prelude.{ℕ, List, Option, Some, None}
-use Rattle.ir_types.specs.judged.Plain.{PlainInner, struct, plain, PlainType}
+use Rattle.ir_types.specs.judged.Plain.{PlainInner, plain, PlainType}
 use Rattle.ir_types.specs.declared.types.ArraySize.{ArraySize}
 use Rattle.ir_types.specs.declared.types.ArraySize.TheVariants as count
 use Rattle.ir_types.specs.declared.types.TypeInner.TheVariants as inner
@@ -18,19 +18,7 @@ IsLoaded types base = HasFlag Data (type_tree types base) × HasFlag Sized (type
 abbrev pub LoadOK : List PlainType → (pointer : Form) → Type 0
 LoadOK types (form.Pointer base space) = IsLoaded types base
 LoadOK types (form.ValuePointer n s space) = Unit {0}
-LoadOK types (form.Scalar s) = ⊥
-LoadOK types (form.Vector n s) = ⊥
-LoadOK types (form.Matrix columns rows s) = ⊥
-LoadOK types (form.CooperativeMatrix columns rows s role) = ⊥
-LoadOK types (form.Atomic s) = ⊥
-LoadOK types (form.Array base size stride) = ⊥
-LoadOK types (form.Struct handle) = ⊥
-LoadOK types (form.Image dim arrayed class) = ⊥
-LoadOK types (form.Sampler comparison) = ⊥
-LoadOK types (form.AccelerationStructure vertex_return) = ⊥
-LoadOK types (form.RayQuery vertex_return) = ⊥
-LoadOK types (form.BindingArray base size) = ⊥
-LoadOK types form.Nothing = ⊥
+LoadOK types _ = ⊥
 
 abbrev pub IsDynamic : ArraySize → Type 0
 IsDynamic (count.Constant n) = ⊥
@@ -39,22 +27,8 @@ IsDynamic count.Dynamic = Unit {0}
 
 -- an array that is as long as its buffer
 abbrev pub IsRuntimeArray : Option PlainInner → Type 0
-IsRuntimeArray None = ⊥
-IsRuntimeArray (Some (struct members span)) = ⊥
-IsRuntimeArray (Some (plain (inner.Scalar s))) = ⊥
-IsRuntimeArray (Some (plain (inner.Vector n s))) = ⊥
-IsRuntimeArray (Some (plain (inner.Matrix columns rows s))) = ⊥
-IsRuntimeArray (Some (plain (inner.CooperativeMatrix columns rows s role))) = ⊥
-IsRuntimeArray (Some (plain (inner.Atomic s))) = ⊥
-IsRuntimeArray (Some (plain (inner.Pointer base space))) = ⊥
-IsRuntimeArray (Some (plain (inner.ValuePointer n s space))) = ⊥
 IsRuntimeArray (Some (plain (inner.Array base n stride))) = IsDynamic n
-IsRuntimeArray (Some (plain (inner.Struct members span))) = ⊥
-IsRuntimeArray (Some (plain (inner.Image dim arrayed class))) = ⊥
-IsRuntimeArray (Some (plain (inner.Sampler comparison))) = ⊥
-IsRuntimeArray (Some (plain (inner.AccelerationStructure vertex_return))) = ⊥
-IsRuntimeArray (Some (plain (inner.RayQuery vertex_return))) = ⊥
-IsRuntimeArray (Some (plain (inner.BindingArray base n))) = ⊥
+IsRuntimeArray _ = ⊥
 
 -- a pointer to such an array
 abbrev pub ArrayLengthOK : List PlainType → (array : Form) → Type 0

@@ -35,7 +35,7 @@ abbrev pub FunctionsOK : Settings → PlainModule → Type 0
 FunctionsOK s m = (index : ℕ) → index < length m.functions → FunctionAtOK s m index
 
 -- The function at an index is the first that does not.
-pub record IsFirstFailing (s : Settings) (m : PlainModule) (index : ℕ) : Type 0 where
+pub record IsFirstFailingFunction (s : Settings) (m : PlainModule) (index : ℕ) : Type 0 where
   pub within : index < length m.functions
   pub before : (other : ℕ) → other < index → FunctionAtOK s m other
   pub fails : ¬ FunctionAtOK s m index

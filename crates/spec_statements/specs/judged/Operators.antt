@@ -8,7 +8,7 @@ use Rattle.ir_kinds.specs.declared.operators.UnaryOperator.TheVariants.{Negate, 
 use Rattle.ir_kinds.specs.declared.scalars.ScalarKind.{ScalarKind}
 use Rattle.ir_kinds.specs.declared.scalars.ScalarKind.TheVariants as kind
 use Rattle.typing_forms.specs.declared.form.Form.{Form}
-use Rattle.spec_statements.specs.judged.Shapes.{shaped_of, form_of_shape, AnyShape, IsAlone, IsOfValue, IsInteger, IsNumeric, IsTruth, IsMadeOf, IsValue}
+use Rattle.spec_statements.specs.judged.Shapes.{shaped_of, form_of_shape, AnyShape, IsScalarShape, IsScalarOrVector, IsInteger, IsNumeric, IsBool, IsMadeOf, IsValue}
 use Rattle.spec_statements.specs.declared.shapes.Shape.{Shape}
 use Rattle.spec_statements.specs.declared.shapes.Shape.TheVariants as shape
 
@@ -17,16 +17,13 @@ use Rattle.spec_statements.specs.declared.shapes.Shape.TheVariants as shape
 -- negative numbers are signed integers and floats
 abbrev pub IsSigned : ScalarKind → Type 0
 IsSigned kind.Sint = Unit {0}
-IsSigned kind.Uint = ⊥
 IsSigned kind.Float = Unit {0}
-IsSigned kind.Bool = ⊥
-IsSigned kind.AbstractInt = ⊥
-IsSigned kind.AbstractFloat = ⊥
+IsSigned _ = ⊥
 
 -- the scalars that an operation on one value takes
 abbrev pub TakesKind : UnaryOperator → ScalarKind → Type 0
 TakesKind Negate k = IsSigned k
-TakesKind LogicalNot k = IsTruth k
+TakesKind LogicalNot k = IsBool k
 TakesKind BitwiseNot k = IsInteger k
 
 -- the operand is made of such scalars, whatever its shape
@@ -36,13 +33,13 @@ UnaryOK op of = IsMadeOf AnyShape (TakesKind op) of
 -- ---- on two values
 
 -- truth values and integers
-abbrev pub IsBits : ScalarKind → Type 0
-IsBits kind.Sint = Unit {0}
-IsBits kind.Uint = Unit {0}
-IsBits kind.Float = ⊥
-IsBits kind.Bool = Unit {0}
-IsBits kind.AbstractInt = ⊥
-IsBits kind.AbstractFloat = ⊥
+abbrev pub IsIntegerOrBool : ScalarKind → Type 0
+IsIntegerOrBool kind.Sint = Unit {0}
+IsIntegerOrBool kind.Uint = Unit {0}
+IsIntegerOrBool kind.Float = ⊥
+IsIntegerOrBool kind.Bool = Unit {0}
+IsIntegerOrBool kind.AbstractInt = ⊥
+IsIntegerOrBool kind.AbstractFloat = ⊥
 
 -- numbers alone and in a row, and any matrix
 abbrev pub IsAdded : Shape → ScalarKind → Type 0
@@ -77,16 +74,16 @@ ProductOK left right = IsSomeAnd (shaped_of left) (λ x. IsSomeAnd (shaped_of ri
 
 -- two of one type: numbers, values, truth values alone, scalars of any shape that are truth values or integers
 abbrev pub NumbersOK : (left right : Form) → Type 0
-NumbersOK left right = (left ≡ right) × IsMadeOf IsOfValue IsNumeric left
+NumbersOK left right = (left ≡ right) × IsMadeOf IsScalarOrVector IsNumeric left
 
 abbrev pub ValuesOK : (left right : Form) → Type 0
 ValuesOK left right = (left ≡ right) × IsValue left
 
 abbrev pub TruthsOK : (left right : Form) → Type 0
-TruthsOK left right = (left ≡ right) × IsMadeOf IsAlone IsTruth left
+TruthsOK left right = (left ≡ right) × IsMadeOf IsScalarShape IsBool left
 
 abbrev pub BitsOK : (left right : Form) → Type 0
-BitsOK left right = (left ≡ right) × IsMadeOf AnyShape IsBits left
+BitsOK left right = (left ≡ right) × IsMadeOf AnyShape IsIntegerOrBool left
 
 abbrev pub IntegersOK : (left right : Form) → Type 0
 IntegersOK left right = (left ≡ right) × IsMadeOf AnyShape IsInteger left

@@ -10,16 +10,9 @@ use Rattle.spec_statements.specs.judged.RayQueries.{structure_of, IsRayDescripto
 
 -- the spaces of payloads: of what the shaders on a ray's way are handed
 abbrev pub IsPayloadSpace : AddressSpace → Type 0
-IsPayloadSpace space.Function = ⊥
-IsPayloadSpace space.Private = ⊥
-IsPayloadSpace space.WorkGroup = ⊥
-IsPayloadSpace space.Uniform = ⊥
-IsPayloadSpace (space.Storage access) = ⊥
-IsPayloadSpace space.Handle = ⊥
-IsPayloadSpace space.Immediate = ⊥
-IsPayloadSpace space.TaskPayload = ⊥
 IsPayloadSpace space.RayPayload = Unit {0}
 IsPayloadSpace space.IncomingRayPayload = Unit {0}
+IsPayloadSpace _ = ⊥
 
 -- In what a ray is traced, how it is described, and its payload.
 pub record TraceOK (c : BlockContext) (acceleration_structure descriptor payload : ℕ) : Type 0 where

@@ -11,7 +11,7 @@ use Rattle.typing_forms.specs.judged.Resolutions.{inner_at}
 use Rattle.typing_forms.specs.declared.form.Form.{Form}
 use Rattle.typing_forms.specs.declared.form.Form.TheVariants as form
 use Rattle.spec_statements.specs.judged.ExpressionRayQueries.{query_of}
-use Rattle.spec_statements.specs.judged.Shapes.{IsMadeOf, IsAlone, IsFloating}
+use Rattle.spec_statements.specs.judged.Shapes.{IsMadeOf, IsScalarShape, IsFloating}
 use Rattle.spec_statements.specs.judged.BlockContext.{BlockContext, form_at}
 
 -- ---- what rays are traced in
@@ -19,39 +19,14 @@ use Rattle.spec_statements.specs.judged.BlockContext.{BlockContext, form_at}
 -- whether an acceleration structure gives the vertices of a hit
 abbrev pub structure_of : Form → Option Bool
 structure_of (form.AccelerationStructure vertex_return) = Some vertex_return
-structure_of (form.Scalar s) = None
-structure_of (form.Vector n s) = None
-structure_of (form.Matrix columns rows s) = None
-structure_of (form.CooperativeMatrix columns rows s role) = None
-structure_of (form.Atomic s) = None
-structure_of (form.Pointer base space) = None
-structure_of (form.ValuePointer n s space) = None
-structure_of (form.Array base size stride) = None
-structure_of (form.Struct handle) = None
-structure_of (form.Image dim arrayed class) = None
-structure_of (form.Sampler comparison) = None
-structure_of (form.RayQuery vertex_return) = None
-structure_of (form.BindingArray base size) = None
-structure_of form.Nothing = None
+structure_of _ = None
 
 -- What describes a ray is made as the module's type of such: a struct of the same members, names of types aside, and anything
 -- else in the same canonical form.
 abbrev pub IsMadeAs : List PlainType → (declared : ℕ) → Form → Type 0
 IsMadeAs types declared (form.Struct handle) = inner_at types handle ≡ inner_at types declared
-IsMadeAs types declared (form.Scalar s) = form.Scalar s ≡ form_of_type types declared
-IsMadeAs types declared (form.Vector n s) = form.Vector n s ≡ form_of_type types declared
-IsMadeAs types declared (form.Matrix columns rows s) = form.Matrix columns rows s ≡ form_of_type types declared
-IsMadeAs types declared (form.CooperativeMatrix columns rows s role) = form.CooperativeMatrix columns rows s role ≡ form_of_type types declared
-IsMadeAs types declared (form.Atomic s) = form.Atomic s ≡ form_of_type types declared
-IsMadeAs types declared (form.Pointer base space) = form.Pointer base space ≡ form_of_type types declared
-IsMadeAs types declared (form.ValuePointer n s space) = form.ValuePointer n s space ≡ form_of_type types declared
-IsMadeAs types declared (form.Array base size stride) = form.Array base size stride ≡ form_of_type types declared
-IsMadeAs types declared (form.Image dim arrayed class) = form.Image dim arrayed class ≡ form_of_type types declared
-IsMadeAs types declared (form.Sampler comparison) = form.Sampler comparison ≡ form_of_type types declared
-IsMadeAs types declared (form.AccelerationStructure vertex_return) = form.AccelerationStructure vertex_return ≡ form_of_type types declared
-IsMadeAs types declared (form.RayQuery vertex_return) = form.RayQuery vertex_return ≡ form_of_type types declared
-IsMadeAs types declared (form.BindingArray base size) = form.BindingArray base size ≡ form_of_type types declared
 IsMadeAs types declared form.Nothing = ⊥
+IsMadeAs types declared other = other ≡ form_of_type types declared
 
 abbrev pub IsRayDescriptor : BlockContext → (descriptor : Form) → Type 0
 IsRayDescriptor c descriptor = IsSomeAnd c.m.special.ray_desc (λ declared. IsMadeAs c.m.types declared descriptor)
@@ -71,15 +46,15 @@ abbrev pub GivesVertices : (asked given : Bool) → Type 0
 GivesVertices asked given = asked ≡ true → given ≡ true
 
 -- vertices says that the query gives the vertices of a hit
-abbrev pub StepOK : BlockContext → (vertices : Bool) → RayQueryFunction → Type 0
-StepOK c vertices (ray.Initialize acceleration_structure descriptor) =
+abbrev pub RayStepOK : BlockContext → (vertices : Bool) → RayQueryFunction → Type 0
+RayStepOK c vertices (ray.Initialize acceleration_structure descriptor) =
     IsSomeAnd (structure_of (form_at c acceleration_structure)) (GivesVertices vertices) × IsRayDescriptor c (form_at c descriptor)
-StepOK c vertices (ray.Proceed result) = Unit {0}
-StepOK c vertices (ray.GenerateIntersection hit_t) = IsMadeOf IsAlone IsFloating (form_at c hit_t)
-StepOK c vertices ray.ConfirmIntersection = Unit {0}
-StepOK c vertices ray.Terminate = Unit {0}
+RayStepOK c vertices (ray.Proceed result) = Unit {0}
+RayStepOK c vertices (ray.GenerateIntersection hit_t) = IsMadeOf IsScalarShape IsFloating (form_at c hit_t)
+RayStepOK c vertices ray.ConfirmIntersection = Unit {0}
+RayStepOK c vertices ray.Terminate = Unit {0}
 
 -- the query is a variable of the function
 abbrev pub RayQueryOK : BlockContext → (query : ℕ) → RayQueryFunction → Type 0
 RayQueryOK c query fun =
-    IsSomeAnd (option_and_then (λ t. query_of (inner_at c.m.types t)) (local_type_at c.f query)) (λ vertices. StepOK c vertices fun)
+    IsSomeAnd (option_and_then (λ t. query_of (inner_at c.m.types t)) (local_type_at c.f query)) (λ vertices. RayStepOK c vertices fun)

@@ -17,8 +17,8 @@ pub record Scene : Type 0 where
   pub forms : List Form
 
 -- the form of the type of an expression
-abbrev pub form_at : (forms : List Form) → ℕ → Form
-form_at forms place = unwrap_or (slice_get forms place) form.Nothing
+abbrev pub form_among : (forms : List Form) → ℕ → Form
+form_among forms place = unwrap_or (slice_get forms place) form.Nothing
 
 -- in a function of a module
 abbrev pub scene_of : Capabilities → PlainModule → PlainFunction → List Form → Scene

@@ -3,7 +3,7 @@ use Rattle.std.specs.Prelude.{◌≡◌, IsSomeAnd}
 use Rattle.ir_kinds.specs.declared.operators.RelationalFunction.{RelationalFunction}
 use Rattle.ir_kinds.specs.declared.operators.RelationalFunction.TheVariants.{All, Any, IsNan, IsInf}
 use Rattle.typing_forms.specs.declared.form.Form.{Form}
-use Rattle.spec_statements.specs.judged.Shapes.{shaped_of, IsRow, IsOfValue, IsFloating, IsTruth, IsMadeOf}
+use Rattle.spec_statements.specs.judged.Shapes.{shaped_of, IsVectorShape, IsScalarOrVector, IsFloating, IsBool, IsMadeOf}
 use Rattle.spec_statements.specs.declared.shapes.Shape.{Shape}
 use Rattle.spec_statements.specs.declared.shapes.Shape.TheVariants as shape
 
@@ -18,15 +18,15 @@ ChoosesFrom (shape.Grid columns rows) value = ⊥
 ChoosesFrom (shape.Shared columns rows role) value = ⊥
 
 abbrev pub IsCondition : (condition : Form) → (value : Shape) → Type 0
-IsCondition condition value = IsSomeAnd (shaped_of condition) (λ x. IsTruth x.scalar.kind × ChoosesFrom x.shape value)
+IsCondition condition value = IsSomeAnd (shaped_of condition) (λ x. IsBool x.scalar.kind × ChoosesFrom x.shape value)
 
 -- values of one type, and a condition for them
 abbrev pub SelectOK : (condition accept reject : Form) → Type 0
-SelectOK condition accept reject = (accept ≡ reject) × IsSomeAnd (shaped_of accept) (λ x. IsOfValue x.shape × IsCondition condition x.shape)
+SelectOK condition accept reject = (accept ≡ reject) × IsSomeAnd (shaped_of accept) (λ x. IsScalarOrVector x.shape × IsCondition condition x.shape)
 
 -- all or any of the components of a vector of truth values; floats are numbers or not, finite or not
 abbrev pub RelationalOK : RelationalFunction → (of : Form) → Type 0
-RelationalOK All of = IsMadeOf IsRow IsTruth of
-RelationalOK Any of = IsMadeOf IsRow IsTruth of
-RelationalOK IsNan of = IsMadeOf IsOfValue IsFloating of
-RelationalOK IsInf of = IsMadeOf IsOfValue IsFloating of
+RelationalOK All of = IsMadeOf IsVectorShape IsBool of
+RelationalOK Any of = IsMadeOf IsVectorShape IsBool of
+RelationalOK IsNan of = IsMadeOf IsScalarOrVector IsFloating of
+RelationalOK IsInf of = IsMadeOf IsScalarOrVector IsFloating of

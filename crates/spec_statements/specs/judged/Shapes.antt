@@ -23,26 +23,15 @@ AnyKind k = Unit {0}
 abbrev pub IsInteger : ScalarKind → Type 0
 IsInteger kind.Sint = Unit {0}
 IsInteger kind.Uint = Unit {0}
-IsInteger kind.Float = ⊥
-IsInteger kind.Bool = ⊥
-IsInteger kind.AbstractInt = ⊥
-IsInteger kind.AbstractFloat = ⊥
+IsInteger _ = ⊥
 
 abbrev pub IsFloating : ScalarKind → Type 0
-IsFloating kind.Sint = ⊥
-IsFloating kind.Uint = ⊥
 IsFloating kind.Float = Unit {0}
-IsFloating kind.Bool = ⊥
-IsFloating kind.AbstractInt = ⊥
-IsFloating kind.AbstractFloat = ⊥
+IsFloating _ = ⊥
 
-abbrev pub IsTruth : ScalarKind → Type 0
-IsTruth kind.Sint = ⊥
-IsTruth kind.Uint = ⊥
-IsTruth kind.Float = ⊥
-IsTruth kind.Bool = Unit {0}
-IsTruth kind.AbstractInt = ⊥
-IsTruth kind.AbstractFloat = ⊥
+abbrev pub IsBool : ScalarKind → Type 0
+IsBool kind.Bool = Unit {0}
+IsBool _ = ⊥
 
 -- numbers are all but truth values
 abbrev pub IsNumeric : ScalarKind → Type 0
@@ -55,24 +44,20 @@ IsNumeric kind.AbstractFloat = Unit {0}
 
 -- ---- shapes
 
-abbrev pub IsAlone : Shape → Type 0
-IsAlone shape.One = Unit {0}
-IsAlone (shape.Row n) = ⊥
-IsAlone (shape.Grid columns rows) = ⊥
-IsAlone (shape.Shared columns rows role) = ⊥
+abbrev pub IsScalarShape : Shape → Type 0
+IsScalarShape shape.One = Unit {0}
+IsScalarShape _ = ⊥
 
-abbrev pub IsRow : Shape → Type 0
-IsRow shape.One = ⊥
-IsRow (shape.Row n) = Unit {0}
-IsRow (shape.Grid columns rows) = ⊥
-IsRow (shape.Shared columns rows role) = ⊥
+abbrev pub IsVectorShape : Shape → Type 0
+IsVectorShape (shape.Row n) = Unit {0}
+IsVectorShape _ = ⊥
 
 -- that of a value: one scalar, or a vector
-abbrev pub IsOfValue : Shape → Type 0
-IsOfValue shape.One = Unit {0}
-IsOfValue (shape.Row n) = Unit {0}
-IsOfValue (shape.Grid columns rows) = ⊥
-IsOfValue (shape.Shared columns rows role) = ⊥
+abbrev pub IsScalarOrVector : Shape → Type 0
+IsScalarOrVector shape.One = Unit {0}
+IsScalarOrVector (shape.Row n) = Unit {0}
+IsScalarOrVector (shape.Grid columns rows) = ⊥
+IsScalarOrVector (shape.Shared columns rows role) = ⊥
 
 -- ---- what is made of scalars
 
@@ -82,17 +67,7 @@ shaped_of (form.Scalar s) = Some (record { shape = shape.One; scalar = s })
 shaped_of (form.Vector n s) = Some (record { shape = shape.Row n; scalar = s })
 shaped_of (form.Matrix columns rows s) = Some (record { shape = shape.Grid columns rows; scalar = s })
 shaped_of (form.CooperativeMatrix columns rows s role) = Some (record { shape = shape.Shared columns rows role; scalar = s })
-shaped_of (form.Atomic s) = None
-shaped_of (form.Pointer base space) = None
-shaped_of (form.ValuePointer n s space) = None
-shaped_of (form.Array base size stride) = None
-shaped_of (form.Struct handle) = None
-shaped_of (form.Image dim arrayed class) = None
-shaped_of (form.Sampler comparison) = None
-shaped_of (form.AccelerationStructure vertex_return) = None
-shaped_of (form.RayQuery vertex_return) = None
-shaped_of (form.BindingArray base size) = None
-shaped_of form.Nothing = None
+shaped_of _ = None
 
 abbrev pub form_of_shape : Shape → Scalar → Form
 form_of_shape shape.One s = form.Scalar s
@@ -109,65 +84,26 @@ AnyShape x = Unit {0}
 
 -- a scalar or a vector
 abbrev pub IsValue : Form → Type 0
-IsValue = IsMadeOf IsOfValue AnyKind
+IsValue = IsMadeOf IsScalarOrVector AnyKind
 
 abbrev pub IsIntegerScalar : Form → Type 0
-IsIntegerScalar = IsMadeOf IsAlone IsInteger
+IsIntegerScalar = IsMadeOf IsScalarShape IsInteger
 
 -- ---- images, and what a pointer leads to
 
 abbrev pub picture_of : Form → Option Picture
 picture_of (form.Image dim arrayed class) = Some (record { dim = dim; arrayed = arrayed; class = class })
-picture_of (form.Scalar s) = None
-picture_of (form.Vector n s) = None
-picture_of (form.Matrix columns rows s) = None
-picture_of (form.CooperativeMatrix columns rows s role) = None
-picture_of (form.Atomic s) = None
-picture_of (form.Pointer base space) = None
-picture_of (form.ValuePointer n s space) = None
-picture_of (form.Array base size stride) = None
-picture_of (form.Struct handle) = None
-picture_of (form.Sampler comparison) = None
-picture_of (form.AccelerationStructure vertex_return) = None
-picture_of (form.RayQuery vertex_return) = None
-picture_of (form.BindingArray base size) = None
-picture_of form.Nothing = None
+picture_of _ = None
 
 -- whether a sampler compares
 abbrev pub sampler_of : Form → Option Bool
 sampler_of (form.Sampler comparison) = Some comparison
-sampler_of (form.Scalar s) = None
-sampler_of (form.Vector n s) = None
-sampler_of (form.Matrix columns rows s) = None
-sampler_of (form.CooperativeMatrix columns rows s role) = None
-sampler_of (form.Atomic s) = None
-sampler_of (form.Pointer base space) = None
-sampler_of (form.ValuePointer n s space) = None
-sampler_of (form.Array base size stride) = None
-sampler_of (form.Struct handle) = None
-sampler_of (form.Image dim arrayed class) = None
-sampler_of (form.AccelerationStructure vertex_return) = None
-sampler_of (form.RayQuery vertex_return) = None
-sampler_of (form.BindingArray base size) = None
-sampler_of form.Nothing = None
+sampler_of _ = None
 
 -- the type that a pointer leads to, where that is neither a scalar nor a vector
 abbrev pub pointee_of : Form → Option ℕ
 pointee_of (form.Pointer base space) = Some base
-pointee_of (form.Scalar s) = None
-pointee_of (form.Vector n s) = None
-pointee_of (form.Matrix columns rows s) = None
-pointee_of (form.CooperativeMatrix columns rows s role) = None
-pointee_of (form.Atomic s) = None
-pointee_of (form.ValuePointer n s space) = None
-pointee_of (form.Array base size stride) = None
-pointee_of (form.Struct handle) = None
-pointee_of (form.Image dim arrayed class) = None
-pointee_of (form.Sampler comparison) = None
-pointee_of (form.AccelerationStructure vertex_return) = None
-pointee_of (form.RayQuery vertex_return) = None
-pointee_of (form.BindingArray base size) = None
-pointee_of form.Nothing = None
+pointee_of _ = None
 
 -- what it is made of
 abbrev pub pointed_inner : List PlainType → Option ℕ → Option PlainInner
@@ -180,11 +116,11 @@ pointed_in types t = pointed_inner types (pointee_of t)
 -- ---- places in images
 
 -- a place in an image of so many dimensions: as many of a scalar as it takes
-abbrev pub along : ImageDimension → Scalar → Form
-along D1 s = form.Scalar s
-along D2 s = form.Vector Bi s
-along D3 s = form.Vector Tri s
-along Cube s = form.Vector Tri s
+abbrev pub coordinate_form : ImageDimension → Scalar → Form
+coordinate_form D1 s = form.Scalar s
+coordinate_form D2 s = form.Vector Bi s
+coordinate_form D3 s = form.Vector Tri s
+coordinate_form Cube s = form.Vector Tri s
 
 -- something is there exactly where it is wanted, and then P holds of it
 abbrev pub ExactlyIf : (wanted : Bool) → Option ℕ → (ℕ → Type 0) → Type 0

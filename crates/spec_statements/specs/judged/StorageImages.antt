@@ -19,7 +19,7 @@ use Rattle.ir_items.specs.judged.Plain.{PlainFunction, PlainModule}
 use Rattle.typing_forms.specs.judged.Forms.{form_of_type}
 use Rattle.typing_forms.specs.declared.form.Form.{Form}
 use Rattle.typing_forms.specs.declared.form.Form.TheVariants as form
-use Rattle.spec_statements.specs.judged.ImageLoads.{IsTexel}
+use Rattle.spec_statements.specs.judged.ImageLoads.{IsTexelCoordinate}
 use Rattle.spec_statements.specs.judged.Shapes.{ExactlyIf, IsIntegerScalar, picture_of}
 use Rattle.spec_statements.specs.declared.shapes.Picture.{Picture}
 use Rattle.spec_statements.specs.judged.BlockContext.{BlockContext, form_at}
@@ -30,20 +30,7 @@ use Rattle.spec_statements.specs.judged.Variables.{variable_at, accessed_at}
 -- the type of the resources of an array of such
 abbrev pub resource_of : Form → Option ℕ
 resource_of (form.BindingArray base size) = Some base
-resource_of (form.Scalar s) = None
-resource_of (form.Vector n s) = None
-resource_of (form.Matrix columns rows s) = None
-resource_of (form.CooperativeMatrix columns rows s role) = None
-resource_of (form.Atomic s) = None
-resource_of (form.Pointer base space) = None
-resource_of (form.ValuePointer n s space) = None
-resource_of (form.Array base size stride) = None
-resource_of (form.Struct handle) = None
-resource_of (form.Image dim arrayed class) = None
-resource_of (form.Sampler comparison) = None
-resource_of (form.AccelerationStructure vertex_return) = None
-resource_of (form.RayQuery vertex_return) = None
-resource_of form.Nothing = None
+resource_of _ = None
 
 -- texels are written in a global variable that is an image, or in one of an array of images
 abbrev pub written_image : PlainModule → PlainFunction → (image : ℕ) → Option Picture
@@ -66,7 +53,7 @@ changed_image m f image =
 
 -- A texel of the image: its coordinate, and its layer exactly where there are several.
 pub record IsTexelOf (c : BlockContext) (image : Picture) (coordinate : ℕ) (array_index : Option ℕ) : Type 0 where
-  pub flat : IsTexel image.dim (form_at c coordinate)
+  pub flat : IsTexelCoordinate image.dim (form_at c coordinate)
   pub layer : ExactlyIf image.arrayed array_index (λ layer. IsIntegerScalar (form_at c layer))
 
 -- a value of the image's format
@@ -82,15 +69,10 @@ ImageStoreOK c image coordinate array_index value =
 
 -- ---- what is done with it
 
-abbrev pub IsExtremum : AtomicFunction → Type 0
-IsExtremum fun.Add = ⊥
-IsExtremum fun.Subtract = ⊥
-IsExtremum fun.And = ⊥
-IsExtremum fun.ExclusiveOr = ⊥
-IsExtremum fun.InclusiveOr = ⊥
-IsExtremum fun.Min = Unit {0}
-IsExtremum fun.Max = Unit {0}
-IsExtremum (fun.Exchange compare) = ⊥
+abbrev pub IsMinOrMax : AtomicFunction → Type 0
+IsMinOrMax fun.Min = Unit {0}
+IsMinOrMax fun.Max = Unit {0}
+IsMinOrMax _ = ⊥
 
 -- all but subtractions and exchanges
 abbrev pub IsDoneAtTexels : AtomicFunction → Type 0
@@ -105,7 +87,7 @@ IsDoneAtTexels (fun.Exchange compare) = ⊥
 
 -- What the texels of a format are changed by, with the capability that it needs.
 pub data FormatAllows (capabilities : Capabilities) (done : AtomicFunction) : StorageFormat → Type 0 where
-  wide : Has capabilities.0 TEXTURE_INT64_ATOMIC.0 → IsExtremum done → FormatAllows capabilities done format.R64Uint
+  wide : Has capabilities.0 TEXTURE_INT64_ATOMIC.0 → IsMinOrMax done → FormatAllows capabilities done format.R64Uint
   unsigned : Has capabilities.0 TEXTURE_ATOMIC.0 → IsDoneAtTexels done → FormatAllows capabilities done format.R32Uint
   signed : Has capabilities.0 TEXTURE_ATOMIC.0 → IsDoneAtTexels done → FormatAllows capabilities done format.R32Sint
 

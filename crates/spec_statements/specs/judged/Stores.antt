@@ -28,40 +28,10 @@ pub data BeginsAt (expressions : List PlainExpression) : ℕ → ℕ → Type 0 
 
 -- variables and arguments
 abbrev pub IsVariable : Expression → Type 0
-IsVariable (x.Literal value) = ⊥
-IsVariable (x.Constant constant) = ⊥
-IsVariable (x.Override override) = ⊥
-IsVariable (x.ZeroValue type) = ⊥
-IsVariable (x.Compose type components) = ⊥
-IsVariable (x.Access base index) = ⊥
-IsVariable (x.AccessIndex base index) = ⊥
-IsVariable (x.Splat size value) = ⊥
-IsVariable (x.Swizzle size vector pattern) = ⊥
 IsVariable (x.FunctionArgument number) = Unit {0}
 IsVariable (x.GlobalVariable variable) = Unit {0}
 IsVariable (x.LocalVariable variable) = Unit {0}
-IsVariable (x.Load pointer) = ⊥
-IsVariable (x.ImageSample image sampler gather coordinate array_index offset level depth_ref clamp_to_edge) = ⊥
-IsVariable (x.ImageLoad image coordinate array_index sample level) = ⊥
-IsVariable (x.ImageQuery image query) = ⊥
-IsVariable (x.Unary op expr) = ⊥
-IsVariable (x.Binary op left right) = ⊥
-IsVariable (x.Select condition accept reject) = ⊥
-IsVariable (x.Derivative axis ctrl expr) = ⊥
-IsVariable (x.Relational fun argument) = ⊥
-IsVariable (x.Math fun arg arg1 arg2 arg3) = ⊥
-IsVariable (x.As expr kind convert) = ⊥
-IsVariable (x.CallResult function) = ⊥
-IsVariable (x.AtomicResult type comparison) = ⊥
-IsVariable (x.WorkGroupUniformLoadResult type) = ⊥
-IsVariable (x.ArrayLength array) = ⊥
-IsVariable (x.RayQueryVertexPositions query committed) = ⊥
-IsVariable x.RayQueryProceedResult = ⊥
-IsVariable (x.RayQueryGetIntersection query committed) = ⊥
-IsVariable x.SubgroupBallotResult = ⊥
-IsVariable (x.SubgroupOperationResult type) = ⊥
-IsVariable (x.CooperativeLoad columns rows role block) = ⊥
-IsVariable (x.CooperativeMultiplyAdd p q r) = ⊥
+IsVariable _ = ⊥
 
 abbrev pub IsVariableOf : PlainExpression → Type 0
 IsVariableOf (compose type components) = ⊥
@@ -78,19 +48,7 @@ IsPlaceOfVariable expressions e = (start : ℕ) × BeginsAt expressions e start 
 abbrev pub pointer_space : Form → Option AddressSpace
 pointer_space (form.Pointer base space) = Some space
 pointer_space (form.ValuePointer n s space) = Some space
-pointer_space (form.Scalar s) = None
-pointer_space (form.Vector n s) = None
-pointer_space (form.Matrix columns rows s) = None
-pointer_space (form.CooperativeMatrix columns rows s role) = None
-pointer_space (form.Atomic s) = None
-pointer_space (form.Array base size stride) = None
-pointer_space (form.Struct handle) = None
-pointer_space (form.Image dim arrayed class) = None
-pointer_space (form.Sampler comparison) = None
-pointer_space (form.AccelerationStructure vertex_return) = None
-pointer_space (form.RayQuery vertex_return) = None
-pointer_space (form.BindingArray base size) = None
-pointer_space form.Nothing = None
+pointer_space _ = None
 
 -- it is a pointer to what may be written
 abbrev pub IsWritable : (pointer : Form) → Type 0
@@ -120,19 +78,7 @@ IsStorable form.Nothing = Unit {0}
 abbrev pub FitsAt : List PlainType → (pointer value : Form) → Type 0
 FitsAt types (form.Pointer base space) value = value ≡ loaded types base (inner_at types base)
 FitsAt types (form.ValuePointer n s space) value = value ≡ loaded_value n s
-FitsAt types (form.Scalar s) value = ⊥
-FitsAt types (form.Vector n s) value = ⊥
-FitsAt types (form.Matrix columns rows s) value = ⊥
-FitsAt types (form.CooperativeMatrix columns rows s role) value = ⊥
-FitsAt types (form.Atomic s) value = ⊥
-FitsAt types (form.Array base size stride) value = ⊥
-FitsAt types (form.Struct handle) value = ⊥
-FitsAt types (form.Image dim arrayed class) value = ⊥
-FitsAt types (form.Sampler comparison) value = ⊥
-FitsAt types (form.AccelerationStructure vertex_return) value = ⊥
-FitsAt types (form.RayQuery vertex_return) value = ⊥
-FitsAt types (form.BindingArray base size) value = ⊥
-FitsAt types form.Nothing value = ⊥
+FitsAt types _ value = ⊥
 
 -- What may be stored, where it fits and may be written.
 pub record StoreOK (c : BlockContext) (pointer value : ℕ) : Type 0 where

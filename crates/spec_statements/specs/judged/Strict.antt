@@ -8,7 +8,7 @@ use Rattle.ir_types.specs.judged.ExpressionPlain.{PlainExpression, plain}
 use Rattle.ir_types.specs.declared.expressions.Expression.TheVariants.{RayQueryProceedResult, SubgroupBallotResult}
 use Rattle.ir_items.specs.judged.Plain.{PlainFunction}
 use Rattle.spec_expressions.specs.judged.ExpressionNames.{expression_operands}
-use Rattle.spec_expressions.specs.judged.Operands.{given, of_statement, looked_up}
+use Rattle.spec_expressions.specs.judged.Operands.{given, statement_slots, looked_up}
 use Rattle.spec_statements.specs.judged.Scope.{PreEmitted, Introduces}
 
 -- ---- what a continue may skip
@@ -50,7 +50,7 @@ InStrictScope f p e = PreEmitted f e ⊎ ((q : Place) × Before q p × Introduce
 
 -- every operand of a statement; a loop's condition is used at its own place, after the continuing part
 abbrev pub statement_needed : PlainStatement → List ℕ
-statement_needed s = looked_up true (of_statement s)
+statement_needed s = looked_up true (statement_slots s)
 
 abbrev pub needed_at : Spot → List ℕ
 needed_at nothing = []

@@ -20,7 +20,7 @@ use Rattle.typing_forms.specs.judged.Forms.{form_of_type}
 use Rattle.typing_forms.specs.declared.form.Form.TheVariants as form
 use Rattle.typing_layout.specs.judged.Constness.{IsOfKind}
 use Rattle.typing_layout.specs.declared.constness.ExpressionKind.TheVariants.{Const}
-use Rattle.spec_statements.specs.judged.Shapes.{IsAlone, IsInteger, IsOfValue, IsTruth, IsMadeOf, shaped_of}
+use Rattle.spec_statements.specs.judged.Shapes.{IsScalarShape, IsInteger, IsScalarOrVector, IsBool, IsMadeOf, shaped_of}
 use Rattle.spec_statements.specs.declared.shapes.Shape.{Shape}
 use Rattle.spec_expressions.specs.judged.Operands.{gather_index}
 use Rattle.spec_statements.specs.judged.BlockContext.{BlockContext, form_at}
@@ -75,36 +75,30 @@ pub record BallotOK (c : BlockContext) (predicate : Option ℕ) : Type 0 where
 -- ---- collective operations
 
 -- integers and floats
-abbrev pub IsNumber : ScalarKind → Type 0
-IsNumber kind.Sint = Unit {0}
-IsNumber kind.Uint = Unit {0}
-IsNumber kind.Float = Unit {0}
-IsNumber kind.Bool = ⊥
-IsNumber kind.AbstractInt = ⊥
-IsNumber kind.AbstractFloat = ⊥
+abbrev pub IsSubgroupNumber : ScalarKind → Type 0
+IsSubgroupNumber kind.Sint = Unit {0}
+IsSubgroupNumber kind.Uint = Unit {0}
+IsSubgroupNumber kind.Float = Unit {0}
+IsSubgroupNumber kind.Bool = ⊥
+IsSubgroupNumber kind.AbstractInt = ⊥
+IsSubgroupNumber kind.AbstractFloat = ⊥
 
 -- truth values are required one by one; bits are of integers of four bytes up
 abbrev pub TakesShape : SubgroupOperation → Shape → Scalar → Type 0
-TakesShape op.All shape s = IsAlone shape × IsTruth s.kind
-TakesShape op.Any shape s = IsAlone shape × IsTruth s.kind
-TakesShape op.Add shape s = IsOfValue shape × IsNumber s.kind
-TakesShape op.Mul shape s = IsOfValue shape × IsNumber s.kind
-TakesShape op.Min shape s = IsOfValue shape × IsNumber s.kind
-TakesShape op.Max shape s = IsOfValue shape × IsNumber s.kind
-TakesShape op.And shape s = IsOfValue shape × IsInteger s.kind × (4 ≤ s.width)
-TakesShape op.Or shape s = IsOfValue shape × IsInteger s.kind × (4 ≤ s.width)
-TakesShape op.Xor shape s = IsOfValue shape × IsInteger s.kind × (4 ≤ s.width)
+TakesShape op.All shape s = IsScalarShape shape × IsBool s.kind
+TakesShape op.Any shape s = IsScalarShape shape × IsBool s.kind
+TakesShape op.Add shape s = IsScalarOrVector shape × IsSubgroupNumber s.kind
+TakesShape op.Mul shape s = IsScalarOrVector shape × IsSubgroupNumber s.kind
+TakesShape op.Min shape s = IsScalarOrVector shape × IsSubgroupNumber s.kind
+TakesShape op.Max shape s = IsScalarOrVector shape × IsSubgroupNumber s.kind
+TakesShape op.And shape s = IsScalarOrVector shape × IsInteger s.kind × (4 ≤ s.width)
+TakesShape op.Or shape s = IsScalarOrVector shape × IsInteger s.kind × (4 ≤ s.width)
+TakesShape op.Xor shape s = IsScalarOrVector shape × IsInteger s.kind × (4 ≤ s.width)
 
 abbrev pub IsScanned : SubgroupOperation → Type 0
-IsScanned op.All = ⊥
-IsScanned op.Any = ⊥
 IsScanned op.Add = Unit {0}
 IsScanned op.Mul = Unit {0}
-IsScanned op.Min = ⊥
-IsScanned op.Max = ⊥
-IsScanned op.And = ⊥
-IsScanned op.Or = ⊥
-IsScanned op.Xor = ⊥
+IsScanned _ = ⊥
 
 -- reductions are of all operations, scans of sums and products
 abbrev pub GoesOver : CollectiveOperation → SubgroupOperation → Type 0
@@ -135,5 +129,5 @@ pub record GatherOK (c : BlockContext) (how : GatherMode) (argument result : ℕ
   pub operation : HasOperation c (gather_needs how)
   pub index : IfSome (gather_index how) (λ e. form_at c e ≡ form.Scalar (unsigned 4))
   pub known : IndexIsKnown c how
-  pub number : IsMadeOf IsOfValue IsNumber (form_at c argument)
+  pub number : IsMadeOf IsScalarOrVector IsSubgroupNumber (form_at c argument)
   pub answered : AnswersAs c argument result

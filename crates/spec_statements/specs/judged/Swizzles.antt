@@ -9,10 +9,8 @@ use Rattle.spec_statements.specs.declared.shapes.Shape.{Shape}
 use Rattle.spec_statements.specs.declared.shapes.Shape.TheVariants as shape
 
 abbrev pub row_size : Shape → Option VectorSize
-row_size shape.One = None
 row_size (shape.Row n) = Some n
-row_size (shape.Grid columns rows) = None
-row_size (shape.Shared columns rows role) = None
+row_size _ = None
 
 -- of the pattern as many letters count as the size says, and each is that of a component
 abbrev pub AreComponents : (size : VectorSize) → (pattern : List SwizzleComponent) → (of : VectorSize) → Type 0

@@ -3,14 +3,14 @@ use Rattle.std.specs.Prelude.{ℕ, false, List, [], ◌∷◌, Some, option_to_l
 use Rattle.ir_arena.specs.judged.Handles.{handles_between}
 use Rattle.ir_blocks.specs.judged.Places.{Spot, nothing, statement, loop_condition}
 use Rattle.ir_blocks.specs.judged.Plain.{PlainStatement, emit, block, if_, switch, loop, break, continue, return, kill, operation, call}
-use Rattle.spec_expressions.specs.judged.Operands.{given, of_statement, looked_up}
+use Rattle.spec_expressions.specs.judged.Operands.{given, statement_slots, looked_up}
 use Rattle.spec_expressions.specs.judged.StatementNames.{operation_result}
 
 -- ---- what has to be in scope
 
 -- a loop's condition is used at its own place, after the continuing part
 abbrev pub statement_checked : PlainStatement → List ℕ
-statement_checked s = looked_up false (of_statement s)
+statement_checked s = looked_up false (statement_slots s)
 
 abbrev pub checked_at : Spot → List ℕ
 checked_at nothing = []

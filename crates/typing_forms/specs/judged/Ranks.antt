@@ -1,7 +1,7 @@
 -- How well a scalar is taken for another one: the lower the rank, the better.
 use Rattle.std.specs.Prelude.{ℕ, List, [], ◌∷◌, Option, Some, None, if◌then◌else◌}
 use Rattle.ir_kinds.specs.declared.scalars.Scalar.{Scalar}
-use Rattle.ir_kinds.specs.judged.Scalars.{signed, unsigned, floating, abstract_int, abstract_float, is_scalar}
+use Rattle.ir_kinds.specs.judged.Scalars.{signed, unsigned, floating, abstract_int, abstract_float, same_scalar}
 
 -- what an abstract float becomes, with the ranks
 abbrev pub float_ranks : List (Scalar × ℕ)
@@ -15,14 +15,14 @@ integer_ranks =
 
 abbrev pub rank_in : List (Scalar × ℕ) → Scalar → Option ℕ
 rank_in [] to = None
-rank_in (row ∷ rows) to = if is_scalar row.0 to then Some row.1 else rank_in rows to
+rank_in (row ∷ rows) to = if same_scalar row.0 to then Some row.1 else rank_in rows to
 
 -- the rank of a conversion to another scalar, if there is one
 abbrev pub conversion : Scalar → Scalar → Option ℕ
 conversion from to =
-    if is_scalar from abstract_int then rank_in integer_ranks to
-    else if is_scalar from abstract_float then rank_in float_ranks to else None
+    if same_scalar from abstract_int then rank_in integer_ranks to
+    else if same_scalar from abstract_float then rank_in float_ranks to else None
 
 -- the same, where a scalar is taken for itself at the best rank
 abbrev pub rank : Scalar → Scalar → Option ℕ
-rank from to = if is_scalar from to then Some 0 else conversion from to
+rank from to = if same_scalar from to then Some 0 else conversion from to

@@ -1,9 +1,7 @@
 -- How many bytes a value takes.
 use Rattle.typing_forms.specs.declared.sizes.TheConstants.{MAX_TYPE_SIZE}
 use Rattle.std.specs.Prelude.{ℕ, ◌+◌, ◌-◌, ◌*◌, ◌/◌, Option, Some, None, if◌then◌else◌, nat_le}
-use Rattle.ir_kinds.specs.judged.Scalars.{component_count}
-use Rattle.ir_kinds.specs.declared.scalars.CooperativeSize.{CooperativeSize}
-use Rattle.ir_kinds.specs.declared.scalars.CooperativeSize.TheVariants.{Eight, Sixteen}
+use Rattle.ir_kinds.specs.judged.Scalars.{component_count, cooperative_count}
 use Rattle.ir_kinds.specs.declared.scalars.VectorSize.{VectorSize}
 use Rattle.ir_kinds.specs.declared.scalars.VectorSize.TheVariants.{Bi, Tri, Quad}
 use Rattle.ir_types.specs.judged.Plain.{PlainInner, struct, plain}
@@ -24,10 +22,6 @@ vector_alignment Quad width = 4 * width
 -- a column of a matrix, rounded up to its alignment
 abbrev pub column_size : VectorSize → (width : ℕ) → ℕ
 column_size rows width = rounded_up (vector_alignment rows width) (component_count rows * width)
-
-abbrev pub cooperative_count : CooperativeSize → ℕ
-cooperative_count Eight = 8
-cooperative_count Sixteen = 16
 
 -- how many elements count: one where the number isn't known
 abbrev pub counted : ArraySize → ℕ

@@ -4,7 +4,7 @@ use Rattle.ir_flags.specs.Sets.{Has}
 use Rattle.ir_flags.specs.declared.settings.Capabilities.{Capabilities}
 use Rattle.ir_flags.specs.declared.settings.TheConstants.Capabilities.{DUAL_SOURCE_BLENDING}
 use Rattle.ir_types.specs.judged.Plain.{PlainMember, PlainType}
-use Rattle.typing_layout.specs.judged.Blends.{location_of, source_at, HasSource}
+use Rattle.typing_layout.specs.judged.Blends.{binding_location, source_at, HasSource}
 use Rattle.typing_layout.specs.judged.Flags.{HasFlag, IoShareable, blend_source}
 use Rattle.typing_layout.specs.judged.View.{type_tree}
 use Rattle.typing_forms.specs.judged.Resolutions.{inner_at}
@@ -25,7 +25,7 @@ pub record IsSource (members : List PlainMember) (source ty : ℕ) : Type 0 wher
 pub record IsLocated (members : List PlainMember) (location : ℕ) (m : PlainMember) : Type 0 where
   pub place : ℕ
   pub at : slice_get members place ≡ Some m
-  pub is : location_of m.binding ≡ Some location
+  pub is : binding_location m.binding ≡ Some location
 
 -- two members are this source
 pub record IsTwice (members : List PlainMember) (source : ℕ) : Type 0 where

@@ -5,9 +5,8 @@ use Rattle.ir_types.specs.judged.Plain.{PlainType}
 use Rattle.ir_types.specs.declared.types.ArraySize.{ArraySize}
 use Rattle.typing_layout.specs.judged.Buffers.{uniform_alignment, free_after}
 use Rattle.typing_layout.specs.judged.Flags.{HasFlag, HostShareable}
-use Rattle.typing_layout.specs.judged.Immediates.{scalar_of}
-use Rattle.typing_layout.specs.judged.Parts.{Part, listed, before, Somewhere}
-use Rattle.typing_layout.specs.judged.Layout.{alignment}
+use Rattle.typing_layout.specs.judged.Parts.{TreeMember, member_list, item_before, Somewhere}
+use Rattle.typing_layout.specs.judged.Layout.{alignment, tree_scalar}
 use Rattle.typing_layout.specs.judged.Tree.{Tree, Members, array, struct}
 use Rattle.typing_layout.specs.judged.View.{type_tree}
 use Rattle.typing_layout.specs.declared.type_error.Disalignment.{Disalignment}
@@ -35,8 +34,8 @@ pub record IsBadOffset (part : Tree → ℕ) (index offset a : ℕ) (t : Tree) :
   pub members : Members
   pub span : ℕ
   pub is : t ≡ struct members span
-  pub p : Part
-  pub at : slice_get (listed members) index ≡ Some p
+  pub p : TreeMember
+  pub at : slice_get (member_list members) index ≡ Some p
   pub begins : offset ≡ p.offset
   pub asked : a ≡ part p.of_type
   pub broken : ¬ (a ∣ offset)
@@ -46,10 +45,10 @@ pub record IsNearAfter (index offset expected : ℕ) (t : Tree) : Type 0 where
   pub members : Members
   pub span : ℕ
   pub is : t ≡ struct members span
-  pub p : Part
-  pub at : slice_get (listed members) index ≡ Some p
-  pub q : Part
-  pub behind : before (listed members) index ≡ Some q
+  pub p : TreeMember
+  pub at : slice_get (member_list members) index ≡ Some p
+  pub q : TreeMember
+  pub behind : item_before (member_list members) index ≡ Some q
   pub begins : offset ≡ p.offset
   pub asked : expected ≡ free_after q q.of_type
   pub near : offset < expected
@@ -74,4 +73,4 @@ IsBroken breaks types t e = Somewhere (λ inside. (inside ≡ type_tree types e.
 
 -- the scalar stands inside, and takes two bytes
 abbrev pub IsUnfit : Tree → ImmediateError → Type 0
-IsUnfit t (immediate.InvalidScalar s) = Somewhere (λ inside. scalar_of inside ≡ Some s) t × (s.width ≡ 2)
+IsUnfit t (immediate.InvalidScalar s) = Somewhere (λ inside. tree_scalar inside ≡ Some s) t × (s.width ≡ 2)

@@ -2,7 +2,7 @@
 use Rattle.std.specs.Prelude.{◌≡◌, ◌↔◌, List, MatchResult}
 use Rattle.ir_flags.specs.Sets.{Has}
 use Rattle.ir_types.specs.judged.Plain.{PlainType}
-use Rattle.typing_layout.specs.judged.Buffers.{IsStorage, IsUniform, uniform_alignment}
+use Rattle.typing_layout.specs.judged.Buffers.{FitsStorageBuffer, FitsUniformBuffer, uniform_alignment}
 use Rattle.typing_layout.specs.judged.Flags.{TypeFlag, bit, HasFlag}
 use Rattle.typing_layout.specs.judged.Immediates.{FitsImmediates}
 use Rattle.typing_layout.specs.judged.Layout.{alignment}
@@ -18,6 +18,6 @@ AreFlags set t = (f : TypeFlag) → Has set.0 (bit f) ↔ HasFlag f t
 -- the info of a type of a module
 pub record HasInfo (types : List PlainType) (t : Tree) (i : TypeInfo) : Type 0 where
   pub flags : AreFlags i.flags t
-  pub storage : MatchResult i.storage_layout (λ a. IsStorage t × (a ≡ alignment t)) (IsBroken BreaksStorage types t)
-  pub uniform : MatchResult i.uniform_layout (λ a. IsUniform t × (a ≡ uniform_alignment t)) (IsBroken BreaksUniform types t)
+  pub storage : MatchResult i.storage_layout (λ a. FitsStorageBuffer t × (a ≡ alignment t)) (IsBroken BreaksStorage types t)
+  pub uniform : MatchResult i.uniform_layout (λ a. FitsUniformBuffer t × (a ≡ uniform_alignment t)) (IsBroken BreaksUniform types t)
   pub immediates : MatchResult i.immediates_compatibility (λ _. FitsImmediates t) (IsUnfit t)

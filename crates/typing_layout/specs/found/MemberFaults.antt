@@ -2,7 +2,7 @@
 use Rattle.std.specs.Prelude.{◌≡◌, ◌≢◌, ◌<◌, ◌+◌, ℕ, suc, List, [], Some, length, slice_get}
 use Rattle.ir_types.specs.judged.Plain.{PlainMember, PlainType}
 use Rattle.typing_layout.specs.judged.Flags.{HasFlag, Data, Sized}
-use Rattle.typing_layout.specs.judged.Parts.{before}
+use Rattle.typing_layout.specs.judged.Parts.{item_before}
 use Rattle.typing_layout.specs.judged.Layout.{size}
 use Rattle.typing_layout.specs.judged.View.{type_tree}
 use Rattle.typing_layout.specs.declared.type_error.TypeError.{TypeError}
@@ -16,7 +16,7 @@ abbrev pub IsMemberFault : List PlainType → List PlainMember → (span place :
 IsMemberFault types members span place m (error.InvalidData index ty) = (index ≡ place) × (ty ≡ m.ty) × ¬ HasFlag Data (type_tree types m.ty)
 IsMemberFault types members span place m (error.InvalidDynamicArray index ty) = (index ≡ place) × (ty ≡ m.ty) × (suc place < length members) × ¬ HasFlag Sized (type_tree types m.ty)
 IsMemberFault types members span place m (error.MemberOverlap index offset) =
-    (index ≡ place) × (offset ≡ m.offset) × (offset ≢ 0) × (a : PlainMember) × (before members place ≡ Some a) × EndsPast types a offset
+    (index ≡ place) × (offset ≡ m.offset) × (offset ≢ 0) × (a : PlainMember) × (item_before members place ≡ Some a) × EndsPast types a offset
 IsMemberFault types members span place m (error.MemberOutOfBounds index offset bytes end) =
     (index ≡ place) × (offset ≡ m.offset) × (bytes ≡ size (type_tree types m.ty)) × (end ≡ span) × EndsPast types m span
 IsMemberFault types members span place m _ = ⊥

@@ -10,10 +10,10 @@ use Rattle.typing_forms.specs.judged.Resolutions.{inner_at}
 use Rattle.typing_layout.specs.judged.View.{type_tree}
 use Rattle.typing_layout.specs.judged.Flags.{HasFlag, IoShareable, blend_source}
 
-abbrev pub location_of : Option Binding → Option ℕ
-location_of None = None
-location_of (Some (bound.BuiltIn built_in)) = None
-location_of (Some (bound.Location location interpolation sampling source per_primitive)) = Some location
+abbrev pub binding_location : Option Binding → Option ℕ
+binding_location None = None
+binding_location (Some (bound.BuiltIn built_in)) = None
+binding_location (Some (bound.Location location interpolation sampling source per_primitive)) = Some location
 
 -- the source of a blend that stands at a place
 abbrev pub source_at : List PlainMember → (place : ℕ) → Option ℕ
@@ -29,13 +29,13 @@ pub record IsOnlySource (members : List PlainMember) (source place : ℕ) (m : P
   pub only : (k : ℕ) → source_at members k ≡ Some source → k ≡ place
 
 -- whatever has a location is the first or the second source at location 0
-abbrev pub LocationOK : PlainMember → Type 0
-LocationOK m = (location : ℕ) → location_of m.binding ≡ Some location → (location ≡ 0) × ((blend_source m.binding ≡ Some 0) ⊎ (blend_source m.binding ≡ Some 1))
+abbrev pub BlendLocationOK : PlainMember → Type 0
+BlendLocationOK m = (location : ℕ) → binding_location m.binding ≡ Some location → (location ≡ 0) × ((blend_source m.binding ≡ Some 0) ⊎ (blend_source m.binding ≡ Some 1))
 
 -- both sources stand once each, and their types are made of the same and go between stages
 pub record BlendOK (capabilities : Capabilities) (types : List PlainType) (members : List PlainMember) : Type 0 where
   pub capability : Has capabilities.0 DUAL_SOURCE_BLENDING.0
-  pub located : (place : ℕ) (m : PlainMember) → slice_get members place ≡ Some m → LocationOK m
+  pub located : (place : ℕ) (m : PlainMember) → slice_get members place ≡ Some m → BlendLocationOK m
   pub first_place : ℕ
   pub second_place : ℕ
   pub first : PlainMember

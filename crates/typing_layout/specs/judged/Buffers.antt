@@ -5,17 +5,17 @@ use Rattle.typing_forms.specs.judged.Sizes.{rounded_up}
 use Rattle.typing_layout.specs.judged.Layout.{alignment}
 use Rattle.typing_layout.specs.judged.Tree.{Tree, scalar, vector, matrix, cooperative_matrix, atomic, pointer, value_pointer, array, struct, image, sampler, acceleration_structure, ray_query, binding_array}
 use Rattle.typing_layout.specs.judged.Flags.{HasFlag, HostShareable}
-use Rattle.typing_layout.specs.judged.Parts.{Part, listed, end_of, before, Everywhere}
+use Rattle.typing_layout.specs.judged.Parts.{TreeMember, member_list, end_of, item_before, Everywhere}
 
 -- each offset is a multiple of what `part` requires of the member's type
-abbrev pub PartsAligned : (part : Tree → ℕ) → List Part → Type 0
-PartsAligned part ps = (k : ℕ) (p : Part) → slice_get ps k ≡ Some p → part p.of_type ∣ p.offset
+abbrev pub PartsAligned : (part : Tree → ℕ) → List TreeMember → Type 0
+PartsAligned part ps = (k : ℕ) (p : TreeMember) → slice_get ps k ≡ Some p → part p.of_type ∣ p.offset
 
 -- ---- storage buffers
 
 abbrev pub StorageAt : Tree → Type 0
 StorageAt (array base n stride) = alignment base ∣ stride
-StorageAt (struct ms span) = PartsAligned alignment (listed ms) × (alignment (struct ms span) ∣ span)
+StorageAt (struct ms span) = PartsAligned alignment (member_list ms) × (alignment (struct ms span) ∣ span)
 StorageAt (scalar s) = Unit {0}
 StorageAt (vector n s) = Unit {0}
 StorageAt (matrix columns rows s) = Unit {0}
@@ -29,8 +29,8 @@ StorageAt (acceleration_structure vertex_return) = Unit {0}
 StorageAt (ray_query vertex_return) = Unit {0}
 StorageAt (binding_array base n) = Unit {0}
 
-abbrev pub IsStorage : Tree → Type 0
-IsStorage t = HasFlag HostShareable t × Everywhere StorageAt t
+abbrev pub FitsStorageBuffer : Tree → Type 0
+FitsStorageBuffer t = HasFlag HostShareable t × Everywhere StorageAt t
 
 -- ---- uniform buffers
 
@@ -52,7 +52,7 @@ uniform_alignment (ray_query vertex_return) = alignment (ray_query vertex_return
 uniform_alignment (binding_array base n) = alignment (binding_array base n)
 
 -- where the next member may begin: after a struct at its end, rounded up to 16
-abbrev pub free_after : Part → Tree → ℕ
+abbrev pub free_after : TreeMember → Tree → ℕ
 free_after p (struct ms span) = rounded_up 16 (end_of p)
 free_after p (array base n stride) = 0
 free_after p (scalar s) = 0
@@ -68,12 +68,12 @@ free_after p (acceleration_structure vertex_return) = 0
 free_after p (ray_query vertex_return) = 0
 free_after p (binding_array base n) = 0
 
-abbrev pub StructsApart : List Part → Type 0
-StructsApart ps = (k : ℕ) (p : Part) → slice_get ps k ≡ Some p → IfSome (before ps k) (λ a. free_after a a.of_type ≤ p.offset)
+abbrev pub StructsApart : List TreeMember → Type 0
+StructsApart ps = (k : ℕ) (p : TreeMember) → slice_get ps k ≡ Some p → IfSome (item_before ps k) (λ a. free_after a a.of_type ≤ p.offset)
 
 abbrev pub UniformAt : Tree → Type 0
 UniformAt (array base n stride) = (uniform_alignment base ∣ stride) × (16 ∣ stride)
-UniformAt (struct ms span) = PartsAligned uniform_alignment (listed ms) × (alignment (struct ms span) ∣ span) × StructsApart (listed ms)
+UniformAt (struct ms span) = PartsAligned uniform_alignment (member_list ms) × (alignment (struct ms span) ∣ span) × StructsApart (member_list ms)
 UniformAt (scalar s) = Unit {0}
 UniformAt (vector n s) = Unit {0}
 UniformAt (matrix columns rows s) = Unit {0}
@@ -87,5 +87,5 @@ UniformAt (acceleration_structure vertex_return) = Unit {0}
 UniformAt (ray_query vertex_return) = Unit {0}
 UniformAt (binding_array base n) = Unit {0}
 
-abbrev pub IsUniform : Tree → Type 0
-IsUniform t = HasFlag HostShareable t × Everywhere UniformAt t
+abbrev pub FitsUniformBuffer : Tree → Type 0
+FitsUniformBuffer t = HasFlag HostShareable t × Everywhere UniformAt t

@@ -34,31 +34,13 @@ origin_of (plain (expression.Access base index)) = latest_of (base ∷ index ∷
 origin_of (plain (expression.AccessIndex base index)) = latest_of (base ∷ [])
 origin_of (plain (expression.Splat size value)) = latest_of (value ∷ [])
 origin_of (plain (expression.Swizzle size vector pattern)) = latest_of (vector ∷ [])
-origin_of (plain (expression.FunctionArgument index)) = own Runtime
-origin_of (plain (expression.GlobalVariable handle)) = own Runtime
-origin_of (plain (expression.LocalVariable handle)) = own Runtime
-origin_of (plain (expression.Load pointer)) = own Runtime
-origin_of (plain (expression.ImageSample image sampler gather coordinate array_index offset level depth_ref clamp_to_edge)) = own Runtime
-origin_of (plain (expression.ImageLoad image coordinate array_index sample level)) = own Runtime
-origin_of (plain (expression.ImageQuery image query)) = own Runtime
 origin_of (plain (expression.Unary op expr)) = latest_of (expr ∷ [])
 origin_of (plain (expression.Binary op left right)) = latest_of (left ∷ right ∷ [])
 origin_of (plain (expression.Select condition accept reject)) = latest_of (condition ∷ accept ∷ reject ∷ [])
-origin_of (plain (expression.Derivative axis ctrl expr)) = own Runtime
 origin_of (plain (expression.Relational fun argument)) = latest_of (argument ∷ [])
 origin_of (plain (expression.Math fun arg arg1 arg2 arg3)) = latest_of (arg ∷ (option_to_list arg1 ++ option_to_list arg2 ++ option_to_list arg3))
 origin_of (plain (expression.As expr kind convert)) = latest_of (expr ∷ [])
-origin_of (plain (expression.CallResult function)) = own Runtime
-origin_of (plain (expression.AtomicResult type comparison)) = own Runtime
-origin_of (plain (expression.WorkGroupUniformLoadResult type)) = own Runtime
-origin_of (plain (expression.ArrayLength array)) = own Runtime
-origin_of (plain (expression.RayQueryVertexPositions query committed)) = own Runtime
-origin_of (plain expression.RayQueryProceedResult) = own Runtime
-origin_of (plain (expression.RayQueryGetIntersection query committed)) = own Runtime
-origin_of (plain expression.SubgroupBallotResult) = own Runtime
-origin_of (plain (expression.SubgroupOperationResult type)) = own Runtime
-origin_of (plain (expression.CooperativeLoad columns rows role block)) = own Runtime
-origin_of (plain (expression.CooperativeMultiplyAdd a b c)) = own Runtime
+origin_of _ = own Runtime
 
 -- The expression at a handle is of a kind: its own, or the latest of its operands' kinds.
 pub data IsOfKind (expressions : List PlainExpression) : ℕ → ExpressionKind → Type 0 where

@@ -10,7 +10,7 @@ use Rattle.ir_types.specs.declared.types.ArraySize.{ArraySize}
 use Rattle.ir_types.specs.declared.types.ArraySize.TheVariants as count
 use Rattle.typing_layout.specs.declared.type_flags.TheConstants.TypeFlags.{DATA, SIZED, COPY, IO_SHAREABLE, HOST_SHAREABLE, CREATION_RESOLVED, ARGUMENT, CONSTRUCTIBLE}
 use Rattle.typing_layout.specs.judged.Tree.{Tree, scalar, vector, matrix, cooperative_matrix, atomic, pointer, value_pointer, array, struct, image, sampler, acceleration_structure, ray_query, binding_array, Members, no_members, member}
-use Rattle.typing_layout.specs.judged.Parts.{Part, listed, end_of, before}
+use Rattle.typing_layout.specs.judged.Parts.{TreeMember, member_list, end_of, item_before}
 
 pub data TypeFlag : Type 0 where
   -- values can be stored
@@ -67,24 +67,24 @@ scalar_flags kind.AbstractFloat = number_flags
 abbrev pub atomic_flags : List TypeFlag
 atomic_flags = Data ∷ Sized ∷ HostShareable ∷ CreationResolved ∷ []
 
-abbrev pub far_pointer_flags : List TypeFlag
-far_pointer_flags = Sized ∷ Copy ∷ CreationResolved ∷ []
+abbrev pub shared_pointer_flags : List TypeFlag
+shared_pointer_flags = Sized ∷ Copy ∷ CreationResolved ∷ []
 
-abbrev pub own_pointer_flags : List TypeFlag
-own_pointer_flags = Argument ∷ far_pointer_flags
+abbrev pub invocation_pointer_flags : List TypeFlag
+invocation_pointer_flags = Argument ∷ shared_pointer_flags
 
 -- functions take pointers to an invocation's own variables
 abbrev pub pointer_flags : AddressSpace → List TypeFlag
-pointer_flags space.Function = own_pointer_flags
-pointer_flags space.Private = own_pointer_flags
-pointer_flags space.WorkGroup = far_pointer_flags
-pointer_flags space.Uniform = far_pointer_flags
-pointer_flags (space.Storage access) = far_pointer_flags
-pointer_flags space.Handle = far_pointer_flags
-pointer_flags space.Immediate = far_pointer_flags
-pointer_flags space.TaskPayload = far_pointer_flags
-pointer_flags space.RayPayload = far_pointer_flags
-pointer_flags space.IncomingRayPayload = far_pointer_flags
+pointer_flags space.Function = invocation_pointer_flags
+pointer_flags space.Private = invocation_pointer_flags
+pointer_flags space.WorkGroup = shared_pointer_flags
+pointer_flags space.Uniform = shared_pointer_flags
+pointer_flags (space.Storage access) = shared_pointer_flags
+pointer_flags space.Handle = shared_pointer_flags
+pointer_flags space.Immediate = shared_pointer_flags
+pointer_flags space.TaskPayload = shared_pointer_flags
+pointer_flags space.RayPayload = shared_pointer_flags
+pointer_flags space.IncomingRayPayload = shared_pointer_flags
 
 abbrev pub resource_flags : List TypeFlag
 resource_flags = CreationResolved ∷ Argument ∷ []
@@ -109,16 +109,16 @@ blend_source None = None
 blend_source (Some (bound.BuiltIn built_in)) = None
 blend_source (Some (bound.Location location interpolation sampling source per_primitive)) = source
 
-abbrev pub HasBlendSource : List Part → Type 0
-HasBlendSource ps = (k : ℕ) × (p : Part) × (slice_get ps k ≡ Some p) × IsSome (blend_source p.binding)
+abbrev pub HasBlendSource : List TreeMember → Type 0
+HasBlendSource ps = (k : ℕ) × (p : TreeMember) × (slice_get ps k ≡ Some p) × IsSome (blend_source p.binding)
 
 -- each member begins where the one before ends, or later
-abbrev pub IsInOrder : List Part → Type 0
-IsInOrder ps = (k : ℕ) (p : Part) → slice_get ps k ≡ Some p → IfSome (before ps k) (λ a. end_of a ≤ p.offset)
+abbrev pub IsInOrder : List TreeMember → Type 0
+IsInOrder ps = (k : ℕ) (p : TreeMember) → slice_get ps k ≡ Some p → IfSome (item_before ps k) (λ a. end_of a ≤ p.offset)
 
 -- a struct has the flags that all members have, `all` says of this one; but it goes between stages exactly as sources of
 -- a blend, and the host lays it out only with its members in order
-abbrev pub StructHas : TypeFlag → (all : Type 0) → List Part → Type 0
+abbrev pub StructHas : TypeFlag → (all : Type 0) → List TreeMember → Type 0
 StructHas Data all ps = all
 StructHas Sized all ps = all
 StructHas Copy all ps = all
@@ -138,7 +138,7 @@ abbrev mutual
   HasFlag f (pointer base space) = IsTrue (among (pointer_flags space) f)
   HasFlag f (value_pointer n s space) = IsTrue (among (pointer_flags space) f)
   HasFlag f (array base n stride) = HasFlag f base × IsTrue (among (array_flags n) f)
-  HasFlag f (struct ms span) = StructHas f (AllHave f ms) (listed ms)
+  HasFlag f (struct ms span) = StructHas f (AllHave f ms) (member_list ms)
   HasFlag f (image dim arrayed class) = IsTrue (among resource_flags f)
   HasFlag f (sampler comparison) = IsTrue (among resource_flags f)
   HasFlag f (acceleration_structure vertex_return) = IsTrue (among resource_flags f)

@@ -17,11 +17,11 @@ pub record ImageOK (capabilities : Capabilities) (dim : ImageDimension) (arrayed
   pub external : class ≡ External → Has capabilities.0 TEXTURE_EXTERNAL.0 × (dim ≡ D2) × (arrayed ≡ false)
 
 -- what gives the vertices of a hit has a capability
-abbrev pub VerticesOK : Capabilities → (vertex_return : Bool) → Type 0
-VerticesOK capabilities vertex_return = vertex_return ≡ true → Has capabilities.0 RAY_HIT_VERTEX_POSITION.0
+abbrev pub VertexReturnOK : Capabilities → (vertex_return : Bool) → Type 0
+VertexReturnOK capabilities vertex_return = vertex_return ≡ true → Has capabilities.0 RAY_HIT_VERTEX_POSITION.0
 
-abbrev pub StructureOK : Capabilities → (vertex_return : Bool) → Type 0
-StructureOK capabilities vertex_return = (Has capabilities.0 RAY_QUERY.0 ⊎ Has capabilities.0 RAY_TRACING_PIPELINE.0) × VerticesOK capabilities vertex_return
+abbrev pub AccelerationStructureOK : Capabilities → (vertex_return : Bool) → Type 0
+AccelerationStructureOK capabilities vertex_return = (Has capabilities.0 RAY_QUERY.0 ⊎ Has capabilities.0 RAY_TRACING_PIPELINE.0) × VertexReturnOK capabilities vertex_return
 
-abbrev pub QueryOK : Capabilities → (vertex_return : Bool) → Type 0
-QueryOK capabilities vertex_return = Has capabilities.0 RAY_QUERY.0 × VerticesOK capabilities vertex_return
+abbrev pub RayQueryTypeOK : Capabilities → (vertex_return : Bool) → Type 0
+RayQueryTypeOK capabilities vertex_return = Has capabilities.0 RAY_QUERY.0 × VertexReturnOK capabilities vertex_return

@@ -1,9 +1,10 @@
 -- How many bytes a value of a type takes, and at which addresses it may lie.
 use Rattle.std.specs.Prelude.{◌≡◌, ◌≤◌, ◌<◌, ◌*◌, ℕ, Option, Some, None, IfSome, max}
 use Rattle.std.specs.Int.{IsPowerOfTwo, ◌∣◌}
-use Rattle.ir_kinds.specs.judged.Scalars.{component_count}
+use Rattle.ir_kinds.specs.declared.scalars.Scalar.{Scalar}
+use Rattle.ir_kinds.specs.judged.Scalars.{component_count, cooperative_count}
 use Rattle.ir_types.specs.judged.Plain.{PlainInner}
-use Rattle.typing_forms.specs.judged.Sizes.{rounded_up, vector_alignment, column_size, cooperative_count, counted, type_size}
+use Rattle.typing_forms.specs.judged.Sizes.{rounded_up, vector_alignment, column_size, counted, type_size}
 use Rattle.typing_forms.specs.declared.sizes.TheConstants.{MAX_TYPE_SIZE}
 use Rattle.typing_layout.specs.judged.Tree.{Tree, scalar, vector, matrix, cooperative_matrix, atomic, pointer, value_pointer, array, struct, image, sampler, acceleration_structure, ray_query, binding_array, Members, no_members, member}
 use Rattle.typing_layout.specs.judged.View.{tree_by}
@@ -48,25 +49,26 @@ abbrev mutual
   greatest_alignment no_members = 1
   greatest_alignment (member t binding offset ms) = max (alignment t) (greatest_alignment ms)
 
--- the width of the scalars by which size and alignment are found, where they are found by one
-abbrev pub scalar_width : Tree → Option ℕ
-scalar_width (scalar s) = Some s.width
-scalar_width (vector n s) = Some s.width
-scalar_width (matrix columns rows s) = Some s.width
-scalar_width (cooperative_matrix columns rows s role) = Some s.width
-scalar_width (atomic s) = Some s.width
-scalar_width (pointer base space) = None
-scalar_width (value_pointer n s space) = None
-scalar_width (array base n stride) = None
-scalar_width (struct ms span) = None
-scalar_width (image dim arrayed class) = None
-scalar_width (sampler comparison) = None
-scalar_width (acceleration_structure vertex_return) = None
-scalar_width (ray_query vertex_return) = None
-scalar_width (binding_array base n) = None
+-- the scalar that a value is, or is put together of; elements and members have their own
+abbrev pub tree_scalar : Tree → Option Scalar
+tree_scalar (scalar s) = Some s
+tree_scalar (vector n s) = Some s
+tree_scalar (matrix columns rows s) = Some s
+tree_scalar (cooperative_matrix columns rows s role) = Some s
+tree_scalar (atomic s) = Some s
+tree_scalar (pointer base space) = None
+tree_scalar (value_pointer n s space) = None
+tree_scalar (array base n stride) = None
+tree_scalar (struct ms span) = None
+tree_scalar (image dim arrayed class) = None
+tree_scalar (sampler comparison) = None
+tree_scalar (acceleration_structure vertex_return) = None
+tree_scalar (ray_query vertex_return) = None
+tree_scalar (binding_array base n) = None
 
+-- size and alignment are found by the width of the scalar, where there is one
 abbrev pub IsWidthOK : Tree → Type 0
-IsWidthOK t = IfSome (scalar_width t) IsPowerOfTwo
+IsWidthOK t = IfSome (tree_scalar t) (λ s. IsPowerOfTwo s.width)
 
 -- a type has a layout: the width by which it is found is a power of two, and no value is too large
 pub record LayoutOK (t : Tree) : Type 0 where

@@ -5,23 +5,23 @@ use Rattle.typing_layout.specs.judged.Layout.{size}
 use Rattle.typing_layout.specs.judged.Tree.{Tree, scalar, vector, matrix, cooperative_matrix, atomic, pointer, value_pointer, array, struct, image, sampler, acceleration_structure, ray_query, binding_array, Members, no_members, member}
 
 -- A member: its type, its binding, and where it begins.
-pub record Part : Type 0 where
+pub record TreeMember : Type 0 where
   pub of_type : Tree
   pub binding : Option Binding
   pub offset : ℕ
 
-abbrev pub listed : Members → List Part
-listed no_members = []
-listed (member t binding offset ms) = record { of_type = t; binding = binding; offset = offset } ∷ listed ms
+abbrev pub member_list : Members → List TreeMember
+member_list no_members = []
+member_list (member t binding offset ms) = record { of_type = t; binding = binding; offset = offset } ∷ member_list ms
 
 -- the first byte after a member
-abbrev pub end_of : Part → ℕ
+abbrev pub end_of : TreeMember → ℕ
 end_of p = p.offset + size p.of_type
 
 -- what stands before a place
-abbrev pub before : {A : Type 0} → List A → (place : ℕ) → Option A
-before xs zero = None
-before xs (suc k) = slice_get xs k
+abbrev pub item_before : {A : Type 0} → List A → (place : ℕ) → Option A
+item_before xs zero = None
+item_before xs (suc k) = slice_get xs k
 
 abbrev mutual
   -- P holds of the type, and of every type inside an array or a struct

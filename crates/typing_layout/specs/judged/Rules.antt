@@ -18,8 +18,8 @@ use Rattle.typing_layout.specs.judged.Tree.{Tree, scalar, vector, matrix, cooper
 use Rattle.typing_layout.specs.judged.View.{type_tree}
 use Rattle.typing_layout.specs.judged.Blends.{BlendsOK}
 use Rattle.typing_layout.specs.judged.Flags.{HasFlag, Data, Sized}
-use Rattle.typing_layout.specs.judged.Images.{ImageOK, StructureOK, QueryOK}
-use Rattle.typing_layout.specs.judged.Parts.{listed}
+use Rattle.typing_layout.specs.judged.Images.{ImageOK, AccelerationStructureOK, RayQueryTypeOK}
+use Rattle.typing_layout.specs.judged.Parts.{member_list}
 use Rattle.typing_layout.specs.judged.Structs.{StructOK}
 use Rattle.typing_layout.specs.judged.Widths.{ScalarOK, AtomicOK}
 
@@ -28,54 +28,38 @@ CooperativeOK capabilities s = Has capabilities.0 COOPERATIVE_MATRIX.0 × ((s �
 
 abbrev pub IsStorageSpace : AddressSpace → Type 0
 IsStorageSpace (space.Storage access) = Unit {0}
-IsStorageSpace space.Function = ⊥
-IsStorageSpace space.Private = ⊥
-IsStorageSpace space.WorkGroup = ⊥
-IsStorageSpace space.Uniform = ⊥
-IsStorageSpace space.Handle = ⊥
-IsStorageSpace space.Immediate = ⊥
-IsStorageSpace space.TaskPayload = ⊥
-IsStorageSpace space.RayPayload = ⊥
-IsStorageSpace space.IncomingRayPayload = ⊥
+IsStorageSpace _ = ⊥
 
 -- what has no known size lies in storage buffers
 abbrev pub PointerOK : (base : Tree) → AddressSpace → Type 0
 PointerOK base space = HasFlag Data base × (HasFlag Sized base ⊎ IsStorageSpace space)
 
--- how many elements there are is known once overrides are resolved
-abbrev pub IsKnownCount : (resolved : Bool) → ArraySize → Type 0
-IsKnownCount resolved (count.Constant n) = Unit {0}
-IsKnownCount resolved (count.Pending override) = resolved ≡ false
-IsKnownCount resolved count.Dynamic = Unit {0}
+-- where overrides are resolved, none gives the number of elements; an array of runtime size is no matter here
+abbrev pub CountIsResolved : (resolved : Bool) → ArraySize → Type 0
+CountIsResolved resolved (count.Constant n) = Unit {0}
+CountIsResolved resolved (count.Pending override) = resolved ≡ false
+CountIsResolved resolved count.Dynamic = Unit {0}
 
 abbrev pub ArrayOK : (resolved : Bool) → (base : Tree) → ArraySize → Type 0
-ArrayOK resolved base n = HasFlag Data base × HasFlag Sized base × IsKnownCount resolved n
+ArrayOK resolved base n = HasFlag Data base × HasFlag Sized base × CountIsResolved resolved n
 
-abbrev pub IsBoundImage : ImageClass → Type 0
-IsBoundImage class.External = ⊥
-IsBoundImage (class.Sampled kind multi) = Unit {0}
-IsBoundImage (class.Depth multi) = Unit {0}
-IsBoundImage (class.Storage format access) = Unit {0}
+abbrev pub IsBindingArrayImage : ImageClass → Type 0
+IsBindingArrayImage class.External = ⊥
+IsBindingArrayImage (class.Sampled kind multi) = Unit {0}
+IsBindingArrayImage (class.Depth multi) = Unit {0}
+IsBindingArrayImage (class.Storage format access) = Unit {0}
 
 -- what stands in binding arrays
-abbrev pub IsBound : Tree → Type 0
-IsBound (struct ms span) = Unit {0}
-IsBound (image dim arrayed class) = IsBoundImage class
-IsBound (sampler comparison) = Unit {0}
-IsBound (acceleration_structure vertex_return) = Unit {0}
-IsBound (scalar s) = ⊥
-IsBound (vector n s) = ⊥
-IsBound (matrix columns rows s) = ⊥
-IsBound (cooperative_matrix columns rows s role) = ⊥
-IsBound (atomic s) = ⊥
-IsBound (pointer base space) = ⊥
-IsBound (value_pointer n s space) = ⊥
-IsBound (array base n stride) = ⊥
-IsBound (ray_query vertex_return) = ⊥
-IsBound (binding_array base n) = ⊥
+abbrev pub IsBindingArrayBase : Tree → Type 0
+IsBindingArrayBase (struct ms span) = Unit {0}
+IsBindingArrayBase (image dim arrayed class) = IsBindingArrayImage class
+IsBindingArrayBase (sampler comparison) = Unit {0}
+IsBindingArrayBase (acceleration_structure vertex_return) = Unit {0}
+IsBindingArrayBase _ = ⊥
 
+-- the number of elements is never an override's
 abbrev pub BindingArrayOK : (base : Tree) → ArraySize → Type 0
-BindingArrayOK base n = IsBound base × IsKnownCount true n
+BindingArrayOK base n = IsBindingArrayBase base × CountIsResolved true n
 
 -- what is required of a type itself, of those that it names only what they may be used for
 abbrev pub ShapeOK : Capabilities → (resolved : Bool) → Tree → Type 0
@@ -87,11 +71,11 @@ ShapeOK capabilities resolved (atomic s) = AtomicOK capabilities s
 ShapeOK capabilities resolved (pointer base space) = PointerOK base space
 ShapeOK capabilities resolved (value_pointer n s space) = ScalarOK capabilities s
 ShapeOK capabilities resolved (array base n stride) = ArrayOK resolved base n
-ShapeOK capabilities resolved (struct ms span) = StructOK (listed ms) span
+ShapeOK capabilities resolved (struct ms span) = StructOK (member_list ms) span
 ShapeOK capabilities resolved (image dim arrayed class) = ImageOK capabilities dim arrayed class
 ShapeOK capabilities resolved (sampler comparison) = Unit {0}
-ShapeOK capabilities resolved (acceleration_structure vertex_return) = StructureOK capabilities vertex_return
-ShapeOK capabilities resolved (ray_query vertex_return) = QueryOK capabilities vertex_return
+ShapeOK capabilities resolved (acceleration_structure vertex_return) = AccelerationStructureOK capabilities vertex_return
+ShapeOK capabilities resolved (ray_query vertex_return) = RayQueryTypeOK capabilities vertex_return
 ShapeOK capabilities resolved (binding_array base n) = BindingArrayOK base n
 
 -- the module's type at a handle is accepted

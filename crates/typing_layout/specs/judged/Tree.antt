@@ -34,6 +34,6 @@ mutual
     no_members : Members
     member : (of_type : Tree) → Option Binding → (offset : ℕ) → Members → Members
 
--- what stands at a handle that no type has; nothing is said of it
+-- what stands at a handle that no type has; a module whose handles are in order has none, so it decides nothing
 abbrev pub no_type : Tree
 no_type = sampler false

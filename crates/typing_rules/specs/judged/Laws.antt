@@ -5,9 +5,9 @@ use Rattle.ir_kinds.specs.declared.maths.MathFunction.{MathFunction}
 use Rattle.ir_types.specs.judged.Plain.{PlainInner}
 use Rattle.typing_rules.specs.declared.rules.Rule.{Rule}
 use Rattle.typing_rules.specs.declared.rules.ValueType.{ValueType}
-use Rattle.typing_rules.specs.judged.Types.{value_type_of, listed}
+use Rattle.typing_rules.specs.judged.Types.{value_type_of, argument_list}
 use Rattle.typing_rules.specs.judged.Ranks.{rank_at, accepts_inner, is_concrete}
-use Rattle.typing_rules.specs.judged.MathTable.{table}
+use Rattle.typing_rules.specs.judged.MathTable.{math_overloads}
 
 -- what is required of rules: that they take an argument of this type at a place, or no abstract argument
 pub data Demand : Type 0 where
@@ -31,7 +31,7 @@ IsAmong x (y ∷ ys) = (y ≡ x) ⊎ IsAmong x ys
 abbrev pub PreferredIsBest : Type 0
 PreferredIsBest =
     (function : MathFunction) (demands : List Demand) (preferred other : Rule)
-    → slice_get (left_by demands (table function)) 0 ≡ Some preferred → IsAmong other (left_by demands (table function))
+    → slice_get (left_by demands (math_overloads function)) 0 ≡ Some preferred → IsAmong other (left_by demands (math_overloads function))
     → (place : ℕ) (given : PlainInner) → IsAmong (supplied place given) demands
     → (type : ValueType) (x y : ℕ) → value_type_of given ≡ Some type → rank_at place type preferred ≡ Some x → rank_at place type other ≡ Some y → x ≤ y
 
@@ -45,8 +45,8 @@ DemandsRepeat = (a : Demand) (rules : List Rule) → filter (meets a) (filter (m
 
 -- how many arguments a rule has
 abbrev pub arity : Rule → ℕ
-arity rule = length (listed rule.arguments)
+arity rule = length (argument_list rule.arguments)
 
 -- each rule of a function has as many arguments as the function
 abbrev pub ArgumentCounts : Type 0
-ArgumentCounts = (function : MathFunction) → All (λ rule. arity rule ≡ argument_count function) (table function)
+ArgumentCounts = (function : MathFunction) → All (λ rule. arity rule ≡ argument_count function) (math_overloads function)

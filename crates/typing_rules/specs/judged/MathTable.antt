@@ -62,11 +62,11 @@ abbrev pub vectors : List ConstructorSize
 vectors = vec2 ∷ vec3 ∷ vec4 ∷ []
 
 -- scalars and vectors
-abbrev pub shapes : List ConstructorSize
-shapes = size.Scalar ∷ vectors
+abbrev pub scalars_and_vectors : List ConstructorSize
+scalars_and_vectors = size.Scalar ∷ vectors
 
-abbrev pub squares : List ConstructorSize
-squares = size.Matrix Bi Bi ∷ size.Matrix Tri Tri ∷ size.Matrix Quad Quad ∷ []
+abbrev pub square_matrices : List ConstructorSize
+square_matrices = size.Matrix Bi Bi ∷ size.Matrix Tri Tri ∷ size.Matrix Quad Quad ∷ []
 
 -- matrices by columns, then rows
 abbrev pub matrices : List ConstructorSize
@@ -77,14 +77,14 @@ matrices =
 -- ---- one rule, of a shape and a scalar
 
 -- a vector with one component for each column of a matrix
-abbrev pub column_size : ConstructorSize → ConstructorSize
-column_size (size.Matrix c r) = size.Vector c
-column_size n = n
+abbrev pub vector_of_columns : ConstructorSize → ConstructorSize
+vector_of_columns (size.Matrix c r) = size.Vector c
+vector_of_columns n = n
 
 -- a vector with one component for each row of a matrix
-abbrev pub row_size : ConstructorSize → ConstructorSize
-row_size (size.Matrix c r) = size.Vector r
-row_size n = n
+abbrev pub vector_of_rows : ConstructorSize → ConstructorSize
+vector_of_rows (size.Matrix c r) = size.Vector r
+vector_of_rows n = n
 
 abbrev pub transposed : ConstructorSize → ConstructorSize
 transposed (size.Matrix c r) = size.Matrix r c
@@ -112,7 +112,7 @@ arguments_of WithRange n s = Three (value_type n s) word word
 arguments_of TwoWithRange n s = Four (value_type n s) (value_type n s) word word
 arguments_of ToFraction n s = One (value_type n s)
 arguments_of ToExponent n s = One (value_type n s)
-arguments_of ToOuter n s = Two (value_type (column_size n) s) (value_type (row_size n) s)
+arguments_of ToOuter n s = Two (value_type (vector_of_columns n) s) (value_type (vector_of_rows n) s)
 arguments_of ToTransposed n s = One (value_type n s)
 arguments_of ToWord n s = One (value_type n s)
 arguments_of FromWord n s = One word
@@ -137,13 +137,13 @@ conclusion_of ToWord n s = Value word
 conclusion_of FromWord n s = Value (value_type n s)
 conclusion_of FromTwoWords n s = Value (value_type n s)
 
-abbrev pub rule_of : Pattern → ConstructorSize → Scalar → Rule
-rule_of p n s = record { arguments = arguments_of p n s; conclusion = conclusion_of p n s }
+abbrev pub math_rule : Pattern → ConstructorSize → Scalar → Rule
+math_rule p n s = record { arguments = arguments_of p n s; conclusion = conclusion_of p n s }
 
 -- ---- the rules of a function: by shape, then by scalar
 
 abbrev pub row : Pattern → List Scalar → ConstructorSize → List Rule
-row p ss n = map (rule_of p n) ss
+row p ss n = map (math_rule p n) ss
 
 abbrev pub rules_over : Pattern → List Scalar → List ConstructorSize → List Rule
 rules_over p ss ns = flat_map (row p ss) ns
@@ -151,90 +151,91 @@ rules_over p ss ns = flat_map (row p ss) ns
 abbrev pub one_rule : Pattern → ConstructorSize → Scalar → List Rule
 one_rule p n s = rules_over p (s ∷ []) (n ∷ [])
 
-abbrev pub table : MathFunction → List Rule
+-- the overloads of a math function, in the order in which they are tried
+abbrev pub math_overloads : MathFunction → List Rule
 -- numbers, all of one type
-table math.Abs = rules_over Same numbers shapes
-table math.Min = rules_over SameTwo numbers shapes
-table math.Max = rules_over SameTwo numbers shapes
-table math.Clamp = rules_over SameThree numbers shapes
-table math.Sign = rules_over Same signed_numbers shapes
+math_overloads math.Abs = rules_over Same numbers scalars_and_vectors
+math_overloads math.Min = rules_over SameTwo numbers scalars_and_vectors
+math_overloads math.Max = rules_over SameTwo numbers scalars_and_vectors
+math_overloads math.Clamp = rules_over SameThree numbers scalars_and_vectors
+math_overloads math.Sign = rules_over Same signed_numbers scalars_and_vectors
 -- floats, all of one type
-table math.Saturate = rules_over Same floats shapes
-table math.Cos = rules_over Same floats shapes
-table math.Cosh = rules_over Same floats shapes
-table math.Sin = rules_over Same floats shapes
-table math.Sinh = rules_over Same floats shapes
-table math.Tan = rules_over Same floats shapes
-table math.Tanh = rules_over Same floats shapes
-table math.Acos = rules_over Same floats shapes
-table math.Asin = rules_over Same floats shapes
-table math.Atan = rules_over Same floats shapes
-table math.Asinh = rules_over Same floats shapes
-table math.Acosh = rules_over Same floats shapes
-table math.Atanh = rules_over Same floats shapes
-table math.Radians = rules_over Same floats shapes
-table math.Degrees = rules_over Same floats shapes
-table math.Ceil = rules_over Same floats shapes
-table math.Floor = rules_over Same floats shapes
-table math.Round = rules_over Same floats shapes
-table math.Fract = rules_over Same floats shapes
-table math.Trunc = rules_over Same floats shapes
-table math.Exp = rules_over Same floats shapes
-table math.Exp2 = rules_over Same floats shapes
-table math.Log = rules_over Same floats shapes
-table math.Log2 = rules_over Same floats shapes
-table math.Sqrt = rules_over Same floats shapes
-table math.InverseSqrt = rules_over Same floats shapes
-table math.Atan2 = rules_over SameTwo floats shapes
-table math.Pow = rules_over SameTwo floats shapes
-table math.Step = rules_over SameTwo floats shapes
-table math.Fma = rules_over SameThree floats shapes
-table math.SmoothStep = rules_over SameThree floats shapes
-table math.Mix = rules_over SameThree floats shapes ++ rules_over WithScalar floats vectors
-table math.QuantizeToF16 = rules_over Same (f32 ∷ []) shapes
+math_overloads math.Saturate = rules_over Same floats scalars_and_vectors
+math_overloads math.Cos = rules_over Same floats scalars_and_vectors
+math_overloads math.Cosh = rules_over Same floats scalars_and_vectors
+math_overloads math.Sin = rules_over Same floats scalars_and_vectors
+math_overloads math.Sinh = rules_over Same floats scalars_and_vectors
+math_overloads math.Tan = rules_over Same floats scalars_and_vectors
+math_overloads math.Tanh = rules_over Same floats scalars_and_vectors
+math_overloads math.Acos = rules_over Same floats scalars_and_vectors
+math_overloads math.Asin = rules_over Same floats scalars_and_vectors
+math_overloads math.Atan = rules_over Same floats scalars_and_vectors
+math_overloads math.Asinh = rules_over Same floats scalars_and_vectors
+math_overloads math.Acosh = rules_over Same floats scalars_and_vectors
+math_overloads math.Atanh = rules_over Same floats scalars_and_vectors
+math_overloads math.Radians = rules_over Same floats scalars_and_vectors
+math_overloads math.Degrees = rules_over Same floats scalars_and_vectors
+math_overloads math.Ceil = rules_over Same floats scalars_and_vectors
+math_overloads math.Floor = rules_over Same floats scalars_and_vectors
+math_overloads math.Round = rules_over Same floats scalars_and_vectors
+math_overloads math.Fract = rules_over Same floats scalars_and_vectors
+math_overloads math.Trunc = rules_over Same floats scalars_and_vectors
+math_overloads math.Exp = rules_over Same floats scalars_and_vectors
+math_overloads math.Exp2 = rules_over Same floats scalars_and_vectors
+math_overloads math.Log = rules_over Same floats scalars_and_vectors
+math_overloads math.Log2 = rules_over Same floats scalars_and_vectors
+math_overloads math.Sqrt = rules_over Same floats scalars_and_vectors
+math_overloads math.InverseSqrt = rules_over Same floats scalars_and_vectors
+math_overloads math.Atan2 = rules_over SameTwo floats scalars_and_vectors
+math_overloads math.Pow = rules_over SameTwo floats scalars_and_vectors
+math_overloads math.Step = rules_over SameTwo floats scalars_and_vectors
+math_overloads math.Fma = rules_over SameThree floats scalars_and_vectors
+math_overloads math.SmoothStep = rules_over SameThree floats scalars_and_vectors
+math_overloads math.Mix = rules_over SameThree floats scalars_and_vectors ++ rules_over WithScalar floats vectors
+math_overloads math.QuantizeToF16 = rules_over Same (f32 ∷ []) scalars_and_vectors
 -- bits of integers
-table math.CountTrailingZeros = rules_over Same integers shapes
-table math.CountLeadingZeros = rules_over Same integers shapes
-table math.CountOneBits = rules_over Same integers shapes
-table math.ReverseBits = rules_over Same integers shapes
-table math.FirstTrailingBit = rules_over Same integers shapes
-table math.FirstLeadingBit = rules_over Same integers shapes
-table math.ExtractBits = rules_over WithRange integers shapes
-table math.InsertBits = rules_over TwoWithRange integers shapes
+math_overloads math.CountTrailingZeros = rules_over Same integers scalars_and_vectors
+math_overloads math.CountLeadingZeros = rules_over Same integers scalars_and_vectors
+math_overloads math.CountOneBits = rules_over Same integers scalars_and_vectors
+math_overloads math.ReverseBits = rules_over Same integers scalars_and_vectors
+math_overloads math.FirstTrailingBit = rules_over Same integers scalars_and_vectors
+math_overloads math.FirstLeadingBit = rules_over Same integers scalars_and_vectors
+math_overloads math.ExtractBits = rules_over WithRange integers scalars_and_vectors
+math_overloads math.InsertBits = rules_over TwoWithRange integers scalars_and_vectors
 -- vectors
-table math.Dot = rules_over TwoToScalar numbers vectors
-table math.Normalize = rules_over Same floats vectors
-table math.Reflect = rules_over SameTwo floats vectors
-table math.FaceForward = rules_over SameThree floats vectors
-table math.Refract = rules_over WithScalar floats vectors
-table math.Cross = rules_over SameTwo floats (vec3 ∷ [])
-table math.Length = rules_over ToScalar floats shapes
-table math.Distance = rules_over TwoToScalar floats shapes
+math_overloads math.Dot = rules_over TwoToScalar numbers vectors
+math_overloads math.Normalize = rules_over Same floats vectors
+math_overloads math.Reflect = rules_over SameTwo floats vectors
+math_overloads math.FaceForward = rules_over SameThree floats vectors
+math_overloads math.Refract = rules_over WithScalar floats vectors
+math_overloads math.Cross = rules_over SameTwo floats (vec3 ∷ [])
+math_overloads math.Length = rules_over ToScalar floats scalars_and_vectors
+math_overloads math.Distance = rules_over TwoToScalar floats scalars_and_vectors
 -- fractions and exponents
-table math.Modf = rules_over ToFraction floats shapes
-table math.Frexp = rules_over ToExponent floats shapes
-table math.Ldexp = rules_over WithExponent floats shapes
+math_overloads math.Modf = rules_over ToFraction floats scalars_and_vectors
+math_overloads math.Frexp = rules_over ToExponent floats scalars_and_vectors
+math_overloads math.Ldexp = rules_over WithExponent floats scalars_and_vectors
 -- matrices
-table math.Outer = rules_over ToOuter floats matrices
-table math.Transpose = rules_over ToTransposed floats matrices
-table math.Determinant = rules_over ToScalar floats squares
-table math.Inverse = rules_over Same floats squares
+math_overloads math.Outer = rules_over ToOuter floats matrices
+math_overloads math.Transpose = rules_over ToTransposed floats matrices
+math_overloads math.Determinant = rules_over ToScalar floats square_matrices
+math_overloads math.Inverse = rules_over Same floats square_matrices
 -- values in one word
-table math.Pack4x8snorm = one_rule ToWord vec4 f32
-table math.Pack4x8unorm = one_rule ToWord vec4 f32
-table math.Pack2x16snorm = one_rule ToWord vec2 f32
-table math.Pack2x16unorm = one_rule ToWord vec2 f32
-table math.Pack2x16float = one_rule ToWord vec2 f32
-table math.Pack4xI8 = one_rule ToWord vec4 i32
-table math.Pack4xI8Clamp = one_rule ToWord vec4 i32
-table math.Pack4xU8 = one_rule ToWord vec4 u32
-table math.Pack4xU8Clamp = one_rule ToWord vec4 u32
-table math.Unpack4x8snorm = one_rule FromWord vec4 f32
-table math.Unpack4x8unorm = one_rule FromWord vec4 f32
-table math.Unpack2x16snorm = one_rule FromWord vec2 f32
-table math.Unpack2x16unorm = one_rule FromWord vec2 f32
-table math.Unpack2x16float = one_rule FromWord vec2 f32
-table math.Unpack4xI8 = one_rule FromWord vec4 i32
-table math.Unpack4xU8 = one_rule FromWord vec4 u32
-table math.Dot4I8Packed = one_rule FromTwoWords size.Scalar i32
-table math.Dot4U8Packed = one_rule FromTwoWords size.Scalar u32
+math_overloads math.Pack4x8snorm = one_rule ToWord vec4 f32
+math_overloads math.Pack4x8unorm = one_rule ToWord vec4 f32
+math_overloads math.Pack2x16snorm = one_rule ToWord vec2 f32
+math_overloads math.Pack2x16unorm = one_rule ToWord vec2 f32
+math_overloads math.Pack2x16float = one_rule ToWord vec2 f32
+math_overloads math.Pack4xI8 = one_rule ToWord vec4 i32
+math_overloads math.Pack4xI8Clamp = one_rule ToWord vec4 i32
+math_overloads math.Pack4xU8 = one_rule ToWord vec4 u32
+math_overloads math.Pack4xU8Clamp = one_rule ToWord vec4 u32
+math_overloads math.Unpack4x8snorm = one_rule FromWord vec4 f32
+math_overloads math.Unpack4x8unorm = one_rule FromWord vec4 f32
+math_overloads math.Unpack2x16snorm = one_rule FromWord vec2 f32
+math_overloads math.Unpack2x16unorm = one_rule FromWord vec2 f32
+math_overloads math.Unpack2x16float = one_rule FromWord vec2 f32
+math_overloads math.Unpack4xI8 = one_rule FromWord vec4 i32
+math_overloads math.Unpack4xU8 = one_rule FromWord vec4 u32
+math_overloads math.Dot4I8Packed = one_rule FromTwoWords size.Scalar i32
+math_overloads math.Dot4U8Packed = one_rule FromTwoWords size.Scalar u32

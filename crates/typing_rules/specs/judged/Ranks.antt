@@ -6,7 +6,7 @@ use Rattle.ir_types.specs.judged.Plain.{PlainInner}
 use Rattle.typing_forms.specs.judged.Ranks.{rank}
 use Rattle.typing_rules.specs.declared.rules.ValueType.{ValueType}
 use Rattle.typing_rules.specs.declared.rules.Rule.{Rule}
-use Rattle.typing_rules.specs.judged.Types.{constructor_place, value_type_of, listed}
+use Rattle.typing_rules.specs.judged.Types.{constructor_place, value_type_of, argument_list}
 
 -- ---- acceptance
 
@@ -20,7 +20,7 @@ rank_if given None = None
 
 -- from what is given at a place to what the rule requires there
 abbrev pub rank_at : ℕ → ValueType → Rule → Option ℕ
-rank_at place given rule = rank_if given (slice_get (listed rule.arguments) place)
+rank_at place given rule = rank_if given (slice_get (argument_list rule.arguments) place)
 
 -- a rule accepts an argument that has a rank
 abbrev pub accepts : ℕ → ValueType → Rule → Bool
@@ -46,4 +46,4 @@ no_abstract [] = true
 no_abstract (a ∷ more) = not (is_abstract_kind a.scalar.kind) && no_abstract more
 
 abbrev pub is_concrete : Rule → Bool
-is_concrete rule = no_abstract (listed rule.arguments)
+is_concrete rule = no_abstract (argument_list rule.arguments)

@@ -44,8 +44,8 @@ value_type_of (plain (inner.Matrix c r s)) = Some (value_type (size.Matrix c r) 
 value_type_of _ = None
 
 -- the types of arguments as a list
-abbrev pub listed : Arguments → List ValueType
-listed (One a) = a ∷ []
-listed (Two a b) = a ∷ b ∷ []
-listed (Three a b c) = a ∷ b ∷ c ∷ []
-listed (Four a b c d) = a ∷ b ∷ c ∷ d ∷ []
+abbrev pub argument_list : Arguments → List ValueType
+argument_list (One a) = a ∷ []
+argument_list (Two a b) = a ∷ b ∷ []
+argument_list (Three a b c) = a ∷ b ∷ c ∷ []
+argument_list (Four a b c d) = a ∷ b ∷ c ∷ d ∷ []

@@ -7,7 +7,7 @@ use Rattle.check_report.specs.Rows.{rows}
 use Rattle.judgement.proofs.Buffers.{types_go_back}
 use Rattle.judgement.specs.judged.BufferLaws.{buffer_type}
 use Rattle.judgement.specs.judged.Leaves.{leaves}
-use Rattle.spec_interface.specs.judged.Spaces.{counted}
+use Rattle.spec_interface.specs.judged.Spaces.{effective_type}
 use Rattle.typing_layout.specs.judged.View.{tree_along}
 use Rattle.check_report.proofs.leaf_buffers.buffer_leaves.Goals as goal
 
@@ -20,7 +20,7 @@ returns c =
     let v = global_view c.index-variable.result.now in
     let tree : tree_along types c.len.result c.counted-ty.result ≡ buffer_type types v =
     ap (λ h. tree_along types c.len.result h) c.counted-ty.ensures
-    ∙ (ap (λ n. tree_along types n (counted types v.ty)) (c.len.ensures.value ∙ sym (many_types c.args.module.now.types)) ∙ all_along types (types_go_back (module_view c.args.module.now) c.requires.handles) (counted types v.ty)) in
+    ∙ (ap (λ n. tree_along types n (effective_type types v.ty)) (c.len.ensures.value ∙ sym (many_types c.args.module.now.types)) ∙ all_along types (types_go_back (module_view c.args.module.now) c.requires.handles) (effective_type types v.ty)) in
     record {
       variable = v;
       at = global_found global_view c.args.module.now.global_variables c.args.global c.index-variable.result.now c.index-variable.ensures;

@@ -1,5 +1,5 @@
 use Rattle.std.proofs.Common.{◌≡◌, ◌-◌, ◌++◌, OnOk, map, string_bytes, sym, ap, subst}
-use Rattle.ir_types.specs.judged.Plain.{inner_view, member_view}
+use Rattle.ir_types.specs.judged.Plain.{inner_view}
 use Rattle.check_report.proofs.Listed.{none_along, missing_along, found_along}
 use Rattle.check_report.proofs.LeavesWritten.{no_elements, one_element_more, one_member_more, nothing_written}
 use Rattle.check_report.specs.Lines.{leaf_lines}

@@ -8,7 +8,7 @@ use Rattle.module_globals.proofs.SizeLemmas.{many_variables}
 use Rattle.ir_items.specs.found.GlobalView.{global_view}
 use Rattle.ir_items.specs.found.View.{entry_view, module_view}
 use Rattle.spec_expressions.specs.judged.Summaries.{HasUseBit}
-use Rattle.spec_interface.specs.judged.UsedVariables.{VariableOK}
+use Rattle.spec_interface.specs.judged.UsedVariables.{UsedVariableOK}
 use Rattle.function_entry_checks.proofs.variables.check_each.Goals.{then-kinds-ne0+in-Ok, else-kinds-ne0}
 use Rattle.function_entry_checks.proofs.variables.check_each.Goals as goal
 
@@ -33,7 +33,7 @@ loop-index-preserved c =
       | then-kinds-ne0+in-Ok w ↦
           each_at m e (HasUseBit c.args.uses.now) c.loop-index.index c.loop-index.invariant c.at-global.result (global_view w.index-variable.result.now) c.at-global.ensures
           (found global_view c.args.«module».now.global_variables c.at-global.result w.index-variable.result.now w.index-variable.ensures)
-          (subst (λ (u : GlobalUse). VariableOK m e c.at-global.result (global_view w.index-variable.result.now) (λ k. bit_at u.0 k ≡ 1)) (use_is c.args.uses.now c.at-global.result c.use_at-kinds.result c.use_at-kinds.ensures) w.in-Ok.ensures)
+          (subst (λ (u : GlobalUse). UsedVariableOK m e c.at-global.result (global_view w.index-variable.result.now) (λ k. bit_at u.0 k ≡ 1)) (use_is c.args.uses.now c.at-global.result c.use_at-kinds.result c.use_at-kinds.ensures) w.in-Ok.ensures)
       | else-kinds-ne0 w ↦
           each_unused m e (HasUseBit c.args.uses.now) c.loop-index.index c.loop-index.invariant c.at-global.result c.at-global.ensures
           (unused_by c.args.uses.now c.at-global.result c.use_at-kinds.result c.use_at-kinds.ensures w.if-kinds-ne0.false)

@@ -1,5 +1,5 @@
 use Rattle.std.proofs.Common.{inl, inr}
-use Rattle.spec_expressions.specs.judged.CallChains.{UsesDirectly, Names, IsUnusedFrom, Discards}
+use Rattle.spec_expressions.specs.judged.CallChains.{UsesDirectly, NamesGlobal, IsUnusedFrom, Discards}
 use Rattle.spec_expressions.proofs.ChainLaws.{reaches-here, reaches-from_call, reaches-cases, use-from_call, pair-here, pair-from_call, pair-cases}
 use Rattle.spec_expressions.proofs.call_laws.by_calls.Goals as goal
 
@@ -7,11 +7,11 @@ pub returns-clause-uses : goal.returns-clause-uses
 returns-clause-uses c m f g k = (
   λ u. elim u [
     | inl r ↦ elim (reaches-cases m f (UsesDirectly g k) r) [ inl own ↦ inl own | inr s ↦ inr (inl (s.step, s.calls, inl s.reaches)) ]
-    | inr q ↦ elim (reaches-cases m f (λ h. Names g h × IsUnusedFrom m g h) q.1) [ inl own ↦ inr (inr (q.0, own.0, own.1)) | inr s ↦ inr (inl (s.step, s.calls, inr (q.0, s.reaches))) ]
+    | inr q ↦ elim (reaches-cases m f (λ h. NamesGlobal g h × IsUnusedFrom m g h) q.1) [ inl own ↦ inr (inr (q.0, own.0, own.1)) | inr s ↦ inr (inl (s.step, s.calls, inr (q.0, s.reaches))) ]
   ],
   λ u. elim u [
     | inl own ↦ inl (reaches-here m f (UsesDirectly g k) own)
-    | inr v ↦ elim v [ inl s ↦ use-from_call m f s.0 g k s.1 s.2 | inr q ↦ inr (q.0, reaches-here m f (λ h. Names g h × IsUnusedFrom m g h) (q.1, q.2)) ]
+    | inr v ↦ elim v [ inl s ↦ use-from_call m f s.0 g k s.1 s.2 | inr q ↦ inr (q.0, reaches-here m f (λ h. NamesGlobal g h × IsUnusedFrom m g h) (q.1, q.2)) ]
   ],
 )
 

@@ -2,7 +2,7 @@ use Rattle.std.proofs.Common.{◌≡◌, ◌∙◌, ◌||◌, Option, Some, sym,
 use Rattle.std.proofs.lemmas.Result.{on_ok_weaker}
 use Rattle.typing_infos.specs.Infos.{summary_of}
 use Rattle.spec_expressions.specs.judged.Summaries.{Summary}
-use Rattle.typing_summaries.specs.Tallies.{Counted, Paired, Tallied, counted, known, tallied, merged, join_summary, paired, pass_all_up}
+use Rattle.typing_summaries.specs.Tallies.{counted, known, tallied, merged, join_summary, paired, pass_all_up}
 use Rattle.typing_summaries.proofs.PassedLemmas.{callee_there, callee_missing}
 use Rattle.typing_summaries.proofs.tally.Tally.join.Goals.{then-self, else-self}
 use Rattle.typing_summaries.proofs.tally.Tally.join.Goals as goal
