@@ -7,7 +7,7 @@ use Rattle.judgement.specs.declared.finding.Finding.{Finding}
 use Rattle.judgement.specs.declared.finding.Finding.TheVariants as findings
 use Rattle.document_reader.specs.judged.Plain.{PlainDocument}
 use Rattle.document_reader.specs.judged.Form.{Reads}
-use Rattle.shader_check.specs.judged.Theorem.{Judged, JudgedDocument}
+use Rattle.shader_check.specs.found.Judgements.{Judged, FindsIn}
 use Rattle.shader_check.proofs.JudgedLaws.{judged_document, judged_if, kept_in}
 use Rattle.check_explanation.specs.declared.explanation.Requested.{Requested}
 use Rattle.check_explanation.specs.declared.explanation.Explanation.{Explanation}
@@ -26,8 +26,8 @@ use Rattle.check_explanation.specs.declared.traced.Traced.{Traced}
 
 -- what is found of its module with the error is found of the document
 pub found_if : (d : PlainDocument) (m : PlainModule) (x : Examined) (r : Result Explanation AllocError) → IsExaminedDocument d m x → IfOk r (λ e. finding_of e ≡ finding_in x)
-    → IfOk r (λ e. JudgedDocument d (finding_of e))
-found_if d m x (Ok e) h is = subst (JudgedDocument d) (sym is) (judged_document d m x h)
+    → IfOk r (λ e. FindsIn d (finding_of e))
+found_if d m x (Ok e) h is = subst (FindsIn d) (sym is) (judged_document d m x h)
 found_if d m x (Err a) h is = tt
 
 -- an accepted module is found to be one
@@ -71,7 +71,7 @@ misread_lines requested bytes error (Ok (Refused _ _)) h = elim h [ ]
 misread_lines requested bytes error (Err a) h = tt
 
 -- what is found of the document is found of the bytes that spell it
-pub explained_if : (bytes : List ℕ) (d : PlainDocument) (r : Result Explanation AllocError) → Reads bytes d → IfOk r (λ e. JudgedDocument d (finding_of e))
+pub explained_if : (bytes : List ℕ) (d : PlainDocument) (r : Result Explanation AllocError) → Reads bytes d → IfOk r (λ e. FindsIn d (finding_of e))
     → IfOk r (λ e. Judged bytes (finding_of e))
 explained_if bytes d (Ok e) reads h = judged_if bytes d (Ok (finding_of e)) reads h
 explained_if bytes d (Err a) reads h = tt

@@ -11,7 +11,7 @@ use Rattle.judgement_laws.proofs.Sound.{accepted_is_sound}
 use Rattle.judgement_laws.specs.judged.Sound.{AreChecked}
 use Rattle.judgement.specs.judged.Reports.{IsReport}
 use Rattle.shader_check.proofs.Once.{prepared_once}
-use Rattle.shader_check.specs.judged.Theorem.{JudgedDocument, IsReportedOf}
+use Rattle.shader_check.specs.found.Judgements.{FindsIn, IsReportedOf}
 use Rattle.spirv_reader.specs.Checks.{MakesSixChecks}
 use Rattle.check_explanation.specs.Answered.{IsAnswered, IsTextOfSome, IsSoundText, verdict_of}
 use Rattle.check_explanation.specs.declared.spirv.SpirvVerdict.{SpirvVerdict}
@@ -25,7 +25,7 @@ checked s h = record {
   expressions = ap (λ n. bit_and n EXPRESSIONS.0) h;
 }
 
-sound_finding : (d : PlainDocument) → AreChecked d.settings → (f : Finding) (report text : List ℕ) → verdict.Accepted ≡ verdict_of f → JudgedDocument d f → IsReportedOf d f report → text ≡ text_of f ++ report → IsSoundText text
+sound_finding : (d : PlainDocument) → AreChecked d.settings → (f : Finding) (report text : List ℕ) → verdict.Accepted ≡ verdict_of f → FindsIn d f → IsReportedOf d f report → text ≡ text_of f ++ report → IsSoundText text
 sound_finding d checked (Accepted strict) report text is judged told t =
     let m = judged.judged in
     let reports : IsReport m report = subst (λ x. IsReport x report) (prepared_once d.returns d.content told.judged m told.prepared judged.prepared) told.is in

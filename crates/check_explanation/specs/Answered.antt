@@ -10,7 +10,7 @@ use Rattle.judgement.specs.declared.finding.Finding.{Finding}
 use Rattle.judgement.specs.declared.finding.Finding.TheVariants as findings
 use Rattle.judgement_laws.specs.judged.Sound.{AreChecked, ModuleIsSound}
 use Rattle.shader_check.specs.found.Judgements.{IsJudgementOf}
-use Rattle.shader_check.specs.judged.Theorem.{JudgedDocument}
+use Rattle.shader_check.specs.found.Judgements.{FindsIn}
 use Rattle.shader_check.specs.declared.reported.Judgement.{Judgement}
 use Rattle.check_explanation.specs.Explained.{finding_of}
 use Rattle.check_explanation.specs.Listed.{FollowsIn}
@@ -65,5 +65,5 @@ IsAnswered Unread text = Unit {0}
 pub record IsExplained (requested : Requested) (e : Explanation) : Type 0 where
   pub document : PlainDocument
   pub checked : AreChecked document.settings
-  pub judged : JudgedDocument document (finding_of e)
+  pub judged : FindsIn document (finding_of e)
   pub lines : FollowsIn requested document e

@@ -11,7 +11,7 @@ ghost use Rattle.document_reader.specs.found.View.{document_view};
 ghost use Rattle.document_reader.specs.declared.error.DocumentError.TheVariants.{Memory as no_memory};
 ghost use Rattle.ir_items.specs.found.View.{module_view};
 ghost use Rattle.shader_check.specs.found.Examined.{finding_in, refused_by};
-ghost use Rattle.shader_check.specs.judged.Theorem.{Judged, JudgedDocument};
+ghost use Rattle.shader_check.specs.found.Judgements.{Judged, FindsIn};
 
 use crate::refused::{RefusedItem, refused_item, value_of};
 use crate::types::type_texts;
@@ -165,7 +165,7 @@ pub fn explain_document(
     text: &[u8],
     document: &mut Document,
 ) -> Result<Explanation, AllocError>
-    ensures finding { IfOk result (λ e. JudgedDocument (document_view document.old) (finding_of e)) }
+    ensures finding { IfOk result (λ e. FindsIn (document_view document.old) (finding_of e)) }
     ensures lines { IfOk result (FollowsIn requested (document_view document.old)) }
 {
     let examined = examine_document(alloc, document)?;

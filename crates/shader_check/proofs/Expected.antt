@@ -1,15 +1,18 @@
 -- What is expected for the bytes that were taken is expected for all of them.
-use Rattle.std.proofs.Common.{◌≡◌, ◌↔◌, ◌⊎◌, inl, inr, ℕ, true, false, List, ◌++◌, length, length-append, append-nil, Option, Some, None, IfSome, IsTrue, codes, nat_eq, string_bytes, refl, sym, ap, subst, ◌∙◌, arith}
+use Rattle.std.proofs.Common.{◌≡◌, ◌↔◌, ◌⊎◌, inl, inr, ℕ, Bool, true, false, List, ◌++◌, length, length-append, append-nil, Option, Some, None, IfSome, IsTrue, codes, nat_eq, string_bytes, refl, sym, ap, subst, ◌∙◌, arith}
 use Rattle.std.specs.List.{starts_with}
 use Rattle.std.specs.Io.KnownBytes.{Consumes, IsAtEnd}
 use Rattle.check_ports.specs.Source.{TakesAll}
+use Rattle.document_reader.proofs.Seam.{one_document_lem}
+use Rattle.judgement.specs.judged.Reports.{IsReport}
 use Rattle.judgement.specs.judged.Text.{text_of}
 use Rattle.judgement.specs.declared.finding.Finding.{Finding}
 use Rattle.judgement.specs.declared.finding.Finding.TheVariants.{Accepted, RefusedDocument, RefusedHandles, Refused}
 use Rattle.shader_check.proofs.Promises.{accepted_texts_are_sound_lem}
 use Rattle.shader_check.proofs.Returns.{returns_dont_show_lem}
-use Rattle.shader_check.specs.found.Judgements.{IsJudgementOn}
-use Rattle.shader_check.specs.judged.Theorem.{Judged, IsExpected, IsReported, IsTextWithoutResults, SoundText}
+use Rattle.shader_check.proofs.Once.{prepared_once}
+use Rattle.shader_check.specs.found.Judgements.{Finds, IsReportFor, IsReportOn, Judged, IsReported, IsJudgementOn}
+use Rattle.shader_check.specs.judged.Theorem.{IsExpected, of_document, no_document, IsTextWithoutResults, SoundText}
 use Rattle.shader_check.specs.judged.Theorem.{verdict_of, IsExpectedFor}
 use Rattle.shader_check.specs.declared.check.TheConstants.{MAX_TAKEN}
 use Rattle.shader_check.specs.declared.check.Verdict.TheVariants as verdict
@@ -28,20 +31,34 @@ told_longer RefusedDocument behind given rest long h = h
 told_longer RefusedHandles behind given rest long h = h
 told_longer (Refused step index) behind given rest long h = h
 
-module _ (f : Finding) (behind : List ℕ) where
-  -- the text of a finding, with what is reported after its line
-  pub expected : (bytes : List ℕ) → Judged bytes f → IsReported bytes f behind → IsExpected bytes (text_of f ++ behind)
-  expected bytes h t = record { finding = f; judged = h; behind = behind; told = t; text_is = refl }
+-- the module that is found accepted is the one that is reported on
+expected_accepted : (bytes : List ℕ) (strict : Bool) (behind : List ℕ) → Finds bytes (Accepted strict) → IsReportFor bytes behind → IsExpected bytes (text_of (Accepted strict) ++ behind)
+expected_accepted bytes strict behind h t =
+    let d = h.document in
+    let m = h.found.judged in
+    let on : IsReportOn d behind = subst (λ x. IsReportOn x behind) (one_document_lem bytes t.document d t.reads h.reads) t.reports in
+    let reports : IsReport m behind = subst (λ x. IsReport x behind) (prepared_once d.returns d.content on.judged m on.prepared h.found.prepared) on.is in
+    of_document d h.reads (record { judged = m; prepared = h.found.prepared; finding = Accepted strict; found = h.found.finding; behind = behind; reported = reports; text_is = refl })
 
+-- the text of a finding, with what is reported after its line
+pub expected : (f : Finding) (behind bytes : List ℕ) → Judged bytes f → IsReported bytes f behind → IsExpected bytes (text_of f ++ behind)
+expected (Accepted strict) behind bytes h t = expected_accepted bytes strict behind h t
+expected RefusedDocument behind bytes h t = no_document h (ap (λ z. text_of RefusedDocument ++ z) t ∙ append-nil (text_of RefusedDocument))
+expected RefusedHandles behind bytes h t =
+    of_document h.document h.reads (record { judged = h.found.judged; prepared = h.found.prepared; finding = RefusedHandles; found = h.found.finding; behind = behind; reported = t; text_is = refl })
+expected (Refused step index) behind bytes h t =
+    of_document h.document h.reads (record { judged = h.found.judged; prepared = h.found.prepared; finding = Refused step index; found = h.found.finding; behind = behind; reported = t; text_is = refl })
+
+module _ (f : Finding) (behind : List ℕ) where
   expected_for_all : (old new : Option (List ℕ)) (given : List ℕ) → Consumes old new given → IsAtEnd new ⊎ (length given ≡ MAX_TAKEN) → Judged given f → IsReported given f behind
       → IfSome old (λ input. IsExpected input (text_of f ++ behind))
   expected_for_all None new given c s h t = tt
   expected_for_all (Some input) None given c s h t = absurd c
   expected_for_all (Some input) (Some rest) given c (inl e) h t =
       let same : given ≡ input = sym (c ∙ (ap (λ z. given ++ z) e ∙ append-nil given)) in
-      expected input (subst (λ z. Judged z f) same h) (subst (λ z. IsReported z f behind) same t)
+      expected f behind input (subst (λ z. Judged z f) same h) (subst (λ z. IsReported z f behind) same t)
   expected_for_all (Some input) (Some rest) given c (inr e) h t =
-      expected input (subst (λ z. Judged z f) (sym c) (judged_longer f given rest e h)) (subst (λ z. IsReported z f behind) (sym c) (told_longer f behind given rest e t))
+      expected f behind input (subst (λ z. Judged z f) (sym c) (judged_longer f given rest e h)) (subst (λ z. IsReported z f behind) (sym c) (told_longer f behind given rest e t))
 
 -- of a document without results the text is the same with missing returns put in and without
 pub without_results : (given : List ℕ) (j : Judgement) → IsJudgementOn given j → IsTextWithoutResults given (text_of j.finding ++ string_bytes j.report)

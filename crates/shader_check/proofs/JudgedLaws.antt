@@ -18,19 +18,16 @@ use Rattle.check_errors.specs.declared.error.ValidationError.TheVariants as erro
 use Rattle.check_errors.specs.Spans.{IsRefusedAt}
 use Rattle.shader_check.proofs.Kept.{reported}
 use Rattle.shader_check.proofs.ModuleLaws.{found_of}
-use Rattle.shader_check.specs.found.Examined.{finding_in, refused_early, refused_by, IsExamined, IsExaminedDocument, IsKeptIn, IsRefusedSo, IsReportedIn}
+use Rattle.shader_check.specs.found.Examined.{finding_in, refused_early, refused_by, IsExamined, IsExaminedDocument, IsKeptIn, IsRefusedSo}
 use Rattle.shader_check.specs.found.Validated.{IsValidationFault}
-use Rattle.shader_check.specs.found.Judgements.{IsJudgementOf, IsJudgementOn}
-use Rattle.shader_check.specs.judged.Theorem.{Judged, JudgedDocument, IsReported, IsReportedOf}
+use Rattle.shader_check.specs.found.Judgements.{FindsIn, Judged, IsReported, IsReportedOf, IsJudgementOf, IsJudgementOn}
+use Rattle.shader_check.specs.judged.Theorem.{IsReportedIn}
 use Rattle.shader_check.specs.declared.examined.Examined.{Examined}
 use Rattle.shader_check.specs.declared.examined.Examined.TheVariants as examined
 use Rattle.shader_check.specs.declared.reported.Judgement.{Judgement}
 
-pub found_in : (d : PlainDocument) (m : PlainModule) (f : Finding) → IsPrepared d.returns d.content m → IsFinding d.settings m f → JudgedDocument d f
-found_in d m RefusedDocument p h = h
-found_in d m (Accepted strict) p h = record { judged = m; prepared = p; finding = h }
-found_in d m RefusedHandles p h = record { judged = m; prepared = p; finding = h }
-found_in d m (Refused step index) p h = record { judged = m; prepared = p; finding = h }
+pub found_in : (d : PlainDocument) (m : PlainModule) (f : Finding) → IsPrepared d.returns d.content m → IsFinding d.settings m f → FindsIn d f
+found_in d m f p h = record { judged = m; prepared = p; finding = h }
 
 -- what a validator with these settings refuses is found of the module
 pub examined_by : (s own : Settings) (m : PlainModule) (given : Module) (r : Refusal ValidationError) (t : Result Examined AllocError) → own ≡ s → IsRefusedAt (IsValidationFault own false m) given r → IfOk t (IsRefusedSo r) → IfOk t (IsExamined s m)
@@ -46,7 +43,7 @@ examined_if d m (Ok x) p h = record { prepared = p; examined = h }
 examined_if d m (Err a) p h = tt
 
 -- and without the error
-pub judged_document : (d : PlainDocument) (m : PlainModule) (x : Examined) → IsExaminedDocument d m x → JudgedDocument d (finding_in x)
+pub judged_document : (d : PlainDocument) (m : PlainModule) (x : Examined) → IsExaminedDocument d m x → FindsIn d (finding_in x)
 judged_document d m x h = found_in d m (finding_in x) h.prepared (found_of d.settings m x h.examined)
 
 -- ---- what is reported
@@ -76,17 +73,17 @@ reported_of d m (examined.Refused e) behind h t = refused_reported d m e behind 
 
 pub judgement_of : (d : PlainDocument) (m : PlainModule) (x : Examined) (j : Judgement) → IsExaminedDocument d m x → j.finding ≡ finding_in x → IsReportedIn m (finding_in x) (string_bytes j.report) → IsJudgementOf d j
 judgement_of d m x j h is t = record {
-  finding = subst (JudgedDocument d) (sym is) (judged_document d m x h);
+  finding = subst (FindsIn d) (sym is) (judged_document d m x h);
   told = subst (λ f. IsReportedOf d f (string_bytes j.report)) (sym is) (reported_of d m x (string_bytes j.report) h t);
 }
 
-pub judged : (bytes : List ℕ) (d : PlainDocument) (f : Finding) → Reads bytes d → JudgedDocument d f → Judged bytes f
-judged bytes d RefusedDocument r h = absurd h
+pub judged : (bytes : List ℕ) (d : PlainDocument) (f : Finding) → Reads bytes d → FindsIn d f → Judged bytes f
+judged bytes d RefusedDocument r h = absurd h.finding
 judged bytes d (Accepted strict) r h = record { document = d; reads = r; found = h }
 judged bytes d RefusedHandles r h = record { document = d; reads = r; found = h }
 judged bytes d (Refused step index) r h = record { document = d; reads = r; found = h }
 
-pub judged_if : (bytes : List ℕ) (d : PlainDocument) (r : Result Finding AllocError) → Reads bytes d → IfOk r (JudgedDocument d) → IfOk r (Judged bytes)
+pub judged_if : (bytes : List ℕ) (d : PlainDocument) (r : Result Finding AllocError) → Reads bytes d → IfOk r (FindsIn d) → IfOk r (Judged bytes)
 judged_if bytes d (Ok f) reads h = judged bytes d f reads h
 judged_if bytes d (Err a) reads h = tt
 

@@ -14,9 +14,8 @@ use Rattle.judgement.specs.declared.finding.Finding.TheVariants.{Accepted, Refus
 use Rattle.spec_expressions.specs.judged.ModuleHandles.{HandlesOK}
 use Rattle.judgement.specs.judged.ModuleSteps as step
 use Rattle.judgement.proofs.OneReport.{one_report}
-use Rattle.judgement.specs.judged.Reports.{IsReport}
 use Rattle.shader_check.proofs.Failing.{Family, up_to_overrides, at_variables, at_functions, at_entries, IsFailing, in_order, none_failing, failing_once}
-use Rattle.shader_check.specs.judged.Theorem.{Finds, FindsIn, Judged, OneText, IsReportOn, IsReported}
+use Rattle.shader_check.specs.judged.Theorem.{IsReportedIn, IsTextOn, of_document, no_document, OneText}
 
 -- two truths that say the same are one
 same_truth : (a b : Bool) (P : Type 0) → IsTrue a ↔ P → IsTrue b ↔ P → a ≡ b
@@ -105,51 +104,31 @@ pub prepared_once : (returns : Bool) (m n k : PlainModule) → IsPrepared return
 prepared_once true m n k x y = one_returned m n x ∙ sym (one_returned m k y)
 prepared_once false m n k x y = x ∙ sym y
 
-found_once : (d : PlainDocument) (f g : Finding) → FindsIn d f → FindsIn d g → f ≡ g
-found_once d f g x y =
-    let same = prepared_once d.returns d.content x.judged y.judged x.prepared y.prepared in
-    finding_once d.settings x.judged f g x.finding (subst (λ m. IsFinding d.settings m g) (sym same) y.finding)
+-- ---- the text on a document
 
-finds_once : (bytes : List ℕ) (f g : Finding) → Finds bytes f → Finds bytes g → f ≡ g
-finds_once bytes f g x y =
-    let same = one_document_lem bytes x.document y.document x.reads y.reads in
-    found_once x.document f g x.found (subst (λ d. FindsIn d g) (sym same) y.found)
+reported_once : (m : PlainModule) (f : Finding) (a b : List ℕ) → IsReportedIn m f a → IsReportedIn m f b → a ≡ b
+reported_once m (Accepted strict) a b x y = one_report m a b x y
+reported_once m RefusedDocument a b x y = x ∙ sym y
+reported_once m RefusedHandles a b x y = x ∙ sym y
+reported_once m (Refused t i) a b x y = x ∙ sym y
 
-judged_once : (bytes : List ℕ) (f g : Finding) → Judged bytes f → Judged bytes g → f ≡ g
-judged_once bytes RefusedDocument RefusedDocument x y = refl
-judged_once bytes RefusedDocument (Accepted strict) x y = absurd (x y.document y.reads)
-judged_once bytes RefusedDocument RefusedHandles x y = absurd (x y.document y.reads)
-judged_once bytes RefusedDocument (Refused t j) x y = absurd (x y.document y.reads)
-judged_once bytes (Accepted strict) RefusedDocument x y = absurd (y x.document x.reads)
-judged_once bytes (Accepted strict) (Accepted other) x y = finds_once bytes (Accepted strict) (Accepted other) x y
-judged_once bytes (Accepted strict) RefusedHandles x y = finds_once bytes (Accepted strict) RefusedHandles x y
-judged_once bytes (Accepted strict) (Refused t j) x y = finds_once bytes (Accepted strict) (Refused t j) x y
-judged_once bytes RefusedHandles RefusedDocument x y = absurd (y x.document x.reads)
-judged_once bytes RefusedHandles (Accepted strict) x y = finds_once bytes RefusedHandles (Accepted strict) x y
-judged_once bytes RefusedHandles RefusedHandles x y = refl
-judged_once bytes RefusedHandles (Refused t j) x y = finds_once bytes RefusedHandles (Refused t j) x y
-judged_once bytes (Refused s i) RefusedDocument x y = absurd (y x.document x.reads)
-judged_once bytes (Refused s i) (Accepted strict) x y = finds_once bytes (Refused s i) (Accepted strict) x y
-judged_once bytes (Refused s i) RefusedHandles x y = finds_once bytes (Refused s i) RefusedHandles x y
-judged_once bytes (Refused s i) (Refused t j) x y = finds_once bytes (Refused s i) (Refused t j) x y
+module _ (d : PlainDocument) (s t : List ℕ) (x : IsTextOn d s) (y : IsTextOn d t) where
+  same_module : y.judged ≡ x.judged
+  same_module = prepared_once d.returns d.content y.judged x.judged y.prepared x.prepared
 
--- ---- what is reported after the line
+  same_finding : x.finding ≡ y.finding
+  same_finding = finding_once d.settings x.judged x.finding y.finding x.found (subst (λ m. IsFinding d.settings m y.finding) same_module y.found)
 
-report_once : (d : PlainDocument) (a b : List ℕ) → IsReportOn d a → IsReportOn d b → a ≡ b
-report_once d a b x y =
-    let same = prepared_once d.returns d.content x.judged y.judged x.prepared y.prepared in
-    one_report x.judged a b x.is (subst (λ m. IsReport m b) (sym same) y.is)
+  same_behind : x.behind ≡ y.behind
+  same_behind =
+      let there : IsReportedIn x.judged y.finding y.behind = subst (λ m. IsReportedIn m y.finding y.behind) same_module y.reported in
+      reported_once x.judged x.finding x.behind y.behind x.reported (subst (λ f. IsReportedIn x.judged f y.behind) (sym same_finding) there)
 
-told_once : (bytes : List ℕ) (f : Finding) (a b : List ℕ) → IsReported bytes f a → IsReported bytes f b → a ≡ b
-told_once bytes (Accepted strict) a b x y =
-    let same = one_document_lem bytes x.document y.document x.reads y.reads in
-    report_once x.document a b x.reports (subst (λ d. IsReportOn d b) (sym same) y.reports)
-told_once bytes RefusedDocument a b x y = x ∙ sym y
-told_once bytes RefusedHandles a b x y = x ∙ sym y
-told_once bytes (Refused t i) a b x y = x ∙ sym y
+  text_once : s ≡ t
+  text_once = x.text_is ∙ (ap (λ f. text_of f ++ x.behind) same_finding ∙ (ap (λ z. text_of y.finding ++ z) same_behind ∙ sym y.text_is))
 
 pub one_text_lem : OneText
-one_text_lem bytes s t x y =
-    let same = judged_once bytes x.finding y.finding x.judged y.judged in
-    let behind = told_once bytes x.finding x.behind y.behind x.told (subst (λ f. IsReported bytes f y.behind) (sym same) y.told) in
-    x.text_is ∙ (ap (λ f. text_of f ++ x.behind) same ∙ (ap (λ z. text_of y.finding ++ z) behind ∙ sym y.text_is))
+one_text_lem bytes s t (no_document x a) (no_document y b) = a ∙ sym b
+one_text_lem bytes s t (no_document x a) (of_document d r b) = absurd (x d r)
+one_text_lem bytes s t (of_document d r a) (no_document y b) = absurd (y d r)
+one_text_lem bytes s t (of_document d r a) (of_document e q b) = text_once d s t a (subst (λ z. IsTextOn z t) (one_document_lem bytes e d q r) b)

@@ -4,7 +4,6 @@ use Rattle.ir_items.specs.judged.Plain.{PlainModule}
 use Rattle.ir_items.specs.judged.Returned.{returned_module}
 use Rattle.ir_items.proofs.Returned.{returned_by_bodies}
 use Rattle.document_reader.specs.judged.Plain.{PlainDocument}
-use Rattle.document_reader.specs.judged.Form.{Reads}
 use Rattle.document_reader.proofs.Seam.{one_document_lem}
 use Rattle.judgement.specs.judged.Steps.{IsPrepared}
 use Rattle.judgement.specs.declared.finding.Finding.{Finding}
@@ -12,7 +11,7 @@ use Rattle.judgement.specs.declared.finding.Finding.TheVariants.{Accepted, Refus
 use Rattle.judgement_laws.specs.judged.Like.{HasNoResult}
 use Rattle.judgement_laws.specs.found.ReturnLaws.{AreJudgedAlike}
 use Rattle.judgement_laws.proofs.Finding.{returns_dont_matter}
-use Rattle.shader_check.specs.judged.Theorem.{FindsIn, Finds, JudgedDocument, Judged, IsReportOn, IsReportedOf, IsReported, with_returns, ReturnsDontShow}
+use Rattle.shader_check.specs.judged.Theorem.{IsReportedIn, IsTextOn, of_document, no_document, with_returns, ReturnsDontShow}
 
 -- there is a module that is judged, whether returns are put in first or not
 some_prepared : (returns : Bool) (m : PlainModule) → (n : PlainModule) × IsPrepared returns m n
@@ -30,35 +29,23 @@ module _ (d : PlainDocument) (none : HasNoResult d.content) (returns : Bool) whe
   alike : (m : PlainModule) → IsPrepared d.returns d.content m → AreJudgedAlike m other
   alike m prepared = returns_dont_matter d.content m other d.returns returns none prepared other_prepared
 
-  found_too : (f : Finding) → FindsIn d f → FindsIn (with_returns d returns) f
-  found_too f h = record { judged = other; prepared = other_prepared; finding = ((alike h.judged h.prepared).finding d.settings f).0 h.finding }
+  reported_too : (m : PlainModule) → IsPrepared d.returns d.content m → (f : Finding) (behind : List ℕ) → IsReportedIn m f behind → IsReportedIn other f behind
+  reported_too m prepared (Accepted strict) behind h = ((alike m prepared).report behind).0 h
+  reported_too m prepared RefusedDocument behind h = h
+  reported_too m prepared RefusedHandles behind h = h
+  reported_too m prepared (Refused step index) behind h = h
 
-  report_too : (text : List ℕ) → IsReportOn d text → IsReportOn (with_returns d returns) text
-  report_too text h = record { judged = other; prepared = other_prepared; is = ((alike h.judged h.prepared).report text).0 h.is }
-
-  -- ---- of the bytes that spell the document
-
-  module _ (bytes : List ℕ) (reads : Reads bytes d) where
-    found_in : (f : Finding) → Finds bytes f → FindsIn (with_returns d returns) f
-    found_in f h = found_too f (subst (λ x. FindsIn x f) (one_document_lem bytes h.document d h.reads reads) h.found)
-
-    judged_too : (f : Finding) → Judged bytes f → JudgedDocument (with_returns d returns) f
-    judged_too (Accepted strict) h = found_in (Accepted strict) h
-    judged_too RefusedDocument h = h d reads
-    judged_too RefusedHandles h = found_in RefusedHandles h
-    judged_too (Refused step index) h = found_in (Refused step index) h
-
-    told_too : (f : Finding) (behind : List ℕ) → IsReported bytes f behind → IsReportedOf (with_returns d returns) f behind
-    told_too (Accepted strict) behind h = report_too behind (subst (λ x. IsReportOn x behind) (one_document_lem bytes h.document d h.reads reads) h.reports)
-    told_too RefusedDocument behind h = h
-    told_too RefusedHandles behind h = h
-    told_too (Refused step index) behind h = h
+  text_too : (text : List ℕ) → IsTextOn d text → IsTextOn (with_returns d returns) text
+  text_too text t = record {
+    judged = other;
+    prepared = other_prepared;
+    finding = t.finding;
+    found = ((alike t.judged t.prepared).finding d.settings t.finding).0 t.found;
+    behind = t.behind;
+    reported = reported_too t.judged t.prepared t.finding t.behind t.reported;
+    text_is = t.text_is;
+  }
 
 pub returns_dont_show_lem : ReturnsDontShow
-returns_dont_show_lem bytes text h d reads none returns = record {
-  finding = h.finding;
-  judged = judged_too d none returns bytes reads h.finding h.judged;
-  behind = h.behind;
-  told = told_too d none returns bytes reads h.finding h.behind h.told;
-  text_is = h.text_is;
-}
+returns_dont_show_lem bytes text (no_document spells is) d reads none returns = absurd (spells d reads)
+returns_dont_show_lem bytes text (of_document e r t) d reads none returns = text_too d none returns text (subst (λ z. IsTextOn z text) (one_document_lem bytes e d r reads) t)

@@ -21,13 +21,15 @@ use Rattle.judgement.specs.judged.Text.{text_of}
 use Rattle.judgement.specs.declared.finding.Step.TheVariants.{Layout, «Type», Typing, Expression, Constant, Override, Global, Function, Entry}
 use Rattle.judgement.specs.declared.finding.Finding.{Finding}
 use Rattle.judgement.specs.declared.finding.Finding.TheVariants.{Accepted, RefusedDocument, RefusedHandles, Refused}
-use Rattle.shader_check.specs.judged.Theorem.{Judged, IsReported, SomeText}
+use Rattle.shader_check.specs.found.Judgements.{Judged, IsReported}
+use Rattle.shader_check.specs.judged.Theorem.{SomeText}
 use Rattle.spec_interface.specs.judged.Modules.{EntryAtOK, EntriesOK}
 use Rattle.spec_statements.specs.judged.ModuleFunctions.{FunctionAtOK, FunctionsOK}
 use Rattle.spec_interface.specs.judged.Globals.{GlobalOK, GlobalsOK}
 use Rattle.judgement.proofs.SomeReport.{some_report_for}
 use Rattle.judgement.specs.judged.Reports.{IsReport}
 use Rattle.judgement.proofs.Classical.{Holds, surely, then, either, Sought, all_or_first}
+use Rattle.shader_check.proofs.Expected.{expected}
 use Rattle.shader_check.proofs.JudgedLaws.{found_in, judged}
 
 -- ---- of a module
@@ -189,4 +191,4 @@ pub some_text_lem : SomeText
 some_text_lem bytes =
     λ none. some_judged bytes (λ found.
     some_told bytes found.0 found.1 (λ told.
-    none (text_of found.0 ++ told.0) (record { finding = found.0; judged = found.1; behind = told.0; told = told.1; text_is = refl })))
+    none (text_of found.0 ++ told.0) (expected found.0 told.0 bytes found.1 told.1)))

@@ -5,7 +5,8 @@ ghost use Rattle.ir_items.specs.found.View.{module_view};
 ghost use Rattle.document_reader.specs.found.View.{document_view};
 ghost use Rattle.judgement.specs.judged.Steps.{IsPrepared, IsScopeStrict};
 ghost use Rattle.judgement.specs.declared.finding.Finding.TheVariants.{RefusedDocument};
-ghost use Rattle.shader_check.specs.found.Examined.{finding_in, IsExamined, IsExaminedDocument, IsKeptIn, IsLeft, IsRefusedSo, IsReportedIn};
+ghost use Rattle.shader_check.specs.found.Examined.{finding_in, IsExamined, IsExaminedDocument, IsKeptIn, IsLeft, IsRefusedSo};
+ghost use Rattle.shader_check.specs.judged.Theorem.{IsReportedIn};
 ghost use Rattle.shader_check.specs.found.Judgements.{IsJudgementOf, IsJudgementOn};
 
 use crate::examined::Examined;

@@ -3,7 +3,8 @@ use Rattle.std.specs.Prelude.{◌≡◌, ◌↔◌, ◌++◌, ℕ, List, IsTrue,
 use Rattle.std.specs.List.{starts_with}
 use Rattle.judgement.specs.declared.finding.Finding.{Finding}
 use Rattle.judgement.specs.declared.finding.Finding.TheVariants as findings
-use Rattle.shader_check.specs.judged.Theorem.{IsExpected, Judged, SoundText}
+use Rattle.shader_check.specs.found.Judgements.{Judged}
+use Rattle.shader_check.specs.judged.Theorem.{IsExpected, SoundText}
 use Rattle.shader_check.specs.declared.check.Verdict.{Verdict}
 use Rattle.shader_check.specs.declared.check.Verdict.TheVariants.{Accepted, Refused}
 use Rattle.check_explanation.specs.Answered.{IsAnswered}

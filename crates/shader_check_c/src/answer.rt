@@ -1,7 +1,7 @@
 //! The text on a document, in memory.
 
 ghost use Rattle.std.specs.Prelude.{◌≡◌, ◌<◌, ◌≢◌, ◌≤◌, IfSome, string_bytes};
-ghost use Rattle.shader_check.specs.judged.Theorem.{Judged};
+ghost use Rattle.shader_check.specs.found.Judgements.{Judged};
 ghost use Rattle.check_explanation.specs.Answered.{IsAnswered};
 ghost use Rattle.check_explanation.specs.Objects.{IsObjectText};
 ghost use Rattle.shader_check_c.specs.Answers.{IsAnswerOn, front_of, status_in, status_of};

@@ -1,5 +1,5 @@
 -- What is found of a document, with the error where its module is refused.
-use Rattle.std.specs.Prelude.{◌≡◌, ◌↔◌, ◌⊎◌, ℕ, Bool, List, [], false, IsTrue}
+use Rattle.std.specs.Prelude.{◌≡◌, ◌↔◌, ◌⊎◌, Bool, false, IsTrue}
 use Rattle.ir_flags.specs.declared.settings.Settings.{Settings}
 use Rattle.document_reader.specs.judged.Plain.{PlainDocument}
 use Rattle.typing_errors.specs.declared.const_expressions.ConstExpressionError.{ConstExpressionError}
@@ -16,7 +16,7 @@ use Rattle.ir_items.specs.found.View.{module_view}
 use Rattle.ir_items.specs.declared.module.Module.{Module}
 use Rattle.judgement.specs.judged.Steps.{IsPrepared, IsScopeStrict}
 use Rattle.judgement.specs.declared.finding.Finding.{Finding}
-use Rattle.judgement.specs.declared.finding.Finding.TheVariants.{Accepted, RefusedDocument, RefusedHandles, Refused}
+use Rattle.judgement.specs.declared.finding.Finding.TheVariants.{Accepted, RefusedHandles, Refused}
 use Rattle.judgement.specs.declared.finding.Step.{Step}
 use Rattle.judgement.specs.declared.finding.Step.TheVariants.{Layout, «Type», Typing, Expression, Constant, Override, Global, Function, Entry}
 use Rattle.check_report.specs.Reported.{IsReported}
@@ -24,7 +24,6 @@ use Rattle.module_validator.specs.declared.error.ModuleError.{ModuleError}
 use Rattle.module_validator.specs.declared.error.ModuleError.TheVariants as module_error
 use Rattle.shader_check.specs.declared.examined.Examined.{Examined}
 use Rattle.shader_check.specs.declared.examined.Examined.TheVariants as examined
-use Rattle.judgement.specs.judged.Reports.{IsReport}
 
 -- the step that refuses a global expression so
 abbrev pub step_of : ConstExpressionError → Step
@@ -80,10 +79,3 @@ IsLeft returns m n = (spanned_module n ≡ spanned_module m) ⊎ IsPrepared retu
 abbrev pub IsKeptIn : PlainModule → Examined → Type 0
 IsKeptIn m (examined.Accepted strict info) = IsReported m info
 IsKeptIn m (examined.Refused e) = Unit {0}
-
--- what is reported of a module after the line of what is found: nothing, but the report where it is accepted
-abbrev pub IsReportedIn : PlainModule → Finding → (behind : List ℕ) → Type 0
-IsReportedIn m (Accepted strict) behind = IsReport m behind
-IsReportedIn m RefusedDocument behind = behind ≡ []
-IsReportedIn m RefusedHandles behind = behind ≡ []
-IsReportedIn m (Refused step index) behind = behind ≡ []

@@ -1,4 +1,4 @@
--- The theorem of the program: what is found of bytes, the text that tells it with its report, and what a check reads, writes and answers.
+-- The theorem of the program: the text that is expected for bytes, what is promised of it, and what a check reads, writes and answers.
 -- `check_document` and `outcome` are contracted over these words.
 use Rattle.std.specs.Prelude.{◌≡◌, ◌↔◌, ℕ, List, [], ◌++◌, Bool, Option, Some, IfSome, IsTrue, Result, Ok, Err, codes, nat_eq, slice_get}
 use Rattle.std.specs.List.{starts_with}
@@ -26,69 +26,32 @@ use Rattle.shader_check.specs.declared.check.Verdict.TheVariants.{Accepted, Refu
 use Rattle.shader_check.specs.declared.check.Fault.{Fault}
 use Rattle.shader_check.specs.declared.check.Fault.TheVariants.{Memory, Read, Write}
 
--- ---- what is found
+-- ---- the text on a document
 
--- This is found of the document's module, with returns put in where it requires them.
-pub record FindsIn (d : PlainDocument) (f : Finding) : Type 0 where
+-- what is reported of a module after the line of what is found: nothing, but the report where it is accepted
+abbrev pub IsReportedIn : PlainModule → Finding → (behind : List ℕ) → Type 0
+IsReportedIn m (finding.Accepted strict) behind = IsReport m behind
+IsReportedIn m finding.RefusedDocument behind = behind ≡ []
+IsReportedIn m finding.RefusedHandles behind = behind ≡ []
+IsReportedIn m (finding.Refused step index) behind = behind ≡ []
+
+-- The document's module, with returns put in where it requires them, is judged; the text says what is found of it, and where it is
+-- accepted goes on with the report on it.
+pub record IsTextOn (d : PlainDocument) (text : List ℕ) : Type 0 where
   pub judged : PlainModule
   pub prepared : IsPrepared d.returns d.content judged
-  pub finding : IsFinding d.settings judged f
-
--- The bytes spell a document of which this is found.
-pub record Finds (bytes : List ℕ) (f : Finding) : Type 0 where
-  pub document : PlainDocument
-  pub reads : Reads bytes document
-  pub found : FindsIn document f
-
--- what the judgement is over a document
-abbrev pub JudgedDocument : PlainDocument → Finding → Type 0
-JudgedDocument d finding.RefusedDocument = ⊥
-JudgedDocument d (finding.Accepted strict) = FindsIn d (finding.Accepted strict)
-JudgedDocument d finding.RefusedHandles = FindsIn d finding.RefusedHandles
-JudgedDocument d (finding.Refused step index) = FindsIn d (finding.Refused step index)
-
--- what the judgement is over these bytes
-abbrev pub Judged : List ℕ → Finding → Type 0
-Judged bytes finding.RefusedDocument = (d : PlainDocument) → ¬ Reads bytes d
-Judged bytes (finding.Accepted strict) = Finds bytes (finding.Accepted strict)
-Judged bytes finding.RefusedHandles = Finds bytes finding.RefusedHandles
-Judged bytes (finding.Refused step index) = Finds bytes (finding.Refused step index)
-
--- ---- what is reported
-
--- It is the report on the document's module, with returns put in where it requires them.
-pub record IsReportOn (d : PlainDocument) (report : List ℕ) : Type 0 where
-  pub judged : PlainModule
-  pub prepared : IsPrepared d.returns d.content judged
-  pub is : IsReport judged report
-
--- what is reported of a document after the line of what is found: nothing, but the report where it is accepted
-abbrev pub IsReportedOf : PlainDocument → Finding → (behind : List ℕ) → Type 0
-IsReportedOf d (finding.Accepted strict) behind = IsReportOn d behind
-IsReportedOf d finding.RefusedDocument behind = behind ≡ []
-IsReportedOf d finding.RefusedHandles behind = behind ≡ []
-IsReportedOf d (finding.Refused step index) behind = behind ≡ []
-
--- It is the report on the document that the bytes spell.
-pub record IsReportFor (bytes report : List ℕ) : Type 0 where
-  pub document : PlainDocument
-  pub reads : Reads bytes document
-  pub reports : IsReportOn document report
-
--- what is reported of bytes after the line of what is found
-abbrev pub IsReported : List ℕ → Finding → (behind : List ℕ) → Type 0
-IsReported bytes (finding.Accepted strict) behind = IsReportFor bytes behind
-IsReported bytes finding.RefusedDocument behind = behind ≡ []
-IsReported bytes finding.RefusedHandles behind = behind ≡ []
-IsReported bytes (finding.Refused step index) behind = behind ≡ []
-
--- The text that is expected for these bytes.
-pub record IsExpected (bytes text : List ℕ) : Type 0 where
   pub finding : Finding
-  pub judged : Judged bytes finding
+  pub found : IsFinding d.settings judged finding
   pub behind : List ℕ
-  pub told : IsReported bytes finding behind
+  pub reported : IsReportedIn judged finding behind
   pub text_is : text ≡ text_of finding ++ behind
+
+-- ---- what is expected
+
+-- The text that is expected for these bytes: where they spell a document, the text on it; else that they spell none.
+pub data IsExpected (bytes text : List ℕ) : Type 0 where
+  of_document : (d : PlainDocument) → Reads bytes d → IsTextOn d text → IsExpected bytes text
+  no_document : ((d : PlainDocument) → ¬ Reads bytes d) → text ≡ text_of finding.RefusedDocument → IsExpected bytes text
 
 -- one text is expected for some bytes
 abbrev pub OneText : Type 0
@@ -103,14 +66,6 @@ SomeText = (bytes : List ℕ) → ¬ ((text : List ℕ) → ¬ IsExpected bytes 
 -- the document, where missing returns are to be put in or are not
 abbrev pub with_returns : PlainDocument → Bool → PlainDocument
 with_returns d returns = record d { returns = returns }
-
--- The text says what is found of the document, and where it is accepted goes on with the report on it.
-pub record IsTextOn (d : PlainDocument) (text : List ℕ) : Type 0 where
-  pub finding : Finding
-  pub judged : JudgedDocument d finding
-  pub behind : List ℕ
-  pub told : IsReportedOf d finding behind
-  pub text_is : text ≡ text_of finding ++ behind
 
 -- Where the bytes spell a document in which no function and no entry point has a result, the text is that on the document whether
 -- missing returns are to be put in or not.
