@@ -38,19 +38,23 @@ outer_label m (error.GlobalVariable e) = None
 outer_label m (error.Function e) = Some (function_label m e.function)
 outer_label m (error.EntryPoint e) = None
 
--- the spans that are known of these, each with what stands there
+-- spans, and after them those that are known of these items, each with what stands there
+abbrev pub spans_added : Module → List (Span × List ℕ) → ValidationError → List (Span × List ℕ)
+spans_added m spans e = labelled (labelled spans (inner_label m e)) (outer_label m e)
+
+-- the spans that are known of the items that an error names
 abbrev pub spans_named : Module → ValidationError → List (Span × List ℕ)
-spans_named m e = labelled (labelled [] (inner_label m e)) (outer_label m e)
+spans_named m e = spans_added m [] e
 
 -- memory ran out, or this is reported, with the spans of the items that it names
 abbrev pub IsRefusedAt : (ValidationError → Type 0) → Module → Refusal ValidationError → Type 0
 IsRefusedAt IsFault m (refusal.Memory e) = Unit {0}
 IsRefusedAt IsFault m (refusal.Fault e) = IsFault (error_of e) × (spans_of e ≡ spans_named m (error_of e))
 
--- an answer without spans, and the same with those of the items that its error names, unless memory ran out
+-- an answer, and the same with the spans of the items that its error names, unless memory ran out
 abbrev pub IsSpanned : {I : Type 0} → Module → Result I (Refusal ValidationError) → Result I (Refusal ValidationError) → Type 0
 IsSpanned m (Ok info) r = r ≡ Ok info
 IsSpanned m (Err (refusal.Memory e)) r = r ≡ Err (refusal.Memory e)
 IsSpanned m (Err (refusal.Fault f)) (Ok info) = ⊥
 IsSpanned m (Err (refusal.Fault f)) (Err (refusal.Memory e)) = Unit {0}
-IsSpanned m (Err (refusal.Fault f)) (Err (refusal.Fault g)) = (error_of g ≡ error_of f) × (spans_of f ≡ [] → spans_of g ≡ spans_named m (error_of f))
+IsSpanned m (Err (refusal.Fault f)) (Err (refusal.Fault g)) = (error_of g ≡ error_of f) × (spans_of g ≡ spans_added m (spans_of f) (error_of f))

@@ -11,12 +11,14 @@ use Rattle.shader_check.specs.found.Judgements.{Judged, FindsIn}
 use Rattle.shader_check.proofs.JudgedLaws.{judged_document, judged_if, kept_in}
 use Rattle.check_explanation.specs.declared.explanation.Requested.{Requested}
 use Rattle.check_explanation.specs.declared.explanation.Explanation.{Explanation}
-use Rattle.check_explanation.specs.Explained.{IsMisread, IsRefusedAt, finding_of}
-use Rattle.check_explanation.specs.Listed.{CanReportIn, Follows, FollowsIn, FollowsOn, IsAccepted}
+use Rattle.check_explanation.specs.Explained.{IsMisread, IsRefusedWith, finding_of}
+use Rattle.check_explanation.specs.Listed.{CanReportIn, ExplainsBytes, ExplainsDocument, ExplainsModule, IsAccepted}
 use Rattle.check_explanation.specs.declared.explanation.Explanation.TheVariants.{NoDocument, Accepted, Refused}
 use Rattle.ir_items.specs.judged.Plain.{PlainModule}
 use Rattle.judgement.specs.judged.Steps.{IsPrepared}
-use Rattle.shader_check.specs.found.Examined.{IsExaminedDocument, finding_in}
+use Rattle.check_errors.specs.declared.error.ValidationError.{ValidationError}
+use Rattle.document_reader.specs.found.Reasons.{IsReason}
+use Rattle.shader_check.specs.found.Examined.{IsExamined, IsExaminedDocument, finding_in, refused_by}
 use Rattle.shader_check.specs.declared.examined.Examined.{Examined}
 use Rattle.shader_check.specs.declared.examined.Examined.TheVariants as examined
 use Rattle.judgement.specs.judged.ModuleSteps.{layout}
@@ -37,38 +39,41 @@ accepted_if requested m strict (Ok (NoDocument _ _)) h = elim h [ ]
 accepted_if requested m strict (Ok (Refused _ _)) h = elim h [ ]
 accepted_if requested m strict (Err a) h = tt
 
-pub accepted_lines : (requested : Requested) (m : PlainModule) (strict : Bool) (r : Result Explanation AllocError) → IfOk r (IsAccepted requested m strict) → IfOk r (FollowsOn requested m)
-accepted_lines requested m strict (Ok (Accepted found lines)) h = h.1
-accepted_lines requested m strict (Ok (NoDocument _ _)) h = elim h [ ]
-accepted_lines requested m strict (Ok (Refused _ _)) h = elim h [ ]
-accepted_lines requested m strict (Err a) h = tt
+pub accepted_explains : (requested : Requested) (m : PlainModule) (x : Examined) (strict : Bool) (r : Result Explanation AllocError) → IfOk r (IsAccepted requested m strict)
+    → IfOk r (ExplainsModule requested m x)
+accepted_explains requested m x strict (Ok (Accepted found lines)) h = h.1
+accepted_explains requested m x strict (Ok (NoDocument _ _)) h = elim h [ ]
+accepted_explains requested m x strict (Ok (Refused _ _)) h = elim h [ ]
+accepted_explains requested m x strict (Err a) h = tt
 
--- one that is refused is found to be so, and no lines are wanted of it
-pub refused_if : (finding : Finding) (r : Result Explanation AllocError) → IfOk r (IsRefusedAt finding) → IfOk r (λ e. finding_of e ≡ finding)
-refused_if finding (Ok (Refused error item)) h = h
-refused_if finding (Ok (NoDocument _ _)) h = elim h [ ]
-refused_if finding (Ok (Accepted _ _)) h = elim h [ ]
-refused_if finding (Err a) h = tt
+-- one that is refused is found to be so, with its error
+pub refused_if : (error : ValidationError) (r : Result Explanation AllocError) → IfOk r (IsRefusedWith error) → IfOk r (λ e. finding_of e ≡ refused_by error)
+refused_if error (Ok (Refused found item)) h = ap refused_by h
+refused_if error (Ok (NoDocument _ _)) h = elim h [ ]
+refused_if error (Ok (Accepted _ _)) h = elim h [ ]
+refused_if error (Err a) h = tt
 
-pub refused_lines : (requested : Requested) (m : PlainModule) (finding : Finding) (r : Result Explanation AllocError) → IfOk r (IsRefusedAt finding) → IfOk r (FollowsOn requested m)
-refused_lines requested m finding (Ok (Refused error item)) h = tt
-refused_lines requested m finding (Ok (NoDocument _ _)) h = elim h [ ]
-refused_lines requested m finding (Ok (Accepted _ _)) h = elim h [ ]
-refused_lines requested m finding (Err a) h = tt
+pub refused_explains : (requested : Requested) (m : PlainModule) (error : ValidationError) (r : Result Explanation AllocError) → IfOk r (IsRefusedWith error)
+    → IfOk r (ExplainsModule requested m (examined.Refused error))
+refused_explains requested m error (Ok (Refused found item)) h = ap examined.Refused (sym h)
+refused_explains requested m error (Ok (NoDocument _ _)) h = elim h [ ]
+refused_explains requested m error (Ok (Accepted _ _)) h = elim h [ ]
+refused_explains requested m error (Err a) h = tt
 
--- bytes that spell no document are found to be so, and no lines are wanted of them
+-- bytes that spell no document are found to be so, for a reason
 pub misread_if : (bytes : List ℕ) (error : DocumentError) (r : Result Explanation AllocError) → (error ≢ unread.Memory → (d : PlainDocument) → ¬ Reads bytes d) → IfOk r (IsMisread error)
     → IfOk r (λ e. Judged bytes (finding_of e))
-misread_if bytes error (Ok (NoDocument found hint)) none h = none h
+misread_if bytes error (Ok (NoDocument found hint)) none h = none h.1
 misread_if bytes error (Ok (Accepted _ _)) none h = elim h [ ]
 misread_if bytes error (Ok (Refused _ _)) none h = elim h [ ]
 misread_if bytes error (Err a) none h = tt
 
-pub misread_lines : (requested : Requested) (bytes : List ℕ) (error : DocumentError) (r : Result Explanation AllocError) → IfOk r (IsMisread error) → IfOk r (Follows requested bytes)
-misread_lines requested bytes error (Ok (NoDocument found hint)) h = tt
-misread_lines requested bytes error (Ok (Accepted _ _)) h = elim h [ ]
-misread_lines requested bytes error (Ok (Refused _ _)) h = elim h [ ]
-misread_lines requested bytes error (Err a) h = tt
+pub misread_explains : (requested : Requested) (bytes : List ℕ) (error : DocumentError) (r : Result Explanation AllocError) → IsReason bytes error → IfOk r (IsMisread error)
+    → IfOk r (ExplainsBytes requested bytes)
+misread_explains requested bytes error (Ok (NoDocument found hint)) reason h = subst (λ x. IsReason bytes x × (x ≢ unread.Memory)) (sym h.0) (reason, h.1)
+misread_explains requested bytes error (Ok (Accepted _ _)) reason h = elim h [ ]
+misread_explains requested bytes error (Ok (Refused _ _)) reason h = elim h [ ]
+misread_explains requested bytes error (Err a) reason h = tt
 
 -- what is found of the document is found of the bytes that spell it
 pub explained_if : (bytes : List ℕ) (d : PlainDocument) (r : Result Explanation AllocError) → Reads bytes d → IfOk r (λ e. FindsIn d (finding_of e))
@@ -86,21 +91,21 @@ can_report d m (examined.Accepted strict info) h = record {
 }
 can_report d m (examined.Refused e) h = tt
 
--- the lines of a module are those of its document
-pub listed_in : (requested : Requested) (d : PlainDocument) (m : PlainModule) (r : Result Explanation AllocError) → IsPrepared d.returns d.content m → IfOk r (FollowsOn requested m)
-    → IfOk r (FollowsIn requested d)
-listed_in requested d m (Ok (NoDocument error hint)) prepared h = tt
-listed_in requested d m (Ok (Accepted strict lines)) prepared h = record { judged = m; prepared = prepared; are = h }
-listed_in requested d m (Ok (Refused error item)) prepared h = tt
-listed_in requested d m (Err a) prepared h = tt
+-- what is explained of its module is explained of the document
+pub explained_in : (requested : Requested) (d : PlainDocument) (m : PlainModule) (x : Examined) (r : Result Explanation AllocError) → IsExaminedDocument d m x → IfOk r (ExplainsModule requested m x)
+    → IfOk r (ExplainsDocument requested d)
+explained_in requested d m x (Ok (NoDocument error hint)) of h = h
+explained_in requested d m x (Ok (Accepted strict lines)) of h = record { judged = m; prepared = of.prepared; are = h }
+explained_in requested d m x (Ok (Refused error item)) of h = record { judged = m; prepared = of.prepared; fault = subst (IsExamined d.settings m) h of.examined }
+explained_in requested d m x (Err a) of h = tt
 
 -- and of the bytes that spell it
-pub listed_if : (requested : Requested) (bytes : List ℕ) (d : PlainDocument) (r : Result Explanation AllocError) → Reads bytes d → IfOk r (FollowsIn requested d)
-    → IfOk r (Follows requested bytes)
-listed_if requested bytes d (Ok (NoDocument error hint)) reads h = tt
-listed_if requested bytes d (Ok (Accepted strict lines)) reads h = record { document = d; reads = reads; judged = h.judged; prepared = h.prepared; are = h.are }
-listed_if requested bytes d (Ok (Refused error item)) reads h = tt
-listed_if requested bytes d (Err a) reads h = tt
+pub explained_on : (requested : Requested) (bytes : List ℕ) (d : PlainDocument) (r : Result Explanation AllocError) → Reads bytes d → IfOk r (ExplainsDocument requested d)
+    → IfOk r (ExplainsBytes requested bytes)
+explained_on requested bytes d (Ok (NoDocument error hint)) reads h = elim h [ ]
+explained_on requested bytes d (Ok (Accepted strict lines)) reads h = record { document = d; reads = reads; judged = h.judged; prepared = h.prepared; are = h.are }
+explained_on requested bytes d (Ok (Refused error item)) reads h = record { document = d; reads = reads; wrong = h }
+explained_on requested bytes d (Err a) reads h = tt
 
 -- what is explained stays so with the instruction that it comes from
 pub traced_if : (requested : Requested) (e : Explanation) (r : Result Traced SpirvError) → IsExplained requested e → IfOk r (λ t. t.explanation ≡ e) → IfOk r (λ t. IsExplained requested t.explanation)

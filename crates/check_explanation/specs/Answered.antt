@@ -13,7 +13,7 @@ use Rattle.shader_check.specs.found.Judgements.{IsJudgementOf}
 use Rattle.shader_check.specs.found.Judgements.{FindsIn}
 use Rattle.shader_check.specs.declared.reported.Judgement.{Judgement}
 use Rattle.check_explanation.specs.Explained.{finding_of}
-use Rattle.check_explanation.specs.Listed.{FollowsIn}
+use Rattle.check_explanation.specs.Listed.{ExplainsDocument}
 use Rattle.check_explanation.specs.declared.explanation.Explanation.{Explanation}
 use Rattle.check_explanation.specs.declared.explanation.Requested.{Requested}
 use Rattle.check_explanation.specs.declared.spirv.SpirvVerdict.{SpirvVerdict}
@@ -61,9 +61,9 @@ IsAnswered Accepted text = IsTextOfSome Accepted text
 IsAnswered Refused text = IsTextOfSome Refused text
 IsAnswered Unread text = Unit {0}
 
--- this is found of some such document, and the lines that are wanted are those of its module
+-- This is found of some such document, whose module has the lines that are requested, or this error.
 pub record IsExplained (requested : Requested) (e : Explanation) : Type 0 where
   pub document : PlainDocument
   pub checked : AreChecked document.settings
   pub judged : FindsIn document (finding_of e)
-  pub lines : FollowsIn requested document e
+  pub explains : ExplainsDocument requested document e

@@ -4,6 +4,7 @@ use Rattle.document_reader.specs.declared.error.DocumentError.{DocumentError}
 use Rattle.document_reader.specs.declared.error.DocumentError.TheVariants as unread
 use Rattle.judgement.specs.declared.finding.Finding.{Finding}
 use Rattle.judgement.specs.declared.finding.Finding.TheVariants as findings
+use Rattle.check_errors.specs.declared.error.ValidationError.{ValidationError}
 use Rattle.shader_check.specs.found.Examined.{refused_by}
 use Rattle.check_explanation.specs.declared.explanation.Explanation.{Explanation}
 use Rattle.check_explanation.specs.declared.explanation.Explanation.TheVariants.{NoDocument, Accepted, Refused}
@@ -14,14 +15,14 @@ finding_of (NoDocument error hint) = findings.RefusedDocument
 finding_of (Accepted strict lines) = findings.Accepted strict
 finding_of (Refused error item) = refused_by error
 
--- the explanation of bytes that spell no document, for a reason that is not that there was no memory
+-- the explanation of bytes that spell no document, for this reason, which is not that there was no memory
 abbrev pub IsMisread : DocumentError → Explanation → Type 0
-IsMisread error (NoDocument found hint) = error ≢ unread.Memory
+IsMisread error (NoDocument found hint) = (found ≡ error) × (error ≢ unread.Memory)
 IsMisread error (Accepted strict lines) = ⊥
 IsMisread error (Refused found item) = ⊥
 
--- the explanation of a module of which this is found, which is refused
-abbrev pub IsRefusedAt : Finding → Explanation → Type 0
-IsRefusedAt finding (NoDocument error hint) = ⊥
-IsRefusedAt finding (Accepted strict lines) = ⊥
-IsRefusedAt finding (Refused error item) = refused_by error ≡ finding
+-- the explanation of a module that is refused with this error
+abbrev pub IsRefusedWith : ValidationError → Explanation → Type 0
+IsRefusedWith error (NoDocument found hint) = ⊥
+IsRefusedWith error (Accepted strict lines) = ⊥
+IsRefusedWith error (Refused found item) = found ≡ error

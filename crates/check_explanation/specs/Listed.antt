@@ -1,7 +1,11 @@
--- The lines that an explanation has of a document.
-use Rattle.std.specs.Prelude.{◌≡◌, ℕ, Bool, List, [], string_bytes}
+-- What an explanation says of a module, of a document and of bytes: the lines of an accepted module, and the error of one that is
+-- refused or of bytes that spell no document, which is what is wrong with them.
+use Rattle.std.specs.Prelude.{◌≡◌, ◌≢◌, ℕ, Bool, List, [], string_bytes}
 use Rattle.document_reader.specs.judged.Form.{Reads}
 use Rattle.document_reader.specs.judged.Plain.{PlainDocument}
+use Rattle.document_reader.specs.found.Reasons.{IsReason}
+use Rattle.document_reader.specs.declared.error.DocumentError.TheVariants as unread
+use Rattle.check_errors.specs.declared.error.ValidationError.{ValidationError}
 use Rattle.check_explanation.specs.declared.explanation.Requested.{Requested}
 use Rattle.check_explanation.specs.declared.explanation.Requested.TheVariants.{Nothing, Leaves, Report}
 use Rattle.check_explanation.specs.declared.explanation.Explanation.{Explanation}
@@ -13,6 +17,7 @@ use Rattle.check_report.specs.Rows.{AreLaid, AreLayoutsIn}
 use Rattle.check_report.specs.Reported.{IsReported}
 use Rattle.judgement.specs.judged.Reports.{IsReport}
 use Rattle.typing_infos.specs.declared.info.ModuleInfo.{ModuleInfo}
+use Rattle.shader_check.specs.found.Validated.{IsValidationFault}
 use Rattle.shader_check.specs.declared.examined.Examined.{Examined}
 use Rattle.shader_check.specs.declared.examined.Examined.TheVariants as examined
 use Rattle.spec_expressions.specs.judged.ModuleHandles.{HandlesOK}
@@ -40,10 +45,11 @@ lines_of (NoDocument error hint) = []
 lines_of (Accepted strict lines) = string_bytes lines
 lines_of (Refused error item) = []
 
-abbrev pub FollowsOn : (requested : Requested) → PlainModule → Explanation → Type 0
-FollowsOn requested m (NoDocument error hint) = Unit {0}
-FollowsOn requested m (Accepted strict lines) = ListsAsRequested requested m (string_bytes lines)
-FollowsOn requested m (Refused error item) = Unit {0}
+-- of a module of which this is found: lines as requested where it is accepted, else the error that is found
+abbrev pub ExplainsModule : (requested : Requested) → PlainModule → Examined → Explanation → Type 0
+ExplainsModule requested m x (NoDocument error hint) = ⊥
+ExplainsModule requested m x (Accepted strict lines) = ListsAsRequested requested m (string_bytes lines)
+ExplainsModule requested m x (Refused error item) = x ≡ examined.Refused error
 
 -- the explanation of an accepted module
 abbrev pub IsAccepted : (requested : Requested) → PlainModule → Bool → Explanation → Type 0
@@ -57,10 +63,16 @@ pub record AreListedIn (requested : Requested) (d : PlainDocument) (lines : List
   pub prepared : IsPrepared d.returns d.content judged
   pub are : ListsAsRequested requested judged lines
 
-abbrev pub FollowsIn : (requested : Requested) → PlainDocument → Explanation → Type 0
-FollowsIn requested d (NoDocument error hint) = Unit {0}
-FollowsIn requested d (Accepted strict lines) = AreListedIn requested d (string_bytes lines)
-FollowsIn requested d (Refused error item) = Unit {0}
+-- This is wrong with the document's module, with returns put in where it requires them.
+pub record IsWrongIn (d : PlainDocument) (error : ValidationError) : Type 0 where
+  pub judged : PlainModule
+  pub prepared : IsPrepared d.returns d.content judged
+  pub fault : IsValidationFault d.settings false judged error
+
+abbrev pub ExplainsDocument : (requested : Requested) → PlainDocument → Explanation → Type 0
+ExplainsDocument requested d (NoDocument error hint) = ⊥
+ExplainsDocument requested d (Accepted strict lines) = AreListedIn requested d (string_bytes lines)
+ExplainsDocument requested d (Refused error item) = IsWrongIn d error
 
 -- They are those of the module of the document that the bytes spell, with returns put in where it requires them.
 pub record AreListed (requested : Requested) (bytes lines : List ℕ) : Type 0 where
@@ -70,7 +82,14 @@ pub record AreListed (requested : Requested) (bytes lines : List ℕ) : Type 0 w
   pub prepared : IsPrepared document.returns document.content judged
   pub are : ListsAsRequested requested judged lines
 
-abbrev pub Follows : (requested : Requested) → (bytes : List ℕ) → Explanation → Type 0
-Follows requested bytes (NoDocument error hint) = Unit {0}
-Follows requested bytes (Accepted strict lines) = AreListed requested bytes (string_bytes lines)
-Follows requested bytes (Refused error item) = Unit {0}
+-- This is wrong with the module of the document that the bytes spell.
+pub record IsWrongWith (bytes : List ℕ) (error : ValidationError) : Type 0 where
+  pub document : PlainDocument
+  pub reads : Reads bytes document
+  pub wrong : IsWrongIn document error
+
+-- of bytes: where they spell no document, a reason for it that is not that there was no memory
+abbrev pub ExplainsBytes : (requested : Requested) → (bytes : List ℕ) → Explanation → Type 0
+ExplainsBytes requested bytes (NoDocument error hint) = IsReason bytes error × (error ≢ unread.Memory)
+ExplainsBytes requested bytes (Accepted strict lines) = AreListed requested bytes (string_bytes lines)
+ExplainsBytes requested bytes (Refused error item) = IsWrongWith bytes error

@@ -2,15 +2,15 @@
 ghost use Rattle.std.specs.Prelude.{◌≡◌, ◌≢◌, ◌++◌, IfOk, codes, string_bytes};
 ghost use Rattle.serde_json.specs.Data.{string};
 ghost use Rattle.serde_json.specs.View.{view};
-ghost use Rattle.check_explanation.specs.Explained.{IsMisread, IsRefusedAt, finding_of};
+ghost use Rattle.check_explanation.specs.Explained.{IsMisread, IsRefusedWith, finding_of};
 ghost use Rattle.check_explanation.specs.Objects.{IsObjectText, SaysVerdict, verdict_word};
 ghost use Rattle.check_faults.specs.Objects.{Has};
 ghost use Rattle.judgement.specs.judged.Text.{text_of};
-ghost use Rattle.check_explanation.specs.Listed.{CanReport, CanReportIn, Follows, FollowsIn, FollowsOn, IsAccepted, ListsAsRequested, lines_of};
+ghost use Rattle.check_explanation.specs.Listed.{CanReport, CanReportIn, ExplainsBytes, ExplainsDocument, ExplainsModule, IsAccepted, ListsAsRequested, lines_of};
 ghost use Rattle.document_reader.specs.found.View.{document_view};
 ghost use Rattle.document_reader.specs.declared.error.DocumentError.TheVariants.{Memory as no_memory};
 ghost use Rattle.ir_items.specs.found.View.{module_view};
-ghost use Rattle.shader_check.specs.found.Examined.{finding_in, refused_by};
+ghost use Rattle.shader_check.specs.found.Examined.{IsLeft, finding_in};
 ghost use Rattle.shader_check.specs.found.Judgements.{Judged, FindsIn};
 
 use crate::refused::{RefusedItem, refused_item, value_of};
@@ -102,7 +102,7 @@ fn refused(
     error: ValidationError,
     item: Result<RefusedItem, AllocError>,
 ) -> Result<Explanation, AllocError>
-    ensures { IfOk result (IsRefusedAt (refused_by error)) }
+    ensures { IfOk result (IsRefusedWith error) }
 {
     match item {
         Ok(item) => Ok(Explanation::Refused(error, item)),
@@ -120,7 +120,7 @@ fn explained(
 ) -> Result<Explanation, AllocError>
     requires can { CanReportIn (module_view «module».now) examined }
     ensures finding { IfOk result (λ e. finding_of e ≡ finding_in examined) }
-    ensures lines { IfOk result (FollowsOn requested (module_view «module».now)) }
+    ensures explains { IfOk result (ExplainsModule requested (module_view «module».now) examined) }
 {
     match examined {
         Examined::Accepted { strict, info } => {
@@ -156,9 +156,9 @@ fn looks(alloc: Global, bytes: &[u8]) -> Result<String, AllocError> {
     }
 }
 
-/// The explanation of a document, with the lines of its module that are wanted, where that is accepted; `text` is the document as
-/// JSON, of which a reason quotes parts. Returns are put into its module where it requires them, and the module is left
-/// so. The error says that there is no memory.
+/// The explanation of a document, with the lines of its module that are wanted, where that is accepted, or the error for which it is
+/// refused; `text` is the document as JSON, of which a reason quotes parts. Returns are put into its module where it requires
+/// them, and the module is left so. The error says that there is no memory, and leaves the module so, or as it was.
 pub fn explain_document(
     alloc: Global,
     requested: Requested,
@@ -166,7 +166,9 @@ pub fn explain_document(
     document: &mut Document,
 ) -> Result<Explanation, AllocError>
     ensures finding { IfOk result (λ e. FindsIn (document_view document.old) (finding_of e)) }
-    ensures lines { IfOk result (FollowsIn requested (document_view document.old)) }
+    ensures explains { IfOk result (ExplainsDocument requested (document_view document.old)) }
+    ensures left { IsLeft document.old.returns document.old.«module» document.new.«module» }
+    ensures settings { document.new ≡ record document.old { «module» = document.new.«module» } }
 {
     let examined = examine_document(alloc, document)?;
     explained(alloc, requested, text, examined, &document.module)
@@ -201,7 +203,7 @@ fn misread(alloc: Global, bytes: &[u8], error: DocumentError) -> Result<Explanat
 /// error says that there is no memory.
 pub fn explain(alloc: Global, requested: Requested, bytes: &[u8]) -> Result<Explanation, AllocError>
     ensures finding { IfOk result (λ e. Judged bytes.now (finding_of e)) }
-    ensures lines { IfOk result (Follows requested bytes.now) }
+    ensures explains { IfOk result (ExplainsBytes requested bytes.now) }
 {
     match read_document(alloc, bytes) {
         Ok(mut document) => {

@@ -1,6 +1,6 @@
 // An error as its name tells it, cut into its parts: `Name`, `Name(part, part)` or `Name { field: part }`.
 
-ghost use Rattle.std.specs.Prelude.{◌≡◌, ◌≤◌, IsUtf8, length, take};
+ghost use Rattle.std.specs.Prelude.{◌≡◌, ◌≤◌, [], IsUtf8, length, take};
 ghost use Rattle.check_faults.specs.Names.{head as head_of, is_name as is_of_name, name_length as length_of_name};
 
 use std::str::from_utf8;
@@ -160,7 +160,8 @@ fn given(part: &[u8]) -> &[u8] {
 
 /// The bytes as a text, nothing where they are no UTF-8.
 pub fn text_of(bytes: &[u8]) -> &str
-    ensures { IsUtf8 bytes.now → result.now ≡ bytes.now }
+    ensures text { IsUtf8 bytes.now → result.now ≡ bytes.now }
+    ensures none { ¬ IsUtf8 bytes.now → result.now ≡ [] }
 {
     from_utf8(bytes).unwrap_or("")
 }
