@@ -1,5 +1,5 @@
 -- What is wrong with the scope of a function's body, by places.
-use Rattle.std.specs.Prelude.{◌≡◌, ◌⊎◌, ℕ, List, Option, Some, None, slice_get}
+use Rattle.std.specs.Prelude.{◌≡◌, ◌⊎◌, ℕ, List, Option, Some, None, slice_get, []}
 use Rattle.typing_errors.specs.declared.expressions.ExpressionError.TheVariants.{NotInScope}
 use Rattle.typing_errors.specs.declared.error.FunctionError.{FunctionError}
 use Rattle.typing_errors.specs.declared.error.FunctionError.TheVariants as error
@@ -9,7 +9,7 @@ use Rattle.typing_errors.specs.declared.calls.CallError.{CallError}
 use Rattle.typing_errors.specs.declared.calls.CallError.TheVariants as call_error
 use Rattle.ir_blocks.specs.judged.Places.{Place, OccursAt, spot_at}
 use Rattle.ir_blocks.specs.judged.Plain.{call}
-use Rattle.ir_types.specs.found.Faults.{error_of}
+use Rattle.ir_types.specs.found.Faults.{error_of, spans_of}
 use Rattle.ir_types.specs.declared.refusal.Refusal.{Refusal}
 use Rattle.ir_types.specs.declared.refusal.Refusal.TheVariants as refusal
 use Rattle.ir_flags.specs.Sets.{Has}
@@ -77,4 +77,4 @@ IsScopeFault flags f _ = ⊥
 -- a refusal tells such a fault, or that there is no memory
 abbrev pub IsScopeRefusal : ValidationFlags → PlainFunction → Refusal FunctionError → Type 0
 IsScopeRefusal flags f (refusal.Memory e) = Unit {0}
-IsScopeRefusal flags f (refusal.Fault e) = IsScopeFault flags f (error_of e)
+IsScopeRefusal flags f (refusal.Fault e) = IsScopeFault flags f (error_of e) × (spans_of e ≡ [])

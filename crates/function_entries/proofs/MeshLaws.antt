@@ -224,4 +224,4 @@ bad_primitives_by m variable f h bad =
 
 pub said_refused : (m : PlainModule) (said : MeshStageInfo) (x : Refusal EntryPointError) → IsRefusedFor (IsImpliedFault m said.output_variable) x → IsRefusedFor (IsSaidFault m said) x
 said_refused m said (refusal.Memory a) h = tt
-said_refused m said (refusal.Fault f) h = said_fault m said (error_of f) h
+said_refused m said (refusal.Fault f) h = (said_fault m said (error_of f) h.0, h.1)

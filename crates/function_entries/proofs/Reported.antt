@@ -22,7 +22,7 @@ given_told : (c : VaryingContext) (vs : List Varying) (r : VaryingRefusal) (x : 
 given_told c vs (varying.Memory a) (refusal.Memory b) h told = tt
 given_told c vs (varying.Memory a) (refusal.Fault f) h told = absurd told
 given_told c vs (varying.Fault index e) (refusal.Memory b) h told = absurd told
-given_told c vs (varying.Fault index e) (refusal.Fault f) h told = subst (IsGivenFault c vs) (sym told) (index, h)
+given_told c vs (varying.Fault index e) (refusal.Fault f) h told = (subst (IsGivenFault c vs) (sym told.0) (index, h), told.1)
 
 -- what is looked at is what an entry point's rules look at
 module _ (v c : VaryingContext) (view : v ≡ c) where
@@ -32,4 +32,4 @@ module _ (v c : VaryingContext) (view : v ≡ c) where
 module _ (flags : ValidationFlags) (capabilities : Capabilities) (m : PlainModule) (e : PlainEntry) (Uses : ℕ → ℕ → Type 0) (i : MeshStageInfo) (at : e.mesh ≡ Some i) where
   pub mesh_refused : (x : Refusal EntryPointError) → IsRefusedFor (IsMeshFault flags capabilities m e i) x → IsRefusedFor (IsConnectionFault flags capabilities m e Uses) x
   mesh_refused (refusal.Memory a) h = tt
-  mesh_refused (refusal.Fault f) h = of_mesh i at h
+  mesh_refused (refusal.Fault f) h = (of_mesh i at h.0, h.1)

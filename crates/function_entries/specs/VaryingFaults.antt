@@ -1,8 +1,8 @@
 -- What is wrong with what an entry point is given and gives.
-use Rattle.std.specs.Prelude.{◌≡◌, ℕ, List, Option, IsSome, false, min}
+use Rattle.std.specs.Prelude.{◌≡◌, ℕ, List, Option, IsSome, false, min, []}
 use Rattle.function_entry_checks.specs.declared.error.EntryPointError.{EntryPointError}
 use Rattle.function_entry_checks.specs.declared.error.EntryPointError.TheVariants as error
-use Rattle.ir_types.specs.found.Faults.{error_of}
+use Rattle.ir_types.specs.found.Faults.{error_of, spans_of}
 use Rattle.ir_types.specs.declared.refusal.Refusal.{Refusal}
 use Rattle.ir_types.specs.declared.refusal.Refusal.TheVariants as refusal
 use Rattle.ir_items.specs.judged.Plain.{PlainArgument}
@@ -27,14 +27,14 @@ abbrev pub IsReportedOfArgument : VaryingRefusal → Refusal EntryPointError →
 IsReportedOfArgument (varying.Memory a) (refusal.Memory b) = Unit {0}
 IsReportedOfArgument (varying.Memory a) (refusal.Fault f) = ⊥
 IsReportedOfArgument (varying.Fault index e) (refusal.Memory b) = ⊥
-IsReportedOfArgument (varying.Fault index e) (refusal.Fault f) = error_of f ≡ error.Argument (min index 4294967295) e
+IsReportedOfArgument (varying.Fault index e) (refusal.Fault f) = (error_of f ≡ error.Argument (min index 4294967295) e) × (spans_of f ≡ [])
 
 -- and as one of what is given
 abbrev pub IsReportedOfResult : VaryingRefusal → Refusal EntryPointError → Type 0
 IsReportedOfResult (varying.Memory a) (refusal.Memory b) = Unit {0}
 IsReportedOfResult (varying.Memory a) (refusal.Fault f) = ⊥
 IsReportedOfResult (varying.Fault index e) (refusal.Memory b) = ⊥
-IsReportedOfResult (varying.Fault index e) (refusal.Fault f) = error_of f ≡ error.Result e
+IsReportedOfResult (varying.Fault index e) (refusal.Fault f) = (error_of f ≡ error.Result e) × (spans_of f ≡ [])
 
 -- ---- varyings
 

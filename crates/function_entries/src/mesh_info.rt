@@ -1,8 +1,8 @@
 //! What the outputs of mesh shaders imply.
 
-ghost use Rattle.std.specs.Prelude.{◌<◌, MatchOption, None, length, slice_index_or};
+ghost use Rattle.std.specs.Prelude.{◌<◌, ◌≡◌, [], MatchOption, None, length, slice_index_or};
 ghost use Rattle.function_entries.specs.MeshFaults.{IsImpliedFault};
-ghost use Rattle.ir_types.specs.found.Faults.{error_of};
+ghost use Rattle.ir_types.specs.found.Faults.{error_of, spans_of};
 ghost use Rattle.ir_items.specs.judged.Plain.{PlainModule};
 ghost use Rattle.spec_interface.specs.judged.Meshes.{ImpliesMeshInfo};
 
@@ -38,7 +38,7 @@ pub trait MeshInfo {
         requires { variable < length (module_of self.now).globals }
         ensures { MatchOption result.2
             (ImpliesMeshInfo (module_of self.now) variable result.0 (slice_index_or result.1 0 None) (slice_index_or result.1 1 None))
-            (λ f. IsImpliedFault (module_of self.now) variable (error_of f)) };
+            (λ f. IsImpliedFault (module_of self.now) variable (error_of f) × (spans_of f ≡ [])) };
 }
 
 impl MeshInfo for Module {

@@ -1,10 +1,10 @@
 -- What is wrong with an entry point, by the rooms of its rules.
-use Rattle.std.specs.Prelude.{◌≡◌, ◌≢◌, ◌<◌, ◌↔◌, ℕ, List, All, Bool, true, false, Some, None, IsSome, is_some, slice_get}
+use Rattle.std.specs.Prelude.{◌≡◌, ◌≢◌, ◌<◌, ◌↔◌, ℕ, List, All, Bool, true, false, Some, None, IsSome, is_some, slice_get, []}
 use Rattle.std.specs.Int.{bit_at}
 use Rattle.spec_expressions.specs.declared.global_use.GlobalUse.{GlobalUse}
 use Rattle.function_entry_checks.specs.declared.error.EntryPointError.{EntryPointError}
 use Rattle.function_entry_checks.specs.declared.error.EntryPointError.TheVariants as error
-use Rattle.ir_types.specs.found.Faults.{error_of}
+use Rattle.ir_types.specs.found.Faults.{error_of, spans_of}
 use Rattle.ir_types.specs.declared.refusal.Refusal.{Refusal}
 use Rattle.ir_types.specs.declared.refusal.Refusal.TheVariants as refusal
 use Rattle.ir_flags.specs.Sets.{Has}
@@ -147,7 +147,7 @@ pub data IsVariablesFault (flags : ValidationFlags) (m : PlainModule) (e : Plain
 
 -- ---- refusals
 
--- memory ran out, or the fault that is reported is one of these
+-- memory ran out, or the fault that is reported is one of these, without spans
 abbrev pub IsRefusedFor : (EntryPointError → Type 0) → Refusal EntryPointError → Type 0
 IsRefusedFor IsFault (refusal.Memory e) = Unit {0}
-IsRefusedFor IsFault (refusal.Fault e) = IsFault (error_of e)
+IsRefusedFor IsFault (refusal.Fault e) = IsFault (error_of e) × (spans_of e ≡ [])

@@ -7,4 +7,4 @@ use Rattle.function_interface.specs.Analysis.{IsRefusedFor}
 
 pub refused_as : (P Q : FunctionError → Type 0) → ((e : FunctionError) → P e → Q e) → (r : Refusal FunctionError) → IsRefusedFor P r → IsRefusedFor Q r
 refused_as P Q widen (refusal.Memory e) h = tt
-refused_as P Q widen (refusal.Fault e) h = widen (error_of e) h
+refused_as P Q widen (refusal.Fault e) h = (widen (error_of e) h.0, h.1)

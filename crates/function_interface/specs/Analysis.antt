@@ -1,8 +1,8 @@
 -- What a lower layer's analysis of a function answers.
-use Rattle.std.specs.Prelude.{◌≡◌, ℕ, Bool, false, List, Some, length, map, slice_get}
+use Rattle.std.specs.Prelude.{◌≡◌, ℕ, Bool, false, List, Some, length, map, slice_get, []}
 use Rattle.typing_errors.specs.declared.expressions.ExpressionError.{ExpressionError}
 use Rattle.typing_errors.specs.declared.error.FunctionError.{FunctionError}
-use Rattle.ir_types.specs.found.Faults.{error_of}
+use Rattle.ir_types.specs.found.Faults.{error_of, spans_of}
 use Rattle.ir_types.specs.declared.refusal.Refusal.{Refusal}
 use Rattle.ir_types.specs.declared.refusal.Refusal.TheVariants as refusal
 use Rattle.ir_flags.specs.declared.settings.Capabilities.{Capabilities}
@@ -38,10 +38,10 @@ pub record IsKept (reading : Reading) (flags : ValidationFlags) (q : Question) (
   pub all_run : stages ≡ all_stages
   pub unblended : blending ≡ false
 
--- memory ran out, or the fault that is reported is one of these
+-- memory ran out, or the fault that is reported is one of these, without spans
 abbrev pub IsRefusedFor : (FunctionError → Type 0) → Refusal FunctionError → Type 0
 IsRefusedFor IsFault (refusal.Memory e) = Unit {0}
-IsRefusedFor IsFault (refusal.Fault e) = IsFault (error_of e)
+IsRefusedFor IsFault (refusal.Fault e) = IsFault (error_of e) × (spans_of e ≡ [])
 
 -- what is wrong with a function before its other parts are checked: with the arity of a call, or where that is right its analysis
 pub data IsFaultBefore (faults : Faults) (flags : ValidationFlags) (m : PlainModule) (f : PlainFunction) (e : FunctionError) : Type 0 where

@@ -78,4 +78,4 @@ pub fault_by : (flags : ValidationFlags) (m : PlainModule) (f : PlainFunction) (
     → IsProcessed flags m f summaries r → IfErr r (IsRefusedFor ((faults_of (question m f summaries stages)).IsAnalysisFault flags))
 fault_by flags m f summaries stages (Ok info) a = tt
 fault_by flags m f summaries stages (Err (refusal.Memory e)) a = tt
-fault_by flags m f summaries stages (Err (refusal.Fault e)) a = a.0
+fault_by flags m f summaries stages (Err (refusal.Fault e)) a = a

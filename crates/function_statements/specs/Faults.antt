@@ -1,9 +1,9 @@
 -- What is wrong with a statement, by its own rule: a row a kind.
-use Rattle.std.specs.Prelude.{IsSomeAnd}
+use Rattle.std.specs.Prelude.{IsSomeAnd, ◌≡◌, []}
 use Rattle.typing_errors.specs.declared.error.FunctionError.{FunctionError}
 use Rattle.ir_blocks.specs.judged.Places.{Place, OccursAt}
 use Rattle.ir_blocks.specs.judged.Plain.{PlainOperation, control_barrier, memory_barrier, store, image_store, atomic, image_atomic, uniform_load, ray_query, ballot, collective, gather, cooperative_store, ray_pipeline, PlainStatement, emit, block, if_, switch, loop, break, continue, return, kill, operation, call}
-use Rattle.ir_types.specs.found.Faults.{error_of}
+use Rattle.ir_types.specs.found.Faults.{error_of, spans_of}
 use Rattle.ir_types.specs.declared.refusal.Refusal.{Refusal}
 use Rattle.ir_types.specs.declared.refusal.Refusal.TheVariants as refusal
 use Rattle.function_atomic_checks.specs.Atomics.{IsAtomicFault}
@@ -68,4 +68,4 @@ IfFault (Fault e) P = P e
 
 abbrev pub IsBodyRefusal : BlockContext → Refusal FunctionError → Type 0
 IsBodyRefusal c (refusal.Memory e) = Unit {0}
-IsBodyRefusal c (refusal.Fault e) = IsBodyFault c (error_of e)
+IsBodyRefusal c (refusal.Fault e) = IsBodyFault c (error_of e) × (spans_of e ≡ [])

@@ -1,5 +1,5 @@
 -- What is wrong with the strict scope of a function's body, by places.
-use Rattle.std.specs.Prelude.{◌≡◌, ◌⊎◌, ◌<◌, ◌≤◌, ℕ, List, Option, Some, Contains, slice_get}
+use Rattle.std.specs.Prelude.{◌≡◌, ◌⊎◌, ◌<◌, ◌≤◌, ℕ, List, Option, Some, Contains, slice_get, []}
 use Rattle.function_body_checks.specs.Faults.{NoCallAt}
 use Rattle.typing_errors.specs.declared.expressions.ExpressionError.TheVariants.{NotInScope}
 use Rattle.typing_errors.specs.declared.error.FunctionError.{FunctionError}
@@ -9,7 +9,7 @@ use Rattle.typing_errors.specs.declared.calls.CallError.TheVariants as call_erro
 use Rattle.ir_blocks.specs.judged.Places.{Place, OccursAt}
 use Rattle.ir_blocks.specs.judged.Plain.{emit, operation, call, ray_query, ballot}
 use Rattle.ir_blocks.specs.declared.operations.RayQueryFunction.TheVariants.{Proceed}
-use Rattle.ir_types.specs.found.Faults.{error_of}
+use Rattle.ir_types.specs.found.Faults.{error_of, spans_of}
 use Rattle.ir_types.specs.declared.refusal.Refusal.{Refusal}
 use Rattle.ir_types.specs.declared.refusal.Refusal.TheVariants as refusal
 use Rattle.ir_types.specs.judged.ExpressionPlain.{PlainExpression, plain}
@@ -68,4 +68,4 @@ IsStrictFault f _ = ⊥
 -- a refusal tells such a fault, or that there is no memory
 abbrev pub IsStrictRefusal : PlainFunction → Refusal FunctionError → Type 0
 IsStrictRefusal f (refusal.Memory e) = Unit {0}
-IsStrictRefusal f (refusal.Fault e) = IsStrictFault f (error_of e)
+IsStrictRefusal f (refusal.Fault e) = IsStrictFault f (error_of e) × (spans_of e ≡ [])

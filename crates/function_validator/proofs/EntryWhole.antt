@@ -36,7 +36,7 @@ use Rattle.spec_interface.specs.judged.Contexts.{stage_set}
 
 pub refused_as : (P Q : EntryPointError → Type 0) → ((x : EntryPointError) → P x → Q x) → (r : Refusal EntryPointError) → IsRefusedFor P r → IsRefusedFor Q r
 refused_as P Q widen (refusal.Memory a) h = tt
-refused_as P Q widen (refusal.Fault f) h = widen (error_of f) h
+refused_as P Q widen (refusal.Fault f) h = (widen (error_of f) h.0, h.1)
 
 -- ---- stages
 
@@ -117,7 +117,7 @@ module _ (R : Reading) (F : Faults) (callees : List ShaderStages) (s : Settings)
   by_function (refusal.Memory a) (refusal.Memory b) told refused fault = tt
   by_function (refusal.Memory a) (refusal.Fault f) told refused fault = absurd told
   by_function (refusal.Fault d) (refusal.Memory b) told refused fault = absurd told
-  by_function (refusal.Fault d) (refusal.Fault f) told refused fault = subst Refused (sym told) (record { refused = λ ok. refused ok.function; fault = of_function fault })
+  by_function (refusal.Fault d) (refusal.Fault f) told refused fault = (subst Refused (sym told.0) (record { refused = λ ok. refused.0 ok.function; fault = of_function fault.0 }), told.1)
 
   module _ (noted : ShaderStages) (exact : (stage : ℕ) → Has noted.0 stage ↔ (Has all_stages.0 stage × AllowsStage R s callees e.function stage)) where
     pub by_runs : ¬ Has noted.0 (stage_set e.stage).0 → Refused ForbiddenStageOperations

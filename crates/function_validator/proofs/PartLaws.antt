@@ -33,15 +33,15 @@ before_function reading faults s entry before m f e (with_analysis arity w) = in
 
 pub interface_refused : (Rule : Type 0) (P Q : FunctionError → Type 0) → ((e : FunctionError) → P e → Q e) → (r : Refusal FunctionError) → IsRefusal Rule P r → IsRefusedFor Q r
 interface_refused Rule P Q widen (refusal.Memory e) h = tt
-interface_refused Rule P Q widen (refusal.Fault e) h = widen (error_of e) h.0
+interface_refused Rule P Q widen (refusal.Fault e) h = (widen (error_of e) h.0, h.1)
 
 pub scope_refused : (s : Settings) (before : Option ℕ) (c : BlockContext) (r : Refusal FunctionError) → IsScopeRefusal s.flags c.f r → IsRefusedFor (IsFaultOfBody s before c) r
 scope_refused s before c (refusal.Memory e) h = tt
-scope_refused s before c (refusal.Fault e) h = inr (inl h)
+scope_refused s before c (refusal.Fault e) h = (inr (inl h.0), h.1)
 
 pub statements_refused : (s : Settings) (before : Option ℕ) (c : BlockContext) (r : Refusal FunctionError) → IsBodyRefusal c r → IsRefusedFor (IsFaultOfBody s before c) r
 statements_refused s before c (refusal.Memory e) h = tt
-statements_refused s before c (refusal.Fault e) h = inr (inr (inl h))
+statements_refused s before c (refusal.Fault e) h = (inr (inr (inl h.0)), h.1)
 
 -- ---- expressions
 

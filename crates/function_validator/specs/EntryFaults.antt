@@ -1,5 +1,5 @@
 -- What is wrong with an entry point, over what a lower layer says.
-use Rattle.std.specs.Prelude.{◌≡◌, ℕ, Option, true, List}
+use Rattle.std.specs.Prelude.{◌≡◌, ℕ, Option, true, List, []}
 use Rattle.function_entry_checks.specs.Faults.{IsPayloadFault, IsStageFault}
 use Rattle.function_entry_checks.specs.declared.error.EntryPointError.{EntryPointError}
 use Rattle.function_entry_checks.specs.declared.error.EntryPointError.TheVariants.{ForbiddenStageOperations, Function}
@@ -7,7 +7,7 @@ use Rattle.function_entries.specs.ConnectionFaults.{IsConnectionFault}
 use Rattle.typing_errors.specs.declared.error.FunctionError.{FunctionError}
 use Rattle.function_validator.specs.Faults.{IsFunctionFault}
 use Rattle.function_interface.specs.Analysis.{Faults}
-use Rattle.ir_types.specs.found.Faults.{error_of}
+use Rattle.ir_types.specs.found.Faults.{error_of, spans_of}
 use Rattle.ir_types.specs.declared.refusal.Refusal.{Refusal}
 use Rattle.ir_types.specs.declared.refusal.Refusal.TheVariants as refusal
 use Rattle.ir_flags.specs.declared.settings.Capabilities.{Capabilities}
@@ -45,4 +45,4 @@ abbrev pub IsReportedAs : Refusal FunctionError → Refusal EntryPointError → 
 IsReportedAs (refusal.Memory e) (refusal.Memory d) = Unit {0}
 IsReportedAs (refusal.Memory e) (refusal.Fault d) = ⊥
 IsReportedAs (refusal.Fault e) (refusal.Memory d) = ⊥
-IsReportedAs (refusal.Fault e) (refusal.Fault d) = error_of d ≡ Function (error_of e)
+IsReportedAs (refusal.Fault e) (refusal.Fault d) = (error_of d ≡ Function (error_of e)) × (spans_of d ≡ [])

@@ -132,7 +132,7 @@ module _ (m : PlainModule) (handles : HandlesOK m) where
     reported_refusal faults (refusal.Memory d) (refusal.Fault e) told refused fault = absurd told
     reported_refusal faults (refusal.Fault d) (refusal.Memory e) told refused fault = absurd told
     reported_refusal faults (refusal.Fault d) (refusal.Fault e) told refused fault = (
-      refused_here faults (error_of e) told.0 refused
-          (subst (IsFunctionFault (reading (question m f summaries stages)) (faults (question m f summaries stages)) s false held m f) (sym told.1) fault),
+      refused_here faults (error_of e) told.0 refused.0
+          (subst (IsFunctionFault (reading (question m f summaries stages)) (faults (question m f summaries stages)) s false held m f) (sym told.1) fault.0),
       told.2,
     )

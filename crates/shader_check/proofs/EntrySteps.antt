@@ -145,7 +145,7 @@ module _ (m : PlainModule) (handles : HandlesOK m) (n : ℕ) (e : PlainEntry) (a
     reported_entry (refusal.Fault d) (refusal.Memory x) told refused = absurd told
     reported_entry (refusal.Fault d) (refusal.Fault x) told refused = (
       refused_here (error_of x) told.0
-          (subst (IsRefusedAs (reading_at reading m summaries stages e) (faults (question m e.function summaries stages)) stages (HasUse m e.function) s held m e) (sym told.1) refused),
+          (subst (IsRefusedAs (reading_at reading m summaries stages e) (faults (question m e.function summaries stages)) stages (HasUse m e.function) s held m e) (sym told.1) refused.0),
       told.2,
     )
 

@@ -17,7 +17,7 @@ returns-in-Err-clause-judged g c =
     let q = question m e.function (map (g.L.Lower.summary l) c.args.callees.now) stages in
     let s = c.args.settings in
     let held = c.args.held in
-    subst (IsRefusedAs (g.L.Lower.reading l q) (g.L.Lower.faults l q) stages (HasUse m e.function) s held m e) (sym c.new.ensures.error) (by_stage (g.L.Lower.reading l q) (g.L.Lower.faults l q) stages s held m e c.in-Err.error c.in-Err.ensures)
+    (subst (IsRefusedAs (g.L.Lower.reading l q) (g.L.Lower.faults l q) stages (HasUse m e.function) s held m e) (sym c.new.ensures.error) (by_stage (g.L.Lower.reading l q) (g.L.Lower.faults l q) stages s held m e c.in-Err.error c.in-Err.ensures), c.new.ensures.spans)
 
 pub returns-in-Err-validate_function_with-clause-judged : goal.returns-in-Err-validate_function_with-clause-judged
 returns-in-Err-validate_function_with-clause-judged g c =
@@ -43,8 +43,8 @@ returns-in-Err-check_payload-clause-judged g c =
     let q = question m e.function (map (g.L.Lower.summary l) c.args.callees.now) stages in
     let s = c.args.settings in
     let held = c.args.held in
-    subst (IsRefusedAs (g.L.Lower.reading l q) (g.L.Lower.faults l q) stages (HasUse m e.function) s held m e) (sym c.new-in-Err-check_payload.ensures.error)
-    (by_payload (g.L.Lower.reading l q) (g.L.Lower.faults l q) stages s held m e c.in-Err-check_payload.error c.in-Err-check_payload.ensures)
+    (subst (IsRefusedAs (g.L.Lower.reading l q) (g.L.Lower.faults l q) stages (HasUse m e.function) s held m e) (sym c.new-in-Err-check_payload.ensures.error)
+    (by_payload (g.L.Lower.reading l q) (g.L.Lower.faults l q) stages s held m e c.in-Err-check_payload.error c.in-Err-check_payload.ensures), c.new-in-Err-check_payload.ensures.spans)
 
 pub returns-then-not-allows_stage-clause-judged : goal.returns-then-not-allows_stage-clause-judged
 returns-then-not-allows_stage-clause-judged g c =
@@ -58,8 +58,8 @@ returns-then-not-allows_stage-clause-judged g c =
     let R = g.L.Lower.reading l q in
     let v = c.in-Ok-validate_function_with.validated in
     let exact = c.in-Ok-validate_function_with.ensures.stages in
-    subst (IsRefusedAs R (g.L.Lower.faults l q) stages (HasUse m e.function) s held m e) (sym c.new-then-not-allows_stage.ensures.error)
-    (by_runs R (g.L.Lower.faults l q) stages s held m e (g.L.Lower.noted l v.info) exact (λ has. true≢false (sym (c.allows_stage.ensures.1 has) ∙ c.if-not-allows_stage.true)))
+    (subst (IsRefusedAs R (g.L.Lower.faults l q) stages (HasUse m e.function) s held m e) (sym c.new-then-not-allows_stage.ensures.error)
+    (by_runs R (g.L.Lower.faults l q) stages s held m e (g.L.Lower.noted l v.info) exact (λ has. true≢false (sym (c.allows_stage.ensures.1 has) ∙ c.if-not-allows_stage.true))), c.new-then-not-allows_stage.ensures.spans)
 
 pub returns-in-Ok-connect-clause-judged : goal.returns-in-Ok-connect-clause-judged
 returns-in-Ok-connect-clause-judged g c =
