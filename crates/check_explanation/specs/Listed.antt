@@ -1,6 +1,6 @@
 -- What an explanation says of a module, of a document and of bytes: the lines of an accepted module, and the error of one that is
 -- refused or of bytes that spell no document, which is what is wrong with them.
-use Rattle.std.specs.Prelude.{◌≡◌, ◌≢◌, ℕ, Bool, List, [], string_bytes}
+use Rattle.std.specs.Prelude.{◌≡◌, ◌≢◌, ℕ, Bool, false, List, [], string_bytes}
 use Rattle.document_reader.specs.judged.Form.{Reads}
 use Rattle.document_reader.specs.judged.Plain.{PlainDocument}
 use Rattle.document_reader.specs.found.Reasons.{IsReason}

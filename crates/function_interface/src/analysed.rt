@@ -42,6 +42,7 @@ pub fn analyse_function<L: Lower>(
         IfOk result (λ info. IsKept (L.reading lower.now q) flags q (L.types lower.now info) (L.summary lower.now info) (L.noted lower.now info) (L.blending lower.now info)) }
     ensures fault { let q = question (module_view «module».now) (function_view function.now) (map (L.summary lower.now) callees.now) (map (L.noted lower.now) callees.now) in
         IfErr result (IsRefusedFor (IsFaultBefore (L.faults lower.now q) flags q.m q.f)) }
+    ensures own { IfOk result (L.own lower.now (module_view «module».now) (function_view function.now)) }
 {
     match check_arities(module, function) {
         Ok(()) => {}

@@ -11,7 +11,7 @@ ghost use Rattle.ir_flags.specs.declared.settings.Capabilities.{Capabilities};
 ghost use Rattle.ir_flags.specs.declared.settings.ValidationFlags.{ValidationFlags};
 ghost use Rattle.ir_flags.specs.declared.stages.ShaderStages.{ShaderStages};
 ghost use Rattle.ir_items.specs.judged.GlobalPlain.{PlainGlobal};
-ghost use Rattle.ir_items.specs.judged.Plain.{PlainModule};
+ghost use Rattle.ir_items.specs.judged.Plain.{PlainFunction, PlainModule};
 ghost use Rattle.ir_items.specs.found.View.{function_view, module_view};
 ghost use Rattle.ir_items.specs.found.Filters.{ParentsPrecede};
 ghost use Rattle.spec_expressions.specs.judged.Summaries.{AgreeOnCallees, HasUseBit, Summary};
@@ -71,6 +71,9 @@ pub trait Lower {
     /// Whether it has noted that two sources are blended.
     ghost blending: { Self → Self.Info → Bool };
 
+    /// What an info says of a function by itself, whatever it calls, besides the types of its expressions.
+    ghost own: { Self → PlainModule → PlainFunction → Self.Info → Type 0 };
+
     /// What is reported of the module's types, in order.
     fn type_infos(&self) -> &[TypeInfo]
         ensures { result.now ≡ told self.now };
@@ -107,7 +110,8 @@ pub trait Lower {
             → (let q = question (module_view «module».now) (function_view function.now) others (map (noted self.now) callees.now) in
             IfOk result (λ info. IsKept (reading self.now q) flags q (types self.now info) (summary self.now info) (noted self.now info) (blending self.now info))) }
         ensures fault { (others : List Summary) → AgreeOnCallees (function_view function.now) (map (summary self.now) callees.now) others
-            → IfErr result (IsRefusedFor ((faults self.now (question (module_view «module».now) (function_view function.now) others (map (noted self.now) callees.now))).IsAnalysisFault flags)) };
+            → IfErr result (IsRefusedFor ((faults self.now (question (module_view «module».now) (function_view function.now) others (map (noted self.now) callees.now))).IsAnalysisFault flags)) }
+        ensures own { IfOk result (own self.now (module_view «module».now) (function_view function.now)) };
 
     /// The type of an expression. Requires that it is there.
     fn resolution<'a>(
@@ -167,7 +171,8 @@ pub trait Lower {
         ensures pairs { (summary self.now info.new).pairs ≡ (summary self.now info.old).pairs }
         ensures may_kill { (summary self.now info.new).may_kill ≡ (summary self.now info.old).may_kill }
         ensures blending { blending self.now info.new ≡ (blending self.now info.old || dual_source_blending) }
-        ensures types { types self.now info.new ≡ types self.now info.old };
+        ensures types { types self.now info.new ≡ types self.now info.old }
+        ensures own { (m : PlainModule) (f : PlainFunction) → own self.now m f info.old → own self.now m f info.new };
 
     /// What it reports on types is reported of all types of its module.
     ghost told_of_all: { (l : Self) (m : PlainModule) → is_for l m → AreReported m.types (told l) };

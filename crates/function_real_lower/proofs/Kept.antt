@@ -3,7 +3,8 @@ use Rattle.std.proofs.Common.{◌≡◌, ℕ, List, Option, Some, None, Result, 
 use Rattle.std.proofs.lemmas.List.{length-map}
 use Rattle.std.proofs.lemmas.Option.{slice_get-map}
 use Rattle.spec_expressions.specs.declared.expression_info.ExpressionInfo.{ExpressionInfo}
-use Rattle.typing_infos.specs.Infos.{summary_of}
+use Rattle.std.specs.List.{flat_map}
+use Rattle.typing_infos.specs.Infos.{summary_of, key_of}
 use Rattle.typing_infos.specs.declared.function_info.FunctionInfo.{FunctionInfo}
 use Rattle.typing_errors.specs.declared.error.FunctionError.{FunctionError}
 use Rattle.function_interface.specs.Analysis.{IsKept, IsRefusedFor}
@@ -21,7 +22,7 @@ use Rattle.spec_expressions.specs.judged.Summaries.{Summary}
 use Rattle.spec_expressions.specs.judged.Typing.{HasType}
 use Rattle.spec_expressions.specs.judged.FunctionHandles.{HandlesInRange}
 use Rattle.spec_expressions.specs.judged.ModuleHandles.{HandlesOK}
-use Rattle.function_real_lower.specs.Infos.{AreExpressionInfos}
+use Rattle.function_real_lower.specs.Infos.{AreExpressionInfos, IsOwnInfo}
 use Rattle.typing_forms.specs.judged.Forms.{NoStructValue, form_of}
 use Rattle.typing_forms.specs.judged.Resolutions.{PlainResolution, by_handle, by_value, resolution_view}
 use Rattle.typing_forms.specs.declared.resolution.TypeResolution.{TypeResolution}
@@ -79,3 +80,17 @@ pub fault_by : (flags : ValidationFlags) (m : PlainModule) (f : PlainFunction) (
 fault_by flags m f summaries stages (Ok info) a = tt
 fault_by flags m f summaries stages (Err (refusal.Memory e)) a = tt
 fault_by flags m f summaries stages (Err (refusal.Fault e)) a = a
+
+-- ---- what is kept of a function by itself
+
+pub own_by : (flags : ValidationFlags) (m : PlainModule) (f : PlainFunction) (summaries : List Summary) (r : Result FunctionInfo (Refusal FunctionError)) → IsProcessed flags m f summaries r → IfOk r (IsOwnInfo m f)
+own_by flags m f summaries (Ok info) a = record { expressions = a.info.expressions; sampling_set = a.info.sampling_set }
+own_by flags m f summaries (Err e) a = tt
+
+-- it stays so where something is noted
+pub own_noted : (m : PlainModule) (f : PlainFunction) (old new : FunctionInfo) → new.expressions ≡ old.expressions → new.sampling_set ≡ old.sampling_set → new.sampling ≡ old.sampling
+    → IsOwnInfo m f old → IsOwnInfo m f new
+own_noted m f old new expressions keys pairs h = record {
+  expressions = subst (λ xs. AreExpressionInfos m f xs.items) (sym expressions) h.expressions;
+  sampling_set = subst (λ s. new.sampling_set.items ≡ flat_map key_of s.items) (sym pairs) (subst (λ k. k.items ≡ flat_map key_of old.sampling.items) (sym keys) h.sampling_set);
+}

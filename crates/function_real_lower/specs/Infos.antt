@@ -27,6 +27,12 @@ pub record AreExpressionInfos (m : PlainModule) (f : PlainFunction) (infos : Lis
   pub len : length infos ≡ length f.expressions
   pub each : (e : ℕ) (i : ExpressionInfo) → slice_get infos e ≡ Some i → IsExpressionInfo m f e i
 
+-- What is kept of a function by itself, whatever it calls: what it says of each expression, and of the pairs that it samples those
+-- of two global variables.
+pub record IsOwnInfo (m : PlainModule) (f : PlainFunction) (info : FunctionInfo) : Type 0 where
+  pub expressions : AreExpressionInfos m f info.expressions.items
+  pub sampling_set : info.sampling_set.items ≡ flat_map key_of info.sampling.items
+
 -- What is kept of a function, which calls others of which these summaries are kept: the uses of all global variables, the
 -- pairs and whether it may end the fragment are joined of its own and its callees', and nothing is noted yet.
 pub record IsFunctionInfo (m : PlainModule) (f : PlainFunction) (summaries : List Summary) (info : FunctionInfo) : Type 0 where

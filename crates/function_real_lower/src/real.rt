@@ -92,6 +92,7 @@ impl Lower for RealLower {
     type Info = FunctionInfo;
 
     ghost use Rattle.typing_infos.specs.Infos.{summary_of};
+    ghost use Rattle.function_real_lower.specs.Infos.{IsOwnInfo};
     ghost use Rattle.function_real_lower.specs.Made.{IsMadeOf, types_of};
     ghost use Rattle.function_real_lower.specs.Severities.{AreKnown};
     ghost use Rattle.function_real_lower.specs.Readings.{reading_of, faults_of};
@@ -117,6 +118,8 @@ impl Lower for RealLower {
     ghost noted = { λ _ info. info.available_stages };
 
     ghost blending = { λ _ info. info.dual_source_blending };
+
+    ghost own = { λ _ m f info. IsOwnInfo m f info };
 
     fn type_infos(&self) -> &[TypeInfo] {
         self.info.types()

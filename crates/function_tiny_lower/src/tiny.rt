@@ -77,6 +77,8 @@ impl Lower for TinyLower {
 
     ghost blending = { λ _ info. info.dual_source_blending };
 
+    ghost own = { λ _ _ _ _. Unit {0} };
+
     fn type_infos(&self) -> &[TypeInfo] {
         &self.infos
     }

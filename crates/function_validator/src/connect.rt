@@ -5,6 +5,7 @@ ghost use Rattle.function_entry_checks.specs.Faults.{IsRefusedFor};
 ghost use Rattle.function_entries.specs.Interfaces.{AreInterfacesKnown};
 ghost use Rattle.function_validator.specs.EntryFaults.{IsUnconnected};
 ghost use Rattle.function_validator.specs.Validated.{AddsOwnUses, ReportsSame};
+ghost use Rattle.ir_items.specs.judged.Plain.{PlainFunction, PlainModule};
 ghost use Rattle.ir_items.specs.found.View.{entry_view, module_view};
 ghost use Rattle.ir_items.specs.declared.entries.MeshStageInfo.{MeshStageInfo};
 ghost use Rattle.spec_expressions.specs.judged.Summaries.{HasUseBit};
@@ -68,6 +69,7 @@ fn with_own<L: Lower>(lower: &L, info: L::Info, entry: &EntryPoint) -> L::Info
     ensures added { AddsOwnUses (entry_view entry.now) (L.summary lower.now info) (L.summary lower.now result) }
     ensures stages { (L.noted lower.now result).0 ≡ (L.noted lower.now info).0 }
     ensures blending { L.blending lower.now result ≡ L.blending lower.now info }
+    ensures own { (m : PlainModule) (f : PlainFunction) → L.own lower.now m f info → L.own lower.now m f result }
 {
     let mut info = info;
     note_own(lower, &mut info, entry);
@@ -79,6 +81,7 @@ fn with_blending<L: Lower>(lower: &L, info: L::Info, blended: bool) -> L::Info
     ensures same { ReportsSame (L.summary lower.now info) (L.summary lower.now result) }
     ensures stages { (L.noted lower.now result).0 ≡ (L.noted lower.now info).0 }
     ensures blending { L.blending lower.now result ≡ (L.blending lower.now info || blended) }
+    ensures own { (m : PlainModule) (f : PlainFunction) → L.own lower.now m f info → L.own lower.now m f result }
 {
     let mut info = info;
     let stages = lower.stages(&info);
@@ -119,6 +122,7 @@ pub(crate) fn connect<L: Lower>(
         (IsRefusedFor (IsUnconnected settings.flags settings.capabilities m e Uses)) }
     ensures stages { IfOk result (λ kept. (L.noted lower.now kept).0 ≡ (L.noted lower.now info).0) }
     ensures blended { IfOk result (λ kept. IsTrue (L.blending lower.now kept) ↔ HasBlendSources (result_varyings (module_view «module».now).types (entry_view entry.now).function.result)) }
+    ensures own { (m : PlainModule) (f : PlainFunction) → L.own lower.now m f info → IfOk result (L.own lower.now m f) }
 {
     let info = with_own(lower, info, entry);
     match judge(lower, alloc, settings, module, entry, &info, known) {

@@ -1,6 +1,6 @@
 //! Whether a module may have an entry point.
 
-ghost use Rattle.std.specs.Prelude.{◌<◌, ◌↔◌, IfSome, IsTrue, MatchResult, OnOk, length, map};
+ghost use Rattle.std.specs.Prelude.{◌<◌, ◌↔◌, IfOk, IfSome, IsTrue, MatchResult, OnOk, length, map};
 ghost use Rattle.function_entry_checks.specs.Faults.{IsRefusedFor};
 ghost use Rattle.function_entries.specs.Interfaces.{AreInterfacesKnown};
 ghost use Rattle.function_validator.specs.EntryFaults.{IsRefusedAs, IsReportedAs};
@@ -82,12 +82,13 @@ pub fn validate_entry_point<L: Lower>(
     requires payload { IfSome entry.now.task_payload (λ g. g < length (module_view «module».now).globals) }
     requires output { IfSome entry.now.mesh_info (λ (i : MeshStageInfo). i.output_variable < length (module_view «module».now).globals) }
     requires known { CalleesKnown (module_view «module».now) (entry_view entry.now).function (map (L.summary lower.now) callees.now) }
-    ensures { let m = module_view «module».now in
+    ensures judged { let m = module_view «module».now in
         let e = entry_view entry.now in
         let q = question m e.function (map (L.summary lower.now) callees.now) (map (L.noted lower.now) callees.now) in
         MatchResult result
         (λ v. IsEntryValidated (L.reading lower.now q) q.stages settings held m e (L.summary lower.now v.info) (L.noted lower.now v.info) (L.blending lower.now v.info) v.held)
         (IsRefusedFor (IsRefusedAs (L.reading lower.now q) (L.faults lower.now q) q.stages (HasUse m e.function) settings held m e)) }
+    ensures own { IfOk result (λ v. L.own lower.now (module_view «module».now) (entry_view entry.now).function v.info) }
 {
     let mut known = KnownInterfaces::new(alloc);
     validate_entry_point_with(
@@ -135,6 +136,7 @@ pub fn validate_entry_point_with<L: Lower>(
         let q = question m e.function (map (L.summary lower.now) callees.now) (map (L.noted lower.now) callees.now) in MatchResult result
         (λ v. IsEntryValidated (L.reading lower.now q) q.stages settings held m e (L.summary lower.now v.info) (L.noted lower.now v.info) (L.blending lower.now v.info) v.held)
         (IsRefusedFor (IsRefusedAs (L.reading lower.now q) (L.faults lower.now q) q.stages (HasUse m e.function) settings held m e)) }
+    ensures own { IfOk result (λ v. L.own lower.now (module_view «module».now) (entry_view entry.now).function v.info) }
 {
     match check_stage(settings.capabilities, entry) {
         Ok(()) => {}

@@ -2,6 +2,7 @@
 
 ghost use Rattle.std.specs.Prelude.{◌≡◌, ◌<◌, ◌≤◌, ◌↔◌, ◌⊎◌, ℕ, IfOk, IfSome, Some, length};
 ghost use Rattle.std.specs.Int.{bit_at};
+ghost use Rattle.ir_items.specs.judged.Plain.{PlainFunction, PlainModule};
 ghost use Rattle.ir_items.specs.found.View.{entry_view};
 ghost use Rattle.spec_expressions.specs.judged.Summaries.{HasUseBit};
 ghost use Rattle.spec_interface.specs.judged.Uses.{OwnUse, mesh_output, own_payload_use};
@@ -56,6 +57,7 @@ fn note_use<L: Lower>(
     ensures may_kill { (L.summary lower.now info.new).may_kill ≡ (L.summary lower.now info.old).may_kill }
     ensures stages { (L.noted lower.now info.new).0 ≡ (L.noted lower.now info.old).0 }
     ensures blending { L.blending lower.now info.new ≡ L.blending lower.now info.old }
+    ensures own { (m : PlainModule) (f : PlainFunction) → L.own lower.now m f info.old → L.own lower.now m f info.new }
 {
     match global {
         None => {}
@@ -77,6 +79,7 @@ pub(crate) fn note_own<L: Lower>(lower: &L, info: &mut L::Info, entry: &EntryPoi
     ensures may_kill { (L.summary lower.now info.new).may_kill ≡ (L.summary lower.now info.old).may_kill }
     ensures stages { (L.noted lower.now info.new).0 ≡ (L.noted lower.now info.old).0 }
     ensures blending { L.blending lower.now info.new ≡ L.blending lower.now info.old }
+    ensures own { (m : PlainModule) (f : PlainFunction) → L.own lower.now m f info.old → L.own lower.now m f info.new }
 {
     let kinds = own_payload_use(entry.stage);
     note_use(lower, info, entry.task_payload, kinds);

@@ -6,6 +6,7 @@ ghost use Rattle.function_validator.specs.Judged.{ArePartsMet};
 ghost use Rattle.function_interface.specs.Analysis.{IsRefusedFor};
 ghost use Rattle.function_interface.specs.Question.{question};
 ghost use Rattle.ir_flags.specs.Sets.{Has};
+ghost use Rattle.ir_items.specs.judged.Plain.{PlainFunction, PlainModule};
 ghost use Rattle.ir_items.specs.found.View.{function_view, module_view};
 ghost use Rattle.ir_items.specs.found.Filters.{ParentsPrecede};
 ghost use Rattle.spec_expressions.specs.judged.Summaries.{CalleesKnown, HasUseBit, IsJoined, IsSummary};
@@ -102,6 +103,7 @@ fn noted<L: Lower>(lower: &L, info: L::Info, met: Met) -> Validated<L::Info>
     ensures types { L.types lower.now result.info ≡ L.types lower.now info }
     ensures globals { length (L.summary lower.now result.info).uses ≡ length (L.summary lower.now info).uses }
     ensures blending { L.blending lower.now result.info ≡ (L.blending lower.now info || false) }
+    ensures own { (m : PlainModule) (f : PlainFunction) → L.own lower.now m f info → L.own lower.now m f result.info }
     ensures held { result.held ≡ met.held }
 {
     let mut info = info;
@@ -154,6 +156,7 @@ pub fn validate_function<L: Lower>(
     ensures globals { IfOk result (λ v. length (L.summary lower.now v.info).uses ≡ length (module_view «module».now).globals) }
     ensures unblended { IfOk result (λ v. L.blending lower.now v.info ≡ false) }
     ensures held { IfOk result (λ v. IsPayloadAfter settings.flags (module_view «module».now) (function_view function.now) held v.held) }
+    ensures own { IfOk result (λ v. L.own lower.now (module_view «module».now) (function_view function.now) v.info) }
 {
     validate_function_with(
         lower,
@@ -204,6 +207,7 @@ pub fn validate_function_with<L: Lower>(
     ensures globals { IfOk result (λ v. length (L.summary lower.now v.info).uses ≡ length (module_view «module».now).globals) }
     ensures unblended { IfOk result (λ v. L.blending lower.now v.info ≡ false) }
     ensures held { IfOk result (λ v. IsPayloadAfter settings.flags (module_view «module».now) (function_view function.now) held v.held) }
+    ensures own { IfOk result (λ v. L.own lower.now (module_view «module».now) (function_view function.now) v.info) }
 {
     let info = match analyse_function(lower, alloc, module, function, callees, settings.flags) {
         Ok(info) => info,

@@ -100,6 +100,7 @@ module _ (s : Settings) (resolved : Bool) (m : PlainModule) where
       layouts = subst (AreLayouts m.types) (sym kept.layouts) told.layouts;
       laid = ap length kept.layouts ∙ told.laid;
       expressions = subst (λ v. AreTypes (outside m) m.global_expressions v.items) (sym kept.expressions) told.expressions;
+      own = kept.own;
     }
 
 -- ---- the steps up to overrides

@@ -1,12 +1,12 @@
 -- The functions of a module, one more of them judged.
-use Rattle.std.proofs.Common.{◌≡◌, ◌↔◌, ◌⊎◌, inl, inr, ℕ, false, zero, suc, ◌+◌, ◌<◌, List, [], ◌∷◌, ◌++◌, length, Option, Some, refl, sym, ap, subst, ◌∙◌, arith, slice_get}
+use Rattle.std.proofs.Common.{◌≡◌, ◌↔◌, ◌⊎◌, inl, inr, ℕ, false, zero, suc, ◌+◌, ◌<◌, List, [], ◌∷◌, ◌++◌, length, Option, Some, None, refl, sym, ap, subst, ◌∙◌, arith, slice_get}
 use Rattle.std.proofs.lemmas.Bool.{cases_eq}
 use Rattle.std.proofs.lemmas.Option.{slice_get_within}
 use Rattle.typing_errors.specs.declared.error.FunctionError.{FunctionError}
 use Rattle.function_validator.specs.Faults.{IsFunctionFault}
 use Rattle.function_interface.specs.Analysis.{Faults, IsRefusedFor}
 use Rattle.function_interface.specs.Question.{Question, question}
-use Rattle.shader_check.specs.found.Judged.{Preceding, IsAcceptedAt, IsRefusedAt, IsNotedAt, AreNoted, AreJudged, IsFirstRefused, IsReportedAt, IsRefusal}
+use Rattle.shader_check.specs.found.Judged.{Preceding, IsAcceptedAt, IsRefusedAt, IsNotedAt, AreNoted, AreJudged, AreJudgedWith, AreOwn, IsFirstRefused, IsReportedAt, IsRefusal}
 use Rattle.check_errors.specs.declared.error.InvalidFunction.{InvalidFunction}
 use Rattle.ir_types.specs.found.Faults.{error_of}
 use Rattle.ir_types.specs.declared.refusal.Refusal.{Refusal}
@@ -21,7 +21,7 @@ use Rattle.spec_expressions.proofs.SummaryLaws.{callees_known}
 use Rattle.spec_expressions.specs.judged.Summaries.{Summary, IsSummary, CalleesKnown, AreSummaries, CallsBelow}
 use Rattle.spec_statements.specs.judged.ExpressionStages.{all_stages}
 use Rattle.spec_statements.proofs.CallLaws.{calls_precede}
-use Rattle.spec_statements.proofs.HeldLaws.{held_next}
+use Rattle.spec_statements.proofs.HeldLaws.{held_at_first, held_next}
 use Rattle.spec_statements.specs.judged.EarlierPayloads.{IsPayloadBefore}
 use Rattle.spec_expressions.specs.judged.ModuleHandles.{HandlesOK}
 use Rattle.spec_statements.specs.judged.Functions.{Reading, FunctionOK, AllowsStage}
@@ -53,11 +53,36 @@ one_longer [] t n e = omega (arith, e)
 one_longer (x ∷ xs) t zero e = absurd (omega (arith, e))
 one_longer (x ∷ xs) t (suc n) e = let r = one_longer xs t n (omega (arith, e)) in omega (arith, r)
 
+-- what is kept of each by itself, with one more
+pub own_more : {Plain Info : Type 0} (Own : Plain → Info → Type 0) (items : List Plain) (infos : List Info) (n : ℕ) (f : Plain) (i : Info) → length infos ≡ n → slice_get items n ≡ Some f
+    → AreOwn Own items infos → Own f i → AreOwn Own items (infos ++ i ∷ [])
+own_more Own items infos n f i many at before own index g j found there = elim (one_more_at infos i index j there) [
+  | inl earlier ↦ before index g j found earlier
+  | inr last ↦
+      (let same : f ≡ g = some_is (sym at ∙ (ap (slice_get items) (sym many ∙ sym last.0) ∙ found)) in
+      subst (λ u. Own g u) last.1 (subst (λ h. Own h i) same own))
+]
+
 -- what is in a list stands there still with one more after it
 still_there : {A : Type 0} (xs : List A) (t : A) (i : ℕ) → i < length xs → slice_get xs i ≡ slice_get (xs ++ t ∷ []) i
 still_there [] t i lt = absurd (omega (arith, lt))
 still_there (x ∷ xs) t zero lt = refl
 still_there (x ∷ xs) t (suc i) lt = still_there xs t i (omega (arith, lt))
+
+-- none is judged at first
+pub none_judged : {Info : Type 0} (reading : Question → Reading) (s : Settings) (m : PlainModule) (Own : PlainFunction → Info → Type 0) → AreJudgedWith reading s m Own 0 [] [] [] None
+none_judged reading s m Own = record {
+  judged = record {
+    accepted = λ i lt. absurd (omega (arith, lt));
+    many = refl;
+    stages = λ i own there. absurd (let h = there in cc);
+    counted = refl;
+    known = λ i f t at there. absurd (let h = there in cc);
+    payloads = held_at_first s.flags m;
+  };
+  as_many = refl;
+  own = λ i f j at there. absurd (let h = there in cc);
+}
 
 -- ---- one more function
 

@@ -3,7 +3,7 @@
 ghost use Rattle.std.specs.Prelude.{◌≡◌, ◌<◌, ◌+◌, ◌++◌, ◌∷◌, [], MatchResult, OnOk, Some, length, map, slice_get};
 ghost use Rattle.function_entries.specs.Interfaces.{AreInterfacesKnown};
 ghost use Rattle.function_validator.specs.EntryNames.{AreNamesBelow};
-ghost use Rattle.shader_check.specs.found.JudgedEntries.{AreEntriesJudged, IsConflictReported, IsEntryRefusal, IsEntryReportedAt, note_of};
+ghost use Rattle.shader_check.specs.found.JudgedEntries.{AreEntriesJudgedWith, EntryKeeps, IsConflictReported, IsEntryRefusal, IsEntryReportedAt, note_of};
 ghost use Rattle.ir_items.specs.judged.Plain.{PlainEntry};
 ghost use Rattle.ir_items.specs.found.View.{module_view};
 ghost use Rattle.spec_expressions.specs.judged.Summaries.{AreSummaries};
@@ -92,13 +92,13 @@ fn judge_next<L: Lower>(
     requires known { AreSummaries (module_view «module».now) (map (L.summary validator.now.lower) callees.now) }
     requires apart { (e : PlainEntry) → slice_get (module_view «module».now).entries index ≡ Some e → ¬ IsConflict (module_view «module».now) index e }
     requires interfaces { AreInterfacesKnown validator.now.settings.flags validator.now.settings.capabilities (module_view «module».now).types known.old }
-    requires before { AreEntriesJudged (L.reading validator.now.lower) validator.now.settings (module_view «module».now) (map (L.summary validator.now.lower) callees.now) (map (L.noted validator.now.lower) callees.now) index (map (L.summary validator.now.lower) kept.now) (map (note_of (L.noted validator.now.lower) (L.blending validator.now.lower)) kept.now) held }
+    requires before { AreEntriesJudgedWith (L.reading validator.now.lower) validator.now.settings (module_view «module».now) (EntryKeeps (L.own validator.now.lower (module_view «module».now))) (map (L.summary validator.now.lower) callees.now) (map (L.noted validator.now.lower) callees.now) index kept.now (map (L.summary validator.now.lower) kept.now) (map (note_of (L.noted validator.now.lower) (L.blending validator.now.lower)) kept.now) held }
     ensures interfaces { OnOk result (AreInterfacesKnown validator.now.settings.flags validator.now.settings.capabilities (module_view «module».now).types known.new) }
     ensures judged { let summaries = map (L.summary validator.now.lower) callees.now in
         let stages = map (L.noted validator.now.lower) callees.now in
         let note = note_of (L.noted validator.now.lower) (L.blending validator.now.lower) in
         MatchResult result
-        (λ v. AreEntriesJudged (L.reading validator.now.lower) validator.now.settings (module_view «module».now) summaries stages (index + 1) (map (L.summary validator.now.lower) kept.now ++ L.summary validator.now.lower v.info ∷ []) (map note kept.now ++ note v.info ∷ []) v.held)
+        (λ v. AreEntriesJudgedWith (L.reading validator.now.lower) validator.now.settings (module_view «module».now) (EntryKeeps (L.own validator.now.lower (module_view «module».now))) summaries stages (index + 1) (kept.now ++ v.info ∷ []) (map (L.summary validator.now.lower) kept.now ++ L.summary validator.now.lower v.info ∷ []) (map note kept.now ++ note v.info ∷ []) v.held)
         (IsEntryRefusal (L.reading validator.now.lower) (L.faults validator.now.lower) validator.now.settings (module_view «module».now) summaries stages) }
 {
     let alloc = validator.alloc;
@@ -136,7 +136,7 @@ pub(crate) fn judge_entries<L: Lower>(
     ensures { let summaries = map (L.summary validator.now.lower) callees.now in
         let stages = map (L.noted validator.now.lower) callees.now in
         MatchResult result
-        (λ j. AreEntriesJudged (L.reading validator.now.lower) validator.now.settings (module_view «module».now) summaries stages (length (module_view «module».now).entries) (map (L.summary validator.now.lower) j.infos.items) (map (note_of (L.noted validator.now.lower) (L.blending validator.now.lower)) j.infos.items) j.held)
+        (λ j. AreEntriesJudgedWith (L.reading validator.now.lower) validator.now.settings (module_view «module».now) (EntryKeeps (L.own validator.now.lower (module_view «module».now))) summaries stages (length (module_view «module».now).entries) j.infos.items (map (L.summary validator.now.lower) j.infos.items) (map (note_of (L.noted validator.now.lower) (L.blending validator.now.lower)) j.infos.items) j.held)
         (IsEntryRefusal (L.reading validator.now.lower) (L.faults validator.now.lower) validator.now.settings (module_view «module».now) summaries stages) }
 {
     let alloc = validator.alloc;

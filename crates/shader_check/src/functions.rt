@@ -1,7 +1,7 @@
 //! All functions of a module, one after the other.
 
 ghost use Rattle.std.specs.Prelude.{◌≡◌, ◌<◌, ◌+◌, ◌++◌, ◌∷◌, [], MatchResult, length, map};
-ghost use Rattle.shader_check.specs.found.Judged.{AreJudged, IsReportedAt, IsRefusal};
+ghost use Rattle.shader_check.specs.found.Judged.{AreJudgedWith, FunctionKeeps, IsReportedAt, IsRefusal};
 ghost use Rattle.ir_items.specs.found.View.{module_view};
 ghost use Rattle.spec_expressions.specs.judged.ModuleHandles.{HandlesOK};
 ghost use Rattle.function_statement_checks.specs.Descriptors.{AreDescriptors};
@@ -58,10 +58,10 @@ fn judge_next<L: Lower>(
     requires handles { HandlesOK (module_view «module».now) }
     requires within { handle < length (module_view «module».now).functions }
     requires marked { AreDescriptors (module_view «module».now).types (module_view «module».now).special.ray_desc descriptors.now }
-    requires before { AreJudged (L.reading validator.now.lower) validator.now.settings (module_view «module».now) handle (map (L.summary validator.now.lower) infos.now) (map (L.noted validator.now.lower) infos.now) held }
+    requires before { AreJudgedWith (L.reading validator.now.lower) validator.now.settings (module_view «module».now) (FunctionKeeps (L.own validator.now.lower (module_view «module».now)) (L.blending validator.now.lower)) handle infos.now (map (L.summary validator.now.lower) infos.now) (map (L.noted validator.now.lower) infos.now) held }
     ensures { let s = validator.now.settings in
         MatchResult result
-        (λ v. AreJudged (L.reading validator.now.lower) s (module_view «module».now) (handle + 1) (map (L.summary validator.now.lower) infos.now ++ L.summary validator.now.lower v.info ∷ [])
+        (λ v. AreJudgedWith (L.reading validator.now.lower) s (module_view «module».now) (FunctionKeeps (L.own validator.now.lower (module_view «module».now)) (L.blending validator.now.lower)) (handle + 1) (infos.now ++ v.info ∷ []) (map (L.summary validator.now.lower) infos.now ++ L.summary validator.now.lower v.info ∷ [])
         (map (L.noted validator.now.lower) infos.now ++ L.noted validator.now.lower v.info ∷ []) v.held)
         (IsRefusal (L.reading validator.now.lower) (L.faults validator.now.lower) s (module_view «module».now)) }
 {
@@ -94,7 +94,7 @@ pub(crate) fn judge_all<L: Lower>(
     requires marked { AreDescriptors (module_view «module».now).types (module_view «module».now).special.ray_desc descriptors.now }
     ensures { let s = validator.now.settings in
         MatchResult result
-        (λ j. AreJudged (L.reading validator.now.lower) s (module_view «module».now) (length (module_view «module».now).functions) (map (L.summary validator.now.lower) j.infos.items) (map (L.noted validator.now.lower) j.infos.items) j.held)
+        (λ j. AreJudgedWith (L.reading validator.now.lower) s (module_view «module».now) (FunctionKeeps (L.own validator.now.lower (module_view «module».now)) (L.blending validator.now.lower)) (length (module_view «module».now).functions) j.infos.items (map (L.summary validator.now.lower) j.infos.items) (map (L.noted validator.now.lower) j.infos.items) j.held)
         (IsRefusal (L.reading validator.now.lower) (L.faults validator.now.lower) s (module_view «module».now)) }
 {
     let count = module.functions.len();

@@ -1,6 +1,6 @@
 //! A validator of functions, over any layer beneath them.
 
-ghost use Rattle.std.specs.Prelude.{◌≡◌, ◌<◌, ◌↔◌, ℕ, IfErr, IfOk, IfSome, MatchResult, None, OnErr, OnOk, length, map};
+ghost use Rattle.std.specs.Prelude.{◌≡◌, ◌<◌, ◌↔◌, ℕ, IfErr, IfOk, IfSome, MatchResult, None, OnErr, OnOk, false, length, map};
 ghost use Rattle.function_entry_checks.specs.Faults.{IsRefusedFor as IsRefusalFor};
 ghost use Rattle.function_validator.specs.EntryFaults.{IsRefusedAs};
 ghost use Rattle.function_validator.specs.Globals.{IsRefusedFor as IsVariableRefused, IsVariableOf};
@@ -8,7 +8,7 @@ ghost use Rattle.function_validator.specs.Validated.{IsEntryValidated};
 ghost use Rattle.function_validator.specs.Faults.{IsFunctionFault};
 ghost use Rattle.function_interface.specs.Analysis.{IsRefusedFor};
 ghost use Rattle.function_interface.specs.Question.{question};
-ghost use Rattle.shader_check.specs.found.Judged.{AreJudged, IsRefusal};
+ghost use Rattle.shader_check.specs.found.Judged.{AreJudgedWith, FunctionKeeps, IsRefusal};
 ghost use Rattle.shader_check.specs.found.Settings.{KeepsSettings};
 ghost use Rattle.module_globals.specs.Faults.{IsWrongBy};
 ghost use Rattle.ir_flags.specs.Sets.{Has};
@@ -131,6 +131,8 @@ impl<L: Lower> Validator<L> {
         ensures chains { CalleesKnown (module_view «module».now) (function_view fun.now) (map (L.summary self.old.lower) mod_info.now)
             → IfOk result (λ info. IsSummary (module_view «module».now) (function_view fun.now) (L.summary self.old.lower info)) }
         ensures held { OnOk result (IsPayloadAfter self.old.settings.flags (module_view «module».now) (function_view fun.now) self.old.held self.new.held) }
+        ensures own { IfOk result (L.own self.old.lower (module_view «module».now) (function_view fun.now)) }
+        ensures unblended { IfOk result (λ info. L.blending self.old.lower info ≡ false) }
         ensures unchanged { OnErr result (self.new ≡ self.old) }
         ensures settings { KeepsSettings self.old self.new }
     {
@@ -181,6 +183,7 @@ impl<L: Lower> Validator<L> {
             MatchResult result
             (λ info. IsEntryValidated (L.reading self.old.lower q) q.stages self.old.settings self.old.held m e (L.summary self.old.lower info) (L.noted self.old.lower info) (L.blending self.old.lower info) self.new.held)
             (IsRefusalFor (IsRefusedAs (L.reading self.old.lower q) (L.faults self.old.lower q) q.stages (HasUse m e.function) self.old.settings self.old.held m e)) }
+        ensures own { IfOk result (L.own self.old.lower (module_view «module».now) (entry_view ep.now).function) }
         ensures unchanged { OnErr result (self.new ≡ self.old) }
         ensures settings { KeepsSettings self.old self.new }
     {
@@ -254,7 +257,7 @@ impl<L: Lower> Validator<L> {
         requires handles { HandlesOK (module_view «module».now) }
         ensures judged { let s = self.old.settings in
             MatchResult result
-            (λ infos. AreJudged (L.reading self.old.lower) s (module_view «module».now) (length (module_view «module».now).functions) (map (L.summary self.old.lower) infos.items) (map (L.noted self.old.lower) infos.items) self.new.held)
+            (λ infos. AreJudgedWith (L.reading self.old.lower) s (module_view «module».now) (FunctionKeeps (L.own self.old.lower (module_view «module».now)) (L.blending self.old.lower)) (length (module_view «module».now).functions) infos.items (map (L.summary self.old.lower) infos.items) (map (L.noted self.old.lower) infos.items) self.new.held)
             (IsRefusal (L.reading self.old.lower) (L.faults self.old.lower) s (module_view «module».now)) }
         ensures none_held { OnErr result (self.new.held ≡ None) }
         ensures settings { KeepsSettings self.old self.new }

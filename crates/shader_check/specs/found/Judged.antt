@@ -1,5 +1,5 @@
 -- What is said of the functions of a module that are judged one after the other.
-use Rattle.std.specs.Prelude.{◌≡◌, ◌<◌, ◌↔◌, ℕ, false, [], List, length, Option, Some, slice_get}
+use Rattle.std.specs.Prelude.{◌≡◌, ◌<◌, ◌↔◌, ℕ, Bool, false, [], List, length, Option, Some, slice_get}
 use Rattle.typing_errors.specs.declared.error.FunctionError.{FunctionError}
 use Rattle.function_validator.specs.Faults.{IsFunctionFault}
 use Rattle.function_interface.specs.Analysis.{Faults}
@@ -66,6 +66,20 @@ pub record AreJudged (reading : Question → Reading) (s : Settings) (m : PlainM
   pub counted : length noted ≡ count
   pub known : AreSummaries m summaries
   pub payloads : IsPayloadBefore s.flags m count held
+
+-- of each function or entry point that is judged this is kept by itself, whatever it calls
+abbrev pub AreOwn : {Plain Info : Type 0} → (Own : Plain → Info → Type 0) → List Plain → List Info → Type 0
+AreOwn {Plain} {Info} Own items infos = (index : ℕ) (f : Plain) (i : Info) → slice_get items index ≡ Some f → slice_get infos index ≡ Some i → Own f i
+
+-- what is kept of a function by itself, and that two sources of a blend are not among what it answers
+abbrev pub FunctionKeeps : {Info : Type 0} → (own : PlainFunction → Info → Type 0) → (blending : Info → Bool) → PlainFunction → Info → Type 0
+FunctionKeeps {Info} own blending f i = own f i × (blending i ≡ false)
+
+-- The same, with what is kept of each function by itself.
+pub record AreJudgedWith {Info : Type 0} (reading : Question → Reading) (s : Settings) (m : PlainModule) (Own : PlainFunction → Info → Type 0) (count : ℕ) (infos : List Info) (summaries : List Summary) (noted : List ShaderStages) (held : Option ℕ) : Type 0 where
+  pub judged : AreJudged reading s m count summaries noted held
+  pub as_many : length infos ≡ count
+  pub own : AreOwn Own m.functions infos
 
 -- The function is refused for this, and each before it is accepted.
 pub record IsFirstRefused (reading : Question → Reading) (faults : Question → Faults) (s : Settings) (m : PlainModule) (e : InvalidFunction) : Type 0 where

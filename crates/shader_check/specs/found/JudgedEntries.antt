@@ -4,6 +4,7 @@ use Rattle.function_entry_checks.specs.declared.error.EntryPointError.{EntryPoin
 use Rattle.function_entry_checks.specs.declared.error.EntryPointError.TheVariants.{Conflict}
 use Rattle.function_interface.specs.Analysis.{Faults}
 use Rattle.function_interface.specs.Question.{Question, question}
+use Rattle.shader_check.specs.found.Judged.{AreOwn}
 use Rattle.function_validator.specs.EntryFaults.{IsRefusedAs}
 use Rattle.function_validator.specs.Validated.{IsEntryNoted, IsEntrySummary}
 use Rattle.check_errors.specs.declared.error.InvalidEntryPoint.{InvalidEntryPoint}
@@ -12,7 +13,7 @@ use Rattle.ir_types.specs.declared.refusal.Refusal.{Refusal}
 use Rattle.ir_types.specs.declared.refusal.Refusal.TheVariants as refusal
 use Rattle.ir_flags.specs.declared.stages.ShaderStages.{ShaderStages}
 use Rattle.ir_flags.specs.declared.settings.Settings.{Settings}
-use Rattle.ir_items.specs.judged.Plain.{PlainEntry, PlainModule}
+use Rattle.ir_items.specs.judged.Plain.{PlainEntry, PlainFunction, PlainModule}
 use Rattle.spec_expressions.specs.judged.CallChains.{HasUse}
 use Rattle.spec_expressions.specs.judged.Summaries.{Summary}
 use Rattle.spec_interface.specs.judged.Entries.{EntryOK}
@@ -70,6 +71,16 @@ pub record AreEntriesJudged (reading : Question → Reading) (s : Settings) (m :
   pub counted : length notes ≡ count
   pub noted : AreEntryNotes (reading_at reading m summaries stages) s m stages notes
   pub payloads : IsPayloadBeforeEntry s.flags m count held
+
+-- what is kept of the function of an entry point by itself
+abbrev pub EntryKeeps : {Info : Type 0} → (own : PlainFunction → Info → Type 0) → PlainEntry → Info → Type 0
+EntryKeeps {Info} own e i = own e.function i
+
+-- The same, with what is kept of the function of each by itself.
+pub record AreEntriesJudgedWith {Info : Type 0} (reading : Question → Reading) (s : Settings) (m : PlainModule) (Own : PlainEntry → Info → Type 0) (summaries : List Summary) (stages : List ShaderStages) (count : ℕ) (infos : List Info) (kept : List Summary) (notes : List Note) (held : Option ℕ) : Type 0 where
+  pub judged : AreEntriesJudged reading s m summaries stages count kept notes held
+  pub as_many : length infos ≡ count
+  pub own : AreOwn Own m.entries infos
 
 -- The entry point is refused for this, and each before it is accepted.
 pub record IsFirstEntryRefused (reading : Question → Reading) (faults : Question → Faults) (s : Settings) (m : PlainModule) (summaries : List Summary) (stages : List ShaderStages) (e : InvalidEntryPoint) : Type 0 where

@@ -3,7 +3,9 @@ use Rattle.std.specs.Prelude.{◌≡◌, [], Bool, List, length, map}
 use Rattle.typing_infos.specs.Infos.{summary_of}
 use Rattle.typing_infos.specs.declared.function_info.FunctionInfo.{FunctionInfo}
 use Rattle.shader_check.specs.found.Chains.{AreKept, IsFunctionFault}
-use Rattle.shader_check.specs.found.JudgedEntries.{AreEntryNotes, AreEntrySummaries, IsEntryRefusedAt, note_of}
+use Rattle.shader_check.specs.found.Judged.{AreOwn, FunctionKeeps}
+use Rattle.function_real_lower.specs.Infos.{IsOwnInfo}
+use Rattle.shader_check.specs.found.JudgedEntries.{AreEntryNotes, AreEntrySummaries, EntryKeeps, IsEntryRefusedAt, note_of}
 use Rattle.check_errors.specs.declared.error.InvalidEntryPoint.{InvalidEntryPoint}
 use Rattle.check_errors.specs.declared.error.ValidationError.{ValidationError}
 use Rattle.check_errors.specs.declared.error.ValidationError.TheVariants as error
@@ -45,6 +47,12 @@ pub record AreNoted (s : Settings) (m : PlainModule) (functions entries : List F
   pub counted : length entries ≡ length m.entries
   pub entries_noted : AreEntryNotes (λ e. reading_over (map stages_of functions) m e.function) s m (map stages_of functions) (map (note_of stages_of (λ i. i.dual_source_blending)) entries)
 
+-- What is kept of functions and of entry points by themselves: of each expression, and the pairs of global variables among those
+-- that they sample; and no function that is not an entry point's blends.
+pub record AreOwnInfos (m : PlainModule) (info : ModuleInfo) : Type 0 where
+  pub functions : AreOwn (FunctionKeeps (IsOwnInfo m) (λ (i : FunctionInfo). i.dual_source_blending)) m.functions info.functions.items
+  pub entries : AreOwn (EntryKeeps (IsOwnInfo m)) m.entries info.entry_points.items
+
 -- All steps accept the module, and this is kept of it.
 pub record IsValidated (s : Settings) (resolved : Bool) (m : PlainModule) (info : ModuleInfo) : Type 0 where
   pub ok : ModuleOK s resolved m
@@ -56,6 +64,7 @@ pub record IsValidated (s : Settings) (resolved : Bool) (m : PlainModule) (info 
   pub layouts : AreLayouts m.types info.layouter
   pub laid : length info.layouter ≡ length m.types
   pub expressions : AreTypes (outside m) m.global_expressions info.const_expression_types.items
+  pub own : AreOwnInfos m info
 
 -- It is the first entry point that is not accepted, and this is wrong with it.
 pub record IsEntryFault (s : Settings) (m : PlainModule) (e : InvalidEntryPoint) : Type 0 where
@@ -90,6 +99,7 @@ pub record IsKeptWith (s : Settings) (m : PlainModule) (before info : ModuleInfo
   pub types : info.types ≡ before.types
   pub layouts : info.layouter ≡ before.layouter
   pub expressions : info.const_expression_types ≡ before.const_expression_types
+  pub own : AreOwnInfos m info
 
 abbrev pub IsFaultAfter : Settings → PlainModule → ValidationError → Type 0
 IsFaultAfter s m (error.Module e) = ⊥

@@ -29,10 +29,12 @@ returns-in-Some-clause-fine c =
 pub returns-in-None-clause-fine : goal.returns-in-None-clause-fine
 returns-in-None-clause-fine c =
     let m = module_view c.args.«module».now in
-    let at = found global_view c.args.«module».now.global_variables c.args.variable c.index.result.now c.index.ensures in
-    (subst (IsImpliedFault m c.args.variable) (sym c.new-in-None.ensures.error)
-    (record {
-      types = c.in-Ok-Some.parts;
-      parts = variable_parts m c.args.variable (global_view c.index.result.now) at c.in-Ok-Some.parts (rw c.in-Ok-Some.field-0-is at c.in-Ok-Some.ensures.found);
-      bad = c.in-None.ensures;
-    }), c.new-in-None.ensures.spans)
+    let at = found global_view c.args.«module».now.global_variables c.args.variable c.index.result.now c.index.ensures in (
+      subst (IsImpliedFault m c.args.variable) (sym c.new-in-None.ensures.error)
+          (record {
+            types = c.in-Ok-Some.parts;
+            parts = variable_parts m c.args.variable (global_view c.index.result.now) at c.in-Ok-Some.parts (rw c.in-Ok-Some.field-0-is at c.in-Ok-Some.ensures.found);
+            bad = c.in-None.ensures;
+          }),
+      c.new-in-None.ensures.spans,
+    )

@@ -11,6 +11,8 @@ returns-in-Ok-Some-clause-fine c = c.implied_by.ensures (module_view c.args.«mo
 
 pub returns-in-Ok-None-clause-fine : goal.returns-in-Ok-None-clause-fine
 returns-in-Ok-None-clause-fine c =
-    let m = module_view c.args.«module».now in
-    (subst (IsImpliedFault m c.args.variable) (sym c.new.ensures.error) (bad_primitives_by m c.args.variable c.in-Ok.fields c.in-Ok.ensures.fine
-    (let none = rw c.in-Ok-None.field-0-is at c.in-Ok-None.ensures.found in λ t e. none t (subst (λ n. topologies_at m.types n ≡ t ∷ []) (sym c.primitive_of.ensures) e))), c.new.ensures.spans)
+    let m = module_view c.args.«module».now in (
+      subst (IsImpliedFault m c.args.variable) (sym c.new.ensures.error) (bad_primitives_by m c.args.variable c.in-Ok.fields c.in-Ok.ensures.fine
+          (let none = rw c.in-Ok-None.field-0-is at c.in-Ok-None.ensures.found in λ t e. none t (subst (λ n. topologies_at m.types n ≡ t ∷ []) (sym c.primitive_of.ensures) e))),
+      c.new.ensures.spans,
+    )

@@ -15,7 +15,9 @@ pub returns-in-Err-Fault : goal.returns-in-Err-Fault
 returns-in-Err-Fault g c =
     let x = g.C.StatementContext.seen c.args.context.now in
     let body = block_view c.body.result.now in
-    let is : c.in-Err-Fault.field-0 ≡ Fault c.in-Err-Fault.error = search rules in
-    (subst (IsBodyFault x) (sym c.new.ensures.error)
-    (one_wrong x c.in-Err-Fault.error body c.body.ensures
-    (subst (λ r. (p : Place) × (u : PlainStatement) × OccursAt body p u × IsWrong x r u) is c.in-Err-Fault.ensures)), c.new.ensures.spans)
+    let is : c.in-Err-Fault.field-0 ≡ Fault c.in-Err-Fault.error = search rules in (
+      subst (IsBodyFault x) (sym c.new.ensures.error)
+          (one_wrong x c.in-Err-Fault.error body c.body.ensures
+          (subst (λ r. (p : Place) × (u : PlainStatement) × OccursAt body p u × IsWrong x r u) is c.in-Err-Fault.ensures)),
+      c.new.ensures.spans,
+    )

@@ -15,8 +15,10 @@ returns-in-Ok-check_answered c =
 
 pub returns : goal.returns
 returns c =
-    let x = context_view c.args.context.now in
-    (subst (IsUnanswered x.f) (sym c.new.ensures.error)
-    (unanswered x c.args.answered.now c.in-Ok.marks.items c.len.result (as_many value_of_entry expression_view c.args.context.now.function.now.expressions c.len.result c.len.ensures.value)
-    c.in-Ok.ensures.each c.requires c.in-Err-check_answered.error
-    (subst (λ marks. IsUnansweredFault x.f.expressions marks c.in-Err-check_answered.error) c.deref.ensures.value c.in-Err-check_answered.ensures)), c.new.ensures.spans)
+    let x = context_view c.args.context.now in (
+      subst (IsUnanswered x.f) (sym c.new.ensures.error)
+          (unanswered x c.args.answered.now c.in-Ok.marks.items c.len.result (as_many value_of_entry expression_view c.args.context.now.function.now.expressions c.len.result c.len.ensures.value)
+          c.in-Ok.ensures.each c.requires c.in-Err-check_answered.error
+          (subst (λ marks. IsUnansweredFault x.f.expressions marks c.in-Err-check_answered.error) c.deref.ensures.value c.in-Err-check_answered.ensures)),
+      c.new.ensures.spans,
+    )

@@ -35,3 +35,6 @@ returns-in-Err-clause-judged g c =
     let To = EntryUses e (HasUseBit before.uses) in
     refused_as (IsUnconnected s.flags s.capabilities m e From) (IsUnconnected s.flags s.capabilities m e To) (λ x u. unconnected_to m e From To (λ v k lt. c.with_own-info.ensures.added.uses v k) s.flags s.capabilities x u)
     c.in-Err.refusal c.in-Err.ensures.judged
+
+pub returns-in-Ok-clause-own : goal.returns-in-Ok-clause-own
+returns-in-Ok-clause-own g c = λ m f h. c.with_blending.ensures.own m f (c.with_own-info.ensures.own m f h)

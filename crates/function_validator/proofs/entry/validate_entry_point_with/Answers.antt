@@ -42,9 +42,11 @@ returns-in-Err-check_payload-clause-judged g c =
     let stages = map (g.L.Lower.noted l) c.args.callees.now in
     let q = question m e.function (map (g.L.Lower.summary l) c.args.callees.now) stages in
     let s = c.args.settings in
-    let held = c.args.held in
-    (subst (IsRefusedAs (g.L.Lower.reading l q) (g.L.Lower.faults l q) stages (HasUse m e.function) s held m e) (sym c.new-in-Err-check_payload.ensures.error)
-    (by_payload (g.L.Lower.reading l q) (g.L.Lower.faults l q) stages s held m e c.in-Err-check_payload.error c.in-Err-check_payload.ensures), c.new-in-Err-check_payload.ensures.spans)
+    let held = c.args.held in (
+      subst (IsRefusedAs (g.L.Lower.reading l q) (g.L.Lower.faults l q) stages (HasUse m e.function) s held m e) (sym c.new-in-Err-check_payload.ensures.error)
+          (by_payload (g.L.Lower.reading l q) (g.L.Lower.faults l q) stages s held m e c.in-Err-check_payload.error c.in-Err-check_payload.ensures),
+      c.new-in-Err-check_payload.ensures.spans,
+    )
 
 pub returns-then-not-allows_stage-clause-judged : goal.returns-then-not-allows_stage-clause-judged
 returns-then-not-allows_stage-clause-judged g c =
@@ -57,9 +59,11 @@ returns-then-not-allows_stage-clause-judged g c =
     let held = c.args.held in
     let R = g.L.Lower.reading l q in
     let v = c.in-Ok-validate_function_with.validated in
-    let exact = c.in-Ok-validate_function_with.ensures.stages in
-    (subst (IsRefusedAs R (g.L.Lower.faults l q) stages (HasUse m e.function) s held m e) (sym c.new-then-not-allows_stage.ensures.error)
-    (by_runs R (g.L.Lower.faults l q) stages s held m e (g.L.Lower.noted l v.info) exact (λ has. true≢false (sym (c.allows_stage.ensures.1 has) ∙ c.if-not-allows_stage.true))), c.new-then-not-allows_stage.ensures.spans)
+    let exact = c.in-Ok-validate_function_with.ensures.stages in (
+      subst (IsRefusedAs R (g.L.Lower.faults l q) stages (HasUse m e.function) s held m e) (sym c.new-then-not-allows_stage.ensures.error)
+          (by_runs R (g.L.Lower.faults l q) stages s held m e (g.L.Lower.noted l v.info) exact (λ has. true≢false (sym (c.allows_stage.ensures.1 has) ∙ c.if-not-allows_stage.true))),
+      c.new-then-not-allows_stage.ensures.spans,
+    )
 
 pub returns-in-Ok-connect-clause-judged : goal.returns-in-Ok-connect-clause-judged
 returns-in-Ok-connect-clause-judged g c =
@@ -105,3 +109,7 @@ returns-in-Err-connect-clause-judged g c =
     let before = g.L.Lower.summary l v.info in
     refused_as (IsUnconnected s.flags s.capabilities m e (EntryUses e (HasUseBit before.uses))) (IsRefusedAs R F stages (HasUse m e.function) s held m e)
     (λ x u. by_connections R F stages s held m e before (c.in-Ok-validate_function_with.ensures.chains c.requires.known) x u) c.in-Err-connect.refusal c.in-Err-connect.ensures.judged
+
+pub returns-in-Ok-connect-clause-own : goal.returns-in-Ok-connect-clause-own
+returns-in-Ok-connect-clause-own g c =
+    c.in-Ok-connect.ensures.own (module_view c.args.«module».now) (entry_view c.args.entry.now).function c.in-Ok-validate_function_with.ensures.own

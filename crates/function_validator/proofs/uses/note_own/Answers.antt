@@ -16,3 +16,6 @@ returns-clause-uses g c = λ v k.
     put_both
     (subst (λ (u : GlobalUse). middle ↔ (before ⊎ ((c.args.entry.now.task_payload ≡ Some v) × (bit_at u.0 k ≡ 1)))) c.own_payload_use-kinds.ensures (c.note_use.ensures.uses v k))
     (subst (λ (o : Option ℕ). after ↔ (middle ⊎ ((o ≡ Some v) × (bit_at READ.0 k ≡ 1)))) c.mesh_output.ensures (c.note_use-2.ensures.uses v k))
+
+pub returns-clause-own : goal.returns-clause-own
+returns-clause-own g c = λ m f h. c.note_use-2.ensures.own m f (c.note_use.ensures.own m f h)

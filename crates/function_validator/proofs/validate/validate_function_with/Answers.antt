@@ -176,3 +176,6 @@ returns-in-Ok-judge-clause-unblended g c =
     let summaries = map (g.L.Lower.summary c.args.lower.now) c.args.callees.now in
     let kept = c.in-Ok.ensures.kept in
     c.noted.ensures.blending ∙ ap (λ b. b || false) kept.unblended
+
+pub returns-in-Ok-judge-clause-own : goal.returns-in-Ok-judge-clause-own
+returns-in-Ok-judge-clause-own g c = c.noted.ensures.own (module_view c.args.«module».now) (function_view c.args.function.now) c.in-Ok.ensures.own

@@ -1,8 +1,9 @@
 use Rattle.std.proofs.Common.{◌∙◌, map}
 use Rattle.std.proofs.lemmas.List.{length-map}
 use Rattle.shader_check.proofs.EntrySteps.{entry_conditions, entry_known, judged_more, payload_there, output_there, reported_entry}
+use Rattle.shader_check.proofs.Chained.{one_longer, own_more}
 use Rattle.shader_check.proofs.Placed.{item_there}
-use Rattle.shader_check.specs.found.JudgedEntries.{note_of}
+use Rattle.shader_check.specs.found.JudgedEntries.{EntryKeeps, note_of}
 use Rattle.ir_items.specs.found.View.{entry_view, module_view}
 use Rattle.module_handles.proofs.Whole.{order_gives_conditions}
 use Rattle.shader_check.proofs.entries.judge_next.Goals as goal
@@ -43,9 +44,15 @@ returns-in-Ok-clause-judged g c =
     let m = c.args.«module».now in
     let summary = g.L.Lower.summary v.lower in
     let at = item_there entry_view m.entry_points.items c.args.index c.requires.within c.index.result.now c.index.ensures in
-    judged_more (module_view m) c.requires.handles c.args.index (entry_view c.index.result.now) at (g.L.Lower.reading v.lower) (g.L.Lower.faults v.lower) v.settings (map summary c.args.callees.now)
-    (map (g.L.Lower.noted v.lower) c.args.callees.now) (map summary c.args.kept.now) (map (note_of (g.L.Lower.noted v.lower) (g.L.Lower.blending v.lower)) c.args.kept.now) c.args.held c.requires.before (c.requires.apart (entry_view c.index.result.now) at) (summary c.in-Ok.validated.info)
-    (g.L.Lower.noted v.lower c.in-Ok.validated.info) (g.L.Lower.blending v.lower c.in-Ok.validated.info) c.in-Ok.validated.held c.in-Ok.ensures.judged
+    let before = c.requires.before in
+    record {
+      judged = judged_more (module_view m) c.requires.handles c.args.index (entry_view c.index.result.now) at (g.L.Lower.reading v.lower) (g.L.Lower.faults v.lower) v.settings (map summary c.args.callees.now)
+          (map (g.L.Lower.noted v.lower) c.args.callees.now) (map summary c.args.kept.now) (map (note_of (g.L.Lower.noted v.lower) (g.L.Lower.blending v.lower)) c.args.kept.now) c.args.held before.judged
+          (c.requires.apart (entry_view c.index.result.now) at) (summary c.in-Ok.validated.info) (g.L.Lower.noted v.lower c.in-Ok.validated.info) (g.L.Lower.blending v.lower c.in-Ok.validated.info) c.in-Ok.validated.held
+          c.in-Ok.ensures.judged;
+      as_many = one_longer c.args.kept.now c.in-Ok.validated.info c.args.index before.as_many;
+      own = own_more (EntryKeeps (g.L.Lower.own v.lower (module_view m))) (module_view m).entries c.args.kept.now c.args.index (entry_view c.index.result.now) c.in-Ok.validated.info before.as_many at before.own c.in-Ok.ensures.own;
+    }
 
 pub returns-in-Err-clause-judged : goal.returns-in-Err-clause-judged
 returns-in-Err-clause-judged g c =
@@ -54,4 +61,4 @@ returns-in-Err-clause-judged g c =
     let summary = g.L.Lower.summary v.lower in
     let at = item_there entry_view m.entry_points.items c.args.index c.requires.within c.index.result.now c.index.ensures in
     reported_entry (module_view m) c.requires.handles c.args.index (entry_view c.index.result.now) at (g.L.Lower.reading v.lower) (g.L.Lower.faults v.lower) v.settings (map summary c.args.callees.now)
-    (map (g.L.Lower.noted v.lower) c.args.callees.now) (map summary c.args.kept.now) (map (note_of (g.L.Lower.noted v.lower) (g.L.Lower.blending v.lower)) c.args.kept.now) c.args.held c.requires.before c.in-Err.refusal c.refusal_at.result c.refusal_at.ensures c.in-Err.ensures.judged
+    (map (g.L.Lower.noted v.lower) c.args.callees.now) (map summary c.args.kept.now) (map (note_of (g.L.Lower.noted v.lower) (g.L.Lower.blending v.lower)) c.args.kept.now) c.args.held c.requires.before.judged c.in-Err.refusal c.refusal_at.result c.refusal_at.ensures c.in-Err.ensures.judged

@@ -1,5 +1,6 @@
 use Rattle.std.proofs.Common.{map}
-use Rattle.shader_check.proofs.Chained.{conditions_at, judged_more, reported_refusal}
+use Rattle.shader_check.proofs.Chained.{conditions_at, judged_more, one_longer, own_more, reported_refusal}
+use Rattle.shader_check.specs.found.Judged.{FunctionKeeps}
 use Rattle.shader_check.proofs.Placed.{view_there}
 use Rattle.ir_items.specs.found.View.{function_view, module_view}
 use Rattle.module_handles.proofs.Whole.{order_gives_conditions}
@@ -24,8 +25,15 @@ returns-in-Ok g c =
     let m = c.args.«module».now in
     let s = v.settings in
     let at = view_there m.functions c.args.handle c.index.result.now c.index.ensures function_view in
-    judged_more (module_view m) c.requires.handles (g.L.Lower.reading v.lower) s c.args.handle (map (g.L.Lower.summary v.lower) c.args.infos.now) (map (g.L.Lower.noted v.lower) c.args.infos.now) c.args.held c.requires.before (function_view c.index.result.now) at
-    (g.L.Lower.summary v.lower c.in-Ok.validated.info) (g.L.Lower.noted v.lower c.in-Ok.validated.info) c.in-Ok.validated.held c.in-Ok.ensures.accepted c.in-Ok.ensures.chains c.in-Ok.ensures.stages c.in-Ok.ensures.held
+    let before = c.requires.before in
+    record {
+      judged = judged_more (module_view m) c.requires.handles (g.L.Lower.reading v.lower) s c.args.handle (map (g.L.Lower.summary v.lower) c.args.infos.now) (map (g.L.Lower.noted v.lower) c.args.infos.now) c.args.held before.judged
+          (function_view c.index.result.now) at (g.L.Lower.summary v.lower c.in-Ok.validated.info) (g.L.Lower.noted v.lower c.in-Ok.validated.info) c.in-Ok.validated.held c.in-Ok.ensures.accepted c.in-Ok.ensures.chains c.in-Ok.ensures.stages
+          c.in-Ok.ensures.held;
+      as_many = one_longer c.args.infos.now c.in-Ok.validated.info c.args.handle before.as_many;
+      own = own_more (FunctionKeeps (g.L.Lower.own v.lower (module_view m)) (g.L.Lower.blending v.lower)) (module_view m).functions c.args.infos.now c.args.handle (function_view c.index.result.now) c.in-Ok.validated.info before.as_many at
+          before.own (c.in-Ok.ensures.own, c.in-Ok.ensures.unblended);
+    }
 
 pub returns-in-Err : goal.returns-in-Err
 returns-in-Err g c =
@@ -33,5 +41,5 @@ returns-in-Err g c =
     let m = c.args.«module».now in
     let s = v.settings in
     let at = view_there m.functions c.args.handle c.index.result.now c.index.ensures function_view in
-    reported_refusal (module_view m) c.requires.handles (g.L.Lower.reading v.lower) s c.args.handle (map (g.L.Lower.summary v.lower) c.args.infos.now) (map (g.L.Lower.noted v.lower) c.args.infos.now) c.args.held c.requires.before (function_view c.index.result.now) at
+    reported_refusal (module_view m) c.requires.handles (g.L.Lower.reading v.lower) s c.args.handle (map (g.L.Lower.summary v.lower) c.args.infos.now) (map (g.L.Lower.noted v.lower) c.args.infos.now) c.args.held c.requires.before.judged (function_view c.index.result.now) at
     (g.L.Lower.faults v.lower) c.in-Err.refusal c.refusal_at.result c.refusal_at.ensures c.in-Err.ensures.refused c.in-Err.ensures.fault
