@@ -46,7 +46,10 @@ class File:
     def definitions(self, text):
         current, data = None, None
         for line in text.split("\n"):
-            if line.lstrip().startswith("--") or not line.strip() or re.match(r"(pub )?(use|mod) |abbrev (pub )?mutual", line):
+            if re.match(r"(abbrev (pub )?)?mutual", line):
+                current, data = None, None
+                continue
+            if line.lstrip().startswith("--") or not line.strip() or re.match(r"(pub )?(use|mod) ", line):
                 continue
             head = HEAD.match(line)
             indent = len(line) - len(line.lstrip())

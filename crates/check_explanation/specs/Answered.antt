@@ -61,7 +61,7 @@ IsAnswered Accepted text = IsTextOfSome Accepted text
 IsAnswered Refused text = IsTextOfSome Refused text
 IsAnswered Unread text = Unit {0}
 
--- This is found of some such document, whose module has the lines that are requested, or this error.
+-- This is found of some such document, whose module has the lines that are wanted, or this error.
 pub record IsExplained (requested : Requested) (e : Explanation) : Type 0 where
   pub document : PlainDocument
   pub checked : AreChecked document.settings

@@ -45,7 +45,7 @@ lines_of (NoDocument error hint) = []
 lines_of (Accepted strict lines) = string_bytes lines
 lines_of (Refused error item) = []
 
--- of a module of which this is found: lines as requested where it is accepted, else the error that is found
+-- of a module of which this is found: lines as wanted where it is accepted, else the error that is found
 abbrev pub ExplainsModule : (requested : Requested) → PlainModule → Examined → Explanation → Type 0
 ExplainsModule requested m x (NoDocument error hint) = ⊥
 ExplainsModule requested m x (Accepted strict lines) = ListsAsRequested requested m (string_bytes lines)

@@ -1,5 +1,5 @@
 -- What statements bring into scope and answer by.
-use Rattle.std.proofs.Common.{◌≡◌, ℕ, suc, ◌+◌, ◌⊎◌, inl, inr, Bool, true, false, List, [], ◌∷◌, ◌++◌, All, Option, Some, None, Contains, IsSomeAnd, slice_get, option_to_list, ◌||◌, if◌then◌else◌, refl, sym, ap, ◌∙◌, subst, true≢false, arith}
+use Rattle.std.proofs.Common.{◌≡◌, ℕ, suc, ◌+◌, ◌⊎◌, inl, inr, Bool, true, false, List, ◌∷◌, ◌++◌, All, Option, Some, None, Contains, IsSomeAnd, slice_get, option_to_list, ◌||◌, if◌then◌else◌, refl, sym, ap, ◌∙◌, subst, true≢false, arith, []}
 use Rattle.std.proofs.lemmas.Bool.{or_right}
 use Rattle.std.proofs.lemmas.List.{append-nil}
 use Rattle.std.proofs.lemmas.List.Elements.{All-nil, All-cons, All-contains, Contains-append_left, Contains-append_right}
@@ -12,7 +12,8 @@ use Rattle.ir_blocks.specs.judged.Plain.{PlainStatement, emit, block, if_, switc
 use Rattle.ir_types.specs.judged.ExpressionPlain.{PlainExpression}
 use Rattle.ir_items.specs.judged.Plain.{PlainFunction}
 use Rattle.ir_references.specs.First.{emitted_view}
-use Rattle.spec_expressions.specs.judged.StatementNames.{Emitted, statement_callee, statement_range, statement_result}
+use Rattle.spec_expressions.specs.judged.StatementNames.{statement_callee, statement_range, statement_result}
+use Rattle.spec_expressions.specs.judged.Kinds.{Emitted}
 use Rattle.spec_statements.specs.judged.Results.{answer_of}
 use Rattle.spec_statements.specs.judged.Scope.{is_pre_emitted}
 use Rattle.spec_statements.specs.judged.Tables.{checked_at, statement_checked, introduced}

@@ -5,7 +5,8 @@ ghost use Rattle.ir_blocks.specs.found.View.{statement_view};
 ghost use Rattle.ir_types.specs.judged.ExpressionPlain.{expression_view};
 ghost use Rattle.ir_items.specs.found.View.{function_view};
 ghost use Rattle.function_body_checks.specs.Carried.{holds, pre_known, known, first_lacking, place_lacking};
-ghost use Rattle.spec_expressions.specs.judged.Operands.{these, is_looked_up, looked_up, statement_slots};
+ghost use Rattle.spec_expressions.specs.judged.Operands.{these, is_looked_up, looked_up};
+ghost use Rattle.spec_expressions.specs.judged.Kinds.{statement_slots};
 ghost use Rattle.spec_statements.specs.judged.Scope.{is_pre_emitted};
 
 use crate::list::ExpressionList;

@@ -19,7 +19,8 @@ use Rattle.ir_kinds.specs.declared.stages.MeshOutputTopology.TheVariants.{Triang
 use Rattle.ir_types.specs.judged.Plain.{PlainMember, PlainType}
 use Rattle.ir_types.specs.declared.types.ArraySize.{ArraySize}
 use Rattle.spec_interface.specs.judged.Members.{members_at, topologies_at, types_bound}
-use Rattle.spec_interface.specs.judged.Meshes.{AreParts, FieldsOK, HasParts, HoldsMost, ImpliesMeshInfo, IsCount, IsSaid, GivenByOverride, most, variable_members, without_overrides}
+use Rattle.spec_interface.specs.judged.Meshes.{AreParts, FieldsOK, HasParts, HoldsMost, ImpliesMeshInfo, IsSaid, GivenByOverride, most}
+use Rattle.spec_interface.specs.found.Meshes.{IsCount, variable_members, without_overrides}
 use Rattle.spec_interface.specs.declared.parts.MeshPart.{MeshPart}
 use Rattle.spec_interface.specs.declared.parts.MeshPart.TheVariants.{VertexCount, Vertices, PrimitiveCount, Primitives}
 use Rattle.spec_interface.specs.declared.parts.MeshParts.{MeshParts}

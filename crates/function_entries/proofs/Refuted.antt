@@ -28,7 +28,7 @@ use Rattle.spec_interface.specs.judged.Members.{members_at}
 use Rattle.spec_interface.specs.judged.Meshes.{MeshOK}
 use Rattle.spec_interface.specs.judged.Payloads.{space_at}
 use Rattle.spec_interface.specs.judged.Results.{StageResultOK}
-use Rattle.spec_interface.specs.judged.Stages.{StageOK, runs_in_workgroups}
+use Rattle.spec_interface.specs.judged.Stages.{StageOK, stage_row}
 use Rattle.spec_interface.specs.judged.Uses.{is_reached}
 use Rattle.spec_interface.specs.judged.UsedVariables.{UsedVariableOK, VariablesOK}
 use Rattle.spec_interface.specs.judged.Contexts.{VaryingContext, context_of}
@@ -53,7 +53,7 @@ module _ (capabilities : Capabilities) (e : PlainEntry) (ok : StageOK capabiliti
   no_early error.UnexpectedEarlyDepthTest some fault = fault (ok.early some).fragments
   no_early _ some fault = absurd fault
 
-  no_sizes : (x : EntryPointError) → IsSizeFault (runs_in_workgroups e.stage) e.sizes x → ⊥
+  no_sizes : (x : EntryPointError) → IsSizeFault (stage_row e.stage).workgroups e.sizes x → ⊥
   no_sizes error.UnexpectedWorkgroupSize fault = fault.1 ok.sizes
   no_sizes error.OutOfRangeWorkgroupSize fault = fault.1 ok.sizes
   no_sizes _ fault = absurd fault

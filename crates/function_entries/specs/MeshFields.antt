@@ -2,7 +2,8 @@
 use Rattle.std.specs.Prelude.{ℕ}
 use Rattle.function_entries.specs.declared.meshes.Fields.{Fields}
 use Rattle.ir_items.specs.judged.Plain.{PlainModule}
-use Rattle.spec_interface.specs.judged.Meshes.{HasParts, HoldsMost, IsCount}
+use Rattle.spec_interface.specs.judged.Meshes.{HasParts, HoldsMost}
+use Rattle.spec_interface.specs.found.Meshes.{IsCount}
 use Rattle.spec_interface.specs.declared.parts.MeshParts.{MeshParts}
 
 -- the variable has parts, of which these are the vertices and the primitives

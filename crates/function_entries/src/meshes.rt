@@ -11,7 +11,8 @@ ghost use Rattle.ir_types.specs.judged.ExpressionPlain.{expression_view};
 ghost use Rattle.ir_types.specs.judged.Plain.{inner_view, member_view};
 ghost use Rattle.typing_forms.specs.judged.Resolutions.{inner_at};
 ghost use Rattle.spec_interface.specs.judged.Members.{topologies_at};
-ghost use Rattle.spec_interface.specs.judged.Meshes.{FieldsOK, HoldsMost, ImpliesMeshInfo, IsCount, IsSaid, GivenByOverride, array_of, most, override_at, override_of, variable_members};
+ghost use Rattle.spec_interface.specs.judged.Meshes.{FieldsOK, HoldsMost, ImpliesMeshInfo, IsSaid, GivenByOverride, array_of, most, override_of};
+ghost use Rattle.spec_interface.specs.found.Meshes.{IsCount, override_at, variable_members};
 ghost use Rattle.ir_items.specs.declared.entries.MeshStageInfo.{MeshStageInfo};
 
 use crate::known::KnownMeshes;

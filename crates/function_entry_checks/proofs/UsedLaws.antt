@@ -16,8 +16,11 @@ use Rattle.ir_kinds.specs.declared.spaces.AddressSpace.{AddressSpace}
 use Rattle.ir_kinds.specs.declared.spaces.AddressSpace.TheVariants.{Immediate, TaskPayload}
 use Rattle.spec_expressions.specs.judged.Summaries.{HasUseBit, no_use}
 use Rattle.spec_interface.specs.judged.Payloads.{binding_at, space_at}
+use Rattle.spec_interface.specs.judged.Spaces.{effective_type}
+use Rattle.typing_forms.specs.judged.Resolutions.{inner_at}
 use Rattle.spec_interface.specs.judged.Uses.{allowed_uses, is_reached}
-use Rattle.spec_interface.specs.judged.UsedVariables.{BindingsApart, EachOK, IsUsed, OneImmediate, OwnPayloadOK, UsedVariableOK, effective_inner}
+use Rattle.spec_interface.specs.judged.UsedVariables.{IsUsed, OwnPayloadOK, UsedVariableOK}
+use Rattle.spec_interface.specs.found.UsedVariables.{BindingsApart, EachOK, OneImmediate}
 
 below_or_here : (j n : ℕ) → j < n + 1 → (j < n) ⊎ (j ≡ n)
 below_or_here j n lt = elim (cases_eq j n) [ inl same ↦ inr same | inr differ ↦ inl (omega (arith, lt, differ)) ]
@@ -77,7 +80,7 @@ module _ (m : PlainModule) (uses : List GlobalUse) (g : ℕ) (u : GlobalUse) (to
 -- ---- one
 
 module _ (m : PlainModule) (e : PlainEntry) (g : ℕ) (v : PlainGlobal) where
-  pub variable_allowed : (kinds : ℕ) (allowed : GlobalUse) → (v.space ≡ TaskPayload → OwnPayloadOK m e g v) → IsTrue (is_reached e.stage v.space) → allowed ≡ allowed_uses e.stage v.space (effective_inner m v)
+  pub variable_allowed : (kinds : ℕ) (allowed : GlobalUse) → (v.space ≡ TaskPayload → OwnPayloadOK m e g v) → IsTrue (is_reached e.stage v.space) → allowed ≡ allowed_uses e.stage v.space (inner_at m.types (effective_type m.types v.ty))
       → Has allowed.0 kinds → UsedVariableOK m e g v (λ k. bit_at kinds k ≡ 1)
   variable_allowed kinds allowed payload reached is has = record {
     payload = payload;
@@ -85,7 +88,7 @@ module _ (m : PlainModule) (e : PlainEntry) (g : ℕ) (v : PlainGlobal) where
     allowed = λ k one. ap (λ (u : GlobalUse). bit_at u.0 k) (sym is) ∙ within_all allowed.0 kinds has k one;
   }
 
-  pub variable_not_allowed : (kinds allowed : GlobalUse) → allowed ≡ allowed_uses e.stage v.space (effective_inner m v) → (Has allowed.0 kinds.0 → ⊥) → IsVariableFault m e g v (λ k. bit_at kinds.0 k ≡ 1) (error.InvalidGlobalUsage g kinds)
+  pub variable_not_allowed : (kinds allowed : GlobalUse) → allowed ≡ allowed_uses e.stage v.space (inner_at m.types (effective_type m.types v.ty)) → (Has allowed.0 kinds.0 → ⊥) → IsVariableFault m e g v (λ k. bit_at kinds.0 k ≡ 1) (error.InvalidGlobalUsage g kinds)
   variable_not_allowed kinds allowed is has = of_uses (
     refl,
     (λ k. ((λ one. one), (λ one. one))),

@@ -20,9 +20,9 @@ use Rattle.ir_kinds.specs.declared.spaces.AddressSpace.TheVariants.{Immediate, T
 use Rattle.ir_kinds.specs.declared.stages.ShaderStage.{ShaderStage}
 use Rattle.ir_kinds.specs.declared.stages.ShaderStage.TheVariants.{Fragment, Mesh, Task}
 use Rattle.spec_interface.specs.judged.Payloads.{space_at, binding_at, has_payload}
-use Rattle.spec_interface.specs.judged.Stages.{runs_in_workgroups, stage_capability, SizeOK}
-use Rattle.spec_interface.specs.judged.Uses.{traces_rays, sees_incoming_payload}
-use Rattle.spec_interface.specs.judged.UsedVariables.{AllowsUses, IsUsed, least_payload}
+use Rattle.spec_interface.specs.judged.Stages.{stage_row, SizeOK}
+use Rattle.spec_interface.specs.judged.UsedVariables.{IsUsed}
+use Rattle.spec_interface.specs.found.UsedVariables.{AllowsUses}
 use Rattle.typing_layout.specs.judged.Layout.{size}
 use Rattle.typing_layout.specs.judged.View.{type_tree}
 use Rattle.function_varying_checks.specs.declared.error.VaryingError.{VaryingError}
@@ -31,7 +31,7 @@ use Rattle.function_varying_checks.specs.declared.error.VaryingError.TheVariants
 -- ---- the stage
 
 abbrev pub IsCapabilityFault : Capabilities → ShaderStage → EntryPointError → Type 0
-IsCapabilityFault capabilities stage (error.UnsupportedCapability c) = (stage_capability stage ≡ Some c) × ¬ Has capabilities.0 c.0
+IsCapabilityFault capabilities stage (error.UnsupportedCapability c) = ((stage_row stage).needs ≡ Some c) × ¬ Has capabilities.0 c.0
 IsCapabilityFault capabilities stage _ = ⊥
 
 abbrev pub IsEarlyVaryingFault : Capabilities → VaryingError → Type 0
@@ -57,7 +57,7 @@ IsMeshInfoFault stage is_said _ = ⊥
 pub data IsStageFault (capabilities : Capabilities) (e : PlainEntry) (x : EntryPointError) : Type 0 where
   of_capability : IsCapabilityFault capabilities e.stage x → IsStageFault capabilities e x
   of_early : IsSome e.early → IsEarlyFault capabilities e.stage x → IsStageFault capabilities e x
-  of_sizes : IsSizeFault (runs_in_workgroups e.stage) e.sizes x → IsStageFault capabilities e x
+  of_sizes : IsSizeFault (stage_row e.stage).workgroups e.sizes x → IsStageFault capabilities e x
   of_mesh : IsMeshInfoFault e.stage (is_some e.mesh) x → IsStageFault capabilities e x
 
 -- ---- its payload
@@ -83,13 +83,13 @@ AreKinds kinds Uses = (k : ℕ) → (bit_at kinds.0 k ≡ 1) ↔ Uses k
 -- the payload that is used is another one than the entry point's, or too small
 abbrev pub IsPayloadUseFault : PlainModule → PlainEntry → (g : ℕ) → PlainGlobal → EntryPointError → Type 0
 IsPayloadUseFault m e g v error.WrongTaskPayloadUsed = (v.space ≡ TaskPayload) × (e.payload ≢ Some g)
-IsPayloadUseFault m e g v (error.TaskPayloadTooSmall bytes) = (v.space ≡ TaskPayload) × (bytes ≡ size (type_tree m.types v.ty)) × (bytes < least_payload)
+IsPayloadUseFault m e g v (error.TaskPayloadTooSmall bytes) = (v.space ≡ TaskPayload) × (bytes ≡ size (type_tree m.types v.ty)) × (bytes < 4)
 IsPayloadUseFault m e g v _ = ⊥
 
 -- the stage has no payloads of rays that lie so
 abbrev pub IsReachFault : ShaderStage → AddressSpace → EntryPointError → Type 0
-IsReachFault stage space (error.RayPayloadInInvalidStage s) = (s ≡ stage) × (space ≡ RayPayload) × (traces_rays stage ≡ false)
-IsReachFault stage space (error.IncomingRayPayloadInInvalidStage s) = (s ≡ stage) × (space ≡ IncomingRayPayload) × (sees_incoming_payload stage ≡ false)
+IsReachFault stage space (error.RayPayloadInInvalidStage s) = (s ≡ stage) × (space ≡ RayPayload) × ((stage_row stage).traces ≡ false)
+IsReachFault stage space (error.IncomingRayPayloadInInvalidStage s) = (s ≡ stage) × (space ≡ IncomingRayPayload) × ((stage_row stage).incoming ≡ false)
 IsReachFault stage space _ = ⊥
 
 -- it is used as it may not be

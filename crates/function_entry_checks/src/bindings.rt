@@ -7,7 +7,8 @@ ghost use Rattle.ir_items.specs.found.View.{module_view};
 ghost use Rattle.ir_kinds.specs.declared.bindings.ResourceBinding.{ResourceBinding};
 ghost use Rattle.spec_expressions.specs.judged.Summaries.{HasUseBit};
 ghost use Rattle.spec_interface.specs.judged.Payloads.{binding_at};
-ghost use Rattle.spec_interface.specs.judged.UsedVariables.{BindingsApart, IsUsed};
+ghost use Rattle.spec_interface.specs.judged.UsedVariables.{IsUsed};
+ghost use Rattle.spec_interface.specs.found.UsedVariables.{BindingsApart};
 
 use crate::error::EntryPointError;
 use ir_arena::handle::Handle;

@@ -5,7 +5,7 @@ ghost use Rattle.function_entry_checks.specs.Faults.{IsCapabilityFault, IsEarlyF
 ghost use Rattle.ir_flags.specs.Sets.{Has};
 ghost use Rattle.ir_items.specs.found.View.{entry_view};
 ghost use Rattle.ir_kinds.specs.declared.stages.ShaderStage.TheVariants.{Mesh};
-ghost use Rattle.spec_interface.specs.judged.Stages.{runs_in_workgroups, stage_capability, SizeOK, EarlyOK, StageOK};
+ghost use Rattle.spec_interface.specs.judged.Stages.{stage_row, SizeOK, EarlyOK, StageOK};
 ghost use Rattle.spec_interface.specs.judged.Contexts.{stage_set};
 
 use crate::error::EntryPointError;
@@ -35,7 +35,7 @@ pub const fn stage_set(stage: ShaderStage) -> ShaderStages
 
 // Whether a stage runs in workgroups.
 const fn runs_in_workgroups(stage: ShaderStage) -> bool
-    ensures { result ≡ runs_in_workgroups stage }
+    ensures { result ≡ (stage_row stage).workgroups }
 {
     match stage {
         ShaderStage::Compute | ShaderStage::Mesh | ShaderStage::Task => true,
@@ -50,7 +50,7 @@ const fn runs_in_workgroups(stage: ShaderStage) -> bool
 
 // What a stage needs, if it needs any capability.
 const fn stage_capability(stage: ShaderStage) -> Option<Capabilities>
-    ensures { result ≡ stage_capability stage }
+    ensures { result ≡ (stage_row stage).needs }
 {
     match stage {
         ShaderStage::Mesh | ShaderStage::Task => Some(Capabilities::MESH_SHADER),
@@ -65,7 +65,7 @@ const fn stage_capability(stage: ShaderStage) -> Option<Capabilities>
 // Whether a stage may be used.
 fn check_capability(capabilities: Capabilities, stage: ShaderStage) -> Result<(), EntryPointError>
     ensures { MatchResult result
-        (λ _. IfSome (stage_capability stage) (λ c. Has capabilities.0 c.0))
+        (λ _. IfSome (stage_row stage).needs (λ c. Has capabilities.0 c.0))
         (IsCapabilityFault capabilities stage) }
 {
     match stage_capability(stage) {

@@ -9,7 +9,8 @@ ghost use Rattle.ir_kinds.specs.declared.spaces.AddressSpace.TheVariants.{Immedi
 ghost use Rattle.spec_expressions.specs.judged.Summaries.{HasUseBit};
 ghost use Rattle.spec_interface.specs.judged.Payloads.{space_at};
 ghost use Rattle.spec_interface.specs.judged.Uses.{is_reached};
-ghost use Rattle.spec_interface.specs.judged.UsedVariables.{EachOK, IsUsed, OneImmediate, OwnPayloadOK, UsedVariableOK, VariablesOK};
+ghost use Rattle.spec_interface.specs.judged.UsedVariables.{IsUsed, OwnPayloadOK, UsedVariableOK, VariablesOK};
+ghost use Rattle.spec_interface.specs.found.UsedVariables.{EachOK, OneImmediate};
 ghost use Rattle.typing_layout.specs.judged.Layout.{size};
 ghost use Rattle.typing_layout.specs.judged.View.{type_tree};
 

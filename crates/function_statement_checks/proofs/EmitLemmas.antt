@@ -1,5 +1,5 @@
 -- Expressions that denote answers, and those of a range.
-use Rattle.std.proofs.Common.{◌≡◌, ℕ, zero, suc, ◌+◌, ◌-◌, ◌<◌, ◌≤◌, min, Bool, true, false, List, Option, None, Some, IfNone, IfSome, length, slice_get, get_or, sym, ap, subst, inl, inr, true≢false, arith}
+use Rattle.std.proofs.Common.{◌≡◌, refl, ℕ, zero, suc, ◌+◌, ◌-◌, ◌<◌, ◌≤◌, min, Bool, true, false, List, Option, None, Some, IfNone, IfSome, length, slice_get, get_or, sym, ap, subst, inl, inr, true≢false, arith}
 use Rattle.std.specs.List.{range_with_len}
 use Rattle.std.proofs.lemmas.Bool.{cases_eq, cases_lt}
 use Rattle.std.proofs.lemmas.List.Elements.{All-from_get_or}
@@ -12,30 +12,30 @@ use Rattle.ir_types.specs.judged.ExpressionPlain.{PlainExpression, compose, plai
 use Rattle.ir_types.specs.declared.expressions.Expression.{Expression}
 use Rattle.ir_types.specs.declared.expressions.Expression.TheVariants as x
 use Rattle.typing_rules.specs.judged.Laws.{IsAmong}
-use Rattle.spec_statements.specs.judged.Emits.{EmitOK, IsComputedHere, IsEmittable}
+use Rattle.spec_statements.specs.judged.Emits.{EmitOK, IsEmittable}
 use Rattle.function_statement_checks.specs.Emits.{is_answer_itself, is_answer_there, is_answer_at, AreAnswers, IsAnswerOf}
 
-computed_here : (e : Expression) → is_answer_itself e ≡ false → IsComputedHere e
+computed_here : (e : Expression) → is_answer_itself e ≡ false → IsEmittable (plain e)
 computed_here (x.CallResult function) no_ = absurd (true≢false no_)
 computed_here (x.AtomicResult type comparison) no_ = absurd (true≢false no_)
 computed_here (x.WorkGroupUniformLoadResult type) no_ = absurd (true≢false no_)
 computed_here x.RayQueryProceedResult no_ = absurd (true≢false no_)
 computed_here x.SubgroupBallotResult no_ = absurd (true≢false no_)
 computed_here (x.SubgroupOperationResult type) no_ = absurd (true≢false no_)
-computed_here _ no_ = tt
+computed_here _ no_ = refl
 
-answered_elsewhere : (e : Expression) → is_answer_itself e ≡ true → IsComputedHere e → ⊥
-answered_elsewhere (x.CallResult function) yes_ here = here
-answered_elsewhere (x.AtomicResult type comparison) yes_ here = here
-answered_elsewhere (x.WorkGroupUniformLoadResult type) yes_ here = here
-answered_elsewhere x.RayQueryProceedResult yes_ here = here
-answered_elsewhere x.SubgroupBallotResult yes_ here = here
-answered_elsewhere (x.SubgroupOperationResult type) yes_ here = here
+answered_elsewhere : (e : Expression) → is_answer_itself e ≡ true → IsEmittable (plain e) → ⊥
+answered_elsewhere (x.CallResult function) yes_ here = true≢false (sym here)
+answered_elsewhere (x.AtomicResult type comparison) yes_ here = true≢false (sym here)
+answered_elsewhere (x.WorkGroupUniformLoadResult type) yes_ here = true≢false (sym here)
+answered_elsewhere x.RayQueryProceedResult yes_ here = true≢false (sym here)
+answered_elsewhere x.SubgroupBallotResult yes_ here = true≢false (sym here)
+answered_elsewhere (x.SubgroupOperationResult type) yes_ here = true≢false (sym here)
 answered_elsewhere _ yes_ here = true≢false (sym yes_)
 
 emittable : (o : Option PlainExpression) → is_answer_there o ≡ false → IfSome o IsEmittable
 emittable None no_ = tt
-emittable (Some (compose type components)) no_ = tt
+emittable (Some (compose type components)) no_ = refl
 emittable (Some (plain e)) no_ = computed_here e no_
 
 not_emittable : (o : Option PlainExpression) → is_answer_there o ≡ true → IfSome o IsEmittable → ⊥

@@ -5,7 +5,7 @@ ghost use Rattle.ir_types.specs.judged.ExpressionPlain.{expression_view};
 ghost use Rattle.ir_types.specs.judged.Plain.{inner_view};
 ghost use Rattle.ir_items.specs.judged.Bases.{base_of, BasesPrecede};
 ghost use Rattle.spec_expressions.specs.judged.Loads.{loaded, loaded_value};
-ghost use Rattle.spec_statements.specs.judged.Stores.{base_at, BeginsAt, IsVariable, IsVariableOf, IsVariableAt, pointer_space, IsWritable, FitsAt};
+ghost use Rattle.spec_statements.specs.judged.Stores.{base_at, BeginsAt, IsVariableOf, IsVariableAt, pointer_space, IsWritable, FitsAt};
 ghost use Rattle.typing_forms.specs.judged.Resolutions.{inner_at};
 
 use crate::context::StatementContext;

@@ -1,5 +1,5 @@
 -- What a walk requires along a body is what is required at each place, and what it finds wrong is wrong at one.
-use Rattle.std.proofs.Common.{◌≡◌, ℕ, zero, suc, ◌+◌, ◌-◌, ◌<◌, ◌≤◌, inl, inr, ⊎_elim, List, [], ◌++◌, All, Option, Some, None, Contains, slice_get, refl, sym, ap, ◌∙◌, subst, arith}
+use Rattle.std.proofs.Common.{◌≡◌, ℕ, zero, suc, ◌+◌, ◌-◌, ◌<◌, ◌≤◌, inl, inr, List, [], ◌++◌, All, Option, Some, None, Contains, slice_get, refl, sym, ap, ◌∙◌, subst, arith, ⊎_elim}
 use Rattle.std.proofs.lemmas.List.Elements.{All-nil, All-contains}
 use Rattle.typing_errors.specs.declared.error.FunctionError.{FunctionError}
 use Rattle.typing_errors.specs.declared.error.FunctionError.TheVariants as error
@@ -10,7 +10,7 @@ use Rattle.ir_blocks.specs.judged.Plain.{ray_query, ballot, PlainStatement, emit
 use Rattle.ir_blocks.specs.judged.Shapes.{Part, inner, accepting, rejecting, case_at, loop_body, loop_continuing, shape_of, part_of, case_body}
 use Rattle.ir_blocks.specs.declared.operations.RayQueryFunction.TheVariants as ray
 use Rattle.ir_items.specs.judged.Plain.{PlainFunction}
-use Rattle.spec_expressions.specs.judged.StatementNames.{operation_result}
+use Rattle.spec_expressions.specs.judged.Kinds.{operation_row}
 use Rattle.spec_statements.proofs.StrictLaws.{strict_by_walk_lem}
 use Rattle.spec_statements.specs.judged.Scope.{InScope, ScopeOK}
 use Rattle.spec_statements.specs.judged.Strict.{InStrictScope, StrictOK, needed_at, statement_needed}
@@ -203,7 +203,7 @@ module _ (f : PlainFunction) where
     again_at (statement continue) sure x h = absurd h
     again_at (statement (return value)) sure x h = absurd h
     again_at (statement kill) sure x h = absurd h
-    again_at (statement (operation a)) sure x h = again_in_result (operation_result a) sure x h
+    again_at (statement (operation a)) sure x h = again_in_result (operation_row a).result sure x h
     again_at (statement (call function arguments answer)) sure x h = again_in_result answer sure x h
 
     range_end : (first end e : ℕ) → first ≤ e → e < first + (end - first) → e < end

@@ -1,5 +1,5 @@
 -- What is required of a statement itself.
-use Rattle.std.proofs.Common.{◌≡◌, ℕ, inl, inr, Bool, true, false, List, [], ◌∷◌, All, Option, Some, None, slice_get, option_to_list, refl, sym, ap, ◌∙◌, subst, true≢false}
+use Rattle.std.proofs.Common.{◌≡◌, ℕ, inl, inr, Bool, true, false, List, ◌∷◌, All, Option, Some, None, slice_get, option_to_list, refl, sym, ap, ◌∙◌, subst, true≢false, []}
 use Rattle.std.proofs.lemmas.List.Elements.{All-nil, All-cons}
 use Rattle.typing_errors.specs.declared.expressions.ExpressionError.TheVariants.{NotInScope}
 use Rattle.typing_errors.specs.declared.error.FunctionError.{FunctionError}
@@ -10,7 +10,8 @@ use Rattle.ir_blocks.specs.judged.Plain.{PlainStatement, emit, block, if_, switc
 use Rattle.ir_types.specs.judged.ExpressionPlain.{PlainExpression, plain}
 use Rattle.ir_types.specs.declared.expressions.Expression.TheVariants.{RayQueryProceedResult, SubgroupBallotResult}
 use Rattle.ir_items.specs.judged.Plain.{PlainFunction}
-use Rattle.spec_expressions.specs.judged.StatementNames.{Emitted, statement_callee, statement_range, statement_result}
+use Rattle.spec_expressions.specs.judged.StatementNames.{statement_callee, statement_range, statement_result}
+use Rattle.spec_expressions.specs.judged.Kinds.{Emitted}
 use Rattle.spec_statements.specs.judged.Strict.{statement_needed, needed_at}
 use Rattle.spec_statements.specs.judged.Tables.{introduced}
 use Rattle.function_body_checks.proofs.Tables.{head_held}

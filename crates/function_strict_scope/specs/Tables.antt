@@ -1,10 +1,10 @@
 -- What a walk looks at in statements and expressions: a row a kind.
-use Rattle.std.specs.Prelude.{ℕ, Bool, true, false, List, [], Option, Some, None}
+use Rattle.std.specs.Prelude.{ℕ, Bool, true, false, List, Option, Some, None, []}
 use Rattle.ir_blocks.specs.judged.Plain.{PlainOperation, control_barrier, memory_barrier, store, image_store, atomic, image_atomic, uniform_load, ray_query, ballot, collective, gather, cooperative_store, ray_pipeline, PlainStatement, emit, block, if_, switch, loop, break, continue, return, kill, operation, call}
 use Rattle.ir_types.specs.judged.ExpressionPlain.{PlainExpression, plain}
 use Rattle.ir_types.specs.declared.expressions.Expression.TheVariants.{RayQueryProceedResult, SubgroupBallotResult}
 use Rattle.spec_expressions.specs.judged.ExpressionNames.{expression_operands}
-use Rattle.spec_expressions.specs.judged.StatementNames.{ray_result}
+use Rattle.spec_expressions.specs.judged.Kinds.{ray_result}
 
 -- the operands of an expression, if there is one
 abbrev pub operands_given : Option PlainExpression → List ℕ

@@ -4,7 +4,7 @@ ghost use Rattle.std.specs.Prelude.{◌≡◌, ℕ, List, IfErr, OnOk, slice_get
 ghost use Rattle.ir_blocks.specs.judged.Places.{statement as spot};
 ghost use Rattle.ir_blocks.specs.found.View.{statement_view};
 ghost use Rattle.ir_items.specs.found.View.{function_view};
-ghost use Rattle.spec_expressions.specs.judged.StatementNames.{ray_result};
+ghost use Rattle.spec_expressions.specs.judged.Kinds.{ray_result};
 ghost use Rattle.function_strict_scope.specs.Tables.{proceeds_by, ballots_by, is_proceed, is_ballot};
 ghost use Rattle.function_strict_scope.specs.Walked.{AnswerKindOK, IfFault, IsFaultHere};
 

@@ -14,9 +14,11 @@ use Rattle.ir_kinds.specs.declared.stages.ShaderStage.TheVariants.{Fragment}
 use Rattle.ir_types.specs.judged.Plain.{inner_view}
 use Rattle.typing_layout.specs.judged.Flags.{HasFlag, IoShareable}
 use Rattle.typing_layout.specs.judged.View.{type_tree}
-use Rattle.spec_interface.specs.judged.BuiltIns.{IsLinearWorkgroup, HasNoTaskPayload, IsFree, IsOfType, RowOccursAt}
+use Rattle.spec_interface.specs.judged.BuiltIns.{IsFree, IsOfType, RowOccursAt}
+use Rattle.spec_interface.specs.found.BuiltIns.{IsLinearWorkgroup, HasNoTaskPayload}
 use Rattle.spec_interface.specs.judged.Contexts.{VaryingContext}
-use Rattle.spec_interface.specs.judged.Locations.{NeedsInterpolation, varying_type, sampling_fits, kind_of, of_three}
+use Rattle.spec_interface.specs.judged.Locations.{NeedsInterpolation, varying_type, sampling_fits, kind_of}
+use Rattle.spec_interface.specs.found.Locations.{of_three}
 use Rattle.spec_interface.specs.judged.BuiltInRows.{built_in_row}
 use Rattle.spec_interface.specs.judged.Varyings.{ShowsAt, built_in_of, canonical, location_of}
 use Rattle.spec_interface.specs.declared.rows.BuiltInRow.{BuiltInRow}

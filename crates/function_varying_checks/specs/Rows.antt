@@ -2,7 +2,8 @@
 use Rattle.std.specs.Prelude.{◌≡◌, ℕ, List, Some, None}
 use Rattle.ir_kinds.specs.declared.bindings.BuiltIn.{BuiltIn}
 use Rattle.ir_types.specs.judged.Plain.{PlainType, inner_view}
-use Rattle.spec_interface.specs.judged.BuiltIns.{IsLinearWorkgroup, HasNoTaskPayload, IsOfType}
+use Rattle.spec_interface.specs.judged.BuiltIns.{IsOfType}
+use Rattle.spec_interface.specs.found.BuiltIns.{IsLinearWorkgroup, HasNoTaskPayload}
 use Rattle.spec_interface.specs.judged.Contexts.{VaryingContext}
 use Rattle.spec_interface.specs.declared.rows.BuiltInRow.{BuiltInRow}
 use Rattle.spec_interface.specs.declared.rows.Exception.{Exception}

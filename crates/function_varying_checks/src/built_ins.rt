@@ -2,7 +2,8 @@
 
 ghost use Rattle.std.specs.Prelude.{◌≡◌, ◌≤◌, ◌↔◌, ◌⊎◌, ℕ, IfOk, IfSome, IsTrue, MatchOption, MatchResult};
 ghost use Rattle.ir_flags.specs.Sets.{Has};
-ghost use Rattle.spec_interface.specs.judged.BuiltIns.{AreDistances, IsLinearWorkgroup, BuiltInOK, ExceptionOK, HasNoTaskPayload, IsCounted, IsFree, IsOfType, RowOK, RowOccursAt};
+ghost use Rattle.spec_interface.specs.judged.BuiltIns.{AreDistances, ExceptionOK, IsCounted, IsFree, IsOfType, RowOK, RowOccursAt};
+ghost use Rattle.spec_interface.specs.found.BuiltIns.{IsLinearWorkgroup, HasNoTaskPayload};
 ghost use Rattle.spec_interface.specs.judged.Contexts.{stage_set};
 ghost use Rattle.spec_interface.specs.judged.BuiltInRows.{built_in_row};
 ghost use Rattle.typing_forms.specs.judged.Resolutions.{types_view};
@@ -250,7 +251,7 @@ pub fn built_in_fault(
     built_in: BuiltIn,
 ) -> Result<Option<VaryingError>, AllocError>
     ensures { IfOk result (λ found. MatchOption found
-        (BuiltInOK (context_view context.now) ty built_in)
+        (RowOK (context_view context.now) ty (built_in_row built_in))
         (IsBuiltInFault (context_view context.now) ty built_in)) }
 {
     let row = built_in_row(built_in);

@@ -4,7 +4,8 @@ ghost use Rattle.std.specs.Prelude.{◌≡◌, ◌<◌, ◌↔◌, IsTrue, lengt
 ghost use Rattle.typing_layout.specs.judged.Flags.{HasFlag, IoShareable};
 ghost use Rattle.typing_layout.specs.judged.View.{type_tree};
 ghost use Rattle.spec_interface.specs.judged.BuiltIns.{array_of_form};
-ghost use Rattle.spec_interface.specs.judged.Locations.{kind_of, of_three, three};
+ghost use Rattle.spec_interface.specs.judged.Locations.{kind_of, three};
+ghost use Rattle.spec_interface.specs.found.Locations.{of_three};
 ghost use Rattle.function_varying_checks.specs.View.{IsReported, context_view};
 
 use crate::context::VaryingContext;

@@ -10,7 +10,8 @@ use Rattle.ir_flags.specs.declared.settings.ValidationFlags.{ValidationFlags}
 use Rattle.ir_kinds.specs.declared.stages.ShaderStage.{ShaderStage}
 use Rattle.ir_kinds.specs.declared.stages.ShaderStage.TheVariants.{Vertex, Fragment, Compute, Mesh, Task, RayGeneration, AnyHit, ClosestHit, Miss}
 use Rattle.ir_types.specs.judged.Plain.{PlainType}
-use Rattle.spec_interface.specs.judged.BuiltIns.{IsLinearWorkgroup, ExceptionOK, HasNoTaskPayload}
+use Rattle.spec_interface.specs.judged.BuiltIns.{ExceptionOK}
+use Rattle.spec_interface.specs.found.BuiltIns.{IsLinearWorkgroup, HasNoTaskPayload}
 use Rattle.spec_interface.specs.judged.Contexts.{VaryingContext}
 use Rattle.spec_interface.specs.judged.BuiltInRows.{built_in_row}
 use Rattle.spec_interface.specs.judged.Varyings.{BoundOK, VaryingsOK, mesh_varyings}

@@ -11,7 +11,7 @@ use Rattle.ir_kinds.specs.declared.stages.ShaderStage.{ShaderStage}
 use Rattle.ir_kinds.specs.declared.stages.ShaderStage.TheVariants.{Fragment}
 use Rattle.typing_layout.specs.judged.Flags.{HasFlag, IoShareable}
 use Rattle.typing_layout.specs.judged.View.{type_tree}
-use Rattle.spec_interface.specs.judged.BuiltIns.{BuiltInOK, ExceptionOK, IsFree, RowOK}
+use Rattle.spec_interface.specs.judged.BuiltIns.{ExceptionOK, IsFree, RowOK}
 use Rattle.spec_interface.specs.judged.Contexts.{VaryingContext}
 use Rattle.spec_interface.specs.judged.Locations.{NeedsInterpolation, InterpolationOK, LocationOK, PerPrimitiveOK, varying_type, kind_of}
 use Rattle.spec_interface.specs.judged.BuiltInRows.{built_in_row}
@@ -47,7 +47,7 @@ module _ (c : VaryingContext) (type : ℕ) (r : BuiltInRow) (ok : RowOK c type r
   row_astray (inl astray) = astray ok.stands
   row_astray (inr behind) = behind.1 (excepted NotAfterTasks behind.0)
 
-built_in_refuted : (c : VaryingContext) (type : ℕ) (b : BuiltIn) (e : VaryingError) → IsBuiltInFault c type b e → BuiltInOK c type b → ⊥
+built_in_refuted : (c : VaryingContext) (type : ℕ) (b : BuiltIn) (e : VaryingError) → IsBuiltInFault c type b e → RowOK c type (built_in_row b) → ⊥
 built_in_refuted c type b (error.UnsupportedCapability x) w ok = w.2 (need_met c type (built_in_row b) ok x w.0 w.1)
 built_in_refuted c type b error.InvalidMultiDimensionalSubgroupBuiltIn w ok = w.1 (excepted c type (built_in_row b) ok RowsOnly w.0)
 built_in_refuted c type b (error.InvalidBuiltInStage d) w ok = row_astray c type (built_in_row b) ok w.1

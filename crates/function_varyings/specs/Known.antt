@@ -11,7 +11,7 @@ use Rattle.ir_kinds.specs.declared.bindings.BuiltIn.TheVariants.{Position}
 use Rattle.ir_kinds.specs.declared.stages.ShaderStage.{ShaderStage}
 use Rattle.ir_kinds.specs.declared.stages.ShaderStage.TheVariants.{Vertex, Fragment, Compute, Mesh, Task, RayGeneration, AnyHit, ClosestHit, Miss}
 use Rattle.ir_types.specs.judged.Plain.{PlainType}
-use Rattle.spec_interface.specs.judged.BuiltIns.{IsLinearWorkgroup, HasNoTaskPayload}
+use Rattle.spec_interface.specs.found.BuiltIns.{IsLinearWorkgroup, HasNoTaskPayload}
 use Rattle.spec_interface.specs.judged.Contexts.{VaryingContext}
 use Rattle.spec_interface.specs.judged.Varyings.{HasBlendSources, HasBuiltIn, VaryingsOK, mesh_varyings, varyings_of}
 use Rattle.spec_interface.specs.declared.varyings.Direction.{Direction}

@@ -1,4 +1,5 @@
 -- The words of each set, and the bits that they have.
+use Prim.Native.String.{String}
 use Rattle.std.specs.Prelude.{ℕ, ◌*◌, List, [], ◌∷◌, codes}
 
 -- a word and its bit as a number
@@ -6,52 +7,37 @@ abbrev pub Row : Type 0
 Row = List ℕ × ℕ
 
 -- the words with rising bits, the first of them with this one
-abbrev pub numbered_from : ℕ → List (List ℕ) → List Row
+abbrev pub numbered_from : ℕ → List String → List Row
 numbered_from bit [] = []
-numbered_from bit (word ∷ words) = (word, bit) ∷ numbered_from (2 * bit) words
+numbered_from bit (word ∷ words) = (codes word, bit) ∷ numbered_from (2 * bit) words
 
 -- a word's bit is its place, counted from 0
-abbrev pub numbered : List (List ℕ) → List Row
+abbrev pub numbered : List String → List Row
 numbered words = numbered_from 1 words
 
 abbrev pub storage_access_bits : List Row
-storage_access_bits = numbered (codes "LOAD" ∷ codes "STORE" ∷ codes "ATOMIC" ∷ [])
+storage_access_bits = numbered ("LOAD" ∷ "STORE" ∷ "ATOMIC" ∷ [])
 
 abbrev pub barrier_bits : List Row
-barrier_bits = numbered (codes "STORAGE" ∷ codes "WORK_GROUP" ∷ codes "SUB_GROUP" ∷ codes "TEXTURE" ∷ [])
+barrier_bits = numbered ("STORAGE" ∷ "WORK_GROUP" ∷ "SUB_GROUP" ∷ "TEXTURE" ∷ [])
 
 abbrev pub memory_decoration_bits : List Row
-memory_decoration_bits = numbered (codes "COHERENT" ∷ codes "VOLATILE" ∷ [])
+memory_decoration_bits = numbered ("COHERENT" ∷ "VOLATILE" ∷ [])
 
 abbrev pub shader_stage_bits : List Row
-shader_stage_bits =
-    numbered (
-    codes "VERTEX" ∷ codes "FRAGMENT" ∷ codes "COMPUTE" ∷ codes "MESH" ∷ codes "TASK" ∷ codes "RAY_GENERATION" ∷
-    codes "ANY_HIT" ∷ codes "CLOSEST_HIT" ∷ codes "MISS" ∷ [])
+shader_stage_bits = numbered ("VERTEX" ∷ "FRAGMENT" ∷ "COMPUTE" ∷ "MESH" ∷ "TASK" ∷ "RAY_GENERATION" ∷ "ANY_HIT" ∷ "CLOSEST_HIT" ∷ "MISS" ∷ [])
 
 abbrev pub subgroup_operation_bits : List Row
-subgroup_operation_bits =
-    numbered (
-    codes "BASIC" ∷ codes "VOTE" ∷ codes "ARITHMETIC" ∷ codes "BALLOT" ∷ codes "SHUFFLE" ∷ codes "SHUFFLE_RELATIVE" ∷
-    codes "QUAD" ∷ [])
+subgroup_operation_bits = numbered ("BASIC" ∷ "VOTE" ∷ "ARITHMETIC" ∷ "BALLOT" ∷ "SHUFFLE" ∷ "SHUFFLE_RELATIVE" ∷ "QUAD" ∷ [])
 
 abbrev pub validation_flags : List Row
-validation_flags =
-    numbered (
-    codes "EXPRESSIONS" ∷ codes "BLOCKS" ∷ codes "CONTROL_FLOW_UNIFORMITY" ∷ codes "STRUCT_LAYOUTS" ∷ codes "CONSTANTS" ∷
-    codes "BINDINGS" ∷ codes "STRICT_SCOPE" ∷ [])
+validation_flags = numbered ("EXPRESSIONS" ∷ "BLOCKS" ∷ "CONTROL_FLOW_UNIFORMITY" ∷ "STRUCT_LAYOUTS" ∷ "CONSTANTS" ∷ "BINDINGS" ∷ "STRICT_SCOPE" ∷ [])
 
 abbrev pub capability_bits : List Row
-capability_bits =
-    numbered (
-    codes "IMMEDIATES" ∷ codes "FLOAT64" ∷ codes "SHADER_FLOAT16" ∷ codes "SHADER_INT16" ∷ codes "SHADER_INT64" ∷
-    codes "PRIMITIVE_INDEX" ∷ codes "BUFFER_BINDING_ARRAY" ∷ codes "STORAGE_BUFFER_BINDING_ARRAY" ∷
-    codes "TEXTURE_AND_SAMPLER_BINDING_ARRAY" ∷ codes "STORAGE_TEXTURE_BINDING_ARRAY" ∷
-    codes "ACCELERATION_STRUCTURE_BINDING_ARRAY" ∷ codes "STORAGE_TEXTURE_16BIT_NORM_FORMATS" ∷
-    codes "CUBE_ARRAY_TEXTURES" ∷ codes "CLIP_DISTANCES" ∷ codes "CULL_DISTANCE" ∷ codes "MULTIVIEW" ∷
-    codes "EARLY_DEPTH_TEST" ∷ codes "MULTISAMPLED_SHADING" ∷ codes "DUAL_SOURCE_BLENDING" ∷ codes "SUBGROUP" ∷
-    codes "SUBGROUP_BARRIER" ∷ codes "SHADER_INT64_ATOMIC_MIN_MAX" ∷ codes "SHADER_INT64_ATOMIC_ALL_OPS" ∷
-    codes "SHADER_FLOAT32_ATOMIC" ∷ codes "TEXTURE_ATOMIC" ∷ codes "TEXTURE_INT64_ATOMIC" ∷ codes "TEXTURE_EXTERNAL" ∷
-    codes "RAY_QUERY" ∷ codes "RAY_HIT_VERTEX_POSITION" ∷ codes "RAY_TRACING_PIPELINE" ∷ codes "SHADER_BARYCENTRICS" ∷
-    codes "MESH_SHADER" ∷ codes "MESH_SHADER_POINT_TOPOLOGY" ∷ codes "PER_VERTEX" ∷ codes "DRAW_INDEX" ∷
-    codes "COOPERATIVE_MATRIX" ∷ codes "MEMORY_DECORATION_COHERENT" ∷ codes "MEMORY_DECORATION_VOLATILE" ∷ [])
+capability_bits = numbered ("IMMEDIATES" ∷ "FLOAT64" ∷ "SHADER_FLOAT16" ∷ "SHADER_INT16" ∷ "SHADER_INT64" ∷ "PRIMITIVE_INDEX" ∷ "BUFFER_BINDING_ARRAY" ∷
+    "STORAGE_BUFFER_BINDING_ARRAY" ∷ "TEXTURE_AND_SAMPLER_BINDING_ARRAY" ∷ "STORAGE_TEXTURE_BINDING_ARRAY" ∷ "ACCELERATION_STRUCTURE_BINDING_ARRAY" ∷
+    "STORAGE_TEXTURE_16BIT_NORM_FORMATS" ∷ "CUBE_ARRAY_TEXTURES" ∷ "CLIP_DISTANCES" ∷ "CULL_DISTANCE" ∷ "MULTIVIEW" ∷ "EARLY_DEPTH_TEST" ∷
+    "MULTISAMPLED_SHADING" ∷ "DUAL_SOURCE_BLENDING" ∷ "SUBGROUP" ∷ "SUBGROUP_BARRIER" ∷ "SHADER_INT64_ATOMIC_MIN_MAX" ∷ "SHADER_INT64_ATOMIC_ALL_OPS" ∷
+    "SHADER_FLOAT32_ATOMIC" ∷ "TEXTURE_ATOMIC" ∷ "TEXTURE_INT64_ATOMIC" ∷ "TEXTURE_EXTERNAL" ∷ "RAY_QUERY" ∷ "RAY_HIT_VERTEX_POSITION" ∷
+    "RAY_TRACING_PIPELINE" ∷ "SHADER_BARYCENTRICS" ∷ "MESH_SHADER" ∷ "MESH_SHADER_POINT_TOPOLOGY" ∷ "PER_VERTEX" ∷ "DRAW_INDEX" ∷ "COOPERATIVE_MATRIX" ∷
+    "MEMORY_DECORATION_COHERENT" ∷ "MEMORY_DECORATION_VOLATILE" ∷ [])

@@ -17,7 +17,8 @@ use Rattle.spec_expressions.specs.judged.FunctionHandles.{HandlesInRange, Operan
 use Rattle.spec_expressions.specs.judged.ExpressionNames.{expression_operands, expression_item}
 use Rattle.spec_expressions.specs.judged.ModuleHandles.{named_at}
 use Rattle.spec_expressions.specs.judged.References.{Site, Named, item, operand, range, Names, argument_type, answer_type, local_type, local_value, filter_leaf, expression_names, expression_reads, statement_reads, statement_answers, statement_emits, statement_calls, ItemExists, IsThere}
-use Rattle.spec_expressions.specs.judged.StatementNames.{statement_operands, statement_result, Emitted, statement_range, statement_callee}
+use Rattle.spec_expressions.specs.judged.StatementNames.{statement_operands, statement_result, statement_range, statement_callee}
+use Rattle.spec_expressions.specs.judged.Kinds.{Emitted}
 use Rattle.spec_expressions.specs.declared.item.ItemKind.{ItemKind}
 use Rattle.spec_expressions.specs.declared.item.ItemKind.TheVariants as kind
 use Rattle.spec_expressions.specs.declared.target.Target.{Target}

@@ -13,7 +13,8 @@ use Rattle.ir_references.specs.declared.fault.HandleFault.TheVariants as fault
 use Rattle.spec_expressions.specs.judged.ExpressionNames.{expression_operands, expression_item}
 use Rattle.spec_expressions.specs.judged.ModuleHandles.{named_at}
 use Rattle.spec_expressions.specs.judged.References.{Site, Named, item, range, Names, IsThere}
-use Rattle.spec_expressions.specs.judged.StatementNames.{statement_operands, statement_result, Emitted, statement_range, statement_callee}
+use Rattle.spec_expressions.specs.judged.StatementNames.{statement_operands, statement_result, statement_range, statement_callee}
+use Rattle.spec_expressions.specs.judged.Kinds.{Emitted}
 use Rattle.spec_expressions.specs.declared.item.ItemKind.{ItemKind}
 use Rattle.spec_expressions.specs.declared.item.ItemKind.TheVariants as kind
 use Rattle.spec_expressions.specs.declared.target.Target.{Target}

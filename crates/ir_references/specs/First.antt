@@ -1,8 +1,8 @@
 -- What is looked for, found at its first place.
-use Rattle.std.specs.Prelude.{ℕ, nat_lt, if◌then◌else◌, List, [], ◌∷◌, Option, Some, None}
+use Rattle.std.specs.Prelude.{ℕ, nat_lt, if◌then◌else◌, List, ◌∷◌, Option, Some, None, []}
 use Rattle.std.specs.Option.{option_or}
 use Rattle.ir_blocks.specs.judged.Plain.{PlainStatement, emit, block, if_, switch, loop, break, continue, return, kill, operation, call, PlainBlock, stop, next, PlainCases, no_case, case}
-use Rattle.spec_expressions.specs.judged.StatementNames.{Emitted}
+use Rattle.spec_expressions.specs.judged.Kinds.{Emitted}
 
 -- the first of these that doesn't come before the end
 abbrev pub first_past : (end : ℕ) → List ℕ → Option ℕ

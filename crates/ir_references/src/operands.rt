@@ -3,7 +3,8 @@
 ghost use Rattle.std.specs.Prelude.{◌≡◌, ◌∷◌};
 ghost use Rattle.ir_types.specs.judged.ExpressionPlain.{expression_view};
 ghost use Rattle.ir_blocks.specs.found.View.{statement_view};
-ghost use Rattle.spec_expressions.specs.judged.Operands.{Operands, these, each_of, used, reads, reads_if, scoped, level_first, level_second, query_level, comparand, where_answered, gather_index, expression_slots, of_query, of_pipeline, statement_slots};
+ghost use Rattle.spec_expressions.specs.judged.Operands.{Operands, these, each_of, used, reads, reads_if, scoped, level_first, level_second, query_level, comparand, where_answered, gather_index, of_query, of_pipeline};
+ghost use Rattle.spec_expressions.specs.judged.Kinds.{expression_slots, statement_slots};
 ghost use Rattle.spec_expressions.specs.declared.operand.Scoping.TheVariants.{Strictly};
 
 use ir_arena::handle::Handle;

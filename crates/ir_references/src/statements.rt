@@ -2,7 +2,8 @@
 
 ghost use Rattle.std.specs.Prelude.{◌≡◌, option_map};
 ghost use Rattle.ir_blocks.specs.found.View.{statement_view};
-ghost use Rattle.spec_expressions.specs.judged.StatementNames.{ray_result, statement_result, statement_range, statement_callee};
+ghost use Rattle.spec_expressions.specs.judged.StatementNames.{statement_result, statement_range, statement_callee};
+ghost use Rattle.spec_expressions.specs.judged.Kinds.{ray_result};
 ghost use Rattle.ir_references.specs.First.{emitted_view};
 
 use ir_arena::handle::Handle;

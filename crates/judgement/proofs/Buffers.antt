@@ -17,7 +17,8 @@ use Rattle.judgement.proofs.Inside.{everywhere_inside}
 use Rattle.judgement.proofs.Placed.{buffer_sound}
 use Rattle.judgement.specs.judged.BufferLaws.{buffer_type, BuffersOK, TypesAreSound, BuffersAreSound}
 use Rattle.judgement.specs.judged.Sound.{StrideOK, ShapesOK, IsBuffer}
-use Rattle.spec_interface.specs.judged.Globals.{VariableOK, GlobalsOK}
+use Rattle.spec_interface.specs.judged.Globals.{GlobalsOK}
+use Rattle.spec_interface.specs.found.Variables.{VariableOK}
 use Rattle.spec_interface.specs.judged.Spaces.{array_base, effective_type, LiesIn}
 use Rattle.spec_expressions.specs.judged.ModuleHandles.{HandlesOK}
 use Rattle.spec_expressions.specs.judged.Order.{a_type, type_on_named}

@@ -1,5 +1,5 @@
 -- Uses of global variables are of four kinds.
-use Rattle.std.proofs.Common.{◌≡◌, ◌<◌, ◌≤◌, ◌⊎◌, inl, inr, ℕ, ◌+◌, List, [], ◌∷◌, ◌++◌, map, Option, Some, None, option_map, subst, sym, ◌∙◌, arith}
+use Rattle.std.proofs.Common.{◌≡◌, ◌<◌, inl, inr, ℕ, ◌+◌, List, ◌∷◌, ◌++◌, map, Option, Some, None, option_map, subst, sym, ◌∙◌, arith, []}
 use Rattle.std.proofs.lemmas.Bool.{cases_lt}
 use Rattle.std.proofs.lemmas.Nat.Bits.{bit_at_above}
 use Rattle.std.specs.Int.{bit_at}
@@ -13,7 +13,8 @@ use Rattle.typing_rules.specs.judged.Laws.{IsAmong}
 use Rattle.spec_expressions.specs.judged.CallChains.{chain_end, UsesDirectly, HasUse}
 use Rattle.spec_expressions.specs.judged.Effects.{Effect, takes, samples, runs, discards, sampling_at, expression_effects, expressions_effects, leaving_effects, statement_effects, effects_in, effects_inside, effects_in_cases, effects_of}
 use Rattle.spec_expressions.specs.judged.OperandUses.{Operand, bits_of, operand, operands_in, expression_uses, statement_uses}
-use Rattle.spec_expressions.specs.judged.Operands.{Operands, these, each_of, expression_slots, statement_slots}
+use Rattle.spec_expressions.specs.judged.Operands.{Operands, these, each_of}
+use Rattle.spec_expressions.specs.judged.Kinds.{expression_slots, statement_slots}
 use Rattle.spec_expressions.specs.declared.operand.Slot.{Slot}
 use Rattle.spec_expressions.specs.declared.operand.Usage.{Usage}
 use Rattle.spec_expressions.specs.declared.operand.Usage.TheVariants.{Base, Read, Write, ReadWrite, Query, Atomic}

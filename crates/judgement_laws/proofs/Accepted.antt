@@ -1,5 +1,5 @@
 -- Runs of an accepted entry point: how deep they are, what they pass, use and execute.
-use Rattle.std.proofs.Common.{◌≡◌, ◌∙◌, ◌⊎◌, inl, inr, ⊎_elim, ℕ, zero, suc, ℤ, false, ◌+◌, ◌-◌, ◌<◌, ◌≤◌, length, List, [], ◌∷◌, Option, Some, None, Contains, slice_get, get_or, refl, sym, ap, subst, arith}
+use Rattle.std.proofs.Common.{◌≡◌, ◌∙◌, ◌⊎◌, inl, inr, ℕ, zero, suc, ℤ, false, ◌+◌, ◌-◌, ◌<◌, ◌≤◌, length, List, [], ◌∷◌, Option, Some, None, Contains, slice_get, get_or, refl, sym, ap, subst, arith, ⊎_elim}
 use Rattle.std.specs.Prelude.{IsSomeAnd, option_to_list}
 use Rattle.std.specs.List.{AllByRecursion, range_with_len}
 use Rattle.std.proofs.lemmas.List.Elements.{Contains-append_left, Contains-append_right, Contains-append_cases, Contains-push}
@@ -18,12 +18,13 @@ use Rattle.ir_types.specs.declared.expressions.Expression.TheVariants.{GlobalVar
 use Rattle.typing_forms.specs.declared.form.Form.{Form}
 use Rattle.typing_forms.specs.declared.form.Form.TheVariants as form
 use Rattle.typing_forms.specs.judged.Forms.{form_of_type}
+use Rattle.spec_expressions.specs.judged.Kinds.{operation_row}
 use Rattle.spec_expressions.specs.judged.Typing.{HasType}
 use Rattle.spec_expressions.specs.judged.FunctionHandles.{HandlesInRange}
 use Rattle.spec_expressions.specs.judged.CallArities.{AritiesMatch}
 use Rattle.spec_expressions.specs.judged.Order.{a_function, function_on_callee}
 use Rattle.spec_expressions.specs.judged.References.{done, operand, item, range, statement_reads, statement_answers, statement_emits, statement_calls}
-use Rattle.spec_expressions.specs.judged.StatementNames.{operation_result, statement_result, statement_range}
+use Rattle.spec_expressions.specs.judged.StatementNames.{statement_result, statement_range}
 use Rattle.spec_expressions.specs.declared.target.Target.TheVariants as target
 use Rattle.spec_statements.specs.judged.BlockContext.{form_at}
 use Rattle.spec_statements.specs.judged.ExpressionStages.{all_stages, callee_stages, stages_of, IsRunBy}
@@ -102,7 +103,7 @@ module _ (m : PlainModule) (f : PlainFunction) (handles : HandlesInRange m f) (p
   statement_there continue stands held = none_held e held
   statement_there (return value) stands held = none_held e held
   statement_there kill stands held = none_held e held
-  statement_there (operation x) stands held = answer_there (operation x) stands (operation_result x) refl held
+  statement_there (operation x) stands held = answer_there (operation x) stands (operation_row x).result refl held
   statement_there (call function arguments result) stands held = answer_there (call function arguments result) stands result refl held
 
   introduced_there : Introduces f.body p e → e < length f.expressions

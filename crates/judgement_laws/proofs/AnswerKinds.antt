@@ -1,5 +1,5 @@
 -- What denotes the result of a statement has no operands, where strict scope is as it should be.
-use Rattle.std.proofs.Common.{◌≡◌, ℕ, [], Option, Some, None, IsSomeAnd, option_and_then, slice_get, refl, sym, ap, ◌∙◌, subst}
+use Rattle.std.proofs.Common.{◌≡◌, ℕ, Option, Some, None, IsSomeAnd, option_and_then, slice_get, refl, sym, ap, ◌∙◌, subst, []}
 use Rattle.ir_blocks.specs.judged.Places.{Place, OccursAt}
 use Rattle.ir_blocks.specs.judged.Plain.{PlainOperation, control_barrier, memory_barrier, store, image_store, atomic, image_atomic, uniform_load, ray_query, ballot, collective, gather, cooperative_store, ray_pipeline, PlainStatement, emit, block, if_, switch, loop, break, continue, return, kill, operation, call}
 use Rattle.ir_blocks.specs.declared.operations.AtomicFunction.{AtomicFunction}
@@ -9,7 +9,7 @@ use Rattle.ir_kinds.specs.declared.scalars.Scalar.{Scalar}
 use Rattle.ir_types.specs.judged.ExpressionPlain.{PlainExpression, plain}
 use Rattle.ir_types.specs.declared.expressions.Expression.TheVariants as x
 use Rattle.spec_expressions.specs.judged.ExpressionNames.{expression_operands}
-use Rattle.spec_expressions.specs.judged.StatementNames.{operation_result, ray_result}
+use Rattle.spec_expressions.specs.judged.Kinds.{operation_row, ray_result}
 use Rattle.spec_statements.specs.judged.Atomics.{AtomicResultOK, AtomicChangeOK, changed_scalar, declared_answer}
 use Rattle.spec_statements.specs.judged.BlockContext.{BlockContext, form_at}
 use Rattle.spec_statements.specs.judged.Calls.{CallResultOK}
@@ -74,7 +74,7 @@ module _ (c : BlockContext) (statements : (p : Place) (u : PlainStatement) → O
   of_step p query ray.ConfirmIntersection stands e v is at = no_answer e is
   of_step p query ray.Terminate stands e v is at = no_answer e is
 
-  of_operation : (p : Place) (a : PlainOperation) → OccursAt c.f.body p (operation a) → (e : ℕ) (v : PlainExpression) → operation_result a ≡ Some e → slice_get c.f.expressions e ≡ Some v → expression_operands v ≡ []
+  of_operation : (p : Place) (a : PlainOperation) → OccursAt c.f.body p (operation a) → (e : ℕ) (v : PlainExpression) → (operation_row a).result ≡ Some e → slice_get c.f.expressions e ≡ Some v → expression_operands v ≡ []
   of_operation p (control_barrier barrier) stands e v is at = no_answer e is
   of_operation p (memory_barrier barrier) stands e v is at = no_answer e is
   of_operation p (store pointer value) stands e v is at = no_answer e is

@@ -1,5 +1,5 @@
 -- What denotes an answer is the result of one statement of its kind.
-use Rattle.std.proofs.Common.{◌≡◌, ◌∙◌, ℕ, [], Option, Some, None, option_and_then, slice_get, refl, sym, ap, subst, List}
+use Rattle.std.proofs.Common.{◌≡◌, ◌∙◌, ℕ, [], Option, Some, None, option_and_then, slice_get, sym, ap, subst}
 use Rattle.std.proofs.lemmas.Option.{slice_get_within}
 use Rattle.std.specs.Prelude.{IsSomeAnd}
 use Rattle.ir_blocks.specs.judged.Plain.{PlainOperation, control_barrier, memory_barrier, store, image_store, atomic, image_atomic, uniform_load, ray_query, ballot, collective, gather, cooperative_store, ray_pipeline, PlainStatement, emit, block, if_, switch, loop, break, continue, return, kill, operation, call}
@@ -10,11 +10,12 @@ use Rattle.ir_flags.specs.declared.settings.TheConstants.ValidationFlags.{EXPRES
 use Rattle.ir_flags.specs.declared.settings.Settings.{Settings}
 use Rattle.judgement_laws.specs.found.AcceptedLaws.{IsCallOf, IsOperationOf, EachAnswered, AnsweredByOne}
 use Rattle.ir_kinds.specs.declared.scalars.Scalar.{Scalar}
+use Rattle.spec_expressions.specs.judged.Kinds.{operation_row}
 use Rattle.spec_expressions.specs.judged.Operands.{comparand}
 use Rattle.spec_statements.specs.judged.Atomics.{AtomicAnswerOK, AtomicAnswer, AtomicChangeOK, changed_scalar, declared_answer}
 use Rattle.spec_statements.specs.judged.BlockContext.{BlockContext, form_at}
 use Rattle.spec_statements.specs.judged.Functions.{BodyOK}
-use Rattle.spec_statements.specs.judged.Results.{of_call, of_atomic, answer_of, operation_answer}
+use Rattle.spec_statements.specs.judged.Results.{of_call, of_atomic, answer_of}
 use Rattle.spec_statements.specs.judged.Statements.{OperationOK, StatementOK}
 
 some_is : {A : Type 0} {x y : A} → Some x ≡ Some y → x ≡ y
@@ -30,7 +31,7 @@ undeclared P o function at h = subst (λ z. IsSomeAnd (option_and_then declared_
 
 module _ (c : BlockContext) (e : ℕ) where
   module _ (function : ℕ) (at : slice_get c.f.expressions e ≡ Some (plain (x.CallResult function))) where
-    no_operation : (a : PlainOperation) → OperationOK c a → ¬ (operation_answer a ≡ Some e)
+    no_operation : (a : PlainOperation) → OperationOK c a → ¬ ((operation_row a).answer ≡ Some e)
     no_operation (control_barrier barrier) ok is = cc (is)
     no_operation (memory_barrier barrier) ok is = cc (is)
     no_operation (store pointer value) ok is = cc (is)

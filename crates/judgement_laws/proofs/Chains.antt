@@ -1,5 +1,6 @@
 -- The frames of a run are at the ends of chains of calls, so what is named and sampled there is reported by the chains.
 use Rattle.std.proofs.Common.{◌≡◌, ◌∙◌, ℕ, zero, suc, ℤ, ◌+◌, ◌<◌, length, List, [], ◌∷◌, ◌++◌, inl, map, Option, Some, None, slice_get, option_map, refl, sym, ap, subst, arith}
+use Rattle.std.specs.Prelude.{unwrap_or}
 use Rattle.std.specs.List.{AllByRecursion}
 use Rattle.std.proofs.lemmas.Option.{slice_get-map}
 use Rattle.ir_flags.specs.declared.settings.Settings.{Settings}
@@ -13,7 +14,8 @@ use Rattle.ir_types.specs.declared.expressions.Expression.TheVariants.{GlobalVar
 use Rattle.ir_items.specs.judged.Plain.{PlainFunction, PlainModule}
 use Rattle.typing_rules.specs.judged.Laws.{IsAmong}
 use Rattle.spec_expressions.proofs.Members.{among-left, among-right, get-among}
-use Rattle.spec_expressions.specs.judged.CallChains.{global_or_argument, Step, Calls, IsChain, chain_end, argument_means, seen_through, meaning_at_start, Reaches, NamesGlobal, HasPair}
+use Rattle.spec_expressions.specs.judged.CallChains.{global_or_argument, Step, Calls, IsChain, chain_end, seen_through, meaning_at_start, Reaches, NamesGlobal, HasPair}
+use Rattle.spec_expressions.specs.found.Arguments.{argument_means}
 use Rattle.spec_expressions.specs.judged.Effects.{Effect, takes, samples as sampling, runs, sampling_at, expression_effects, expressions_effects, statement_effects, effects_in, effects_inside, effects_in_cases, effects_of}
 use Rattle.spec_expressions.specs.judged.OperandUses.{expression_uses, statement_uses}
 use Rattle.spec_expressions.specs.judged.FunctionHandles.{HandlesInRange}
@@ -23,7 +25,7 @@ use Rattle.spec_runs.specs.judged.Good.{NamedOK, SampledOK}
 use Rattle.spec_runs.specs.found.Invariants.{IsInvariant}
 use Rattle.spec_runs.specs.judged.Scoping.{UsedOperands, with_skipped}
 use Rattle.judgement_laws.specs.found.Accepted.{IsAcceptedEntry, RunsNameReached, RunsSamplePairs}
-use Rattle.spec_runs.specs.judged.Machine.{Frame, argument_global, global_meant, global_denoted, pair_of, mentioned_at, callee_frame, entry_frame, trace}
+use Rattle.spec_runs.specs.judged.Machine.{Frame, global_meant, global_denoted, pair_of, mentioned_at, callee_frame, entry_frame, trace}
 use Rattle.judgement_laws.proofs.Accepted.{Fine, callee_fine, entry_fine, all_weaken}
 use Rattle.spec_runs.proofs.Invariance.{invariants_hold}
 use Rattle.spec_runs.proofs.Scopes.{skipped_is_lawful}
@@ -108,13 +110,13 @@ callee_chain m f frame c p function arguments result callee stands found =
     record { callee = function; call = subst (λ h. slice_get (effects_of h) called.0 ≡ Some (runs function arguments)) (sym c.ends) called.1; found = found } in
     record { chain = record { at = called.0; arguments = arguments; function = callee } ∷ c.chain; is_chain = (calls, c.is_chain); ends = refl; means = λ e g is. by_place (global_or_argument callee.expressions e) g is }
   where
-    by_argument : (o : Option ℕ) (g : ℕ) → argument_global (option_map (global_denoted frame) o) ≡ Some g → argument_means (meaning_at_start f c.chain) o ≡ Some (Global g)
+    by_argument : (o : Option ℕ) (g : ℕ) → unwrap_or (option_map (global_denoted frame) o) None ≡ Some g → argument_means (meaning_at_start f c.chain) o ≡ Some (Global g)
     by_argument (Some e) g is = c.means e g is
     by_argument None g is = absurd (cc (is))
 
     by_place : (o : Option GlobalOrArgument) (g : ℕ) → global_meant (map (global_denoted frame) arguments) o ≡ Some g → seen_through (meaning_at_start f c.chain) arguments o ≡ Some (Global g)
     by_place (Some (Global h)) g is = ap (λ x. Some (Global x)) (some_is is)
-    by_place (Some (Argument n)) g is = by_argument (slice_get arguments n) g (sym (ap argument_global (slice_get-map (global_denoted frame) arguments n)) ∙ is)
+    by_place (Some (Argument n)) g is = by_argument (slice_get arguments n) g (sym (ap (λ (o : Option (Option ℕ)). unwrap_or o None) (slice_get-map (global_denoted frame) arguments n)) ∙ is)
     by_place None g is = absurd (cc (is))
 
 -- ---- runs

@@ -20,8 +20,8 @@ use Rattle.spec_interface.specs.judged.Contexts.{stage_set}
 use Rattle.spec_interface.specs.judged.Entries.{ConnectionsOK, EntryOK}
 use Rattle.spec_interface.specs.judged.EarlierPayloads.{HasEntryPayload, HasPayloadSoFar, IsPayloadBeforeEntry}
 use Rattle.spec_interface.specs.declared.parts.MeshParts.{MeshParts}
-use Rattle.spec_interface.specs.judged.Meshes.{HasParts, ImpliesMeshInfo, without_overrides, IsSaid, MeshOK}
-use Rattle.spec_interface.specs.judged.Modules as entries
+use Rattle.spec_interface.specs.judged.Meshes.{HasParts, ImpliesMeshInfo, IsSaid, MeshOK}
+use Rattle.spec_interface.specs.found.Meshes.{without_overrides}
 use Rattle.spec_interface.specs.judged.EntryNames.{IsConflict}
 use Rattle.spec_interface.specs.judged.Modules.{AreStages, EntryAtOK, EntriesOK}
 use Rattle.spec_interface.specs.judged.Payloads.{PayloadOK}
@@ -34,6 +34,7 @@ use Rattle.judgement_laws.proofs.Calls.{use_moves}
 use Rattle.judgement_laws.proofs.Functions.{payload_like, payload_before, function_moves, stage_moves}
 use Rattle.judgement_laws.proofs.Likeness.{function_back, entry_back, module_back, over_entry}
 use Rattle.judgement_laws.proofs.Shared.{if_some_moves}
+use Rattle.spec_expressions.specs.judged.Firsts.{FailsFirst}
 
 -- ---- what connects it with other stages and with hosts
 
@@ -200,7 +201,7 @@ entry_at_moves l s i h =
 pub entries_move : {m n : PlainModule} → LikeModule m n → (s : Settings) → EntriesOK s m → EntriesOK s n
 entries_move l s h i within = entry_at_moves l s i (h i (subst (λ k. i < k) (sym l.entries.many) within))
 
-pub first_entry_moves : {m n : PlainModule} → LikeModule m n → (s : Settings) (i : ℕ) → entries.IsFirstFailingEntry s m i → entries.IsFirstFailingEntry s n i
+pub first_entry_moves : {m n : PlainModule} → LikeModule m n → (s : Settings) (i : ℕ) → FailsFirst (length m.entries) (EntryAtOK s m) i → FailsFirst (length n.entries) (EntryAtOK s n) i
 first_entry_moves l s i h = record {
   within = subst (λ k. i < k) l.entries.many h.within;
   before = λ earlier less. entry_at_moves l s earlier (h.before earlier less);

@@ -16,7 +16,6 @@ use Rattle.spec_statements.specs.judged.Functions.{AreFormsBy, block_context, Bo
 use Rattle.spec_statements.specs.judged.Payloads.{HasPayload}
 use Rattle.spec_statements.specs.judged.Stages.{statement_stages}
 use Rattle.spec_statements.specs.judged.Statements.{StatementOK}
-use Rattle.spec_statements.specs.judged.ModuleFunctions as functions
 use Rattle.spec_statements.specs.judged.ModuleFunctions.{reading_over, FunctionAtOK, FunctionsOK}
 use Rattle.spec_statements.specs.judged.EarlierPayloads.{HasPayloadBefore, IsPayloadBefore}
 use Rattle.judgement_laws.specs.found.Alike.{Carried, kept, extra}
@@ -28,6 +27,7 @@ use Rattle.judgement_laws.proofs.Heads.{by_head, stages_head, ok_by_head}
 use Rattle.judgement_laws.proofs.Likeness.{function_back, module_back, over_like}
 use Rattle.judgement_laws.proofs.Rules.{rule_moves, interface_moves}
 use Rattle.judgement_laws.proofs.Typing.{same_results, typed_moves}
+use Rattle.spec_expressions.specs.judged.Firsts.{FailsFirst}
 
 -- ---- the arity of calls
 
@@ -148,7 +148,7 @@ function_at_moves l s i h =
 pub functions_move : {m n : PlainModule} → LikeModule m n → (s : Settings) → FunctionsOK s m → FunctionsOK s n
 functions_move l s h i within = function_at_moves l s i (h i (subst (λ k. i < k) (sym l.functions.many) within))
 
-pub first_function_moves : {m n : PlainModule} → LikeModule m n → (s : Settings) (i : ℕ) → functions.IsFirstFailingFunction s m i → functions.IsFirstFailingFunction s n i
+pub first_function_moves : {m n : PlainModule} → LikeModule m n → (s : Settings) (i : ℕ) → FailsFirst (length m.functions) (FunctionAtOK s m) i → FailsFirst (length n.functions) (FunctionAtOK s n) i
 first_function_moves l s i h = record {
   within = subst (λ k. i < k) l.functions.many h.within;
   before = λ earlier less. function_at_moves l s earlier (h.before earlier less);

@@ -13,7 +13,8 @@ use Rattle.judgement_laws.proofs.Texts.{whole_end, whole_append, whole_if, whole
 use Rattle.spec_interface.specs.judged.Spaces.{effective_type}
 use Rattle.typing_layout.specs.judged.Layout.{size, alignment}
 use Rattle.typing_layout.specs.judged.View.{type_tree}
-use Rattle.judgement_laws.specs.judged.Lines.{AreWhole, HasLines, use_line, ReportsGlobal, as_payload, as_mesh, as_used, ReportsPair, LinesStand, EntriesAreReported, BuffersAreReported}
+use Rattle.judgement_laws.specs.judged.Lines.{HasLines, use_line, ReportsGlobal, as_payload, as_mesh, as_used, LinesStand, EntriesAreReported, BuffersAreReported}
+use Rattle.judgement_laws.specs.found.Whole.{AreWhole}
 use Rattle.judgement.specs.judged.Lines.{each_from, is_buffer, buffer_line, buffer_of, buffers, is_at, is_own, own_line, is_used, use_words, global_line, pair_line, head_line, variable_lines, entry_lines}
 use Rattle.spec_interface.specs.judged.Uses.{mesh_output}
 use Rattle.judgement.specs.judged.Reports.{IsEntryReport}
@@ -114,7 +115,7 @@ module _ (m : PlainModule) (number : ℕ) (e : PlainEntry) (lines : List ℕ) (r
   pub global_told : g < length m.globals → IsTrue (is_own e g) ⊎ IsTrue (is_used (slice_index_or r.uses g no_use)) → ReportsGlobal lines g
   global_told within told = elim told [ inl owned ↦ own_stands owned | inr used ↦ used_stands (is_own e g) refl within used ]
 
-pub pair_told : (m : PlainModule) (number : ℕ) (e : PlainEntry) (lines : List ℕ) (r : IsEntryReport m number e lines) (image sampler : ℕ) → IsAmong (image, sampler) r.pairs → ReportsPair lines image sampler
+pub pair_told : (m : PlainModule) (number : ℕ) (e : PlainEntry) (lines : List ℕ) (r : IsEntryReport m number e lines) (image sampler : ℕ) → IsAmong (image, sampler) r.pairs → HasLines (pair_line (image, sampler)) lines
 pair_told m number e lines r image sampler among = subst (HasLines _) (sym r.told) (pair_stands number e r.uses r.pairs (image, sampler) among)
 
 pub lines_stand : LinesStand

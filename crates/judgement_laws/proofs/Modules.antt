@@ -14,14 +14,15 @@ use Rattle.spec_expressions.specs.judged.Context.{outside}
 use Rattle.spec_expressions.specs.judged.GlobalExpressions.{GlobalRequirement, of_literal, of_composition, of_value, must_be_folded, required_of, IsMet, GlobalExpressionOK}
 use Rattle.spec_expressions.specs.judged.Overrides.{DefaultOK, OverrideOK}
 use Rattle.spec_expressions.specs.judged.Typing.{HasGlobalType}
-use Rattle.spec_interface.specs.judged.Globals as globals
-use Rattle.spec_interface.specs.judged.Globals.{BeginsOK, VariableOK, GlobalOK, GlobalsOK}
+use Rattle.spec_interface.specs.judged.Globals.{GlobalOK, GlobalsOK}
+use Rattle.spec_interface.specs.found.Variables.{BeginsOK, VariableOK}
 use Rattle.judgement.specs.judged.ModuleSteps.{ModuleStep, layout, type, typing, expression, constant, override, item_count, StepOK, StepPasses, ModuleOK, IsFirstFailing}
 use Rattle.judgement_laws.specs.judged.Like.{LikeModule}
 use Rattle.judgement_laws.proofs.Handles.{handles_move}
 use Rattle.judgement_laws.proofs.Likeness.{module_back}
 use Rattle.judgement_laws.proofs.Shared.{if_some_moves}
 use Rattle.judgement_laws.proofs.Typing.{SameResults, same_results, typed_moves}
+use Rattle.spec_expressions.specs.judged.Firsts.{FailsFirst}
 
 module _ (m : PlainModule) (functions : List PlainFunction) (entries : List PlainEntry) (same : SameResults m.functions functions) where
   abbrev n : PlainModule
@@ -132,7 +133,7 @@ pub globals_move : (m n : PlainModule) → LikeModule m n → (flags : Validatio
 globals_move m n l flags capabilities h i within = global_move m n l flags capabilities i (h i (subst (λ z. i < length z.globals) l.rest within))
 
 pub first_global_move : (m n : PlainModule) → LikeModule m n → (flags : ValidationFlags) (capabilities : Capabilities) (i : ℕ)
-    → globals.IsFirstFailingGlobal flags capabilities m i → globals.IsFirstFailingGlobal flags capabilities n i
+    → FailsFirst (length m.globals) (GlobalOK flags capabilities m) i → FailsFirst (length n.globals) (GlobalOK flags capabilities n) i
 first_global_move m n l flags capabilities i h = record {
   within = subst (λ z. i < length z.globals) (sym l.rest) h.within;
   before = λ other less. global_move m n l flags capabilities other (h.before other less);

@@ -2,7 +2,8 @@
 use Rattle.std.proofs.Common.{◌≡◌, inl, inr, ℕ, zero, suc, ◌+◌, List, [], ◌∷◌, ◌++◌, Bool, true, false, Some, refl, sym, ap, subst, ◌∙◌, slice_get, append_assoc, append-nil, arith, if◌then◌else◌}
 use Rattle.std.specs.Prelude.{codes, flat_map}
 use Rattle.typing_rules.specs.judged.Laws.{IsAmong}
-use Rattle.judgement_laws.specs.judged.Lines.{AreWhole, HasLines}
+use Rattle.judgement_laws.specs.judged.Lines.{HasLines}
+use Rattle.judgement_laws.specs.found.Whole.{AreWhole}
 use Rattle.judgement.specs.judged.Lines.{each_from}
 
 pub whole_end : (front : List ℕ) → AreWhole (front ++ codes "\n")

@@ -3,4 +3,5 @@ pub mod AcceptedLaws
 pub mod Alike
 pub mod ReturnLaws
 pub mod RunExamples
+pub mod Whole
 pub mod Worked

@@ -1,7 +1,8 @@
 //! What a type is made of.
 
 ghost use Rattle.std.specs.Prelude.{◌≡◌, ◌↔◌, IsTrue};
-ghost use Rattle.spec_statements.specs.judged.Shapes.{IsInteger, IsFloating, IsBool, IsNumeric, IsIntegerScalar, shaped_of, form_of_shape, picture_of, sampler_of, pointee_of};
+ghost use Rattle.spec_statements.specs.judged.Shapes.{IsInteger, IsFloating, IsBool, IsNumeric, IsIntegerScalar, shaped_of, form_of_shape, picture_of, sampler_of};
+ghost use Rattle.spec_statements.specs.found.Pointers.{pointee_of};
 
 use ir_arena::handle::Handle;
 use ir_kinds::{Scalar, ScalarKind};

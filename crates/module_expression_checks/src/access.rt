@@ -1,10 +1,11 @@
 //! Indexes of accesses.
 
-ghost use Rattle.std.specs.Prelude.{◌≡◌, ◌<◌, ◌↔◌, IfSome, IsTrue, MatchResult, Some, option_and_then, slice_get};
+ghost use Rattle.std.specs.Prelude.{◌≡◌, ◌<◌, ◌↔◌, IfSome, IsTrue, MatchResult, Some, option_and_then, option_map, slice_get};
+ghost use Rattle.ir_kinds.specs.judged.Scalars.{component_count};
 ghost use Rattle.module_context.specs.Refused.{IsRefused};
 ghost use Rattle.module_context.specs.OperandView.{scene_in, types_in, expressions_in};
 ghost use Rattle.ir_types.specs.judged.Plain.{inner_view};
-ghost use Rattle.spec_statements.specs.judged.Access.{element_count, pointed_count, row_count, known_length, literal_of, index_of, IsIndexOf, AccessOK, AccessIndexOK};
+ghost use Rattle.spec_statements.specs.judged.Access.{element_count, pointed_count, known_length, literal_of, index_of, IsIndexOf, AccessOK, AccessIndexOK};
 ghost use Rattle.spec_statements.specs.judged.Scene.{form_among};
 ghost use Rattle.typing_forms.specs.judged.Resolutions.{inner_at};
 
@@ -29,7 +30,7 @@ const fn element_count(size: ArraySize) -> Option<u32>
 
 // How many components a value of a size has, if it is a vector.
 fn row_count(size: Option<VectorSize>) -> Option<u32>
-    ensures { result ≡ row_count size }
+    ensures { result ≡ option_map component_count size }
 {
     match size {
         Some(size) => Some(u32::from(size)),

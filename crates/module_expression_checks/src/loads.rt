@@ -4,7 +4,8 @@ ghost use Rattle.std.specs.Prelude.{◌↔◌, IsTrue, MatchResult, Some};
 ghost use Rattle.module_context.specs.Refused.{IsRefused};
 ghost use Rattle.module_context.specs.OperandView.{scene_in, types_in, IsKnown};
 ghost use Rattle.ir_types.specs.judged.Plain.{inner_view};
-ghost use Rattle.spec_statements.specs.judged.Loads.{LoadOK, IsDynamic, IsRuntimeArray, ArrayLengthOK};
+ghost use Rattle.spec_statements.specs.judged.Loads.{LoadOK, IsRuntimeArray, ArrayLengthOK};
+ghost use Rattle.spec_statements.specs.found.Sizes.{IsDynamic};
 ghost use Rattle.spec_statements.specs.judged.Scene.{form_among};
 
 use ir_arena::handle::Handle;

@@ -5,7 +5,7 @@ ghost use Rattle.module_context.specs.Refused.{IsRefused};
 ghost use Rattle.module_context.specs.OperandView.{scene_in};
 ghost use Rattle.spec_statements.specs.judged.Operators.{IsSigned, IsIntegerOrBool, TakesKind, IsAdded, AreMultiplied, UnaryOK, SumOK, ProductOK, ShiftOK, BinaryOK};
 ghost use Rattle.spec_statements.specs.judged.Scene.{form_among};
-ghost use Rattle.spec_statements.specs.judged.Shapes.{AnyShape, IsScalarShape, IsScalarOrVector, IsInteger, IsNumeric, IsBool, IsMadeOf, IsValue};
+ghost use Rattle.spec_statements.specs.judged.Shapes.{AnyShape, IsScalarShape, IsScalarOrVector, IsInteger, IsNumeric, IsBool, IsMadeOf, AnyKind};
 
 use crate::shapes::{is_alone, is_of_value, is_one_truth};
 use ir_arena::handle::Handle;
@@ -152,7 +152,7 @@ fn are_multiplied(left: Form, right: Form) -> bool
 
 // Whether a type is that of a value.
 fn is_value(of: Form) -> bool
-    ensures { IsTrue result ↔ IsValue of }
+    ensures { IsTrue result ↔ IsMadeOf IsScalarOrVector AnyKind of }
 {
     match shaped_of(of) {
         Some(shaped) => is_of_value(shaped.shape),

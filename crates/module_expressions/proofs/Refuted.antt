@@ -10,24 +10,24 @@ use Rattle.ir_types.specs.judged.ExpressionPlain.{PlainExpression, compose, plai
 use Rattle.ir_types.specs.declared.expressions.Expression.{Expression}
 use Rattle.ir_types.specs.declared.expressions.Expression.TheVariants as x
 use Rattle.ir_kinds.specs.declared.values.Literal.{Literal}
-use Rattle.spec_statements.specs.judged.Access.{literal_in}
+use Rattle.spec_statements.specs.judged.Access.{literal_of}
 use Rattle.spec_statements.specs.judged.Checks.{CheckOf}
 use Rattle.spec_statements.specs.judged.Expressions.{RequiredOf}
 use Rattle.spec_statements.specs.judged.Scene.{Scene}
 use Rattle.spec_expressions.specs.judged.LiteralScalars.{LiteralOK}
 
 -- what is required of a literal
-asked_literal : (s : Scene) (e : Expression) (value : Literal) → literal_in e ≡ Some value → CheckOf s e → LiteralOK s.capabilities value
+asked_literal : (s : Scene) (e : Expression) (value : Literal) → literal_of (plain e) ≡ Some value → CheckOf s e → LiteralOK s.capabilities value
 asked_literal s (x.Literal own) value is ok = let same : own ≡ value = cc in subst (LiteralOK s.capabilities) same ok
 asked_literal s _ value is ok = cc
 
-literal_or : (s : Scene) (e : Expression) (found : Option Literal) (error : ExpressionError) → literal_in e ≡ found → IsPlainFault s e found error → CheckOf s e → ⊥
+literal_or : (s : Scene) (e : Expression) (found : Option Literal) (error : ExpressionError) → literal_of (plain e) ≡ found → IsPlainFault s e found error → CheckOf s e → ⊥
 literal_or s e None error is fault ok = fault.1 ok
 literal_or s e (Some value) (error.Literal f) is fault ok = literal_refuted s.capabilities value f fault (asked_literal s e value is ok)
 literal_or s e (Some value) _ is fault ok = fault
 
 fault_refuted : (s : Scene) (p : PlainExpression) (e : ExpressionError) → IsFaultOf s p e → RequiredOf s p → ⊥
-fault_refuted s (plain e) error fault ok = literal_or s e (literal_in e) error refl fault ok
+fault_refuted s (plain e) error fault ok = literal_or s e (literal_of (plain e)) error refl fault ok
 fault_refuted s (compose type components) (error.Compose f) fault ok = composition_refuted s.types type _ f fault ok
 fault_refuted s (compose type components) _ fault ok = fault
 

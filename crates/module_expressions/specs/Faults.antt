@@ -7,7 +7,7 @@ use Rattle.ir_types.specs.judged.ExpressionPlain.{PlainExpression, compose, plai
 use Rattle.ir_types.specs.declared.expressions.Expression.{Expression}
 use Rattle.ir_types.specs.declared.expressions.Expression.TheVariants as x
 use Rattle.ir_kinds.specs.declared.values.Literal.{Literal}
-use Rattle.spec_statements.specs.judged.Access.{literal_in}
+use Rattle.spec_statements.specs.judged.Access.{literal_of}
 use Rattle.spec_statements.specs.judged.Checks.{CheckOf}
 use Rattle.spec_statements.specs.judged.Scene.{Scene, form_among}
 
@@ -19,7 +19,7 @@ IsPlainFault s expression None e = IsRefused (CheckOf s expression) e
 -- a composition that can't be made, or another expression with a fault
 abbrev pub IsFaultOf : Scene → PlainExpression → ExpressionError → Type 0
 IsFaultOf s (compose type components) e = IsBadComposition s.types type (map (form_among s.forms) components) e
-IsFaultOf s (plain expression) e = IsPlainFault s expression (literal_in expression) e
+IsFaultOf s (plain expression) e = IsPlainFault s expression (literal_of (plain expression)) e
 
 -- the expression at a handle has this fault
 pub record IsExpressionFault (s : Scene) (handle : ℕ) (e : ExpressionError) : Type 0 where

@@ -4,7 +4,7 @@ use Rattle.std.specs.Int.{◌∣◌}
 use Rattle.ir_types.specs.judged.Plain.{PlainType}
 use Rattle.typing_layout.specs.judged.Buffers.{FitsStorageBuffer, FitsUniformBuffer, StorageAt, UniformAt, uniform_alignment, free_after}
 use Rattle.typing_layout.specs.judged.Flags.{HasFlag, AllHave, HostShareable}
-use Rattle.typing_layout.specs.judged.Immediates.{FitsImmediates, ImmediateAt}
+use Rattle.typing_layout.specs.judged.Immediates.{FitsImmediates}
 use Rattle.typing_layout.specs.judged.Parts.{TreeMember, Everywhere, EverywhereIn, Somewhere, SomewhereIn}
 use Rattle.typing_layout.specs.judged.Layout.{alignment, tree_scalar}
 use Rattle.typing_layout.specs.judged.Tree.{Tree, scalar, vector, matrix, cooperative_matrix, atomic, pointer, value_pointer, array, struct, image, sampler, acceleration_structure, ray_query, binding_array, Members, no_members, member}
@@ -140,6 +140,9 @@ uniform_refuted types t type fault.NonHostShareable broken ok =
     apart (HasFlag HostShareable) (At types type (BreaksUniform fault.NonHostShareable)) (λ inside h q. q.1 h) t (host_inside t ok.0) broken
 
 -- ---- immediate data
+
+abbrev ImmediateAt : Tree → Type 0
+ImmediateAt t = IfSome (tree_scalar t) (λ s. s.width ≢ 2)
 
 unfit_at : (s : Scalar) → s.width ≡ 2 → (t : Tree) → ImmediateAt t → tree_scalar t ≡ Some s → ⊥
 unfit_at s two t fits is = subst (λ o. IfSome o (λ (x : Scalar). x.width ≢ 2)) is fits two

@@ -9,7 +9,8 @@ use Rattle.ir_kinds.specs.declared.spaces.AddressSpace.{AddressSpace}
 use Rattle.ir_kinds.specs.declared.spaces.AddressSpace.TheVariants.{Function, Private, WorkGroup, Uniform, Storage, Handle, Immediate, TaskPayload, RayPayload, IncomingRayPayload}
 use Rattle.module_globals.specs.Faults.{required_bits}
 use Rattle.typing_layout.specs.judged.Flags.{TypeFlag, bit, among, Data, Sized, Copy, IoShareable, HostShareable, CreationResolved, Argument, Constructible}
-use Rattle.spec_interface.specs.judged.Spaces.{required, HasAll}
+use Rattle.spec_interface.specs.judged.Spaces.{space_row}
+use Rattle.spec_interface.specs.found.Variables.{HasAll}
 use Rattle.typing_layout.specs.judged.Tree.{Tree}
 use Rattle.typing_layout.specs.found.Infos.{AreFlags}
 use Rattle.typing_layout.specs.declared.type_flags.TypeFlags.{TypeFlags}
@@ -26,7 +27,7 @@ by_flags P a b c d e g h i Constructible = i
 
 -- a flag is in the number where it is in the list
 abbrev Agrees : AddressSpace → TypeFlag → Type 0
-Agrees s f = (bit_and (required_bits s) (bit f) == bit f) ≡ among (required s) f
+Agrees s f = (bit_and (required_bits s) (bit f) == bit f) ≡ among (space_row s).flags f
 
 agrees : (s : AddressSpace) (f : TypeFlag) → Agrees s f
 agrees Function = by_flags (Agrees Function) refl refl refl refl refl refl refl refl
@@ -40,16 +41,16 @@ agrees TaskPayload = by_flags (Agrees TaskPayload) refl refl refl refl refl refl
 agrees RayPayload = by_flags (Agrees RayPayload) refl refl refl refl refl refl refl refl
 agrees IncomingRayPayload = by_flags (Agrees IncomingRayPayload) refl refl refl refl refl refl refl refl
 
-has_asked : (s : AddressSpace) (f : TypeFlag) → IsTrue (among (required s) f) → Has (required_bits s) (bit f)
+has_asked : (s : AddressSpace) (f : TypeFlag) → IsTrue (among (space_row s).flags f) → Has (required_bits s) (bit f)
 has_asked s f h = (Decides-eqb (bit_and (required_bits s) (bit f)) (bit f)).0 (subst IsTrue (sym (agrees s f)) h)
 
 -- a set with all these flags has all that is required
-pub all_asked : (s : AddressSpace) (set : ℕ) (asked : ℕ) (t : Tree) (flags : TypeFlags) → asked ≡ required_bits s → set ≡ flags.0 → AreFlags flags t → Has set asked → HasAll (required s) t
+pub all_asked : (s : AddressSpace) (set : ℕ) (asked : ℕ) (t : Tree) (flags : TypeFlags) → asked ≡ required_bits s → set ≡ flags.0 → AreFlags flags t → Has set asked → HasAll (space_row s).flags t
 all_asked s set asked t flags is same are has f h =
     (are f).0 (subst (λ k. Has k (bit f)) same (within-over (bit f) (required_bits s) set (has_asked s f h) (subst (Has set) is has)))
 
 -- those that are required, taken together
-together : (s : AddressSpace) (set : ℕ) → ((f : TypeFlag) → IsTrue (among (required s) f) → Has set (bit f)) → Has set (required_bits s)
+together : (s : AddressSpace) (set : ℕ) → ((f : TypeFlag) → IsTrue (among (space_row s).flags f) → Has set (bit f)) → Has set (required_bits s)
 together Function set h = and_zero_r set
 together Handle set h = and_zero_r set
 together Private set h = union-within 32 128 set (h CreationResolved refl) (h Constructible refl)
@@ -62,7 +63,7 @@ together Immediate set h = union-within 3 20 set (union-within 1 2 set (h Data r
 together Uniform set h =
     union-within 23 32 set (union-within 3 20 set (union-within 1 2 set (h Data refl) (h Sized refl)) (union-within 4 16 set (h Copy refl) (h HostShareable refl))) (h CreationResolved refl)
 
-pub none_missing : (s : AddressSpace) (set asked : ℕ) (t : Tree) (flags : TypeFlags) → asked ≡ required_bits s → set ≡ flags.0 → AreFlags flags t → HasAll (required s) t → Has set asked
+pub none_missing : (s : AddressSpace) (set asked : ℕ) (t : Tree) (flags : TypeFlags) → asked ≡ required_bits s → set ≡ flags.0 → AreFlags flags t → HasAll (space_row s).flags t → Has set asked
 none_missing s set asked t flags is same are all =
     subst (Has set) (sym is) (together s set (λ f h. subst (λ k. Has k (bit f)) (sym same) ((are f).1 (all f h))))
 

@@ -15,7 +15,7 @@ use Rattle.ir_kinds.specs.declared.spaces.AddressSpace.{AddressSpace}
 use Rattle.ir_kinds.specs.declared.spaces.AddressSpace.TheVariants.{Storage}
 use Rattle.ir_types.specs.judged.Plain.{PlainInner}
 use Rattle.typing_layout.specs.judged.Buffers.{FitsStorageBuffer}
-use Rattle.spec_interface.specs.judged.Globals.{BeginsOK, VariableOK}
+use Rattle.spec_interface.specs.found.Variables.{BeginsOK, VariableOK}
 use Rattle.spec_interface.specs.judged.Spaces.{array_capability, space_capability, HasArrayCapability, LiesIn, is_storage}
 use Rattle.typing_layout.specs.judged.Tree.{Tree}
 use Rattle.typing_forms.specs.judged.Resolutions.{inner_at}

@@ -16,7 +16,8 @@ use Rattle.ir_items.specs.found.GlobalView.{values_of}
 use Rattle.ir_items.specs.judged.Plain.{PlainModule}
 use Rattle.ir_kinds.specs.declared.spaces.AddressSpace.{AddressSpace}
 use Rattle.ir_types.specs.judged.Plain.{PlainType}
-use Rattle.spec_interface.specs.judged.Globals.{BeginsBy, VariableBy, VariableOK, GlobalOK}
+use Rattle.spec_interface.specs.judged.Globals.{BeginsBy, VariableBy, GlobalOK}
+use Rattle.spec_interface.specs.found.Variables.{VariableOK}
 use Rattle.spec_interface.specs.judged.Spaces.{array_base, effective_type}
 use Rattle.typing_forms.specs.judged.Forms.{form_of_type}
 use Rattle.typing_forms.specs.judged.Order.{TypesGoBack}

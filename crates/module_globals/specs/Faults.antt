@@ -18,7 +18,8 @@ use Rattle.ir_types.specs.judged.Plain.{PlainInner, PlainType}
 use Rattle.spec_expressions.specs.judged.Overrides.{IsKnownByOverrides}
 use Rattle.spec_expressions.specs.judged.Typing.{HasGlobalType}
 use Rattle.spec_interface.specs.judged.Handles.{is_handle}
-use Rattle.spec_interface.specs.judged.Spaces.{array_base, effective_type, array_capability, space_capability, required, HasAll, is_resource, is_storage}
+use Rattle.spec_interface.specs.judged.Spaces.{array_base, effective_type, array_capability, space_capability, is_storage, space_row}
+use Rattle.spec_interface.specs.found.Variables.{HasAll}
 use Rattle.typing_layout.specs.judged.Layout.{size}
 use Rattle.typing_layout.specs.judged.Tree.{Tree}
 use Rattle.typing_layout.specs.judged.View.{type_tree}
@@ -97,9 +98,9 @@ abbrev pub IsWrongBy : (HasForm : (expression : ℕ) → Form → Type 0) → Va
 IsWrongBy HasForm flags capabilities m v (error.InvalidUsage s) = (s ≡ v.space) × ((v.space ≡ Function) ⊎ IsUnboundArray m v)
 IsWrongBy HasForm flags capabilities m v (error.InvalidType s) = (s ≡ v.space) × (v.space ≡ Handle) × ¬ IsTrue (is_handle (counted_inner m v))
 IsWrongBy HasForm flags capabilities m v (error.InvalidBindingArray base) = (v.space ≡ Handle) × IsArrayOf m.types v.ty base × (array_capability Handle (inner_at m.types base) ≡ None)
-IsWrongBy HasForm flags capabilities m v (error.MissingTypeFlags asked seen) = (asked.0 ≡ required_bits v.space) × AreFlags seen (counted_tree m v) × ¬ HasAll (required v.space) (counted_tree m v)
+IsWrongBy HasForm flags capabilities m v (error.MissingTypeFlags asked seen) = (asked.0 ≡ required_bits v.space) × AreFlags seen (counted_tree m v) × ¬ HasAll (space_row v.space).flags (counted_tree m v)
 IsWrongBy HasForm flags capabilities m v (error.UnsupportedCapability c) = Needs m v c × ¬ Has capabilities.0 c.0
-IsWrongBy HasForm flags capabilities m v error.InvalidBinding = Has flags.0 BINDINGS.0 × ¬ (IsTrue (is_resource v.space) ↔ IsSome v.binding)
+IsWrongBy HasForm flags capabilities m v error.InvalidBinding = Has flags.0 BINDINGS.0 × ¬ (IsTrue (space_row v.space).bound ↔ IsSome v.binding)
 IsWrongBy HasForm flags capabilities m v (error.Alignment s type d) =
     (s ≡ v.space) × Has flags.0 STRUCT_LAYOUTS.0
     × ((IsTrue (is_storage v.space) × IsBroken BreaksStorage m.types (counted_tree m v) (type, d)) ⊎ ((v.space ≡ Uniform) × IsBroken BreaksUniform m.types (counted_tree m v) (type, d)))

@@ -11,7 +11,8 @@ ghost use Rattle.ir_flags.specs.Sets.{Has};
 ghost use Rattle.ir_flags.specs.declared.settings.TheConstants.ValidationFlags.{BINDINGS, STRUCT_LAYOUTS};
 ghost use Rattle.ir_items.specs.found.GlobalView.{global_view};
 ghost use Rattle.spec_interface.specs.judged.Globals.{BeginsBy, DecorationsOK, VariableBy};
-ghost use Rattle.spec_interface.specs.judged.Spaces.{effective_type, ArraysOK, space_capability, LiesIn, required, HasAll, is_resource};
+ghost use Rattle.spec_interface.specs.judged.Spaces.{effective_type, space_capability, LiesIn, space_row};
+ghost use Rattle.spec_interface.specs.found.Variables.{ArraysOK, HasAll};
 ghost use Rattle.ir_types.specs.judged.Plain.{inner_view};
 ghost use Rattle.typing_forms.specs.judged.Order.{TypesGoBack};
 ghost use Rattle.typing_forms.specs.judged.Resolutions.{inner_at};
@@ -165,7 +166,7 @@ fn check_needs(
     requires within { ty < length (module_of context.now).types }
     ensures { (given : Option Initializer) (flags : ValidationFlags) → MatchResult result
         (λ _. IfSome (space_capability variable.now.space (counted_inner (module_of context.now) (global_view variable.now))) (λ c. Has context.now.capabilities.0 c.0)
-        × HasAll (required variable.now.space) (counted_tree (module_of context.now) (global_view variable.now)))
+        × HasAll (space_row variable.now.space).flags (counted_tree (module_of context.now) (global_view variable.now)))
         (IsWrongBy (HasFormOf given) flags context.now.capabilities (module_of context.now) (global_view variable.now)) }
 {
     let inner = inner_of(context, ty);
@@ -189,8 +190,8 @@ fn check_binding(
     variable: &GlobalVariable,
 ) -> Result<(), GlobalVariableError>
     ensures { MatchResult result
-        (λ _. Has flags.0 BINDINGS.0 → IsTrue (is_resource variable.now.space) ↔ IsSome (global_view variable.now).binding)
-        (λ e. (e ≡ InvalidBinding) × Has flags.0 BINDINGS.0 × ¬ (IsTrue (is_resource variable.now.space) ↔ IsSome (global_view variable.now).binding)) }
+        (λ _. Has flags.0 BINDINGS.0 → IsTrue (space_row variable.now.space).bound ↔ IsSome (global_view variable.now).binding)
+        (λ e. (e ≡ InvalidBinding) × Has flags.0 BINDINGS.0 × ¬ (IsTrue (space_row variable.now.space).bound ↔ IsSome (global_view variable.now).binding)) }
 {
     if flags.contains(ValidationFlags::BINDINGS)
         && is_resource(variable.space) != variable.binding.is_some()

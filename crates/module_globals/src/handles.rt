@@ -2,7 +2,8 @@
 
 ghost use Rattle.std.specs.Prelude.{◌≡◌, Some};
 ghost use Rattle.ir_types.specs.judged.Plain.{inner_view};
-ghost use Rattle.spec_interface.specs.judged.Handles.{is_handle, is_norm_16, handle_capability, class_array_capability, handle_array_capability};
+ghost use Rattle.ir_kinds.specs.judged.Images.{is_norm_16};
+ghost use Rattle.spec_interface.specs.judged.Handles.{is_handle, handle_capability, class_array_capability, handle_array_capability};
 ghost use Rattle.spec_interface.specs.judged.Spaces.{array_base};
 
 use ir_arena::handle::Handle;

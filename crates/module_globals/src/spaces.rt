@@ -3,7 +3,7 @@
 ghost use Rattle.std.specs.Prelude.{◌≡◌, Some};
 ghost use Rattle.module_globals.specs.Faults.{required_bits};
 ghost use Rattle.ir_types.specs.judged.Plain.{inner_view};
-ghost use Rattle.spec_interface.specs.judged.Spaces.{array_capability, space_capability, is_resource, is_storage};
+ghost use Rattle.spec_interface.specs.judged.Spaces.{array_capability, space_capability, is_storage, space_row};
 
 use crate::handles::{handle_capability, handles_capability};
 use ir_flags::Capabilities;
@@ -79,7 +79,7 @@ pub(crate) const fn required(space: AddressSpace) -> TypeFlags
 
 /// Whether a host binds what lies in a space.
 pub(crate) const fn is_resource(space: AddressSpace) -> bool
-    ensures { result ≡ is_resource space }
+    ensures { result ≡ (space_row space).bound }
 {
     match space {
         AddressSpace::Storage { .. } | AddressSpace::Uniform | AddressSpace::Handle => true,

@@ -6,7 +6,7 @@ use Rattle.ir_references.specs.First.{first_past}
 use Rattle.ir_references.specs.declared.fault.HandleFault.TheVariants as fault
 use Rattle.module_handles.specs.Found.{first_missing}
 use Rattle.spec_expressions.specs.judged.Operands.{given}
-use Rattle.spec_expressions.specs.judged.ItemNames.{mesh_variables}
+use Rattle.spec_expressions.specs.found.Meshes.{mesh_variables}
 use Rattle.spec_expressions.specs.declared.item.ItemKind.{ItemKind}
 
 pub missing_among : (k : ItemKind) (there : ℕ) (xs ys : List ℕ) → first_missing k there (xs ++ ys) ≡ option_or (first_missing k there xs) (first_missing k there ys)

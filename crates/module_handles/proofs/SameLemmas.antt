@@ -1,11 +1,12 @@
 -- The rows of operands with their uses have the handles of the rows without.
-use Rattle.std.proofs.Common.{◌≡◌, inl, inr, ℕ, ◌<◌, List, [], ◌∷◌, map, Option, Some, None, option_map, All, refl, sym, ap, subst}
+use Rattle.std.proofs.Common.{◌≡◌, inl, inr, ℕ, ◌<◌, List, ◌∷◌, map, Option, Some, None, option_map, All, refl, sym, ap, subst, []}
 use Rattle.std.specs.List.{cons_option}
 use Rattle.std.proofs.lemmas.List.Elements.{All-cons, All-nil, All-head, All-tail}
 use Rattle.typing_rules.specs.judged.Laws.{IsAmong}
 use Rattle.spec_expressions.specs.judged.OperandUses.{Operand, operand, operands_in, expression_uses}
 use Rattle.spec_expressions.specs.declared.operand.Usage.TheVariants.{Read}
-use Rattle.spec_expressions.specs.judged.Operands.{Operands, these, each_of, expression_slots, handles_of as handles_in}
+use Rattle.spec_expressions.specs.judged.Operands.{Operands, these, each_of, handles_of as handles_in}
+use Rattle.spec_expressions.specs.judged.Kinds.{expression_slots}
 use Rattle.spec_expressions.specs.declared.operand.Slot.{Slot}
 use Rattle.spec_expressions.specs.declared.operand.Usage.{Usage}
 use Rattle.module_handles.specs.SameOperands.{handles_of, SameOperands, SameOrder}

@@ -6,7 +6,8 @@ ghost use Rattle.ir_items.specs.found.View.{entry_view, module_view};
 ghost use Rattle.module_handles.specs.Found.{first_missing, entry_missing};
 ghost use Rattle.module_handles.specs.InOrder.{IsFaultIn, EntriesOK};
 ghost use Rattle.spec_expressions.specs.judged.Operands.{given};
-ghost use Rattle.spec_expressions.specs.judged.ItemNames.{mesh_types, mesh_expressions, mesh_variables, entry_variables};
+ghost use Rattle.spec_expressions.specs.judged.ItemNames.{mesh_types, mesh_expressions, entry_variables};
+ghost use Rattle.spec_expressions.specs.found.Meshes.{mesh_variables};
 ghost use Rattle.spec_expressions.specs.declared.item.ItemKind.TheVariants as kind;
 
 use crate::lists::{ItemCheck, fault_of_items, first_missing};

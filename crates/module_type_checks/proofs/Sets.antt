@@ -6,7 +6,8 @@ use Rattle.ir_flags.proofs.SetLaws.{within-union_right, within-intersection, wit
 use Rattle.ir_flags.specs.Sets.{Has}
 use Rattle.ir_types.specs.declared.types.ArraySize.TheVariants as count
 use Rattle.module_type_checks.specs.Sets.{AreOf, HostIf, AreKept, IoIs, AreShared}
-use Rattle.typing_layout.specs.judged.Flags.{TypeFlag, bit, among, Data, Sized, Copy, IoShareable, HostShareable, CreationResolved, Argument, Constructible, value_flags, shareable_flags, number_flags, atomic_flags, shared_pointer_flags, invocation_pointer_flags, resource_flags, query_flags, binding_array_flags, array_flags}
+use Rattle.typing_layout.specs.judged.Flags.{TypeFlag, bit, among, Data, Sized, Copy, IoShareable, HostShareable, CreationResolved, Argument, Constructible, value_flags, shareable_flags, shared_pointer_flags, resource_flags, array_flags}
+use Rattle.module_type_checks.specs.Kinds.{atomic_flags, query_flags, binding_array_flags}
 
 pub by_flags : (P : TypeFlag → Type 0) → P Data → P Sized → P Copy → P IoShareable → P HostShareable → P CreationResolved → P Argument → P Constructible → (f : TypeFlag) → P f
 by_flags P a b c d e g h i Data = a
@@ -35,6 +36,9 @@ value_set = are_of 231 value_flags (by_flags (Agree 231 value_flags) refl refl r
 pub shareable_set : AreOf 247 shareable_flags
 shareable_set = are_of 247 shareable_flags (by_flags (Agree 247 shareable_flags) refl refl refl refl refl refl refl refl)
 
+abbrev pub number_flags : List TypeFlag
+number_flags = IoShareable ∷ shareable_flags
+
 pub number_set : AreOf 255 number_flags
 number_set = are_of 255 number_flags (by_flags (Agree 255 number_flags) refl refl refl refl refl refl refl refl)
 
@@ -43,6 +47,9 @@ atomic_set = are_of 51 atomic_flags (by_flags (Agree 51 atomic_flags) refl refl 
 
 pub far_set : AreOf 38 shared_pointer_flags
 far_set = are_of 38 shared_pointer_flags (by_flags (Agree 38 shared_pointer_flags) refl refl refl refl refl refl refl refl)
+
+abbrev pub invocation_pointer_flags : List TypeFlag
+invocation_pointer_flags = Argument ∷ shared_pointer_flags
 
 pub own_set : AreOf 102 invocation_pointer_flags
 own_set = are_of 102 invocation_pointer_flags (by_flags (Agree 102 invocation_pointer_flags) refl refl refl refl refl refl refl refl)

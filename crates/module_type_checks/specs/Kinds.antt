@@ -1,8 +1,17 @@
 -- Kinds of types that hold no other.
-use Rattle.std.specs.Prelude.{List, []}
+use Rattle.std.specs.Prelude.{List, [], ◌∷◌}
 use Rattle.ir_types.specs.judged.Plain.{PlainInner, struct, plain}
 use Rattle.ir_types.specs.declared.types.TypeInner.TheVariants as inner
-use Rattle.typing_layout.specs.judged.Flags.{TypeFlag, scalar_flags, shareable_flags, atomic_flags, pointer_flags, array_flags, resource_flags, query_flags, binding_array_flags}
+use Rattle.typing_layout.specs.judged.Flags.{TypeFlag, Data, Sized, HostShareable, CreationResolved, Constructible, scalar_flags, shareable_flags, pointer_flags, array_flags, resource_flags}
+
+abbrev pub atomic_flags : List TypeFlag
+atomic_flags = Data ∷ Sized ∷ HostShareable ∷ CreationResolved ∷ []
+
+abbrev pub query_flags : List TypeFlag
+query_flags = Data ∷ Sized ∷ Constructible ∷ CreationResolved ∷ []
+
+abbrev pub binding_array_flags : List TypeFlag
+binding_array_flags = CreationResolved ∷ []
 
 -- the flags of a type that has them from nothing else, and those that an array may have from its elements; a struct is never
 -- `plain`

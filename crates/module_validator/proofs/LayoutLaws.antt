@@ -1,5 +1,5 @@
 -- Layouts of arrays and structs, from those of their parts.
-use Rattle.std.proofs.Common.{◌≡◌, ◌<◌, ◌≤◌, ◌+◌, inr, ℕ, List, Option, Some, None, IfSome, Bool, if◌then◌else◌, Result, Ok, Err, MatchResult, max, refl, sym, ap, subst, ◌∙◌, arith}
+use Rattle.std.proofs.Common.{◌≡◌, ◌≢◌, ◌<◌, ◌≤◌, ◌+◌, inr, ℕ, List, Option, Some, None, IfSome, Bool, if◌then◌else◌, Result, Ok, Err, MatchResult, max, refl, sym, ap, subst, ◌∙◌, arith}
 use Rattle.std.specs.Int.{◌∣◌}
 use Rattle.ir_types.specs.judged.Plain.{PlainMember}
 use Rattle.ir_types.specs.declared.types.ArraySize.{ArraySize}
@@ -8,7 +8,7 @@ use Rattle.module_validator.proofs.Inside.{everywhere_in, somewhere_struct, some
 use Rattle.module_validator.specs.Layouts.{IsStructOf, IsStructAt, IsArrayAt, StoragePart, UniformPart, FitsAt, free_before, IsUniformAlignment}
 use Rattle.typing_layout.specs.judged.Buffers.{StorageAt, FitsStorageBuffer, UniformAt, FitsUniformBuffer, uniform_alignment, free_after}
 use Rattle.typing_layout.specs.judged.Flags.{HasFlag, HostShareable}
-use Rattle.typing_layout.specs.judged.Immediates.{ImmediateAt, FitsImmediates}
+use Rattle.typing_layout.specs.judged.Immediates.{FitsImmediates}
 use Rattle.typing_layout.specs.judged.Parts.{TreeMember, item_before, end_of, Somewhere}
 use Rattle.typing_layout.specs.judged.Layout.{alignment, tree_scalar}
 use Rattle.typing_layout.specs.judged.Tree.{Tree, array}
@@ -183,4 +183,4 @@ member_fits c ms handle place placed own at (Ok u) h = fit_part c ms place place
 member_fits c ms handle place placed own at (Err e) h = unfit_part c ms handle place placed e own at h
 
 pub fit_struct : (c : TypeContext) (ms : List PlainMember) (handle : ℕ) (own : IsStructAt c ms handle) → ((k : ℕ) → AtPlace FitsAt (parts_in c ms) k) → FitsImmediates (tree_in c handle)
-fit_struct c ms handle own each = subst FitsImmediates (sym own.is) (tt, everywhere_in ImmediateAt (members_by (tree_in c) ms) each)
+fit_struct c ms handle own each = subst FitsImmediates (sym own.is) (tt, everywhere_in (λ inside. IfSome (tree_scalar inside) (λ s. s.width ≢ 2)) (members_by (tree_in c) ms) each)

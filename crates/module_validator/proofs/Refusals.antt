@@ -23,13 +23,14 @@ use Rattle.module_validator.specs.Faults.{IsModuleFault, IsReportedAs}
 use Rattle.module_validator.specs.declared.error.ModuleError.TheVariants as error
 use Rattle.spec_expressions.specs.judged.Context.{outside}
 use Rattle.judgement.specs.judged.ModuleSteps as step
-use Rattle.judgement.specs.judged.ModuleSteps.{IsReached, FailsFirst}
+use Rattle.judgement.specs.judged.ModuleSteps.{IsReached, StepOK, item_count}
 use Rattle.typing_infos.specs.Types.{IsFirstUntyped}
 use Rattle.typing_infos.specs.declared.refusal.TypingRefusal.{TypingRefusal}
 use Rattle.typing_infos.specs.declared.refusal.TypingRefusal.TheVariants as typing
 use Rattle.typing_layout.specs.found.Held.{AreLayouts, IsRefused, IsRefusal}
 use Rattle.typing_layout.specs.declared.error.LayoutError.{LayoutError}
 use Rattle.typing_layout.specs.declared.layout.TypeLayout.{TypeLayout}
+use Rattle.spec_expressions.specs.judged.Firsts.{FailsFirst}
 
 pub by_handles : (s : Settings) (resolved : Bool) (m : PlainModule) (e : InvalidHandleError) → IsHandleError m e → IsModuleFault s resolved m (error.InvalidHandle e)
 by_handles s resolved m e wrong = (wrong, handle_refuted m e wrong)
@@ -40,14 +41,14 @@ by_layout s resolved m layouts e reached held refused = (record { reached = reac
 pub by_type : (s : Settings) (resolved : Bool) (m : PlainModule) (e : InvalidType) → IsReached s resolved m step.type → IsTypeRefused s.capabilities resolved m.types e → IsModuleFault s resolved m (error.Type e)
 by_type s resolved m e reached refused = (record { reached = reached; item = not_told s resolved m e refused }, refused.fault)
 
-pub by_expression : (s : Settings) (resolved : Bool) (m : PlainModule) (e : InvalidGlobalExpression) → IsReached s resolved m step.expression → FailsFirst s resolved m step.expression e.expression
+pub by_expression : (s : Settings) (resolved : Bool) (m : PlainModule) (e : InvalidGlobalExpression) → IsReached s resolved m step.expression → FailsFirst (item_count m step.expression) (StepOK s resolved m step.expression) e.expression
     → IsConstExpressionFault s.capabilities resolved m e.expression e.error → IsModuleFault s resolved m (error.ConstExpression e)
 by_expression s resolved m e reached item fault = inr (record { reached = reached; item = item }, fault)
 
-pub by_constant : (s : Settings) (resolved : Bool) (m : PlainModule) (e : InvalidConstant) → IsReached s resolved m step.constant → FailsFirst s resolved m step.constant e.constant → IsConstantFault m e.constant e.error → IsModuleFault s resolved m (error.Constant e)
+pub by_constant : (s : Settings) (resolved : Bool) (m : PlainModule) (e : InvalidConstant) → IsReached s resolved m step.constant → FailsFirst (item_count m step.constant) (StepOK s resolved m step.constant) e.constant → IsConstantFault m e.constant e.error → IsModuleFault s resolved m (error.Constant e)
 by_constant s resolved m e reached item fault = (record { reached = reached; item = item }, fault)
 
-pub by_override : (s : Settings) (resolved : Bool) (m : PlainModule) (e : InvalidOverride) → IsReached s resolved m step.override → FailsFirst s resolved m step.override e.id → IsOverrideFault resolved m e.id e.error → IsModuleFault s resolved m (error.Override e)
+pub by_override : (s : Settings) (resolved : Bool) (m : PlainModule) (e : InvalidOverride) → IsReached s resolved m step.override → FailsFirst (item_count m step.override) (StepOK s resolved m step.override) e.id → IsOverrideFault resolved m e.id e.error → IsModuleFault s resolved m (error.Override e)
 by_override s resolved m e reached item fault = (record { reached = reached; item = item }, fault)
 
 pub by_told : (s : Settings) (resolved : Bool) (m : PlainModule) (layouts : List TypeLayout) (r : Refusal LayoutError) (f : WithSpan LayoutError) (e : LayoutError) → r ≡ refusal.Fault f → e ≡ error_of f → IsReached s resolved m step.layout
@@ -61,6 +62,6 @@ pub by_refusal : (s : Settings) (resolved : Bool) (m : PlainModule) (r : TypingR
 by_refusal s resolved m (typing.Memory e) x reached first told = absurd told
 by_refusal s resolved m (typing.Fault expression e) x reached first told =
     inl (
-      record { reached = reached; item = subst (FailsFirst s resolved m step.typing) (sym told.0) (not_typed s resolved m expression e first) },
+      record { reached = reached; item = subst (FailsFirst (item_count m step.typing) (StepOK s resolved m step.typing)) (sym told.0) (not_typed s resolved m expression e first) },
       subst (λ d. IsUntyped m x.expression d) (sym told.1) (subst (λ h. IsUntyped m h (expression_error.Typing e)) (sym told.0) first.tells),
     )

@@ -6,7 +6,7 @@ use Rattle.module_context.specs.AcceptedTypes.{AreAccepted}
 use Rattle.module_validator.specs.Validated.{IsFirstRefused as IsTypeRefused}
 use Rattle.module_validator.specs.declared.validate.InvalidType.{InvalidType}
 use Rattle.spec_expressions.specs.judged.Context.{outside}
-use Rattle.judgement.specs.judged.ModuleSteps.{layout, type, typing, StepPasses, FailsFirst}
+use Rattle.judgement.specs.judged.ModuleSteps.{layout, type, typing, item_count, StepOK, StepPasses}
 use Rattle.typing_layout.specs.judged.Layout.{LayoutOK}
 use Rattle.typing_layout.specs.judged.Tree.{Tree}
 use Rattle.typing_layout.specs.judged.View.{type_tree}
@@ -23,6 +23,7 @@ use Rattle.spec_expressions.specs.declared.faults.TypingFault.{TypingFault}
 use Rattle.spec_expressions.specs.judged.Typing.{HasTypeAmong}
 use Rattle.typing_layout.specs.declared.info.TypeInfo.{TypeInfo}
 use Rattle.typing_forms.specs.declared.form.Form.{Form}
+use Rattle.spec_expressions.specs.judged.Firsts.{FailsFirst}
 
 -- what stands at a place of a list
 pub there : {A : Type 0} (xs : List A) (k : ℕ) → k < length xs → (x : A) × (slice_get xs k ≡ Some x)
@@ -47,7 +48,7 @@ unlaid : (t : Tree) (inner : LayoutErrorInner) → IsFaultOf t inner → LayoutO
 unlaid t NonPowerOfTwoWidth fault ok = fault ok.width
 unlaid t TooLarge fault ok = let most = ok.in_range in absurd (omega (arith, fault, most))
 
-pub not_laid : (s : Settings) (resolved : Bool) (m : PlainModule) (layouts : List TypeLayout) (e : LayoutError) → AreLayouts m.types layouts → IsRefused m.types layouts e → FailsFirst s resolved m layout e.ty
+pub not_laid : (s : Settings) (resolved : Bool) (m : PlainModule) (layouts : List TypeLayout) (e : LayoutError) → AreLayouts m.types layouts → IsRefused m.types layouts e → FailsFirst (item_count m layout) (StepOK s resolved m layout) e.ty
 not_laid s resolved m layouts e held refused = record {
   within = refused.within;
   before = λ other lt. let next = refused.next in laid_at m layouts other held (omega (arith, lt, next));
@@ -61,7 +62,7 @@ told s resolved m infos accepted = record {
   each = λ index lt. let many = accepted.many in let here = there infos index (omega (arith, lt, many)) in (accepted.each index here.0 here.1).ok;
 }
 
-pub not_told : (s : Settings) (resolved : Bool) (m : PlainModule) (e : InvalidType) → IsTypeRefused s.capabilities resolved m.types e → FailsFirst s resolved m type e.ty
+pub not_told : (s : Settings) (resolved : Bool) (m : PlainModule) (e : InvalidType) → IsTypeRefused s.capabilities resolved m.types e → FailsFirst (item_count m type) (StepOK s resolved m type) e.ty
 not_told s resolved m e refused = record {
   within = refused.within;
   before = refused.before;
@@ -83,7 +84,7 @@ faulty_has_none : (m : PlainModule) (place : ℕ) (f : Option TypingFault) → R
 faulty_has_none m place (Some f) tells t typed = tells.none t typed
 faulty_has_none m place None tells t typed = absurd tells
 
-pub not_typed : (s : Settings) (resolved : Bool) (m : PlainModule) (place : ℕ) (error : ResolveError) → IsUntypedFirst (outside m) m.global_expressions place error → FailsFirst s resolved m typing place
+pub not_typed : (s : Settings) (resolved : Bool) (m : PlainModule) (place : ℕ) (error : ResolveError) → IsUntypedFirst (outside m) m.global_expressions place error → FailsFirst (item_count m typing) (StepOK s resolved m typing) place
 not_typed s resolved m place error untyped = record {
   within = faulty_within m place (fault_of error) untyped.tells;
   before = untyped.before;

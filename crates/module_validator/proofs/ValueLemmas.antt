@@ -25,12 +25,13 @@ use Rattle.spec_expressions.specs.judged.GlobalExpressions.{GlobalExpressionOK}
 use Rattle.spec_expressions.specs.judged.Overrides.{OverrideOK}
 use Rattle.spec_expressions.specs.judged.Context.{outside}
 use Rattle.spec_expressions.specs.judged.ModuleHandles.{HandlesOK}
-use Rattle.judgement.specs.judged.ModuleSteps.{expression, constant, override, item_count, StepPasses, IsReached, FailsFirst}
+use Rattle.judgement.specs.judged.ModuleSteps.{expression, constant, override, item_count, StepOK, StepPasses, IsReached}
 use Rattle.spec_expressions.specs.judged.Typing.{HasGlobalType}
 use Rattle.typing_infos.specs.Types.{AreTypes}
 use Rattle.typing_forms.specs.declared.resolution.TypeResolution.{TypeResolution}
 use Rattle.typing_layout.specs.judged.Constness.{AreKinds}
 use Rattle.typing_errors.specs.Answers.{form_given}
+use Rattle.spec_expressions.specs.judged.Firsts.{FailsFirst}
 
 pub expressions_pass : (s : Settings) (resolved : Bool) (m : PlainModule) → AreAccepted (GlobalExpressionOK s.capabilities resolved m) (item_count m expression) → StepPasses s resolved m expression
 expressions_pass s resolved m all = record { each = λ index lt has. all.each index lt }
@@ -42,21 +43,21 @@ pub overrides_pass : (s : Settings) (resolved : Bool) (m : PlainModule) → AreA
 overrides_pass s resolved m all = record { each = λ index lt has. all.each index lt }
 
 pub expression_fails : (s : Settings) (resolved : Bool) (m : PlainModule) (Fault : ℕ → Type 0) (index : ℕ) → Has s.flags.0 CONSTANTS.0 → IsFirstRefused (GlobalExpressionOK s.capabilities resolved m) Fault (item_count m expression) index
-    → FailsFirst s resolved m expression index
+    → FailsFirst (item_count m expression) (StepOK s resolved m expression) index
 expression_fails s resolved m Fault index asked first = record {
   within = first.within;
   before = λ other lt has. first.before other lt;
   fails = λ ok. first.not (ok asked);
 }
 
-pub constant_fails : (s : Settings) (resolved : Bool) (m : PlainModule) (Fault : ℕ → Type 0) (index : ℕ) → Has s.flags.0 CONSTANTS.0 → IsFirstRefused (ConstantOK m) Fault (item_count m constant) index → FailsFirst s resolved m constant index
+pub constant_fails : (s : Settings) (resolved : Bool) (m : PlainModule) (Fault : ℕ → Type 0) (index : ℕ) → Has s.flags.0 CONSTANTS.0 → IsFirstRefused (ConstantOK m) Fault (item_count m constant) index → FailsFirst (item_count m constant) (StepOK s resolved m constant) index
 constant_fails s resolved m Fault index asked first = record {
   within = first.within;
   before = λ other lt has. first.before other lt;
   fails = λ ok. first.not (ok asked);
 }
 
-pub override_fails : (s : Settings) (resolved : Bool) (m : PlainModule) (Fault : ℕ → Type 0) (index : ℕ) → Has s.flags.0 CONSTANTS.0 → IsFirstRefused (OverrideOK resolved m) Fault (item_count m override) index → FailsFirst s resolved m override index
+pub override_fails : (s : Settings) (resolved : Bool) (m : PlainModule) (Fault : ℕ → Type 0) (index : ℕ) → Has s.flags.0 CONSTANTS.0 → IsFirstRefused (OverrideOK resolved m) Fault (item_count m override) index → FailsFirst (item_count m override) (StepOK s resolved m override) index
 override_fails s resolved m Fault index asked first = record {
   within = first.within;
   before = λ other lt has. first.before other lt;

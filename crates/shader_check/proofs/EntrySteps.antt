@@ -29,7 +29,8 @@ use Rattle.spec_interface.specs.judged.EarlierPayloads.{IsPayloadBeforeEntry}
 use Rattle.spec_interface.specs.judged.EntryNames.{IsConflict}
 use Rattle.spec_statements.proofs.CallLaws.{calls_precede}
 use Rattle.spec_expressions.specs.judged.ModuleHandles.{HandlesOK}
-use Rattle.spec_expressions.specs.judged.ItemNames.{entry_variables, mesh_variables}
+use Rattle.spec_expressions.specs.judged.ItemNames.{entry_variables}
+use Rattle.spec_expressions.specs.found.Meshes.{mesh_variables}
 use Rattle.spec_expressions.specs.judged.ModuleReferences.{entry, entry_variable}
 use Rattle.spec_expressions.specs.judged.References.{item}
 use Rattle.spec_expressions.specs.declared.target.Target.TheVariants.{GlobalVariable}

@@ -1,17 +1,15 @@
 -- The first step that fails is one, and so is the item.
-use Rattle.std.proofs.Common.{◌≡◌, inl, inr, ℕ, Bool, ◌<◌, refl, ap, arith}
+use Rattle.std.proofs.Common.{◌≡◌, inl, inr, ℕ, Bool, ◌<◌, length, refl, ap, arith}
 use Rattle.std.proofs.lemmas.Bool.{cases_lt}
 use Rattle.ir_flags.specs.declared.settings.Settings.{Settings}
 use Rattle.ir_items.specs.judged.Plain.{PlainModule}
-use Rattle.spec_interface.specs.judged.Modules as entries
 use Rattle.spec_interface.specs.judged.Modules.{EntryAtOK, EntriesOK}
-use Rattle.spec_statements.specs.judged.ModuleFunctions as functions
 use Rattle.spec_statements.specs.judged.ModuleFunctions.{FunctionAtOK, FunctionsOK}
-use Rattle.spec_interface.specs.judged.Globals as globals
 use Rattle.spec_interface.specs.judged.Globals.{GlobalOK, GlobalsOK}
 use Rattle.spec_expressions.specs.judged.ModuleHandles.{HandlesOK}
 use Rattle.judgement.proofs.Failures.{one_failure, none_fails}
 use Rattle.judgement.specs.judged.ModuleSteps.{ModuleStep, IsFirstFailing, ModuleOK}
+use Rattle.spec_expressions.specs.judged.Firsts.{FailsFirst}
 
 -- the first that is not such is one
 first_once : (OK : ℕ → Type 0) (i j : ℕ) → ((k : ℕ) → k < i → OK k) → ¬ OK i → ((k : ℕ) → k < j → OK k) → ¬ OK j → i ≡ j
@@ -35,9 +33,9 @@ pub data Family : Type 0 where
 module _ (s : Settings) (resolved : Bool) (m : PlainModule) where
   abbrev pub IsFailing : Family → ℕ → Type 0
   IsFailing (up_to_overrides step) i = IsFirstFailing s resolved m step i
-  IsFailing at_variables i = ModuleOK s resolved m × globals.IsFirstFailingGlobal s.flags s.capabilities m i
-  IsFailing at_functions i = ModuleOK s resolved m × GlobalsOK s.flags s.capabilities m × functions.IsFirstFailingFunction s m i
-  IsFailing at_entries i = ModuleOK s resolved m × GlobalsOK s.flags s.capabilities m × FunctionsOK s m × entries.IsFirstFailingEntry s m i
+  IsFailing at_variables i = ModuleOK s resolved m × FailsFirst (length m.globals) (GlobalOK s.flags s.capabilities m) i
+  IsFailing at_functions i = ModuleOK s resolved m × GlobalsOK s.flags s.capabilities m × FailsFirst (length m.functions) (FunctionAtOK s m) i
+  IsFailing at_entries i = ModuleOK s resolved m × GlobalsOK s.flags s.capabilities m × FunctionsOK s m × FailsFirst (length m.entries) (EntryAtOK s m) i
 
   pub in_order : (o : Family) (i : ℕ) → IsFailing o i → HandlesOK m
   in_order (up_to_overrides step) i x = x.reached.handles
@@ -46,13 +44,13 @@ module _ (s : Settings) (resolved : Bool) (m : PlainModule) where
   in_order at_entries i x = x.0.handles
 
   -- no global variable fails where all are accepted
-  no_variable : (i : ℕ) → GlobalsOK s.flags s.capabilities m → globals.IsFirstFailingGlobal s.flags s.capabilities m i → ⊥
+  no_variable : (i : ℕ) → GlobalsOK s.flags s.capabilities m → FailsFirst (length m.globals) (GlobalOK s.flags s.capabilities m) i → ⊥
   no_variable i all first = first.fails (all i first.within)
 
-  no_function : (i : ℕ) → FunctionsOK s m → functions.IsFirstFailingFunction s m i → ⊥
+  no_function : (i : ℕ) → FunctionsOK s m → FailsFirst (length m.functions) (FunctionAtOK s m) i → ⊥
   no_function i all first = first.fails (all i first.within)
 
-  no_entry : (i : ℕ) → EntriesOK s m → entries.IsFirstFailingEntry s m i → ⊥
+  no_entry : (i : ℕ) → EntriesOK s m → FailsFirst (length m.entries) (EntryAtOK s m) i → ⊥
   no_entry i all first = first.fails (all i first.within)
 
   -- where all steps accept, none fails
@@ -62,13 +60,13 @@ module _ (s : Settings) (resolved : Bool) (m : PlainModule) where
   none_failing at_functions i items variables functions entries y = no_function i functions y.2
   none_failing at_entries i items variables functions entries y = no_entry i entries y.3
 
-  variable_once : (i j : ℕ) → globals.IsFirstFailingGlobal s.flags s.capabilities m i → globals.IsFirstFailingGlobal s.flags s.capabilities m j → i ≡ j
+  variable_once : (i j : ℕ) → FailsFirst (length m.globals) (GlobalOK s.flags s.capabilities m) i → FailsFirst (length m.globals) (GlobalOK s.flags s.capabilities m) j → i ≡ j
   variable_once i j f g = first_once (GlobalOK s.flags s.capabilities m) i j f.before f.fails g.before g.fails
 
-  function_once : (i j : ℕ) → functions.IsFirstFailingFunction s m i → functions.IsFirstFailingFunction s m j → i ≡ j
+  function_once : (i j : ℕ) → FailsFirst (length m.functions) (FunctionAtOK s m) i → FailsFirst (length m.functions) (FunctionAtOK s m) j → i ≡ j
   function_once i j f g = first_once (FunctionAtOK s m) i j f.before f.fails g.before g.fails
 
-  entry_once : (i j : ℕ) → entries.IsFirstFailingEntry s m i → entries.IsFirstFailingEntry s m j → i ≡ j
+  entry_once : (i j : ℕ) → FailsFirst (length m.entries) (EntryAtOK s m) i → FailsFirst (length m.entries) (EntryAtOK s m) j → i ≡ j
   entry_once i j f g = first_once (EntryAtOK s m) i j f.before f.fails g.before g.fails
 
   pub failing_once : (o p : Family) (i j : ℕ) → IsFailing o i → IsFailing p j → (o ≡ p) × (i ≡ j)

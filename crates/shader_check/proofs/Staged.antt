@@ -4,7 +4,7 @@ use Rattle.function_interface.specs.Question.{question}
 use Rattle.shader_check.proofs.Chained.{some_is}
 use Rattle.shader_check.specs.found.Judged.{IsNotedAt, AreNoted}
 use Rattle.ir_blocks.specs.judged.Places.{Place, OccursAt}
-use Rattle.ir_blocks.specs.judged.Plain.{PlainStatement, emit, block, if_, switch, loop, break, continue, return, kill, operation, call}
+use Rattle.ir_blocks.specs.judged.Plain.{PlainStatement, emit, block, if_, switch, loop, break, continue, return, kill, operation, call, PlainOperation, control_barrier}
 use Rattle.ir_types.specs.judged.ExpressionPlain.{PlainExpression, compose, plain}
 use Rattle.ir_types.specs.declared.expressions.Expression.{Expression}
 use Rattle.ir_types.specs.declared.expressions.Expression.TheVariants as x
@@ -18,7 +18,7 @@ use Rattle.spec_interface.specs.judged.Modules.{AreStages}
 use Rattle.spec_statements.specs.judged.ModuleFunctions.{reading_over}
 use Rattle.spec_expressions.specs.judged.FunctionHandles.{CalleesPrecede}
 use Rattle.spec_expressions.specs.judged.References.{computed, done, expression_names, statement_calls}
-use Rattle.spec_statements.specs.judged.ExpressionStages.{all_stages, callee_stages, stages_in, stages_of}
+use Rattle.spec_statements.specs.judged.ExpressionStages.{all_stages, callee_stages, stages_of}
 use Rattle.spec_statements.specs.judged.Functions.{AllowsStage}
 use Rattle.spec_statements.specs.judged.Stages.{statement_stages}
 
@@ -30,6 +30,10 @@ module _ (index : ℕ) (f : PlainFunction) (given noted : List ShaderStages) (pr
   same_callee : (function : ℕ) → function < index → callee_stages given function ≡ callee_stages noted function
   same_callee function lt = ap (λ o. unwrap_or o all_stages) (alike function lt)
 
+  operation_same : (subgroups : ShaderStages) (a : PlainOperation) → statement_stages subgroups given (operation a) ≡ statement_stages subgroups noted (operation a)
+  operation_same subgroups (control_barrier barrier) = refl
+  operation_same subgroups _ = refl
+
   statement_same : (subgroups : ShaderStages) (p : Place) (u : PlainStatement) → OccursAt f.body p u → statement_stages subgroups given u ≡ statement_stages subgroups noted u
   statement_same subgroups p (emit first end) stands = refl
   statement_same subgroups p (block b) stands = refl
@@ -40,10 +44,10 @@ module _ (index : ℕ) (f : PlainFunction) (given noted : List ShaderStages) (pr
   statement_same subgroups p continue stands = refl
   statement_same subgroups p (return value) stands = refl
   statement_same subgroups p kill stands = refl
-  statement_same subgroups p (operation a) stands = refl
+  statement_same subgroups p (operation a) stands = operation_same subgroups a
   statement_same subgroups p (call function arguments answer) stands = same_callee function (precede (done p) function (statement_calls stands refl))
 
-  plain_same : (e : ℕ) (v : Expression) → slice_get f.expressions e ≡ Some (plain v) → stages_in given v ≡ stages_in noted v
+  plain_same : (e : ℕ) (v : Expression) → slice_get f.expressions e ≡ Some (plain v) → stages_of given (plain v) ≡ stages_of noted (plain v)
   plain_same e (x.CallResult function) at = same_callee function (precede (computed e) function (expression_names at refl))
   plain_same e _ at = refl
 

@@ -1,11 +1,11 @@
 -- A chain by its first step: what a function has over its chains is its own, joined with what each function that it calls has.
-use Rattle.std.proofs.Common.{◌≡◌, ◌⊎◌, ℕ, Option, Some, None, List, [], ◌∷◌, ◌++◌, refl, ap, sym, subst, ◌∙◌, inl, inr, ⊎_elim, slice_get}
-use Rattle.std.specs.Int.{bit_at}
+use Rattle.std.proofs.Common.{◌≡◌, ◌⊎◌, ℕ, Option, Some, None, List, [], ◌∷◌, ◌++◌, refl, ap, sym, subst, ◌∙◌, inl, inr, slice_get}
 use Rattle.ir_items.specs.judged.Plain.{PlainFunction, PlainModule}
 use Rattle.spec_expressions.specs.declared.sampling.GlobalOrArgument.{GlobalOrArgument}
 use Rattle.spec_expressions.specs.declared.sampling.GlobalOrArgument.TheVariants.{Global, Argument}
 use Rattle.spec_expressions.specs.judged.Pairs.{SamplingPair}
-use Rattle.spec_expressions.specs.judged.CallChains.{global_or_argument, Step, Calls, IsChain, chain_end, meaning_at_start, argument_means, seen_through, Reaches, UsesDirectly, NamesGlobal, IsUnusedFrom, HasUse, Samples, HasPair}
+use Rattle.spec_expressions.specs.judged.CallChains.{global_or_argument, Step, Calls, IsChain, chain_end, meaning_at_start, seen_through, Reaches, UsesDirectly, NamesGlobal, IsUnusedFrom, HasUse, Samples, HasPair}
+use Rattle.spec_expressions.specs.found.Arguments.{argument_means}
 use Rattle.spec_expressions.specs.judged.Summaries.{ComesUp}
 
 pub end_of-append : (f : PlainFunction) (s : Step) (rest : List Step) → chain_end f (rest ++ s ∷ []) ≡ chain_end s.function rest

@@ -1,12 +1,13 @@
 -- What is found step by step is required at a disrupted place, and where nothing is found, nothing is.
-use Rattle.std.proofs.Common.{◌≡◌, ◌⊎◌, inl, inr, ⊎_elim, ℕ, zero, suc, Bool, true, false, ◌||◌, IsTrue, Option, Some, None, refl, sym, ap, ◌∙◌, subst}
+use Rattle.std.proofs.Common.{◌≡◌, ◌⊎◌, inl, inr, ℕ, zero, suc, Bool, true, false, ◌||◌, IsTrue, Option, Some, None, refl, sym, ap, ◌∙◌, subst, ⊎_elim}
 use Rattle.ir_flags.specs.declared.settings.ValidationFlags.{ValidationFlags}
 use Rattle.ir_kinds.specs.declared.diagnostics.Severity.{Severity}
 use Rattle.ir_blocks.specs.judged.Plain.{PlainOperation, control_barrier, memory_barrier, store, image_store, atomic, image_atomic, uniform_load, ray_query, ballot, collective, gather, cooperative_store, ray_pipeline, PlainStatement, emit, block, if_, switch, loop, break, continue, return, kill, operation, call, PlainBlock, stop, next, PlainCases, no_case, case}
 use Rattle.ir_blocks.specs.judged.Shapes.{Part, inner, accepting, rejecting, case_at, loop_body, loop_continuing, shape_of, case_body, part_of}
 use Rattle.ir_blocks.specs.judged.Places.{Place, here, later, inside, condition, statement, OccursAt}
+use Rattle.spec_expressions.specs.judged.Kinds.{operation_row}
 use Rattle.spec_expressions.specs.judged.Disruption.{ends_in, ends_at, enter, disrupted_at}
-use Rattle.spec_expressions.specs.judged.Uniformity.{Required, OperationRequires, Requires, DisruptedRequirement, UniformityFault}
+use Rattle.spec_expressions.specs.judged.Uniformity.{Required, WaitRequires, Requires, DisruptedRequirement, UniformityFault}
 use Rattle.spec_expressions.specs.found.Found.{first_required, where_disrupted, operation_required, required_in, required_at, required_in_cases, IsLook}
 use Rattle.spec_expressions.proofs.EverywhereLaws.{none_in_stop}
 use Rattle.spec_expressions.proofs.DisruptionLaws.{found, from_found, disrupted_as}
@@ -32,6 +33,10 @@ not_some x e = cc
 
 same_required : (x y : Required) → Some x ≡ Some y → x ≡ y
 same_required x y e = cc
+
+-- what an operation requires
+abbrev OperationRequires : PlainOperation → Required → Type 0
+OperationRequires a x = WaitRequires (operation_row a).waits x
 
 operation_found : (a : PlainOperation) (x : Required) → operation_required a ≡ Some x → OperationRequires a x
 operation_found (uniform_load pointer answer) x e =

@@ -4,3 +4,5 @@ pub mod Everywhere
 pub mod Found
 pub mod Laws
 pub mod Words
+pub mod Meshes
+pub mod Arguments

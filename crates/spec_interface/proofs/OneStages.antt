@@ -1,10 +1,10 @@
 -- Which stages may run the functions of a module is reported in one way.
-use Rattle.std.proofs.Common.{◌≡◌, inl, inr, ℕ, zero, suc, ◌<◌, ◌≤◌, List, length, Option, Some, None, refl, sym, ap, subst, ◌∙◌, arith, slice_get}
+use Rattle.std.proofs.Common.{◌≡◌, inl, inr, ℕ, zero, suc, ◌<◌, ◌≤◌, List, length, Some, None, refl, sym, ap, subst, arith, slice_get}
 use Rattle.std.specs.Prelude.{◌↔◌, unwrap_or}
 use Rattle.std.proofs.lemmas.Bool.{cases_eq, cases_lt}
 use Rattle.std.proofs.lemmas.Option.{slice_get_past}
 use Rattle.ir_blocks.specs.judged.Places.{Place, OccursAt}
-use Rattle.ir_blocks.specs.judged.Plain.{PlainStatement, emit, block, if_, switch, loop, break, continue, return, kill, operation, call}
+use Rattle.ir_blocks.specs.judged.Plain.{PlainStatement, emit, block, if_, switch, loop, break, continue, return, kill, operation, call, PlainOperation, control_barrier}
 use Rattle.ir_types.specs.judged.ExpressionPlain.{PlainExpression, compose, plain}
 use Rattle.ir_types.specs.declared.expressions.Expression.{Expression}
 use Rattle.ir_types.specs.declared.expressions.Expression.TheVariants as x
@@ -16,7 +16,7 @@ use Rattle.spec_expressions.proofs.Members.{get-within}
 use Rattle.spec_interface.specs.judged.Modules.{AreStages}
 use Rattle.spec_expressions.specs.judged.FunctionHandles.{CalleesPrecede}
 use Rattle.spec_expressions.specs.judged.References.{computed, done, expression_names, statement_calls}
-use Rattle.spec_statements.specs.judged.ExpressionStages.{all_stages, callee_stages, stages_in, stages_of}
+use Rattle.spec_statements.specs.judged.ExpressionStages.{all_stages, callee_stages, stages_of}
 use Rattle.spec_statements.specs.judged.Functions.{AllowsStage}
 use Rattle.spec_statements.specs.judged.ModuleFunctions.{reading_over}
 use Rattle.spec_statements.specs.judged.Stages.{statement_stages}
@@ -35,6 +35,10 @@ abbrev pub Agree : (index : ℕ) → (a b : List ShaderStages) → Type 0
 Agree index a b = (earlier : ℕ) → earlier < index → SameStages (callee_stages a earlier) (callee_stages b earlier)
 
 module _ (index : ℕ) (f : PlainFunction) (a b : List ShaderStages) (precede : CalleesPrecede index f) (agree : Agree index a b) where
+  operation_same : (subgroups : ShaderStages) (o : PlainOperation) → SameStages (statement_stages subgroups a (operation o)) (statement_stages subgroups b (operation o))
+  operation_same subgroups (control_barrier barrier) stage = (λ h. h, λ h. h)
+  operation_same subgroups _ stage = (λ h. h, λ h. h)
+
   statement_same : (subgroups : ShaderStages) (p : Place) (u : PlainStatement) → OccursAt f.body p u → SameStages (statement_stages subgroups a u) (statement_stages subgroups b u)
   statement_same subgroups p (emit first end) stands = same all_stages
   statement_same subgroups p (block body) stands = same all_stages
@@ -45,10 +49,10 @@ module _ (index : ℕ) (f : PlainFunction) (a b : List ShaderStages) (precede : 
   statement_same subgroups p continue stands = same all_stages
   statement_same subgroups p (return value) stands = same all_stages
   statement_same subgroups p kill stands = same (statement_stages subgroups a kill)
-  statement_same subgroups p (operation o) stands = same (statement_stages subgroups a (operation o))
+  statement_same subgroups p (operation o) stands = operation_same subgroups o
   statement_same subgroups p (call function arguments answer) stands = agree function (precede (done p) function (statement_calls stands refl))
 
-  plain_same : (e : ℕ) (v : Expression) → slice_get f.expressions e ≡ Some (plain v) → SameStages (stages_in a v) (stages_in b v)
+  plain_same : (e : ℕ) (v : Expression) → slice_get f.expressions e ≡ Some (plain v) → SameStages (stages_of a (plain v)) (stages_of b (plain v))
   plain_same e (x.CallResult function) at = agree function (precede (computed e) function (expression_names at refl))
   plain_same e _ at = λ stage. (λ h. h, λ h. h)
 

@@ -4,7 +4,8 @@ ghost use Rattle.std.specs.Prelude.{◌≡◌, ◌∷◌, ◌↔◌, [], ℕ, Is
 ghost use Rattle.ir_items.specs.found.View.{module_view};
 ghost use Rattle.ir_kinds.specs.declared.stages.MeshOutputTopology.{MeshOutputTopology};
 ghost use Rattle.ir_types.specs.judged.Plain.{member_view};
-ghost use Rattle.spec_interface.specs.judged.Members.{members_at, mesh_part_of, member_topologies, topologies_at, topology_of, type_bound, types_bound};
+ghost use Rattle.spec_interface.specs.judged.Members.{is_part, members_at, topologies_at, topology_of, types_bound};
+ghost use Rattle.spec_interface.specs.found.Members.{member_topologies, type_bound};
 ghost use Rattle.spec_interface.specs.judged.Meshes.{AreParts};
 ghost use Rattle.spec_interface.specs.declared.parts.MeshParts.{MeshParts};
 
@@ -16,16 +17,17 @@ use ir_items::Module;
 use ir_kinds::{Binding, BuiltIn, MeshOutputTopology};
 use ir_types::{StructMember, key};
 
-// The part of what a mesh shader gives that is bound, if it is one.
-fn part_of(binding: &Option<Binding>) -> Option<MeshPart>
-    ensures { result ≡ mesh_part_of binding.now }
+// Whether a part of what a mesh shader gives is bound.
+fn is_part(part: MeshPart, binding: &Option<Binding>) -> bool
+    ensures { result ≡ is_part part binding.now }
 {
-    match binding {
-        Some(Binding::BuiltIn(BuiltIn::VertexCount)) => Some(MeshPart::VertexCount),
-        Some(Binding::BuiltIn(BuiltIn::Vertices)) => Some(MeshPart::Vertices),
-        Some(Binding::BuiltIn(BuiltIn::PrimitiveCount)) => Some(MeshPart::PrimitiveCount),
-        Some(Binding::BuiltIn(BuiltIn::Primitives)) => Some(MeshPart::Primitives),
-        _ => None,
+    match part {
+        MeshPart::VertexCount => matches!(binding, Some(Binding::BuiltIn(BuiltIn::VertexCount))),
+        MeshPart::Vertices => matches!(binding, Some(Binding::BuiltIn(BuiltIn::Vertices))),
+        MeshPart::PrimitiveCount => {
+            matches!(binding, Some(Binding::BuiltIn(BuiltIn::PrimitiveCount)))
+        }
+        MeshPart::Primitives => matches!(binding, Some(Binding::BuiltIn(BuiltIn::Primitives))),
     }
 }
 
@@ -33,9 +35,10 @@ fn part_of(binding: &Option<Binding>) -> Option<MeshPart>
 fn type_bound(part: MeshPart, member: &StructMember) -> Option<Handle<key::IrType>>
     ensures { result ≡ type_bound part (member_view member.now) }
 {
-    match part_of(&member.binding) {
-        Some(other) if part == other => Some(member.ty),
-        Some(_) | None => None,
+    if is_part(part, &member.binding) {
+        Some(member.ty)
+    } else {
+        None
     }
 }
 

@@ -1,8 +1,8 @@
 //! The table of built-in values.
 
-ghost use Rattle.std.specs.Prelude.{◌≡◌, None, false};
+ghost use Rattle.std.specs.Prelude.{◌≡◌, false};
 ghost use Rattle.ir_kinds.specs.declared.bindings.BuiltIn.TheVariants.{PrimitiveIndex};
-ghost use Rattle.spec_interface.specs.judged.BuiltInRows.{built_in_row, but, taken, taken_by, gives, gives_by, row_with, with_primitive};
+ghost use Rattle.spec_interface.specs.judged.BuiltInRows.{built_in_row, but, by, taken, gives, row_with, with_primitive};
 
 use crate::{BuiltInRow, BuiltInType, Exception};
 use ir_flags::{Capabilities as C, ShaderStages};
@@ -85,7 +85,7 @@ const fn given_by(
     ty: BuiltInType,
     exception: Exception,
 ) -> BuiltInRow
-    ensures { result ≡ but exception (taken_by capability inputs ty) }
+    ensures { result ≡ but exception (by capability (taken inputs ty)) }
 {
     BuiltInRow {
         inputs,
@@ -113,7 +113,7 @@ const fn gives(outputs: ShaderStages, ty: BuiltInType) -> BuiltInRow
 
 // What is given to the stages after, where a capability is there.
 const fn gives_by(capability: C, outputs: ShaderStages, ty: BuiltInType) -> BuiltInRow
-    ensures { result ≡ gives_by capability outputs ty }
+    ensures { result ≡ by capability (gives outputs ty) }
 {
     BuiltInRow {
         inputs: NOWHERE,
@@ -127,7 +127,7 @@ const fn gives_by(capability: C, outputs: ShaderStages, ty: BuiltInType) -> Buil
 
 // What is both given and given on.
 const fn both(inputs: ShaderStages, outputs: ShaderStages, ty: BuiltInType) -> BuiltInRow
-    ensures { result ≡ row_with inputs outputs false ty None }
+    ensures { result ≡ row_with inputs outputs false ty }
 {
     BuiltInRow {
         inputs,

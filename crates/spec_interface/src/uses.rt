@@ -3,8 +3,9 @@
 ghost use Rattle.std.specs.Prelude.{◌≡◌, ℕ, List, Some};
 ghost use Rattle.ir_items.specs.found.View.{module_view};
 ghost use Rattle.ir_types.specs.judged.Plain.{inner_view};
-ghost use Rattle.spec_interface.specs.judged.Uses.{access_uses, all_but_atomic, allowed_uses, class_uses, handle_uses, sees_incoming_payload, payload_uses, read_uses, traces_rays, use_if};
+ghost use Rattle.spec_interface.specs.judged.Uses.{access_uses, all_but_atomic, allowed_uses, class_uses, handle_uses, payload_uses, read_uses, use_if};
 ghost use Rattle.spec_interface.specs.judged.Spaces.{array_base, effective_type};
+ghost use Rattle.spec_interface.specs.judged.Stages.{stage_row};
 ghost use Rattle.typing_forms.specs.judged.Resolutions.{inner_at};
 
 use crate::lookups::inner_at;
@@ -143,7 +144,7 @@ pub fn allowed_uses(
 
 /// Whether a stage traces rays with payloads.
 pub const fn traces_rays(stage: ShaderStage) -> bool
-    ensures { result ≡ traces_rays stage }
+    ensures { result ≡ (stage_row stage).traces }
 {
     match stage {
         ShaderStage::RayGeneration | ShaderStage::ClosestHit | ShaderStage::Miss => true,
@@ -158,7 +159,7 @@ pub const fn traces_rays(stage: ShaderStage) -> bool
 
 /// Whether a stage runs for rays that have a payload.
 pub const fn is_run_for_rays(stage: ShaderStage) -> bool
-    ensures { result ≡ sees_incoming_payload stage }
+    ensures { result ≡ (stage_row stage).incoming }
 {
     match stage {
         ShaderStage::AnyHit | ShaderStage::ClosestHit | ShaderStage::Miss => true,

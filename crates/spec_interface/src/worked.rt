@@ -9,16 +9,17 @@ ghost use Rattle.ir_kinds.specs.declared.bindings.BuiltIn.TheVariants.{LineIndic
 ghost use Rattle.ir_kinds.specs.declared.spaces.AddressSpace.TheVariants.{Function, IncomingRayPayload, Private, RayPayload, Storage, TaskPayload, Uniform};
 ghost use Rattle.ir_kinds.specs.declared.stages.MeshOutputTopology.TheVariants.{Lines, Points};
 ghost use Rattle.ir_kinds.specs.declared.stages.ShaderStage.TheVariants.{AnyHit, Compute, Fragment, Mesh, RayGeneration, Task, Vertex};
-ghost use Rattle.spec_interface.specs.judged.Members.{member, member_topologies, types_bound};
+ghost use Rattle.spec_interface.specs.judged.Members.{types_bound};
+ghost use Rattle.spec_interface.specs.found.Members.{member, member_topologies};
 ghost use Rattle.spec_interface.specs.declared.parts.MeshPart.TheVariants as part;
-ghost use Rattle.spec_interface.specs.judged.Stages.{SizeOK, stage_capability};
+ghost use Rattle.spec_interface.specs.judged.Stages.{SizeOK, stage_row};
 ghost use Rattle.spec_interface.specs.judged.Uses.{allowed_uses, is_reached};
 
 /// What stages need.
 pub fn needed()
-    ensures vertex { stage_capability Vertex ≡ None }
-    ensures mesh { stage_capability Mesh ≡ Some MESH_SHADER }
-    ensures rays { stage_capability AnyHit ≡ Some RAY_TRACING_PIPELINE }
+    ensures vertex { (stage_row Vertex).needs ≡ None }
+    ensures mesh { (stage_row Mesh).needs ≡ Some MESH_SHADER }
+    ensures rays { (stage_row AnyHit).needs ≡ Some RAY_TRACING_PIPELINE }
 {}
 
 /// How many invocations a workgroup has one way: up to 16384, and none is said where there are no workgroups.

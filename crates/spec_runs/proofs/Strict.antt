@@ -1,5 +1,5 @@
 -- Where strict scope is in order, every operand may be used.
-use Rattle.std.proofs.Common.{◌≡◌, ℕ, zero, suc, ◌+◌, ◌-◌, ◌<◌, ◌≤◌, Bool, true, false, List, [], ◌∷◌, ◌++◌, ◌⊎◌, inl, inr, ⊎_elim, Option, Some, None, Contains, slice_get, option_to_list, filter, if◌then◌else◌, refl, sym, ap, ◌∙◌, subst, arith}
+use Rattle.std.proofs.Common.{◌≡◌, ℕ, zero, suc, ◌+◌, ◌-◌, ◌<◌, ◌≤◌, Bool, true, false, List, ◌∷◌, ◌++◌, ◌⊎◌, inl, inr, Option, Some, None, Contains, slice_get, option_to_list, filter, if◌then◌else◌, refl, sym, ap, ◌∙◌, subst, arith, [], ⊎_elim}
 use Rattle.std.proofs.lemmas.List.Elements.{Contains-append_left, Contains-append_right, Contains-append_cases, Contains-push}
 use Rattle.std.specs.List.{cons_option, range_with_len}
 use Rattle.ir_blocks.specs.judged.Places.{Place, Spot, nothing, statement, loop_condition, spot_at, OccursAt}
@@ -7,7 +7,8 @@ use Rattle.ir_blocks.specs.judged.Plain.{PlainStatement, emit, block, if_, switc
 use Rattle.ir_types.specs.judged.ExpressionPlain.{PlainExpression}
 use Rattle.ir_items.specs.judged.Plain.{PlainFunction}
 use Rattle.spec_expressions.specs.judged.ExpressionNames.{expression_operands}
-use Rattle.spec_expressions.specs.judged.Operands.{Operands, these, each_of, statement_slots, handles_of, is_looked_up, looked_up}
+use Rattle.spec_expressions.specs.judged.Operands.{Operands, these, each_of, handles_of, is_looked_up, looked_up}
+use Rattle.spec_expressions.specs.judged.Kinds.{statement_slots}
 use Rattle.spec_expressions.specs.declared.operand.Scoping.{Scoping}
 use Rattle.spec_expressions.specs.declared.operand.Scoping.TheVariants.{Always, Strictly, Apart}
 use Rattle.spec_expressions.specs.declared.operand.Slot.{Slot}

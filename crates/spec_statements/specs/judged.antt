@@ -35,7 +35,6 @@ pub mod ImageLoads
 pub mod ImageSamples
 pub mod Literals
 pub mod Loads
-pub mod Maths
 pub mod Operators
 pub mod ExpressionRayQueries
 pub mod ExpressionResults
@@ -43,7 +42,6 @@ pub mod Scene
 pub mod Selections
 pub mod Shapes
 pub mod ExpressionStages
-pub mod ExpressionSubgroups
 pub mod EarlierPayloads
 pub mod Analysis
 pub mod ModuleFunctions

@@ -36,7 +36,7 @@ ghost use Rattle.ir_kinds.specs.declared.scalars.ScalarKind.TheVariants as kind;
 ghost use Rattle.ir_kinds.specs.declared.scalars.SwizzleComponent.TheVariants.{X, Y};
 ghost use Rattle.spec_statements.specs.judged.Operators.{BinaryOK, UnaryOK};
 ghost use Rattle.spec_statements.specs.judged.Selections.{RelationalOK, SelectOK};
-ghost use Rattle.spec_statements.specs.judged.ExpressionStages.{all_stages, sample_stages, stages_in};
+ghost use Rattle.spec_statements.specs.judged.ExpressionStages.{all_stages, sample_stages, stages_of};
 ghost use Rattle.typing_forms.specs.declared.form.Form.TheVariants as form;
 ghost use Rattle.ir_flags.specs.declared.stages.TheConstants.ShaderStages.{FRAGMENT, COMPUTE};
 
@@ -160,9 +160,9 @@ pub fn cooperative()
 
 /// Stages.
 pub fn stages()
-    ensures slope { stages_in [] (x.Derivative axis.X control.Coarse 0) ≡ FRAGMENT }
+    ensures slope { stages_of [] (plain (x.Derivative axis.X control.Coarse 0)) ≡ FRAGMENT }
     ensures exact_level { sample_stages (Exact 0) ≡ all_stages }
     ensures biased_level { sample_stages (Bias 0) ≡ FRAGMENT }
-    ensures product { stages_in [] (x.CooperativeMultiplyAdd 0 1 2) ≡ COMPUTE }
-    ensures call { stages_in (all_stages ∷ FRAGMENT ∷ []) (x.CallResult 1) ≡ FRAGMENT }
+    ensures product { stages_of [] (plain (x.CooperativeMultiplyAdd 0 1 2)) ≡ COMPUTE }
+    ensures call { stages_of (all_stages ∷ FRAGMENT ∷ []) (plain (x.CallResult 1)) ≡ FRAGMENT }
 {}

@@ -7,11 +7,11 @@ use Rattle.ir_types.specs.declared.types.StructMember.{StructMember}
 use Rattle.ir_types.specs.declared.types.TypeInner.{TypeInner}
 use Rattle.ir_types.specs.declared.types.TypeInner.TheVariants as inner
 use Rattle.typing_forms.specs.judged.Order.{named_types}
-use Rattle.typing_layout.specs.judged.Layout.{alignment, greatest_alignment, IsWidthOK}
+use Rattle.typing_layout.specs.judged.Layout.{alignment, greatest_alignment}
 use Rattle.typing_layout.specs.judged.Tree.{Tree, Members, no_members, member}
 use Rattle.typing_layout.specs.judged.View.{members_by, tree_by}
 use Rattle.typing_layout.specs.declared.layout.TypeLayout.{TypeLayout}
-use Rattle.typing_layout.specs.found.Laid.{AreAligned}
+use Rattle.typing_layout.specs.found.Laid.{AreAligned, IsWidthOK}
 
 pub below_at : (ms : List StructMember) (k n : ℕ) (d : StructMember) → All (λ m. m.ty < n) ms → k < length ms → (get_or ms k d).ty < n
 below_at ms k n d all lt = all k d lt

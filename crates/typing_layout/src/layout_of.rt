@@ -9,7 +9,7 @@ ghost use Rattle.std.specs.Int.{IsPowerOfTwo};
 ghost use Rattle.ir_types.specs.judged.Plain.{inner_view, member_view};
 ghost use Rattle.typing_forms.specs.judged.Order.{named_types};
 ghost use Rattle.typing_forms.specs.judged.Sizes.{vector_alignment};
-ghost use Rattle.typing_layout.specs.judged.Layout.{alignment, greatest_alignment, IsWidthOK};
+ghost use Rattle.typing_layout.specs.judged.Layout.{alignment, greatest_alignment};
 ghost use Rattle.typing_layout.specs.judged.Tree.{Tree};
 ghost use Rattle.typing_layout.specs.judged.View.{members_by, tree_by};
 ghost use Rattle.typing_layout.specs.found.Held.{IsLayoutOf, IsFaultOf};

@@ -4,8 +4,8 @@ use Rattle.ir_kinds.specs.declared.scalars.Scalar.{Scalar}
 use Rattle.typing_rules.specs.declared.patterns.Pattern.{Pattern}
 use Rattle.typing_rules.specs.declared.rules.ConstructorSize.{ConstructorSize}
 use Rattle.typing_rules.specs.declared.rules.Rule.{Rule}
-use Rattle.typing_rules.specs.judged.MathTable.{math_rule, row, rules_over}
-use Rattle.typing_overloads.specs.Products.{required_type, required_by}
+use Rattle.typing_rules.specs.judged.MathTable.{math_rule, rules_over}
+use Rattle.typing_overloads.specs.Products.{row, required_type, required_by}
 use Rattle.typing_rules.specs.judged.Laws.{arity}
 use Rattle.typing_overloads.specs.Sets.{fewest_arguments, most_arguments}
 use Rattle.typing_overloads.proofs.Kept.{required_are}

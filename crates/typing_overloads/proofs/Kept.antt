@@ -1,5 +1,5 @@
 -- A test that looks at a shape and at a scalar leaves of a product the product of what it leaves of both.
-use Rattle.std.proofs.Common.{◌≡◌, ◌==◌, ◌∙◌, ◌++◌, ◌&&◌, ℕ, Bool, true, false, not, Option, Some, None, List, [], ◌∷◌, refl, ap, ap₂, sym, bit_and, cond, filter, is_some, map, slice_get, option_map}
+use Rattle.std.proofs.Common.{◌≡◌, ◌==◌, ◌∙◌, ◌++◌, ◌&&◌, ℕ, Bool, true, false, not, Option, Some, None, List, [], ◌∷◌, refl, ap, ap₂, sym, bit_and, cond, filter, is_some, map, slice_get, option_map, option_and_then}
 use Rattle.std.proofs.lemmas.List.Elements.{filter-append}
 use Rattle.std.proofs.lemmas.Option.{slice_get-map}
 use Rattle.ir_kinds.specs.declared.scalars.Scalar.{Scalar}
@@ -10,13 +10,13 @@ use Rattle.typing_rules.specs.declared.patterns.Pattern.TheVariants as pattern
 use Rattle.typing_rules.specs.declared.rules.ConstructorSize.{ConstructorSize}
 use Rattle.typing_rules.specs.declared.rules.Rule.{Rule}
 use Rattle.typing_rules.specs.declared.rules.ValueType.{ValueType}
-use Rattle.typing_rules.specs.judged.Ranks.{rank_if, accepts, accepts_if, accepts_inner, is_abstract_kind, is_concrete}
-use Rattle.typing_rules.specs.judged.MathTable.{arguments_of, math_rule, row, rules_over}
+use Rattle.typing_rules.specs.judged.Ranks.{type_rank, rank_at, accepts_if, accepts_inner, is_abstract_kind, is_concrete}
+use Rattle.typing_rules.specs.judged.MathTable.{math_rule, rules_over}
 use Rattle.typing_rules.specs.judged.Types.{constructor_place, argument_list, value_type_of}
 use Rattle.typing_rules.specs.found.Bits.{marks}
 use Rattle.typing_rules.specs.found.Members.{scalars, scalars_in, sizes, sizes_in}
 use Rattle.typing_overloads.specs.declared.required.Required.{Required}
-use Rattle.typing_overloads.specs.Products.{required_size, required_scalar, required_type, required_by, all_concrete}
+use Rattle.typing_overloads.specs.Products.{row, required_size, required_scalar, required_type, required_by, all_concrete}
 use Rattle.typing_overloads.proofs.Masks.{chosen_by_both}
 
 -- ---- products
@@ -61,7 +61,7 @@ nothing_kept q p h ss (n ∷ ns) = filter-append q (row p ss n) (rules_over p ss
 
 -- ---- what is required for at a place
 
-pub required_are : (p : Pattern) (n : ConstructorSize) (s : Scalar) → argument_list (arguments_of p n s) ≡ map (required_type n s) (required_by p)
+pub required_are : (p : Pattern) (n : ConstructorSize) (s : Scalar) → argument_list (math_rule p n s).arguments ≡ map (required_type n s) (required_by p)
 required_are pattern.Same n s = refl
 required_are pattern.SameTwo n s = refl
 required_are pattern.SameThree n s = refl
@@ -80,12 +80,16 @@ required_are pattern.FromWord n s = refl
 required_are pattern.FromTwoWords n s = refl
 
 asked_there : (p : Pattern) (place : ℕ) (o : Option Required) → slice_get (required_by p) place ≡ o → (n : ConstructorSize) (s : Scalar)
-    → slice_get (argument_list (arguments_of p n s)) place ≡ option_map (required_type n s) o
+    → slice_get (argument_list (math_rule p n s).arguments) place ≡ option_map (required_type n s) o
 asked_there p place o e n s = ap (λ xs. slice_get xs place) (required_are p n s) ∙ slice_get-map (required_type n s) (required_by p) place ∙ ap (option_map (required_type n s)) e
 
 some_rank : (b : Bool) (o : Option ℕ) → is_some (cond b o None) ≡ b && is_some o
 some_rank true o = refl
 some_rank false o = refl
+
+-- a rule takes what is given at a place where that has a rank
+abbrev takes : ℕ → ValueType → Rule → Bool
+takes place given rule = is_some (rank_at place given rule)
 
 abbrev takes_size : ValueType → Required → ConstructorSize → Bool
 takes_size given a n = constructor_place given.size == constructor_place (required_size a.size n)
@@ -94,19 +98,19 @@ abbrev takes_scalar : ValueType → Required → Scalar → Bool
 takes_scalar given a s = is_some (rank given.scalar (required_scalar a.scalar s))
 
 accepts_by : (place : ℕ) (given : ValueType) (p : Pattern) (a : Required) → slice_get (required_by p) place ≡ Some a → (n : ConstructorSize) (s : Scalar)
-    → accepts place given (math_rule p n s) ≡ takes_size given a n && takes_scalar given a s
+    → takes place given (math_rule p n s) ≡ takes_size given a n && takes_scalar given a s
 accepts_by place given p a e n s =
-    ap (λ o. is_some (rank_if given o)) (asked_there p place (Some a) e n s) ∙ some_rank (takes_size given a n) (rank given.scalar (required_scalar a.scalar s))
+    ap (λ o. is_some (option_and_then (type_rank given) o)) (asked_there p place (Some a) e n s) ∙ some_rank (takes_size given a n) (rank given.scalar (required_scalar a.scalar s))
 
 -- what takes an argument is a product of shapes and scalars
 accepting_kept : (place : ℕ) (given : ValueType) (p : Pattern) (a : Required) → slice_get (required_by p) place ≡ Some a → (ss : List Scalar) (ns : List ConstructorSize)
-    → filter (accepts place given) (rules_over p ss ns) ≡ rules_over p (filter (takes_scalar given a) ss) (filter (takes_size given a) ns)
-accepting_kept place given p a e ss ns = product_kept (accepts place given) (takes_scalar given a) (takes_size given a) p (accepts_by place given p a e) ss ns
+    → filter (takes place given) (rules_over p ss ns) ≡ rules_over p (filter (takes_scalar given a) ss) (filter (takes_size given a) ns)
+accepting_kept place given p a e ss ns = product_kept (takes place given) (takes_scalar given a) (takes_size given a) p (accepts_by place given p a e) ss ns
 
 -- where a rule has no such argument, none is left
 none_kept : (place : ℕ) (given : ValueType) (p : Pattern) → slice_get (required_by p) place ≡ None → (ss : List Scalar) (ns : List ConstructorSize)
-    → filter (accepts place given) (rules_over p ss ns) ≡ []
-none_kept place given p e ss ns = nothing_kept (accepts place given) p (λ n s. ap (λ o. is_some (rank_if given o)) (asked_there p place None e n s)) ss ns
+    → filter (takes place given) (rules_over p ss ns) ≡ []
+none_kept place given p e ss ns = nothing_kept (takes place given) p (λ n s. ap (λ o. is_some (option_and_then (type_rank given) o)) (asked_there p place None e n s)) ss ns
 
 -- ---- abstract arguments
 

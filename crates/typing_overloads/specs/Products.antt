@@ -1,5 +1,5 @@
 -- Rules that are made of each of some shapes with each of some scalars, and what each requires at a place.
-use Rattle.std.specs.Prelude.{List, [], ◌∷◌, Bool, true, not}
+use Rattle.std.specs.Prelude.{List, [], ◌∷◌, Bool, true, not, map}
 use Rattle.ir_kinds.specs.declared.scalars.Scalar.{Scalar}
 use Rattle.typing_rules.specs.declared.patterns.Pattern.{Pattern}
 use Rattle.typing_rules.specs.declared.patterns.Pattern.TheVariants as pattern
@@ -8,7 +8,7 @@ use Rattle.typing_rules.specs.declared.rules.ConstructorSize.TheVariants as size
 use Rattle.typing_rules.specs.declared.rules.Rule.{Rule}
 use Rattle.typing_rules.specs.declared.rules.ValueType.{ValueType}
 use Rattle.typing_rules.specs.judged.Ranks.{is_abstract_kind}
-use Rattle.typing_rules.specs.judged.MathTable.{i32, u32, vector_of_columns, vector_of_rows, rules_over}
+use Rattle.typing_rules.specs.judged.MathTable.{i32, u32, vector_of_columns, vector_of_rows, math_rule, rules_over}
 use Rattle.typing_rules.specs.judged.Types.{value_type}
 use Rattle.typing_rules.specs.found.Members.{scalars_in, sizes_in}
 use Rattle.typing_overloads.specs.declared.required.Required.{Required}
@@ -68,6 +68,10 @@ all_concrete pattern.FromTwoWords s = true
 all_concrete p s = not (is_abstract_kind s.kind)
 
 -- ---- the rules of a product
+
+-- a shape with each of the scalars
+abbrev pub row : Pattern → List Scalar → ConstructorSize → List Rule
+row p ss n = map (math_rule p n) ss
 
 -- each of the shapes with each of the scalars: by shape, then by scalar
 abbrev pub rules_of : Product → List Rule

@@ -5,9 +5,8 @@ ghost use Rattle.std.specs.List.{fold};
 ghost use Rattle.ir_types.specs.judged.Plain.{inner_view};
 ghost use Rattle.typing_rules.specs.judged.Laws.{arity};
 ghost use Rattle.typing_rules.specs.judged.Ranks.{accepts_inner, is_concrete};
-ghost use Rattle.typing_rules.specs.judged.MathTable.{row};
 ghost use Rattle.typing_rules.specs.found.Members.{scalars_in};
-ghost use Rattle.typing_overloads.specs.Products.{rules_of};
+ghost use Rattle.typing_overloads.specs.Products.{row, rules_of};
 ghost use Rattle.typing_overloads.specs.Sets.{one_or_none, arguments_at};
 
 use crate::required::{concrete_scalars, required_at, required_by};

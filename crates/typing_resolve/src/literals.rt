@@ -2,9 +2,10 @@
 
 ghost use Rattle.std.specs.Prelude.{◌≡◌, ◌<◌, List, length, map, option_map, slice_get};
 ghost use Rattle.ir_items.specs.found.GlobalView.{values_of, constant_view, override_view};
+ghost use Rattle.ir_kinds.specs.judged.Values.{literal_scalar};
 ghost use Rattle.ir_types.specs.judged.Plain.{PlainType};
+ghost use Rattle.typing_forms.specs.declared.form.Form.TheVariants as form;
 ghost use Rattle.spec_expressions.specs.judged.Context.{form_if};
-ghost use Rattle.spec_expressions.specs.judged.Literals.{literal_type};
 ghost use Rattle.typing_errors.specs.Answers.{form_given};
 
 use ir_arena::arena::Arena;
@@ -16,7 +17,7 @@ use typing_forms::TypeResolution;
 
 // The type of a literal: its scalar.
 pub(crate) fn literal_type(value: Literal) -> TypeResolution
-    ensures { (types : List PlainType) → form_given types result ≡ literal_type value }
+    ensures { (types : List PlainType) → form_given types result ≡ form.Scalar (literal_scalar value) }
 {
     TypeResolution::Value(value.ty_inner())
 }

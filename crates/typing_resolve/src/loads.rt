@@ -3,8 +3,10 @@
 ghost use Rattle.std.specs.Prelude.{◌≡◌, ◌<◌, List, Some, length, map, ok_or, option_map, slice_get};
 ghost use Rattle.ir_items.specs.found.GlobalView.{values_of, global_view};
 ghost use Rattle.ir_items.specs.found.View.{argument_view, local_view};
+ghost use Rattle.ir_kinds.specs.judged.Scalars.{unsigned};
 ghost use Rattle.ir_types.specs.judged.Plain.{PlainType};
-ghost use Rattle.spec_expressions.specs.judged.Loads.{variable_type, global_if, local_if, loaded, loaded_value, load_type, array_length_type};
+ghost use Rattle.typing_forms.specs.declared.form.Form.TheVariants as form;
+ghost use Rattle.spec_expressions.specs.judged.Loads.{variable_type, global_if, local_if, loaded, loaded_value, load_type};
 ghost use Rattle.spec_expressions.specs.declared.faults.TypingFault.TheVariants.{FunctionArgumentNotFound};
 ghost use Rattle.typing_forms.specs.judged.Forms.{form_of_type};
 ghost use Rattle.typing_forms.specs.judged.Resolutions.{types_view, inner_at};
@@ -142,7 +144,7 @@ pub(crate) fn load_type(
 
 // The length of an array.
 pub(crate) fn array_length_type() -> TypeResolution
-    ensures { (types : List PlainType) → form_given types result ≡ array_length_type }
+    ensures { (types : List PlainType) → form_given types result ≡ form.Scalar (unsigned 4) }
 {
     TypeResolution::Value(TypeInner::Scalar(Scalar::U32))
 }

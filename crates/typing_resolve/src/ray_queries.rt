@@ -2,7 +2,8 @@
 
 ghost use Rattle.std.specs.Prelude.{◌≡◌, List, ok_or, option_map};
 ghost use Rattle.ir_types.specs.judged.Plain.{PlainType};
-ghost use Rattle.spec_expressions.specs.judged.RayQueries.{proceed_type};
+ghost use Rattle.ir_kinds.specs.judged.Scalars.{boolean};
+ghost use Rattle.typing_forms.specs.declared.form.Form.TheVariants as form;
 ghost use Rattle.spec_expressions.specs.declared.faults.TypingFault.TheVariants.{MissingSpecialType};
 ghost use Rattle.typing_forms.specs.judged.Forms.{form_of_type};
 ghost use Rattle.typing_errors.specs.Answers.{form_given, form_answer};
@@ -27,7 +28,7 @@ pub(crate) fn special_type(
 
 // Whether a query went on.
 pub(crate) fn proceed_type() -> TypeResolution
-    ensures { (types : List PlainType) → form_given types result ≡ proceed_type }
+    ensures { (types : List PlainType) → form_given types result ≡ form.Scalar boolean }
 {
     TypeResolution::Value(TypeInner::Scalar(Scalar::BOOL))
 }

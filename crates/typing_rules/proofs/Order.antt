@@ -1,6 +1,6 @@
 -- In an ordered list the first rule that is left is the best one, whatever is required.
 use Rattle.std.proofs.Common.{◌≡◌, ◌≤◌, ◌⊎◌, ℕ, zero, suc, Bool, true, false, Option, Some, None, List, [], ◌∷◌, refl, ap, sym, subst, inl, inr, ◌∙◌, arith, rules, nat_eq, cond}
-use Rattle.std.specs.Prelude.{◌&&◌, ◌==◌, nat_le, is_some, filter, slice_get, if◌then◌else◌}
+use Rattle.std.specs.Prelude.{◌&&◌, ◌==◌, nat_le, is_some, option_and_then, filter, slice_get, if◌then◌else◌}
 use Rattle.ir_kinds.specs.declared.scalars.ScalarKind.{ScalarKind}
 use Rattle.ir_kinds.specs.declared.scalars.ScalarKind.TheVariants as kind
 use Rattle.ir_kinds.specs.declared.scalars.Scalar.{Scalar}
@@ -9,7 +9,7 @@ use Rattle.typing_forms.specs.judged.Ranks.{rank, conversion, rank_in, float_ran
 use Rattle.typing_rules.specs.declared.rules.ValueType.{ValueType}
 use Rattle.typing_rules.specs.declared.rules.Rule.{Rule}
 use Rattle.typing_rules.specs.judged.Types.{constructor_place, value_type_of, argument_list}
-use Rattle.typing_rules.specs.judged.Ranks.{type_rank, rank_if, rank_at, accepts_if, is_concrete}
+use Rattle.typing_rules.specs.judged.Ranks.{type_rank, rank_at, accepts_if, is_concrete}
 use Rattle.typing_rules.specs.judged.Laws.{Demand, supplied, concrete, meets, left_by, IsAmong}
 
 -- ---- the test
@@ -174,7 +174,7 @@ types_before f a b x y h e g =
     let q = kept (same_size f b) (rank f.scalar b.scalar) y g in
     scalars_before f.scalar a.scalar b.scalar x y (chosen_test _ (scalar_before a.scalar b.scalar) h (sizes_meet f a b p.0 q.0)) p.1 q.1
 
-before_at : (ats bs : List ValueType) (i : ℕ) (f : ValueType) (x y : ℕ) → all_before ats bs ≡ true → rank_if f (slice_get ats i) ≡ Some x → rank_if f (slice_get bs i) ≡ Some y → x ≤ y
+before_at : (ats bs : List ValueType) (i : ℕ) (f : ValueType) (x y : ℕ) → all_before ats bs ≡ true → option_and_then (type_rank f) (slice_get ats i) ≡ Some x → option_and_then (type_rank f) (slice_get bs i) ≡ Some y → x ≤ y
 before_at [] bs i f x y h e g = absurd (cc)
 before_at (a ∷ ats) [] i f x y h e g = absurd (cc)
 before_at (a ∷ ats) (b ∷ bs) zero f x y h e g = types_before f a b x y (both (type_before a b) (all_before ats bs) h).0 e g
@@ -198,7 +198,7 @@ types_cover f q a b h k l =
     let meet = sizes_meet f a b (has_rank f a k) (has_rank f b l) in
     elim (either (same_type q a) (same_type q b) (chosen_test (same_size a b) _ h meet)) [ inl e ↦ same_rank f q a e k | inr e ↦ same_rank f q b e l ]
 
-cover_at : (qs ats bs : List ValueType) (i : ℕ) (f : ValueType) → all_cover qs ats bs ≡ true → is_some (rank_if f (slice_get ats i)) ≡ true → is_some (rank_if f (slice_get bs i)) ≡ true → is_some (rank_if f (slice_get qs i)) ≡ true
+cover_at : (qs ats bs : List ValueType) (i : ℕ) (f : ValueType) → all_cover qs ats bs ≡ true → is_some (option_and_then (type_rank f) (slice_get ats i)) ≡ true → is_some (option_and_then (type_rank f) (slice_get bs i)) ≡ true → is_some (option_and_then (type_rank f) (slice_get qs i)) ≡ true
 cover_at qs [] bs i f h k l = absurd (cc)
 cover_at qs (a ∷ ats) [] i f h k l = absurd (cc)
 cover_at [] (a ∷ ats) (b ∷ bs) i f h k l = absurd (cc)

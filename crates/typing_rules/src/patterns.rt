@@ -2,7 +2,7 @@
 
 ghost use Rattle.std.specs.Prelude.{◌≡◌};
 ghost use Rattle.typing_rules.specs.judged.Types.{value_type};
-ghost use Rattle.typing_rules.specs.judged.MathTable.{vector_size, vector_of_columns, vector_of_rows, transposed, arguments_of, conclusion_of, math_rule};
+ghost use Rattle.typing_rules.specs.judged.MathTable.{vector_size, vector_of_columns, vector_of_rows, transposed, math_rule};
 
 use crate::rules::{Arguments, Conclusion, ConstructorSize, Rule, ValueType};
 use ir_kinds::{PredeclaredType, Scalar, VectorSize};
@@ -103,7 +103,7 @@ const fn typed(size: ConstructorSize, scalar: Scalar) -> ValueType
 impl Pattern {
     // The types of the rule's arguments.
     const fn arguments(self, size: ConstructorSize, scalar: Scalar) -> Arguments
-        ensures { result ≡ arguments_of self size scalar }
+        ensures { result ≡ (math_rule self size scalar).arguments }
     {
         let x = typed(size, scalar);
         match self {
@@ -130,7 +130,7 @@ impl Pattern {
 
     // What the rule gives.
     const fn conclusion(self, size: ConstructorSize, scalar: Scalar) -> Conclusion
-        ensures { result ≡ conclusion_of self size scalar }
+        ensures { result ≡ (math_rule self size scalar).conclusion }
     {
         match self {
             Pattern::ToScalar | Pattern::TwoToScalar => {

@@ -1,5 +1,5 @@
 -- The pairs after all effects, and the expressions that are wrong.
-use Rattle.std.proofs.Common.{◌≡◌, ◌⊎◌, ℕ, Option, Some, None, Bool, true, false, true≢false, ◌||◌, IsTrue, List, [], ◌∷◌, ◌++◌, refl, sym, ap, ◌∙◌, subst, inl, inr, ⊎_elim, slice_get}
+use Rattle.std.proofs.Common.{◌≡◌, ◌⊎◌, ℕ, Option, Some, None, Bool, true, false, true≢false, ◌||◌, List, [], ◌∷◌, ◌++◌, refl, sym, ap, ◌∙◌, subst, inl, inr}
 use Rattle.std.specs.Prelude.{◌↔◌, if◌then◌else◌}
 use Rattle.std.specs.List.{list_any}
 use Rattle.indexmap.specs.IndexSet.{insert_key}
@@ -9,7 +9,8 @@ use Rattle.spec_expressions.specs.declared.sampling.GlobalOrArgument.{GlobalOrAr
 use Rattle.spec_expressions.specs.declared.sampling.GlobalOrArgument.TheVariants.{Global, Argument}
 use Rattle.spec_expressions.specs.judged.Pairs.{SamplingPair, pair_eq}
 use Rattle.typing_summaries.proofs.Equal.{pair_same}
-use Rattle.spec_expressions.specs.judged.CallChains.{global_or_argument, seen_through, argument_means}
+use Rattle.spec_expressions.specs.judged.CallChains.{global_or_argument, seen_through}
+use Rattle.spec_expressions.specs.found.Arguments.{argument_means}
 use Rattle.spec_expressions.specs.judged.Summaries.{ComesUp, IsWrongArgument}
 use Rattle.spec_expressions.proofs.Members.{among-left, among-right, among-cases}
 use Rattle.typing_summaries.specs.Tallies.{Paired, with_wrong, first_wrong, part_wrong, pair_one, passed_for, pass_up, pass_all_up}

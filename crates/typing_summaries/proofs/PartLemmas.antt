@@ -1,8 +1,8 @@
 -- What a call passes, part by part.
-use Rattle.std.proofs.Common.{◌≡◌, ℕ, zero, suc, ◌+◌, ◌<◌, ◌≤◌, min, Bool, true, false, List, [], ◌∷◌, ◌++◌, length, drop, get_or, Option, Some, None, slice_get, refl, sym, ap, ◌∙◌, subst, arith}
+use Rattle.std.proofs.Common.{◌≡◌, ℕ, zero, suc, ◌+◌, ◌<◌, ◌≤◌, min, Bool, true, false, List, [], ◌∷◌, ◌++◌, length, drop, get_or, Option, Some, slice_get, refl, sym, ap, ◌∙◌, arith}
 use Rattle.std.proofs.lemmas.List.{append-nil, append_assoc}
 use Rattle.spec_expressions.specs.declared.sampling.GlobalOrArgument.{GlobalOrArgument}
-use Rattle.spec_expressions.specs.judged.CallChains.{argument_means}
+use Rattle.spec_expressions.specs.found.Arguments.{argument_means}
 use Rattle.typing_summaries.specs.Parts.{part_if, parts_of}
 
 module _ (meaning : ℕ → Option GlobalOrArgument) where

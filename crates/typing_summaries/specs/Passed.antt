@@ -4,7 +4,8 @@ use Rattle.typing_rules.specs.judged.Laws.{IsAmong}
 use Rattle.spec_expressions.specs.declared.sampling.GlobalOrArgument.{GlobalOrArgument}
 use Rattle.spec_expressions.specs.declared.sampling.GlobalOrArgument.TheVariants.{Argument}
 use Rattle.spec_expressions.specs.judged.Pairs.{SamplingPair}
-use Rattle.spec_expressions.specs.judged.CallChains.{argument_means, seen_through}
+use Rattle.spec_expressions.specs.judged.CallChains.{seen_through}
+use Rattle.spec_expressions.specs.found.Arguments.{argument_means}
 
 -- what is passed for an argument is the caller's argument of the same number
 abbrev pub PassesOn : (meaning : ℕ → Option GlobalOrArgument) → (arguments : List ℕ) → ℕ → Type 0

@@ -1,8 +1,9 @@
 -- How expressions are found, and that they are found exactly where they are written.
-use Rattle.std.specs.Prelude.{◌≡◌, ◌≤◌, ℕ, List, [], ◌∷◌, Option, Some, None, option_map, ◌==◌, nat_eq, if◌then◌else◌, codes, refl}
-use Rattle.std.proofs.Common.{inl, inr, ap, subst, ◌∙◌}
+use Rattle.std.specs.Prelude.{◌≡◌, ◌≤◌, ℕ, true, List, [], ◌∷◌, Option, Some, None, map, length, option_map, ◌==◌, nat_eq, if◌then◌else◌, codes, refl}
+use Rattle.std.proofs.Common.{inl, inr, ap, sym, subst, ◌∙◌}
+use Rattle.std.specs.Str.{bytes_eq}
 use borrow.Author.Tests.{eqb-true}
-use Rattle.serde_json.specs.Data.{Data, string, array, Items, depth, items_depth}
+use Rattle.serde_json.specs.Data.{Data, null, boolean, number, string, array, object, Items, depth, items_depth}
 use Rattle.serde_json.specs.Find.{as_str}
 use Rattle.ir_kinds.specs.declared.values.Literal.{Literal}
 use Rattle.ir_kinds.specs.declared.values.Literal.TheVariants as literal
@@ -14,14 +15,15 @@ use Rattle.ir_types.specs.declared.expressions.ImageQuery.{ImageQuery}
 use Rattle.ir_types.specs.declared.expressions.ImageQuery.TheVariants as query
 use Rattle.ir_types.specs.judged.ExpressionPlain.{PlainExpression, compose, plain as computes}
 use Rattle.ir_types.specs.declared.expressions.Expression.TheVariants as computed
+use Rattle.document_words.specs.Lookup.{lookup}
 use Rattle.document_words.specs.Tables.{letters, cooperative_roles, unary_operators, binary_operators, derivative_axes, derivative_controls, relational_functions, math_functions, scalar_kinds}
 use Rattle.document_forms.specs.found.Exact.{deepest, IsExact, FormOf, RowOf}
 use Rattle.document_forms.specs.found.Decide.{◌>>=◌, of_kind, tagged_of}
-use Rattle.document_forms.specs.found.Inverse.{bind_some, map_some, chosen, guarded, some_is, as_str_some}
+use Rattle.document_forms.specs.found.Inverse.{bind_some, map_some, chosen, guarded, some_is, is_word, as_str_some}
 use Rattle.document_forms.specs.found.KindLaws.{AreSound, kind_sound, kind_complete, tagged_complete}
 use Rattle.document_forms.specs.found.Forms.{a_u8, a_u16, a_u64, a_i16, a_i32, a_i64, a_handle, a_u32, a_size, a_side, a_bool, a_word, maybe, a_list, ends, row_by_kind, by_kind}
 use Rattle.document_forms.specs.found.Rows.{row1, row2, row3, row5, row6, row9}
-use Rattle.document_expressions.specs.judged.Form.{ALiteral, ASampleLevel, AnImageQuery, letter_code, APattern, AnExpression}
+use Rattle.document_expressions.specs.judged.Form.{ALiteral, ASampleLevel, AnImageQuery, APattern, AnExpression}
 use Rattle.document_expressions.specs.found.Kinds.{expression_kinds, literal_kinds, level_kinds, query_kinds}
 use Rattle.document_expressions.specs.declared.kinds.ExpressionKind.{ExpressionKind}
 use Rattle.document_expressions.specs.declared.kinds.ExpressionKind.TheVariants as expression_kind
@@ -179,6 +181,12 @@ a_query = by_kind query_kinds query_with AnImageQuery query_sound query_complete
 
 -- ---- the pattern of a swizzle
 
+abbrev pub letter_code : SwizzleComponent → ℕ
+letter_code X = 120
+letter_code Y = 121
+letter_code Z = 122
+letter_code W = 119
+
 abbrev pub letter_in : ℕ → Option SwizzleComponent
 letter_in n = if n == 120 then Some X else (if n == 121 then Some Y else (if n == 122 then Some Z else (if n == 119 then Some W else None)))
 
@@ -233,11 +241,15 @@ last_some [] c e = cc
 last_some (n ∷ []) c e = ap (λ m. m ∷ []) (letter_some n c e)
 last_some (n ∷ m ∷ ns) c e = cc
 
-pub pattern_exact : IsExact pattern_of APattern
+-- a pattern by the codes of its letters
+abbrev CodedPattern : List SwizzleComponent → Data → Type 0
+CodedPattern cs d = (d ≡ string (map letter_code cs)) × (length cs ≡ 4)
+
+coded_exact : IsExact pattern_of CodedPattern
 unfolding pattern_in
-pattern_exact = record { sound = found; complete = there }
+coded_exact = record { sound = found; complete = there }
   where
-    found : (d : Data) (cs : List SwizzleComponent) → pattern_of d ≡ Some cs → APattern cs d
+    found : (d : Data) (cs : List SwizzleComponent) → pattern_of d ≡ Some cs → CodedPattern cs d
     found d cs e =
         let w = bind_some _ (as_str d) cs e in
         let a = bind_some _ (next_letter w.0) cs w.2 in
@@ -245,15 +257,68 @@ pattern_exact = record { sound = found; complete = there }
         let c = bind_some _ (next_letter b.0.1) cs b.2 in
         let z = bind_some _ (last_letter c.0.1) cs c.2 in
         let w_is = next_some w.0 a.0 a.1 ∙ ap (λ ns. letter_code a.0.0 ∷ ns) (next_some a.0.1 b.0 b.1 ∙ ap (λ ns. letter_code b.0.0 ∷ ns) (next_some b.0.1 c.0 c.1 ∙ ap (λ ns. letter_code c.0.0 ∷ ns) (last_some c.0.1 z.0 z.1))) in
-        subst (λ x. APattern x d) (some_is _ cs z.2) (as_str_some d w.0 w.1 ∙ ap string w_is, refl)
+        subst (λ x. CodedPattern x d) (some_is _ cs z.2) (as_str_some d w.0 w.1 ∙ ap string w_is, refl)
 
-    there : (d : Data) (cs : List SwizzleComponent) → APattern cs d → depth d ≤ deepest → pattern_of d ≡ Some cs
+    there : (d : Data) (cs : List SwizzleComponent) → CodedPattern cs d → depth d ≤ deepest → pattern_of d ≡ Some cs
     there d [] h le = absurd (let x = h.1 in cc)
     there d (a ∷ []) h le = absurd (let x = h.1 in cc)
     there d (a ∷ b ∷ []) h le = absurd (let x = h.1 in cc)
     there d (a ∷ b ∷ c ∷ []) h le = absurd (let x = h.1 in cc)
     there d (a ∷ b ∷ c ∷ e ∷ []) h le = rw h.0 (rw (letter_there a) (rw (letter_there b) (rw (letter_there c) (rw (letter_there e) refl))))
     there d (a ∷ b ∷ c ∷ e ∷ f ∷ cs) h le = absurd (let x = h.1 in cc)
+
+-- the letters of the table, and their codes
+names_of : (cs : List SwizzleComponent) → map (λ l. lookup (l ∷ []) letters) (map letter_code cs) ≡ map Some cs
+names_of [] = refl
+names_of (X ∷ cs) = ap (λ xs. Some X ∷ xs) (names_of cs)
+names_of (Y ∷ cs) = ap (λ xs. Some Y ∷ xs) (names_of cs)
+names_of (Z ∷ cs) = ap (λ xs. Some Z ∷ xs) (names_of cs)
+names_of (W ∷ cs) = ap (λ xs. Some W ∷ xs) (names_of cs)
+
+one_code : (l n : ℕ) → bytes_eq (l ∷ []) (n ∷ []) ≡ true → l ≡ n
+one_code l n e =
+    let w : (l ∷ []) ≡ (n ∷ []) = is_word (l ∷ []) (n ∷ []) e in
+    cc
+
+code_of : (l : ℕ) (c : SwizzleComponent) → lookup (l ∷ []) letters ≡ Some c → l ≡ letter_code c
+code_of l c e =
+    elim (chosen (bytes_eq (l ∷ []) (codes "x")) _ _ _ e) [
+      | inl a ↦ one_code l 120 a.0 ∙ ap letter_code (some_is X c a.1)
+      | inr a ↦ elim (chosen (bytes_eq (l ∷ []) (codes "y")) _ _ _ a.1) [
+        | inl b ↦ one_code l 121 b.0 ∙ ap letter_code (some_is Y c b.1)
+        | inr b ↦ elim (chosen (bytes_eq (l ∷ []) (codes "z")) _ _ _ b.1) [
+          | inl z ↦ one_code l 122 z.0 ∙ ap letter_code (some_is Z c z.1)
+          | inr z ↦ let g = guarded (bytes_eq (l ∷ []) (codes "w")) (Some W) c z.1 in one_code l 119 g.0 ∙ ap letter_code (some_is W c g.1)
+        ]
+      ]
+    ]
+
+codes_of : (w : List ℕ) (cs : List SwizzleComponent) → map (λ l. lookup (l ∷ []) letters) w ≡ map Some cs → w ≡ map letter_code cs
+codes_of [] [] e = refl
+codes_of [] (c ∷ cs) e = cc
+codes_of (l ∷ ls) [] e = cc
+codes_of (l ∷ ls) (c ∷ cs) e =
+    let first : lookup (l ∷ []) letters ≡ Some c = cc in
+    let rest : map (λ l. lookup (l ∷ []) letters) ls ≡ map Some cs = cc in
+    let n : l ≡ letter_code c = code_of l c first in
+    let ns : ls ≡ map letter_code cs = codes_of ls cs rest in
+    cc
+
+coded : (d : Data) (cs : List SwizzleComponent) → APattern cs d → CodedPattern cs d
+coded null cs h = absurd h
+coded (boolean b) cs h = absurd h
+coded (number n) cs h = absurd h
+coded (string w) cs h = (ap string (codes_of w cs h.0), h.1)
+coded (array ds) cs h = absurd h
+coded (object ms) cs h = absurd h
+
+pub pattern_exact : IsExact pattern_of APattern
+pattern_exact = record { sound = found; complete = λ d cs h le. coded_exact.complete d cs (coded d cs h) le }
+  where
+    found : (d : Data) (cs : List SwizzleComponent) → pattern_of d ≡ Some cs → APattern cs d
+    found d cs e =
+        let h = coded_exact.sound d cs e in
+        subst (APattern cs) (sym h.0) (names_of cs, h.1)
 
 abbrev pub a_pattern : FormOf (List SwizzleComponent)
 a_pattern = record { find = pattern_of; Written = APattern; exact = pattern_exact }

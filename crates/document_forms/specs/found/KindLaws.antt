@@ -7,9 +7,13 @@ use Rattle.serde_json.specs.Data.{Data, null, boolean, number, string, array, ob
 use Rattle.serde_json.specs.Find.{as_array, as_str}
 use Rattle.document_words.specs.Lookup.{lookup}
 use Rattle.document_forms.specs.found.Exact.{deepest, IsExact, IsExactRow, RowOf}
-use Rattle.document_forms.specs.judged.Form.{AText, ◌▸◌, Tagged}
+use Rattle.document_forms.specs.judged.Form.{AText, AnArray, ◌▸◌}
 use Rattle.document_forms.specs.found.Decide.{word_in, first, tag_of, of_kind, tag_in, tagged_of}
 use Rattle.document_forms.specs.found.Inverse.{bind_some, map_some, chosen, some_is, is_word, as_str_some, as_array_some, first_some}
+
+-- an array of this word and the parts that belong to it
+abbrev pub Tagged : List ℕ → (Items → Type 0) → Data → Type 0
+Tagged w q = AnArray (AText w ▸ q)
 
 -- what is found by the kind of each entry is written with that entry's word in front
 abbrev pub AreSound : {A K : Type 0} → (K → Items → Option A) → (A → Items → Type 0) → List (List ℕ × K) → Type 0

@@ -1,9 +1,10 @@
 -- What `Find` finds is what `Form` says: lists, and sets of words.
 use Rattle.std.proofs.Common.{◌≡◌, ◌≤◌, ℕ, List, [], ◌∷◌, Option, Some, refl, sym, ap, subst, ◌∙◌, arith}
+use Rattle.std.specs.Prelude.{fold}
 use Rattle.serde_json.specs.Data.{Data, null, boolean, number, string, array, object, Items, no_items, item, depth, items_depth}
 use Rattle.serde_json.specs.Find.{as_array}
 use Rattle.document_forms.specs.found.Exact.{deepest, IsExact}
-use Rattle.document_forms.specs.judged.Form.{AWord, EachOf, AList, ASet, joined}
+use Rattle.document_forms.specs.judged.Form.{AWord, EachOf, AList, ASet}
 use Rattle.document_forms.specs.found.Decide.{word_in, each, all_of, joins, set_of}
 use Rattle.document_forms.specs.found.Inverse.{bind_some, some_is, as_array_some}
 use Rattle.document_forms.specs.found.PartLaws.{word_exact}
@@ -40,14 +41,14 @@ list_exact {A} f P exact = record { sound = found; complete = there }
     there (object ms) xs h le = absurd h
 
 module _ {A : Type 0} (table : List (List ℕ × A)) (union : A → A → A) where
-  joins_sound : (x : A) (ds : Items) (z : A) → joins table union x ds ≡ Some z → (words : List A) × EachOf (AWord table) words ds × (joined union x words ≡ z)
+  joins_sound : (x : A) (ds : Items) (z : A) → joins table union x ds ≡ Some z → (words : List A) × EachOf (AWord table) words ds × (fold union x words ≡ z)
   joins_sound x no_items z e = ([], tt, some_is x z e)
   joins_sound x (item d ds) z e =
       let a = bind_some _ (word_in table d) z e in
       let r = joins_sound (union x a.0) ds z a.2 in
       (a.0 ∷ r.0, ((word_exact table).sound d a.0 a.1, r.1), r.2)
 
-  joins_complete : (x : A) (ds : Items) (words : List A) → EachOf (AWord table) words ds → items_depth ds ≤ deepest → joins table union x ds ≡ Some (joined union x words)
+  joins_complete : (x : A) (ds : Items) (words : List A) → EachOf (AWord table) words ds → items_depth ds ≤ deepest → joins table union x ds ≡ Some (fold union x words)
   joins_complete x no_items [] h le = refl
   joins_complete x no_items (w ∷ ws) h le = absurd h
   joins_complete x (item d ds) [] h le = absurd h

@@ -8,7 +8,7 @@ use Rattle.ir_kinds.specs.declared.scalars.VectorSize.TheVariants.{Bi, Tri, Quad
 use Rattle.ir_kinds.specs.declared.scalars.CooperativeSize.{CooperativeSize}
 use Rattle.ir_kinds.specs.declared.scalars.CooperativeSize.TheVariants.{Eight, Sixteen}
 use Rattle.document_forms.specs.found.Exact.{deepest, IsExact}
-use Rattle.document_forms.specs.judged.Form.{ANumber, Fits, ASigned, ABool, AText, AWord, AVectorSize, ACooperativeSize, Maybe}
+use Rattle.document_forms.specs.judged.Form.{ANumber, ASigned, ABool, AText, AWord, AVectorSize, ACooperativeSize, Maybe}
 use Rattle.document_forms.specs.found.Decide.{whole_of, number_of, small, below_zero, or_else, signed_of, size_of, side_of, word_in, is_null, optional}
 use Rattle.document_forms.specs.found.Inverse.{bind_some, map_some, chosen, guarded, both_true, some_is, as_str_some, as_bool_some, as_number_some, whole_some, is_null_true}
 
@@ -36,6 +36,15 @@ small_some : (high n : ℕ) (z : ℤ) → small high n ≡ Some z → (pos n ≡
 small_some high n z e =
     let g = guarded (nat_le n high) (Some (pos n)) z e in
     (some_is _ _ g.1, leb-true n high g.0)
+
+-- from `-(high + 1)` to `high`
+abbrev pub Fits : ℕ → ℤ → Type 0
+Fits high (pos n) = n ≤ high
+Fits high (negsuc n) = n ≤ high
+
+signed_written : (high : ℕ) (z : ℤ) (d : Data) → d ≡ number (of_integer z) → Fits high z → ASigned high z d
+signed_written high (pos n) d e f = (e, f)
+signed_written high (negsuc n) d e f = (e, f)
 
 -- a number below zero: its form, and its range
 below_some : (high : ℕ) (m : Num) (z : ℤ) → option_and_then (below_zero high) (as_i64 m) ≡ Some z → as_u64 m ≡ None → (m ≡ of_integer z) × Fits high z
@@ -65,7 +74,7 @@ signed_exact high = record { sound = found; complete = there }
               let chain : option_and_then (below_zero high) (as_i64 b.0) ≡ Some z = ap (option_and_then (below_zero high)) b.2 ∙ a.2 in
               let none : as_u64 b.0 ≡ None = sym (ap (option_and_then as_u64) b.1) ∙ below.0 in
               let s = below_some high b.0 z chain none in
-              (as_number_some d b.0 b.1 ∙ ap number s.0, s.1)
+              signed_written high z d (as_number_some d b.0 b.1 ∙ ap number s.0) s.1
         ]
 
     there : (d : Data) (z : ℤ) → ASigned high z d → depth d ≤ deepest → signed_of high d ≡ Some z

@@ -10,6 +10,7 @@ use Rattle.ir_items.specs.judged.GlobalPlain.{PlainConstant, PlainOverride, Plai
 use Rattle.document_words.specs.Unions.{decoration_union}
 use Rattle.document_words.specs.Tables.{severities, standard_rules, conservative_depths, topologies, entry_stages, memory_decorations}
 use Rattle.document_forms.specs.found.Exact.{deepest, IsExact, FormOf}
+use Rattle.document_forms.specs.judged.Form.{AHandle, Maybe, AnArray, AList, Ends, ◌▸◌}
 use Rattle.document_forms.specs.found.Decide.{tagged_of}
 use Rattle.document_forms.specs.found.Inverse.{map_some}
 use Rattle.document_forms.specs.found.KindLaws.{AreSound, kind_sound, tagged_complete}
@@ -17,7 +18,7 @@ use Rattle.document_forms.specs.found.Forms.{a_u16, a_handle, a_u32, a_text, a_w
 use Rattle.document_forms.specs.found.Rows.{row1, row2, row3, row4, row6, row8}
 use Rattle.document_items.specs.found.Types.{a_space, a_resource}
 use Rattle.document_items.specs.found.Kinds.{rule_kinds, early_kinds}
-use Rattle.document_items.specs.judged.ItemForm.{AConstant, AnOverride, AGlobal, ARule, AFilter, AllFilters, AnEarlyDepthTest, TheSizes, AMesh}
+use Rattle.document_items.specs.judged.ItemForm.{AConstant, AnOverride, AGlobal, ARule, AFilter, AnEarlyDepthTest, TheSizes, AMesh}
 use Rattle.document_items.specs.declared.kinds.RuleKind.{RuleKind}
 use Rattle.document_items.specs.declared.kinds.RuleKind.TheVariants as rule_kind
 use Rattle.document_items.specs.declared.kinds.EarlyKind.{EarlyKind}
@@ -65,6 +66,10 @@ a_rule = by_kind rule_kinds rule_with ARule rule_sound rule_complete
 
 abbrev pub a_filter : FormOf PlainFilterNode
 a_filter = made (an_array (row3 (a_word severities) a_rule (maybe a_handle))) (λ t. record { severity = t.0; rule = t.1; parent = t.2 }) (λ n. (n.severity, n.rule, n.parent)) AFilter (λ n. refl) (λ t d h. h) (λ n d h. h)
+
+-- the filters, and the one that counts in the whole module
+abbrev pub AllFilters : List PlainFilterNode × Option ℕ → Data → Type 0
+AllFilters t = AnArray (AList AFilter t.0 ▸ Maybe AHandle t.1 ▸ Ends)
 
 abbrev pub the_filters : FormOf (List PlainFilterNode × Option ℕ)
 the_filters = made (an_array (row2 (a_list a_filter) (maybe a_handle))) (λ t. t) (λ t. t) AllFilters (λ t. refl) (λ t d h. h) (λ t d h. h)

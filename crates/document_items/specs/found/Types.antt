@@ -24,15 +24,15 @@ use Rattle.document_words.specs.Lookup.{lookup}
 use Rattle.document_words.specs.Unions.{access_union}
 use Rattle.document_words.specs.Tables.{scalars, scalar_kinds, cooperative_roles, image_dimensions, storage_formats, interpolations, samplings, built_ins, spaces, storage_access}
 use Rattle.document_forms.specs.found.Exact.{deepest, IsExact, IsExactRow, FormOf, RowOf}
-use Rattle.document_forms.specs.judged.Form.{AText, ABool, AWord, ASet, Ends, ◌▸◌, Tagged}
+use Rattle.document_forms.specs.judged.Form.{AU32, AText, ABool, AWord, ASet, Ends, ◌▸◌}
 use Rattle.document_forms.specs.found.Decide.{◌>>=◌, or_else, word_in, first, end, tagged_of}
 use Rattle.document_forms.specs.found.Inverse.{bind_some, map_some, chosen, guarded, some_is, is_word, as_str_some, first_some}
 use Rattle.document_forms.specs.found.PartLaws.{either_some, word_exact}
 use Rattle.document_forms.specs.found.RowLaws.{end_exact}
-use Rattle.document_forms.specs.found.KindLaws.{AreSound, kind_sound, tagged_complete, lookup_keeps}
+use Rattle.document_forms.specs.found.KindLaws.{Tagged, AreSound, kind_sound, tagged_complete, lookup_keeps}
 use Rattle.document_forms.specs.found.Forms.{a_handle, a_u32, a_size, a_side, a_bool, a_text, a_word, a_set, maybe, a_list, ends, an_array, made, by_kind}
 use Rattle.document_forms.specs.found.Rows.{row1, row2, row3, row4, row5}
-use Rattle.document_items.specs.judged.Form.{APositive, ABuiltIn, ABinding, AResource, ASpace, AnArraySize, AnImageClass, AMember, AnInner, AType}
+use Rattle.document_items.specs.judged.Form.{ABuiltIn, ABinding, AResource, ASpace, AnArraySize, AnImageClass, AMember, AnInner, AType}
 use Rattle.document_items.specs.found.Kinds.{storage_kinds, array_size_kinds, class_kinds, binding_kinds, inner_kinds}
 use Rattle.document_items.specs.declared.kinds.StorageKind.{StorageKind}
 use Rattle.document_items.specs.declared.kinds.StorageKind.TheVariants as storage_kind
@@ -46,6 +46,9 @@ use Rattle.document_items.specs.declared.kinds.InnerKind.{InnerKind}
 use Rattle.document_items.specs.declared.kinds.InnerKind.TheVariants as inner_kind
 
 -- ---- numbers that are not 0
+
+abbrev pub APositive : ℕ → Data → Type 0
+APositive n d = AU32 n d × (1 ≤ n)
 
 abbrev pub positive_of : Data → Option ℕ
 positive_of d = do

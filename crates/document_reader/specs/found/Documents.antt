@@ -26,9 +26,12 @@ use Rattle.document_items.specs.found.Special.{the_special}
 use Rattle.document_expressions.specs.found.Expressions.{an_expression}
 use Rattle.document_reader.specs.found.Functions.{a_function, an_entry}
 use Rattle.document_reader.specs.judged.Plain.{PlainDocument}
-use Rattle.document_reader.specs.judged.Form.{IsVersion, ADocument}
+use Rattle.document_reader.specs.judged.Form.{ADocument}
 
 -- ---- the version of the format
+
+abbrev pub IsVersion : Data → Type 0
+IsVersion d = d ≡ number (unsigned 1)
 
 abbrev pub version_of : Data → Option (Unit {0})
 version_of d = do

@@ -17,13 +17,13 @@ use Rattle.ir_blocks.specs.judged.Plain.{control_barrier, memory_barrier, store,
 use Rattle.document_words.specs.Unions.{barrier_union}
 use Rattle.document_words.specs.Tables.{barriers, subgroup_operations, collective_operations, directions}
 use Rattle.document_forms.specs.found.Exact.{deepest, IsExact, FormOf}
-use Rattle.document_forms.specs.judged.Form.{ABool, AnArray, EachOf, Ends, Starts, ◌▸◌, Tagged}
+use Rattle.document_forms.specs.judged.Form.{ABool, AnArray, EachOf, Ends, ◌▸◌}
 use Rattle.document_forms.specs.found.Decide.{each, all_of, tagged_of}
 use Rattle.document_forms.specs.found.Inverse.{map_some}
-use Rattle.document_forms.specs.found.KindLaws.{AreSound, kind_sound, tagged_complete, tagged_sound}
+use Rattle.document_forms.specs.found.KindLaws.{Tagged, AreSound, kind_sound, tagged_complete, tagged_sound}
 use Rattle.document_forms.specs.found.Forms.{a_i32, a_handle, a_u32, a_bool, a_word, a_set, maybe, a_list, ends, an_array, by_kind}
 use Rattle.document_forms.specs.found.Rows.{row1, row2, row3, row4, row5}
-use Rattle.document_reader.specs.judged.StatementForm.{ASwitchValue, AnAtomicFunction, AGatherMode, ARayQueryFunction, ARayPipelineFunction, AnOperation, AStatement, TheStatements, TheCases, ABody}
+use Rattle.document_reader.specs.judged.StatementForm.{ASwitchValue, AnAtomicFunction, AGatherMode, ARayQueryFunction, ARayPipelineFunction, AnOperation, AStatement, TheStatements, TheCases}
 use Rattle.document_reader.specs.found.Kinds.{value_kinds, atomic_kinds, gather_kinds, ray_query_kinds, pipeline_kinds, statement_kinds}
 use Rattle.document_reader.specs.declared.kinds.ValueKind.{ValueKind}
 use Rattle.document_reader.specs.declared.kinds.ValueKind.TheVariants as value_kind
@@ -277,16 +277,19 @@ statement_at (suc n) d = tagged_of statement_kinds (statement_with (λ b. option
 abbrev pub block_at : ℕ → Data → Option PlainBlock
 block_at n d = option_map block_of (all_of (statement_at n) d)
 
+abbrev pub ABody : PlainBlock → Data → Type 0
+ABody b = AnArray (TheStatements b)
+
 abbrev pub ACase : PlainCase → Data → Type 0
 ACase c = AnArray (ASwitchValue c.value ▸ AnArray (TheStatements c.body) ▸ ABool c.falls ▸ Ends)
 
 -- ---- what holds of other parts of an array
 
-starts_map : (p r : Data → Type 0) (q s : Items → Type 0) (n : ℕ) (ds : Items) → items_depth ds ≤ n → Starts p q ds → ((d : Data) → depth d ≤ n → p d → r d) → ((es : Items) → items_depth es ≤ n → q es → s es) → Starts r s ds
+starts_map : (p r : Data → Type 0) (q s : Items → Type 0) (n : ℕ) (ds : Items) → items_depth ds ≤ n → (p ▸ q) ds → ((d : Data) → depth d ≤ n → p d → r d) → ((es : Items) → items_depth es ≤ n → q es → s es) → (r ▸ s) ds
 starts_map p r q s n no_items le h f g = absurd h
 starts_map p r q s n (item d ds) le h f g = (f d (omega arith) h.0, g ds (omega arith) h.1)
 
-starts_all : (p r : Data → Type 0) (q s : Items → Type 0) (ds : Items) → Starts p q ds → ((d : Data) → p d → r d) → ((es : Items) → q es → s es) → Starts r s ds
+starts_all : (p r : Data → Type 0) (q s : Items → Type 0) (ds : Items) → (p ▸ q) ds → ((d : Data) → p d → r d) → ((es : Items) → q es → s es) → (r ▸ s) ds
 starts_all p r q s no_items h f g = absurd h
 starts_all p r q s (item d ds) h f g = (f d h.0, g ds h.1)
 

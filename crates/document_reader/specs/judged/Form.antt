@@ -1,48 +1,29 @@
 -- How a document is written, and when bytes spell it.
 use Rattle.std.specs.Prelude.{◌≡◌, ℕ, ◌≤◌, List, length, Some, IsUtf8}
-use Rattle.ir_flags.specs.declared.settings.Settings.{Settings}
+use Rattle.std.specs.Int.RustNames.{bit_or}
 use Rattle.serde_json.specs.Data.{Data, number, unsigned}
 use Rattle.serde_json.specs.Read.{read}
 use Rattle.document_words.specs.Tables.{flags, capabilities, stages, operations}
-use Rattle.document_words.specs.Unions.{flag_union, capability_union, stage_union, operation_union}
-use Rattle.document_forms.specs.judged.Form.{ABool, ASet, AnArray, AList, Ends, ◌▸◌}
+use Rattle.document_forms.specs.judged.Form.{AHandle, ABool, ASet, Maybe, AnArray, AList, Ends, ◌▸◌}
 use Rattle.document_items.specs.judged.Form.{AType}
 use Rattle.document_expressions.specs.judged.Form.{AnExpression}
-use Rattle.document_items.specs.judged.ItemForm.{ASpecial, AllFilters, AConstant, AnOverride, AGlobal}
+use Rattle.document_items.specs.judged.ItemForm.{ASpecial, AFilter, AConstant, AnOverride, AGlobal}
 use Rattle.document_reader.specs.judged.FunctionForm.{AFunction}
 use Rattle.document_reader.specs.judged.EntryForm.{AnEntry}
 use Rattle.document_reader.specs.declared.reading.TheConstants.{MAX_LEN}
 use Rattle.document_reader.specs.judged.Distinct.{AreDistinct}
 use Rattle.document_reader.specs.judged.Plain.{PlainDocument}
 
--- the version of the format
-abbrev pub IsVersion : Data → Type 0
-IsVersion d = d ≡ number (unsigned 1)
-
--- the stages and the subgroup operations that may stand there
-abbrev pub TheSubgroups : Settings → Data → Type 0
-TheSubgroups s = AnArray (ASet stages (record { 0 = 0 }) stage_union s.subgroup_stages ▸ ASet operations (record { 0 = 0 }) operation_union s.subgroup_operations ▸ Ends)
-
--- version, flags, capabilities, subgroup sets, returns; types, special types, filters, constants, overrides, global
--- expressions, globals, functions, entries
+-- the version of the format, 1; flags, capabilities, the stages and the subgroup operations that may stand there, returns; types, special types, filters
+-- and the one that counts in the whole module, constants, overrides, global expressions, globals, functions, entries
 abbrev pub ADocument : PlainDocument → Data → Type 0
-ADocument d =
-    AnArray (
-    IsVersion ▸
-    ASet flags (record { 0 = 0 }) flag_union d.settings.flags ▸
-    ASet capabilities (record { 0 = 0 }) capability_union d.settings.capabilities ▸
-    TheSubgroups d.settings ▸
-    ABool d.returns ▸
-    AList AType d.content.types ▸
-    ASpecial d.content.special ▸
-    AllFilters (d.content.filters, d.content.leaf) ▸
-    AList AConstant d.content.constants ▸
-    AList AnOverride d.content.overrides ▸
-    AList AnExpression d.content.global_expressions ▸
-    AList AGlobal d.content.globals ▸
-    AList AFunction d.content.functions ▸
-    AList AnEntry d.content.entries ▸
-    Ends)
+ADocument d = AnArray ((λ v. v ≡ number (unsigned 1)) ▸ ASet flags (record { 0 = 0 }) (λ a b. record { 0 = bit_or a.0 b.0 }) d.settings.flags ▸
+    ASet capabilities (record { 0 = 0 }) (λ a b. record { 0 = bit_or a.0 b.0 }) d.settings.capabilities ▸
+    AnArray (ASet stages (record { 0 = 0 }) (λ a b. record { 0 = bit_or a.0 b.0 }) d.settings.subgroup_stages ▸
+    ASet operations (record { 0 = 0 }) (λ a b. record { 0 = bit_or a.0 b.0 }) d.settings.subgroup_operations ▸ Ends) ▸ ABool d.returns ▸
+    AList AType d.content.types ▸ ASpecial d.content.special ▸ AnArray (AList AFilter d.content.filters ▸ Maybe AHandle d.content.leaf ▸ Ends) ▸
+    AList AConstant d.content.constants ▸ AList AnOverride d.content.overrides ▸ AList AnExpression d.content.global_expressions ▸
+    AList AGlobal d.content.globals ▸ AList AFunction d.content.functions ▸ AList AnEntry d.content.entries ▸ Ends)
 
 -- The bytes are few enough, and the JSON reader reads them as this value.
 pub record IsValueOf (bytes : List ℕ) (value : Data) : Type 0 where

@@ -34,8 +34,7 @@ pub data Spot : Type 0 where
 
 -- the condition of a loop, if it has one
 abbrev pub condition_of : Shape → Option ℕ
-condition_of (loops body continuing break_if) = break_if
-condition_of _ = None
+condition_of s = elim s [ loops body continuing break_if ↦ break_if | _ ↦ None ]
 
 abbrev pub spot_at : Place → PlainBlock → Spot
 spot_at here stop = nothing

@@ -34,8 +34,7 @@ shape_of (call function arguments result) = calls function
 
 -- how it leaves its block, if it does
 abbrev pub exit_of : Shape → Option Exit
-exit_of (leaves exit) = Some exit
-exit_of _ = None
+exit_of s = elim s [ leaves exit ↦ Some exit | _ ↦ None ]
 
 -- The parts that a statement may have: blocks inside it.
 pub data Part : Type 0 where

@@ -12,9 +12,7 @@ expressions_of entries = map expression_view (values_of entries)
 
 -- what an access takes a part of
 abbrev pub base_of : PlainExpression → Option ℕ
-base_of (plain (Access base index)) = Some base
-base_of (plain (AccessIndex base index)) = Some base
-base_of _ = None
+base_of e = elim e [ plain (Access base index) ↦ Some base | plain (AccessIndex base index) ↦ Some base | _ ↦ None ]
 
 -- the base of each access comes before it
 abbrev pub BasesPrecede : List PlainExpression → Type 0
@@ -28,8 +26,7 @@ pub data StartsAt (expressions : List PlainExpression) : ℕ → PlainExpression
 
 -- the global that an expression is
 abbrev pub global_of : PlainExpression → Option ℕ
-global_of (plain (GlobalVariable global)) = Some global
-global_of _ = None
+global_of e = elim e [ plain (GlobalVariable global) ↦ Some global | _ ↦ None ]
 
 -- this is the global that the chain from a handle starts at, if it starts at one
 abbrev pub HasOrigin : List PlainExpression → ℕ → Option ℕ → Type 0

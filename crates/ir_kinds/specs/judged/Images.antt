@@ -7,66 +7,71 @@ use Rattle.ir_kinds.specs.declared.images.ImageClass.{ImageClass}
 use Rattle.ir_kinds.specs.declared.images.ImageClass.TheVariants.{Sampled, Depth, External, Storage}
 use Rattle.ir_kinds.specs.judged.Scalars.{signed, unsigned, floating}
 
--- the scalar as which a shader reads and writes a component
+-- What a format is: the scalar as which a shader reads and writes a component, and whether it has 16 bits a channel that denote
+-- numbers from 0 to 1 or from -1 to 1.
+pub record FormatRow : Type 0 where
+  pub scalar : Scalar
+  pub norm_16 : Bool
+
+abbrev pub texels_of : Scalar → FormatRow
+texels_of s = record { scalar = s; norm_16 = false }
+
+abbrev pub format_row : StorageFormat → FormatRow
+format_row R8Unorm = texels_of (floating 4)
+format_row R8Snorm = texels_of (floating 4)
+format_row R8Uint = texels_of (unsigned 4)
+format_row R8Sint = texels_of (signed 4)
+format_row R16Uint = texels_of (unsigned 4)
+format_row R16Sint = texels_of (signed 4)
+format_row R16Float = texels_of (floating 4)
+format_row Rg8Unorm = texels_of (floating 4)
+format_row Rg8Snorm = texels_of (floating 4)
+format_row Rg8Uint = texels_of (unsigned 4)
+format_row Rg8Sint = texels_of (signed 4)
+format_row R32Uint = texels_of (unsigned 4)
+format_row R32Sint = texels_of (signed 4)
+format_row R32Float = texels_of (floating 4)
+format_row Rg16Uint = texels_of (unsigned 4)
+format_row Rg16Sint = texels_of (signed 4)
+format_row Rg16Float = texels_of (floating 4)
+format_row Rgba8Unorm = texels_of (floating 4)
+format_row Rgba8Snorm = texels_of (floating 4)
+format_row Rgba8Uint = texels_of (unsigned 4)
+format_row Rgba8Sint = texels_of (signed 4)
+format_row Bgra8Unorm = texels_of (floating 4)
+format_row Rgb10a2Uint = texels_of (unsigned 4)
+format_row Rgb10a2Unorm = texels_of (floating 4)
+format_row Rg11b10Ufloat = texels_of (floating 4)
+format_row R64Uint = texels_of (unsigned 8)
+format_row Rg32Uint = texels_of (unsigned 4)
+format_row Rg32Sint = texels_of (signed 4)
+format_row Rg32Float = texels_of (floating 4)
+format_row Rgba16Uint = texels_of (unsigned 4)
+format_row Rgba16Sint = texels_of (signed 4)
+format_row Rgba16Float = texels_of (floating 4)
+format_row Rgba32Uint = texels_of (unsigned 4)
+format_row Rgba32Sint = texels_of (signed 4)
+format_row Rgba32Float = texels_of (floating 4)
+format_row R16Unorm = record (texels_of (floating 4)) { norm_16 = true }
+format_row R16Snorm = record (texels_of (floating 4)) { norm_16 = true }
+format_row Rg16Unorm = record (texels_of (floating 4)) { norm_16 = true }
+format_row Rg16Snorm = record (texels_of (floating 4)) { norm_16 = true }
+format_row Rgba16Unorm = record (texels_of (floating 4)) { norm_16 = true }
+format_row Rgba16Snorm = record (texels_of (floating 4)) { norm_16 = true }
+
 abbrev pub format_scalar : StorageFormat → Scalar
-format_scalar R8Unorm = floating 4
-format_scalar R8Snorm = floating 4
-format_scalar R8Uint = unsigned 4
-format_scalar R8Sint = signed 4
-format_scalar R16Uint = unsigned 4
-format_scalar R16Sint = signed 4
-format_scalar R16Float = floating 4
-format_scalar Rg8Unorm = floating 4
-format_scalar Rg8Snorm = floating 4
-format_scalar Rg8Uint = unsigned 4
-format_scalar Rg8Sint = signed 4
-format_scalar R32Uint = unsigned 4
-format_scalar R32Sint = signed 4
-format_scalar R32Float = floating 4
-format_scalar Rg16Uint = unsigned 4
-format_scalar Rg16Sint = signed 4
-format_scalar Rg16Float = floating 4
-format_scalar Rgba8Unorm = floating 4
-format_scalar Rgba8Snorm = floating 4
-format_scalar Rgba8Uint = unsigned 4
-format_scalar Rgba8Sint = signed 4
-format_scalar Bgra8Unorm = floating 4
-format_scalar Rgb10a2Uint = unsigned 4
-format_scalar Rgb10a2Unorm = floating 4
-format_scalar Rg11b10Ufloat = floating 4
-format_scalar R64Uint = unsigned 8
-format_scalar Rg32Uint = unsigned 4
-format_scalar Rg32Sint = signed 4
-format_scalar Rg32Float = floating 4
-format_scalar Rgba16Uint = unsigned 4
-format_scalar Rgba16Sint = signed 4
-format_scalar Rgba16Float = floating 4
-format_scalar Rgba32Uint = unsigned 4
-format_scalar Rgba32Sint = signed 4
-format_scalar Rgba32Float = floating 4
-format_scalar R16Unorm = floating 4
-format_scalar R16Snorm = floating 4
-format_scalar Rg16Unorm = floating 4
-format_scalar Rg16Snorm = floating 4
-format_scalar Rgba16Unorm = floating 4
-format_scalar Rgba16Snorm = floating 4
+format_scalar format = (format_row format).scalar
+
+abbrev pub is_norm_16 : StorageFormat → Bool
+is_norm_16 format = (format_row format).norm_16
 
 -- whether a texel has several samples
 abbrev pub is_multisampled : ImageClass → Bool
-is_multisampled (Sampled kind multi) = multi
-is_multisampled (Depth multi) = multi
-is_multisampled External = false
-is_multisampled (Storage format access) = false
+is_multisampled c = elim c [ Sampled kind multi ↦ multi | Depth multi ↦ multi | External ↦ false | Storage format access ↦ false ]
 
 -- whether an image has several levels of detail
 abbrev pub is_mipmapped : ImageClass → Bool
-is_mipmapped (Sampled kind multi) = not multi
-is_mipmapped (Depth multi) = not multi
-is_mipmapped External = false
-is_mipmapped (Storage format access) = false
+is_mipmapped c = elim c [ Sampled kind multi ↦ not multi | Depth multi ↦ not multi | External ↦ false | Storage format access ↦ false ]
 
 abbrev pub is_depth : ImageClass → Bool
-is_depth (Sampled kind multi) = false
-is_depth (Depth multi) = true
-is_depth External = false
-is_depth (Storage format access) = false
+is_depth c = elim c [ Sampled kind multi ↦ false | Depth multi ↦ true | External ↦ false | Storage format access ↦ false ]

@@ -47,18 +47,12 @@ same_scalar a b = (kind_place a.kind == kind_place b.kind) && (a.width == b.widt
 
 -- how many components a vector of this size has
 abbrev pub component_count : VectorSize → ℕ
-component_count Bi = 2
-component_count Tri = 3
-component_count Quad = 4
+component_count n = elim n [ Bi ↦ 2 | Tri ↦ 3 | Quad ↦ 4 ]
 
 -- how many columns or rows a cooperative matrix has
 abbrev pub cooperative_count : CooperativeSize → ℕ
-cooperative_count Eight = 8
-cooperative_count Sixteen = 16
+cooperative_count o = elim o [ Eight ↦ 8 | Sixteen ↦ 16 ]
 
 -- a component's place in its vector
 abbrev pub component_place : SwizzleComponent → ℕ
-component_place X = 0
-component_place Y = 1
-component_place Z = 2
-component_place W = 3
+component_place letter = elim letter [ X ↦ 0 | Y ↦ 1 | Z ↦ 2 | W ↦ 3 ]

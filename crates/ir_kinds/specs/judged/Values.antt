@@ -47,17 +47,14 @@ units scalar as_zero as_one as_minus_one = record { scalar = scalar; as_zero = a
 abbrev pub all_units : List Units
 all_units = units (signed 2) (literal.I16 (pos 0)) (literal.I16 (pos 1)) (Some (literal.I16 (negsuc 0)))
     ∷ units (signed 4) (literal.I32 (pos 0)) (literal.I32 (pos 1)) (Some (literal.I32 (negsuc 0)))
-    ∷ units (signed 8) (literal.I64 (pos 0)) (literal.I64 (pos 1)) (Some (literal.I64 (negsuc 0)))
-    ∷ units (unsigned 2) (literal.U16 0) (literal.U16 1) None
-    ∷ units (unsigned 4) (literal.U32 0) (literal.U32 1) None
-    ∷ units (unsigned 8) (literal.U64 0) (literal.U64 1) None
+    ∷ units (signed 8) (literal.I64 (pos 0)) (literal.I64 (pos 1)) (Some (literal.I64 (negsuc 0))) ∷ units (unsigned 2) (literal.U16 0) (literal.U16 1) None
+    ∷ units (unsigned 4) (literal.U32 0) (literal.U32 1) None ∷ units (unsigned 8) (literal.U64 0) (literal.U64 1) None
     ∷ units (floating 2) (literal.F16 0) (literal.F16 (one_bits 16 10)) (Some (literal.F16 (minus_one_bits 16 10)))
     ∷ units (floating 4) (literal.F32 0) (literal.F32 (one_bits 32 23)) (Some (literal.F32 (minus_one_bits 32 23)))
     ∷ units (floating 8) (literal.F64 0) (literal.F64 (one_bits 64 52)) (Some (literal.F64 (minus_one_bits 64 52)))
     ∷ units boolean (literal.Bool false) (literal.Bool true) None
     ∷ units abstract_int (literal.AbstractInt (pos 0)) (literal.AbstractInt (pos 1)) (Some (literal.AbstractInt (negsuc 0)))
-    ∷ units abstract_float (literal.AbstractFloat 0) (literal.AbstractFloat (one_bits 64 52)) (Some (literal.AbstractFloat (minus_one_bits 64 52)))
-    ∷ []
+    ∷ units abstract_float (literal.AbstractFloat 0) (literal.AbstractFloat (one_bits 64 52)) (Some (literal.AbstractFloat (minus_one_bits 64 52))) ∷ []
 
 -- the row of this scalar among these, if there is one
 abbrev pub units_in : List Units → Scalar → Option Units

@@ -1,13 +1,12 @@
 -- The lines of a report, each ended by a line feed.
-use Rattle.std.specs.Prelude.{ℕ, suc, List, [], ◌∷◌, ◌++◌, Bool, true, false, ◌||◌, ◌&&◌, not, ◌==◌, if◌then◌else◌, Option, Some, None, bit_and, flat_map, codes, decimal}
+use Rattle.std.specs.Prelude.{ℕ, suc, List, [], ◌∷◌, ◌++◌, Bool, false, ◌||◌, ◌&&◌, not, ◌==◌, if◌then◌else◌, Option, Some, None, bit_and, flat_map, codes, decimal}
 use Rattle.spec_expressions.specs.declared.global_use.GlobalUse.{GlobalUse}
 use Rattle.spec_expressions.specs.declared.global_use.TheConstants.GlobalUse.{READ, WRITE, QUERY, ATOMIC}
 use Rattle.ir_items.specs.judged.GlobalPlain.{PlainGlobal}
 use Rattle.ir_items.specs.judged.Plain.{PlainEntry, PlainModule}
 use Rattle.ir_kinds.specs.declared.spaces.AddressSpace.{AddressSpace}
-use Rattle.ir_kinds.specs.declared.spaces.AddressSpace.TheVariants.{Function, Private, WorkGroup, Uniform, Storage, Handle, Immediate, TaskPayload, RayPayload, IncomingRayPayload}
 use Rattle.ir_types.specs.judged.Plain.{PlainType}
-use Rattle.spec_interface.specs.judged.Spaces.{effective_type}
+use Rattle.spec_interface.specs.judged.Spaces.{effective_type, space_row}
 use Rattle.spec_interface.specs.judged.Uses.{mesh_output}
 use Rattle.typing_layout.specs.judged.Layout.{size, alignment}
 use Rattle.typing_layout.specs.judged.View.{type_tree}
@@ -21,16 +20,7 @@ each_from told first (x ∷ xs) = told first x ++ each_from told (suc first) xs
 
 -- a host fills it with bytes
 abbrev pub is_buffer : AddressSpace → Bool
-is_buffer Uniform = true
-is_buffer (Storage access) = true
-is_buffer Function = false
-is_buffer Private = false
-is_buffer WorkGroup = false
-is_buffer Handle = false
-is_buffer Immediate = false
-is_buffer TaskPayload = false
-is_buffer RayPayload = false
-is_buffer IncomingRayPayload = false
+is_buffer space = (space_row space).buffer
 
 -- by its number, and how many bytes it takes at addresses that are multiples of how many
 abbrev pub buffer_line : (number bytes step : ℕ) → List ℕ
@@ -38,8 +28,7 @@ buffer_line number bytes step = codes "buffer " ++ decimal number ++ codes " siz
 
 -- of a global variable, where it is a buffer: of a binding array by what one element takes
 abbrev pub buffer_of : List PlainType → (number : ℕ) → PlainGlobal → List ℕ
-buffer_of types number v =
-    if is_buffer v.space then buffer_line number (size (type_tree types (effective_type types v.ty))) (alignment (type_tree types (effective_type types v.ty))) else []
+buffer_of types number v = let t = type_tree types (effective_type types v.ty) in if is_buffer v.space then buffer_line number (size t) (alignment t) else []
 
 abbrev pub buffers : PlainModule → List ℕ
 buffers m = each_from (buffer_of m.types) 0 m.globals
@@ -47,16 +36,14 @@ buffers m = each_from (buffer_of m.types) 0 m.globals
 -- ---- global variables of an entry point
 
 abbrev pub is_at : Option ℕ → ℕ → Bool
-is_at None g = false
-is_at (Some own) g = own == g
+is_at o g = elim o [ None ↦ false | Some own ↦ own == g ]
 
 -- it is the entry point's payload or mesh output, which have lines of their own
 abbrev pub is_own : PlainEntry → ℕ → Bool
 is_own e g = is_at e.payload g || is_at (mesh_output e) g
 
 abbrev pub own_line : (word : List ℕ) → Option ℕ → List ℕ
-own_line word None = []
-own_line word (Some g) = word ++ codes " " ++ decimal g ++ codes "\n"
+own_line word o = elim o [ None ↦ [] | Some g ↦ word ++ codes " " ++ decimal g ++ codes "\n" ]
 
 -- a use is of this kind, among others
 abbrev pub has : GlobalUse → (kind : GlobalUse) → Bool

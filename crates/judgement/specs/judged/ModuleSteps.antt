@@ -13,6 +13,7 @@ use Rattle.ir_flags.specs.declared.settings.Settings.{Settings}
 use Rattle.typing_layout.specs.judged.Layout.{LayoutOK}
 use Rattle.typing_layout.specs.judged.View.{type_tree}
 use Rattle.typing_forms.specs.declared.form.Form.{Form}
+use Rattle.spec_expressions.specs.judged.Firsts.{FailsFirst}
 
 -- The steps after that of the handles: types are laid out and judged, global expressions are given types and judged, and
 -- then constants and overrides are.
@@ -65,13 +66,7 @@ pub record IsReached (s : Settings) (resolved : Bool) (m : PlainModule) (step : 
   pub handles : HandlesOK m
   pub earlier : (other : ModuleStep) → step_rank other < step_rank step → StepPasses s resolved m other
 
--- An item of a step does not pass it, and each before it does.
-pub record FailsFirst (s : Settings) (resolved : Bool) (m : PlainModule) (step : ModuleStep) (index : ℕ) : Type 0 where
-  pub within : index < item_count m step
-  pub before : (other : ℕ) → other < index → StepOK s resolved m step other
-  pub fails : ¬ StepOK s resolved m step index
-
 -- The first step that not all items pass, and the first of them that doesn't.
 pub record IsFirstFailing (s : Settings) (resolved : Bool) (m : PlainModule) (step : ModuleStep) (index : ℕ) : Type 0 where
   pub reached : IsReached s resolved m step
-  pub item : FailsFirst s resolved m step index
+  pub item : FailsFirst (item_count m step) (StepOK s resolved m step) index

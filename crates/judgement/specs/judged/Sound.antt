@@ -5,15 +5,14 @@ use Rattle.std.specs.List.{All, AllPairs}
 use Rattle.judgement.specs.judged.Leaves.{Leaf, leaves}
 use Rattle.typing_layout.specs.judged.Buffers.{FitsStorageBuffer, FitsUniformBuffer}
 use Rattle.typing_layout.specs.judged.Flags.{HasFlag, Sized}
-use Rattle.typing_layout.specs.judged.Layout.{size, alignment, LayoutOK}
+use Rattle.typing_layout.specs.judged.Layout.{size, alignment, LayoutOK, tree_parts, has_elements, has_members, has_no_parts}
 use Rattle.typing_layout.specs.judged.Parts.{member_list, Everywhere}
 use Rattle.typing_layout.specs.judged.Structs.{StructOK}
-use Rattle.typing_layout.specs.judged.Tree.{Tree, array, struct}
+use Rattle.typing_layout.specs.judged.Tree.{Tree}
 
 -- the stride of an array is not shorter than its element, so that no two elements share a byte
 abbrev pub StrideOK : Tree → Type 0
-StrideOK (array base n stride) = size base ≤ stride
-StrideOK _ = Unit {0}
+StrideOK t = elim (tree_parts t) [ has_elements base n stride ↦ size base ≤ stride | has_members ms span ↦ Unit {0} | has_no_parts s bytes ↦ Unit {0} ]
 
 -- two leaves share no byte
 abbrev pub LeavesApart : Leaf → Leaf → Type 0
@@ -30,9 +29,9 @@ pub record LeavesOK (t : Tree) : Type 0 where
 
 -- what the rules of types require of arrays and structs, so far as leaves depend on it
 abbrev pub ShapesOK : Tree → Type 0
-ShapesOK (array base n stride) = HasFlag Sized base
-ShapesOK (struct ms span) = StructOK (member_list ms) span
-ShapesOK _ = Unit {0}
+ShapesOK t =
+    elim (tree_parts t)
+    [ has_elements base n stride ↦ HasFlag Sized base | has_members ms span ↦ StructOK (member_list ms) span | has_no_parts s bytes ↦ Unit {0} ]
 
 -- A type of a buffer: each type inside it has a layout and is accepted, no stride is shorter than its element, and a storage
 -- buffer or a uniform one can hold it.

@@ -1,28 +1,25 @@
 -- The steps of the judgement over a module, and what is found by them.
-use Rattle.std.specs.Prelude.{◌≡◌, ◌↔◌, Bool, true, false, IsTrue, None}
+use Rattle.std.specs.Prelude.{◌≡◌, ◌↔◌, Bool, true, false, IsTrue, length}
 use Rattle.ir_flags.specs.Sets.{Has}
 use Rattle.ir_flags.specs.declared.settings.ValidationFlags.{ValidationFlags}
 use Rattle.ir_flags.specs.declared.settings.TheConstants.ValidationFlags.{BLOCKS, STRICT_SCOPE}
 use Rattle.ir_flags.specs.declared.settings.Settings.{Settings}
 use Rattle.ir_items.specs.judged.Plain.{PlainModule}
 use Rattle.ir_items.specs.judged.Returned.{IsReturned}
-use Rattle.spec_interface.specs.judged.Modules as entries
-use Rattle.spec_interface.specs.judged.Modules.{EntriesOK}
-use Rattle.spec_statements.specs.judged.ModuleFunctions as functions
-use Rattle.spec_statements.specs.judged.ModuleFunctions.{FunctionsOK}
-use Rattle.spec_interface.specs.judged.Globals as globals
-use Rattle.spec_interface.specs.judged.Globals.{GlobalsOK}
+use Rattle.spec_interface.specs.judged.Modules.{EntryAtOK, EntriesOK}
+use Rattle.spec_statements.specs.judged.ModuleFunctions.{FunctionAtOK, FunctionsOK}
+use Rattle.spec_interface.specs.judged.Globals.{GlobalOK, GlobalsOK}
 use Rattle.spec_expressions.specs.judged.ModuleHandles.{HandlesOK}
 use Rattle.judgement.specs.judged.ModuleSteps as step
 use Rattle.judgement.specs.judged.ModuleSteps.{ModuleOK, IsFirstFailing}
 use Rattle.judgement.specs.declared.finding.Step.TheVariants.{Layout, «Type», Typing, Expression, Constant, Override, Global, Function, Entry}
 use Rattle.judgement.specs.declared.finding.Finding.{Finding}
 use Rattle.judgement.specs.declared.finding.Finding.TheVariants.{Accepted, RefusedDocument, RefusedHandles, Refused}
+use Rattle.spec_expressions.specs.judged.Firsts.{FailsFirst}
 
 -- The module n that is judged is m, with returns put in first where that is wanted.
 abbrev pub IsPrepared : (returns : Bool) → PlainModule → PlainModule → Type 0
-IsPrepared true m n = IsReturned m n
-IsPrepared false m n = n ≡ m
+IsPrepared returns m n = elim returns [ true ↦ IsReturned m n | false ↦ n ≡ m ]
 
 -- Scope is checked strictly where the flags require it and for the checks of bodies, under which it acts.
 abbrev pub IsScopeStrict : ValidationFlags → Type 0
@@ -42,7 +39,6 @@ IsFinding s m (Refused Typing i) = IsFirstFailing s false m step.typing i
 IsFinding s m (Refused Expression i) = IsFirstFailing s false m step.expression i
 IsFinding s m (Refused Constant i) = IsFirstFailing s false m step.constant i
 IsFinding s m (Refused Override i) = IsFirstFailing s false m step.override i
-IsFinding s m (Refused Global i) = ModuleOK s false m × globals.IsFirstFailingGlobal s.flags s.capabilities m i
-IsFinding s m (Refused Function i) = ModuleOK s false m × GlobalsOK s.flags s.capabilities m × functions.IsFirstFailingFunction s m i
-IsFinding s m (Refused Entry i) =
-    ModuleOK s false m × GlobalsOK s.flags s.capabilities m × FunctionsOK s m × entries.IsFirstFailingEntry s m i
+IsFinding s m (Refused Global i) = ModuleOK s false m × FailsFirst (length m.globals) (GlobalOK s.flags s.capabilities m) i
+IsFinding s m (Refused Function i) = ModuleOK s false m × GlobalsOK s.flags s.capabilities m × FailsFirst (length m.functions) (FunctionAtOK s m) i
+IsFinding s m (Refused Entry i) = ModuleOK s false m × GlobalsOK s.flags s.capabilities m × FunctionsOK s m × FailsFirst (length m.entries) (EntryAtOK s m) i

@@ -11,15 +11,11 @@ use Rattle.judgement.specs.judged.Reports.{IsEntryReport, IsReport}
 use Rattle.typing_layout.specs.judged.Layout.{size, alignment}
 use Rattle.spec_runs.specs.judged.Events.{Event, named, sampled}
 
--- it is nothing, or ends with a line feed
-abbrev pub AreWhole : List ℕ → Type 0
-AreWhole text = (text ≡ []) ⊎ ((front : List ℕ) × (text ≡ front ++ codes "\n"))
-
--- The lines stand in the text: after whole lines.
+-- The lines stand in the text, after whole lines: what is before them is nothing, or ends with a line feed.
 pub record HasLines (lines text : List ℕ) : Type 0 where
   pub before : List ℕ
   pub behind : List ℕ
-  pub whole : AreWhole before
+  pub whole : (before ≡ []) ⊎ ((front : List ℕ) × (before ≡ front ++ codes "\n"))
   pub is : text ≡ before ++ (lines ++ behind)
 
 -- how a line lists a global variable that is used so
@@ -32,28 +28,23 @@ pub data ReportsGlobal (lines : List ℕ) (g : ℕ) : Type 0 where
   as_mesh : HasLines (own_line (codes "mesh") (Some g)) lines → ReportsGlobal lines g
   as_used : (kinds : GlobalUse) → IsTrue (is_used kinds) → HasLines (use_line g kinds) lines → ReportsGlobal lines g
 
--- a line says that the image is sampled by the sampler
-abbrev pub ReportsPair : List ℕ → (image sampler : ℕ) → Type 0
-ReportsPair lines image sampler = HasLines (pair_line (image, sampler)) lines
-
 -- a line lists a global variable that is named
 abbrev pub NamedIsReported : (lines : List ℕ) → Event → Type 0
 NamedIsReported lines (named g) = ReportsGlobal lines g
 NamedIsReported lines _ = Unit {0}
 
--- a line lists each pair that is sampled
+-- a line says of each pair that is sampled that the image is sampled by the sampler
 abbrev pub SampledIsReported : (lines : List ℕ) → Event → Type 0
-SampledIsReported lines (sampled image sampler) = ReportsPair lines image sampler
+SampledIsReported lines (sampled image sampler) = HasLines (pair_line (image, sampler)) lines
 SampledIsReported lines _ = Unit {0}
 
 -- ---- what is known of the lines of a report
 
 -- a global variable that is the entry point's own or has a use is reported of by a line, and so is each pair
 abbrev pub LinesStand : Type 0
-LinesStand =
-    (m : PlainModule) (number : ℕ) (e : PlainEntry) (lines : List ℕ) (r : IsEntryReport m number e lines)
+LinesStand = (m : PlainModule) (number : ℕ) (e : PlainEntry) (lines : List ℕ) (r : IsEntryReport m number e lines)
     → ((g : ℕ) → g < length m.globals → IsTrue (is_own e g) ⊎ IsTrue (is_used (slice_index_or r.uses g no_use)) → ReportsGlobal lines g)
-    × ((image sampler : ℕ) → IsAmong (image, sampler) r.pairs → ReportsPair lines image sampler)
+    × ((image sampler : ℕ) → IsAmong (image, sampler) r.pairs → HasLines (pair_line (image, sampler)) lines)
 
 -- The lines of the entry point with this number, which stand in the report.
 pub record EntryIsReported (m : PlainModule) (report : List ℕ) (number : ℕ) (e : PlainEntry) : Type 0 where
@@ -65,10 +56,8 @@ pub record EntryIsReported (m : PlainModule) (report : List ℕ) (number : ℕ) 
 abbrev pub EntriesAreReported : Type 0
 EntriesAreReported = (m : PlainModule) (report : List ℕ) → IsReport m report → (number : ℕ) (e : PlainEntry) → slice_get m.entries number ≡ Some e → EntryIsReported m report number e
 
--- the line that tells the size and the alignment of the buffer is in the report
-abbrev pub BufferIsReported : PlainModule → (report : List ℕ) → (number : ℕ) → PlainGlobal → Type 0
-BufferIsReported m report number v = HasLines (buffer_line number (size (buffer_type m.types v)) (alignment (buffer_type m.types v))) report
-
--- each buffer has its line in the report
+-- each buffer has its line in the report, which tells its size and its alignment
 abbrev pub BuffersAreReported : Type 0
-BuffersAreReported = (m : PlainModule) (report : List ℕ) → IsReport m report → (number : ℕ) (v : PlainGlobal) → slice_get m.globals number ≡ Some v → IsTrue (is_buffer v.space) → BufferIsReported m report number v
+BuffersAreReported =
+    (m : PlainModule) (report : List ℕ) → IsReport m report → (number : ℕ) (v : PlainGlobal) → slice_get m.globals number ≡ Some v → IsTrue (is_buffer v.space)
+    → HasLines (buffer_line number (size (buffer_type m.types v)) (alignment (buffer_type m.types v))) report

@@ -11,14 +11,15 @@ use Rattle.judgement.specs.declared.finding.Finding.TheVariants.{Accepted}
 use Rattle.judgement.specs.judged.BufferLaws.{buffer_type}
 use Rattle.judgement.specs.judged.Sound.{StrideOK, LeavesOK}
 use Rattle.spec_interface.specs.judged.Modules.{AreStages}
-use Rattle.judgement.specs.judged.Lines.{is_buffer}
+use Rattle.judgement.specs.judged.Lines.{is_buffer, buffer_line}
 use Rattle.judgement.specs.judged.Reports.{IsReport}
 use Rattle.spec_interface.specs.judged.Contexts.{stage_set}
+use Rattle.typing_layout.specs.judged.Layout.{size, alignment}
 use Rattle.typing_layout.specs.judged.Parts.{Everywhere}
 use Rattle.spec_runs.specs.judged.Good.{DepthOK, TypesOK, LiveOK, SurelyLiveOK, StagesOK, FallsOK, NoEscape}
 use Rattle.spec_runs.specs.judged.Laws.{OnEveryRun, OnEveryRunOf}
 use Rattle.spec_runs.specs.judged.Scoping.{all_operands}
-use Rattle.judgement_laws.specs.judged.Lines.{EntryIsReported, BufferIsReported, NamedIsReported, SampledIsReported}
+use Rattle.judgement_laws.specs.judged.Lines.{HasLines, EntryIsReported, NamedIsReported, SampledIsReported}
 
 -- The stages that may run the functions of the module, each with its callees; and with these nothing is executed or introduced
 -- that the stage of the entry point may not run.
@@ -53,7 +54,7 @@ pub record EntryIsSound (returns : Bool) (s : Settings) (m : PlainModule) (repor
 -- What is promised of a buffer: a line of the report tells its size and its alignment, and, unless some stride inside it is shorter
 -- than its element, what lies in it is aligned, apart and within that size.
 pub record BufferIsSound (m : PlainModule) (report : List ℕ) (number : ℕ) (v : PlainGlobal) : Type 0 where
-  pub told : BufferIsReported m report number v
+  pub told : HasLines (buffer_line number (size (buffer_type m.types v)) (alignment (buffer_type m.types v))) report
   pub leaves : Everywhere StrideOK (buffer_type m.types v) → LeavesOK (buffer_type m.types v)
 
 -- What is promised of a module: of each of its buffers, and of each of its entry points.
@@ -69,8 +70,7 @@ pub record AreChecked (s : Settings) : Type 0 where
 
 -- A module that is judged, d with returns put in first where that is required, is sound where it is accepted under these flags.
 abbrev pub AcceptedIsSound : Type 0
-AcceptedIsSound =
-    (returns : Bool) (s : Settings) (d m : PlainModule) (strict : Bool) → IsPrepared returns d m → IsFinding s m (Accepted strict) → AreChecked s
+AcceptedIsSound = (returns : Bool) (s : Settings) (d m : PlainModule) (strict : Bool) → IsPrepared returns d m → IsFinding s m (Accepted strict) → AreChecked s
     → (report : List ℕ) → IsReport m report → ModuleIsSound returns s m report
 
 -- If the module is accepted under these flags, no run of an entry point of it nests calls deeper than this.

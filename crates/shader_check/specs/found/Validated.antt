@@ -21,7 +21,7 @@ use Rattle.module_validator.specs.Faults.{IsModuleFault}
 use Rattle.module_validator.specs.Refusals.{IsVariableFault}
 use Rattle.function_real_lower.specs.Readings.{reading_of, faults_of}
 use Rattle.spec_expressions.specs.judged.Summaries.{Summary, AreSummaries}
-use Rattle.spec_interface.specs.judged.Modules as entries
+use Rattle.spec_interface.specs.judged.Modules.{EntryAtOK}
 use Rattle.spec_interface.specs.judged.Modules.{EntriesOK, AreStages}
 use Rattle.spec_expressions.specs.judged.Context.{outside}
 use Rattle.spec_statements.specs.judged.ModuleFunctions.{reading_over, FunctionsOK}
@@ -29,6 +29,7 @@ use Rattle.spec_interface.specs.judged.Globals.{GlobalsOK}
 use Rattle.judgement.specs.judged.ModuleSteps.{ModuleOK}
 use Rattle.typing_infos.specs.Types.{AreTypes}
 use Rattle.typing_layout.specs.found.Held.{AreLayouts}
+use Rattle.spec_expressions.specs.judged.Firsts.{FailsFirst}
 
 -- All entry points are accepted, and these are their summaries.
 pub record AreEntriesKept (s : Settings) (m : PlainModule) (kept : List Summary) : Type 0 where
@@ -68,7 +69,7 @@ pub record IsValidated (s : Settings) (resolved : Bool) (m : PlainModule) (info 
 
 -- It is the first entry point that is not accepted, and this is wrong with it.
 pub record IsEntryFault (s : Settings) (m : PlainModule) (e : InvalidEntryPoint) : Type 0 where
-  pub first : entries.IsFirstFailingEntry s m e.index
+  pub first : FailsFirst (length m.entries) (EntryAtOK s m) e.index
   pub summaries : List Summary
   pub many : length summaries ≡ length m.functions
   pub known : AreSummaries m summaries

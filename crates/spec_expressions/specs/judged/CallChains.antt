@@ -1,5 +1,5 @@
 -- Chains of call statements, what expressions denote at their ends, and what a function has over all of them.
-use Rattle.std.specs.Prelude.{◌≡◌, ◌⊎◌, ℕ, List, [], ◌∷◌, Option, Some, None, slice_get, ⊤}
+use Rattle.std.specs.Prelude.{◌≡◌, ◌⊎◌, ℕ, List, [], ◌∷◌, Option, Some, None, slice_get, ⊤, option_and_then}
 use Rattle.std.specs.Int.{bit_at}
 use Rattle.ir_types.specs.judged.ExpressionPlain.{PlainExpression, plain}
 use Rattle.ir_types.specs.declared.expressions.Expression.TheVariants.{GlobalVariable, FunctionArgument, Access, AccessIndex}
@@ -17,8 +17,7 @@ use Rattle.spec_expressions.specs.judged.Values.{StartsAt}
 
 -- what the base of an access denotes
 abbrev pub base_denotes : Option PlainExpression → Option GlobalOrArgument
-base_denotes (Some (plain (GlobalVariable g))) = Some (Global g)
-base_denotes _ = None
+base_denotes o = elim o [ Some (plain (GlobalVariable g)) ↦ Some (Global g) | _ ↦ None ]
 
 abbrev pub denotes : List PlainExpression → Option PlainExpression → Option GlobalOrArgument
 denotes expressions (Some (plain (GlobalVariable g))) = Some (Global g)
@@ -56,16 +55,11 @@ abbrev pub IsChain : PlainModule → PlainFunction → List Step → Type 0
 IsChain m f [] = ⊤
 IsChain m f (s ∷ before) = Calls m (chain_end f before) s × IsChain m f before
 
--- what an argument of a call denotes in the caller, whose expressions mean this
-abbrev pub argument_means : (ℕ → Option GlobalOrArgument) → Option ℕ → Option GlobalOrArgument
-argument_means meaning (Some e) = meaning e
-argument_means meaning None = None
-
 -- what denotes something in the callee, seen from a caller that passes these arguments
 abbrev pub seen_through : (meaning : ℕ → Option GlobalOrArgument) → (arguments : List ℕ) → Option GlobalOrArgument → Option GlobalOrArgument
 seen_through meaning arguments None = None
 seen_through meaning arguments (Some (Global g)) = Some (Global g)
-seen_through meaning arguments (Some (Argument number)) = argument_means meaning (slice_get arguments number)
+seen_through meaning arguments (Some (Argument number)) = option_and_then meaning (slice_get arguments number)
 
 -- what expression e of the function reached denotes where the chain began
 abbrev pub meaning_at_start : PlainFunction → List Step → ℕ → Option GlobalOrArgument

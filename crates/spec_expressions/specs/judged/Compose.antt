@@ -19,15 +19,11 @@ use Rattle.typing_forms.specs.judged.Parts.{components_of}
 
 -- a value of this form is this scalar, or a vector of it
 abbrev pub IsOfScalar : Scalar → Form → Type 0
-IsOfScalar s (form.Scalar t) = t ≡ s
-IsOfScalar s (form.Vector n t) = t ≡ s
-IsOfScalar s _ = ⊥
+IsOfScalar s o = elim o [ form.Scalar t ↦ t ≡ s | form.Vector n t ↦ t ≡ s | _ ↦ ⊥ ]
 
 -- how many scalars it adds to a vector
 abbrev pub scalars_in : Form → ℕ
-scalars_in (form.Scalar t) = 1
-scalars_in (form.Vector n t) = component_count n
-scalars_in _ = 0
+scalars_in o = elim o [ form.Scalar t ↦ 1 | form.Vector n t ↦ component_count n | _ ↦ 0 ]
 
 -- ---- a type after the other
 
@@ -42,8 +38,7 @@ ComponentFits types _ place f = ⊥
 
 -- how many parts of the value are given: of a vector the scalars, of anything else one by each component
 abbrev pub parts_given : PlainInner → List Form → ℕ
-parts_given (plain (inner.Vector n s)) forms = sum (map scalars_in forms)
-parts_given _ forms = length forms
+parts_given o forms = elim o [ plain (inner.Vector n s) ↦ sum (map scalars_in forms) | _ ↦ length forms ]
 
 -- Values of these forms make one of what is made of this: each fits at its place, and together they are as many parts as it
 -- has.

@@ -43,8 +43,7 @@ outside m = context_with m [] []
 
 -- the form of a type by a handle that may not be there
 abbrev pub form_if : List PlainType → Option ℕ → Form
-form_if types (Some type) = form_of_type types type
-form_if types None = form.Nothing
+form_if types o = elim o [ Some type ↦ form_of_type types type | None ↦ form.Nothing ]
 
 -- the item that an expression names is there; of the number of an argument nothing is required
 abbrev pub NamesItemOf : Context → Expression → Type 0

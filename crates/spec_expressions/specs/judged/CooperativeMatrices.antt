@@ -21,7 +21,3 @@ pointed_scalar types _ = None
 abbrev pub cooperative_load_type : List PlainType → CooperativeSize → CooperativeSize → CooperativeRole → (pointer : ℕ) → (of : Form) → Result Form TypingFault
 cooperative_load_type types columns rows role pointer of =
     ok_or (option_map (λ s. form.CooperativeMatrix columns rows s role) (pointed_scalar types of)) (InvalidPointer pointer)
-
--- a product with a third matrix added has the type of the third
-abbrev pub multiply_add_type : (third : Form) → Form
-multiply_add_type third = third

@@ -1,37 +1,18 @@
 -- Where control flow may differ between invocations.
-use Rattle.std.specs.Prelude.{◌≡◌, ℕ, Bool, true, false, ◌||◌, IsTrue, Option, Some, None}
+use Rattle.std.specs.Prelude.{◌≡◌, ℕ, Bool, false, ◌||◌, IsTrue, Option, Some, is_some}
 use Rattle.ir_blocks.specs.judged.Plain.{PlainStatement, emit, block, if_, switch, loop, break, continue, return, kill, operation, call, PlainBlock, stop, next, PlainCases, no_case, case}
 use Rattle.ir_blocks.specs.judged.Shapes.{Part, loop_continuing, shape_of, part_of}
 use Rattle.ir_blocks.specs.judged.Places.{Place, here, later, inside, condition, Before, OccursAt}
+use Rattle.spec_expressions.specs.judged.Kinds.{statement_row}
 use Rattle.spec_expressions.specs.judged.Positions.{Holds, Around}
 
 -- the value that chooses which of a statement's parts is run
 abbrev pub chosen_by : PlainStatement → Option ℕ
-chosen_by (emit first end) = None
-chosen_by (block b) = None
-chosen_by (if_ h accept reject) = Some h
-chosen_by (switch h cases) = Some h
-chosen_by (loop body continuing break_if) = None
-chosen_by break = None
-chosen_by continue = None
-chosen_by (return value) = None
-chosen_by kill = None
-chosen_by (operation a) = None
-chosen_by (call function arguments result) = None
+chosen_by s = (statement_row s).chosen
 
 -- the statement ends the function or the fragment
 abbrev pub is_end : PlainStatement → Bool
-is_end (emit first end) = false
-is_end (block b) = false
-is_end (if_ h accept reject) = false
-is_end (switch h cases) = false
-is_end (loop body continuing break_if) = false
-is_end break = false
-is_end continue = false
-is_end (return value) = true
-is_end kill = true
-is_end (operation a) = false
-is_end (call function arguments result) = false
+is_end s = is_some (statement_row s).ends
 
 -- At r stands a statement that ends the function or the fragment, and it is or stands inside one that comes before p.
 pub record IsEndBefore (body : PlainBlock) (p r : Place) : Type 0 where

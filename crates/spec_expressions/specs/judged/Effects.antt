@@ -1,9 +1,11 @@
 -- What a function does that its summary tells, in the order of its text.
-use Rattle.std.specs.Prelude.{ℕ, ◌+◌, List, [], ◌∷◌, ◌++◌, map, ◌==◌, if◌then◌else◌}
+use Rattle.std.specs.Prelude.{ℕ, ◌+◌, List, ◌∷◌, ◌++◌, map, ◌==◌, if◌then◌else◌, option_to_list, [], Option, Some}
 use Rattle.ir_types.specs.judged.ExpressionPlain.{PlainExpression, plain}
 use Rattle.ir_types.specs.declared.expressions.Expression.TheVariants.{ImageSample}
+use Rattle.ir_blocks.specs.judged.Shapes.{Exit, kills}
 use Rattle.ir_blocks.specs.judged.Plain.{PlainStatement, emit, block, if_, switch, loop, break, continue, return, kill, operation, call, PlainBlock, stop, next, PlainCases, no_case, case}
 use Rattle.ir_items.specs.judged.Plain.{PlainFunction}
+use Rattle.spec_expressions.specs.judged.Kinds.{statement_row}
 use Rattle.spec_expressions.specs.judged.OperandUses.{Operand, expression_uses, statement_uses}
 
 -- It takes an operand, samples an image in an expression, runs a function with these arguments, or ends the fragment.
@@ -27,19 +29,12 @@ abbrev pub expressions_effects : ℕ → List PlainExpression → List Effect
 expressions_effects e [] = []
 expressions_effects e (expression ∷ rest) = expression_effects e expression ++ expressions_effects (e + 1) rest
 
--- whether the statement ends the fragment or runs a function
+abbrev pub ending_effects : Option Exit → List Effect
+ending_effects o = elim o [ Some kills ↦ discards ∷ [] | _ ↦ [] ]
+
+-- whether the statement runs a function or ends the fragment
 abbrev pub leaving_effects : PlainStatement → List Effect
-leaving_effects (emit first end) = []
-leaving_effects (block body) = []
-leaving_effects (if_ condition accept reject) = []
-leaving_effects (switch selector cases) = []
-leaving_effects (loop body continuing break_if) = []
-leaving_effects break = []
-leaving_effects continue = []
-leaving_effects (return value) = []
-leaving_effects kill = discards ∷ []
-leaving_effects (operation a) = []
-leaving_effects (call function arguments result) = runs function arguments ∷ []
+leaving_effects s = map (λ (c : ℕ × List ℕ). runs c.0 c.1) (option_to_list (statement_row s).calls) ++ ending_effects (statement_row s).ends
 
 -- of the statement itself, and not of the statements inside it
 abbrev pub statement_effects : PlainStatement → List Effect

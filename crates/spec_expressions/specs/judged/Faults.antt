@@ -10,8 +10,7 @@ use Rattle.spec_expressions.specs.judged.Severity.{HasSeverity}
 use Rattle.spec_expressions.specs.judged.Uniformity.{Required, UniformityFault}
 
 abbrev pub requirement_in : Option PlainExpression → ℕ
-requirement_in None = 0
-requirement_in (Some x) = requirements_of x
+requirement_in o = elim o [ None ↦ 0 | Some x ↦ requirements_of x ]
 
 -- the bits of what the expression at a place requires
 abbrev pub requirement_at : List PlainExpression → ℕ → ℕ

@@ -35,9 +35,7 @@ required_of _ = must_be_folded
 
 -- what has to be worked out may still stand: it waits for the values of overrides, and they are not resolved
 abbrev pub MayWait : (resolved : Bool) → ExpressionKind → Type 0
-MayWait resolved Const = ⊥
-MayWait resolved Override = resolved ≡ false
-MayWait resolved Runtime = ⊥
+MayWait resolved k = elim k [ Const ↦ ⊥ | Override ↦ resolved ≡ false | Runtime ↦ ⊥ ]
 
 abbrev pub IsMet : Capabilities → (resolved : Bool) → PlainModule → ExpressionKind → GlobalRequirement → Type 0
 IsMet capabilities resolved m kind (of_literal value) = LiteralOK capabilities value

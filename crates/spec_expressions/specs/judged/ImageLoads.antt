@@ -24,8 +24,7 @@ loaded_texel (Storage format access) = texel (format_scalar format)
 
 -- image is the image's expression
 abbrev pub image_load_type : (image : ℕ) → (of : Form) → Result Form TypingFault
-image_load_type image (form.Image dim arrayed class) = Ok (loaded_texel class)
-image_load_type image _ = Err (InvalidImage image)
+image_load_type image of = elim of [ form.Image dim arrayed class ↦ Ok (loaded_texel class) | _ ↦ Err (InvalidImage image) ]
 
 -- ---- queries
 
@@ -37,8 +36,7 @@ extent D3 = form.Vector Tri (unsigned 4)
 extent Cube = form.Vector Bi (unsigned 4)
 
 abbrev pub size_type : (image : ℕ) → (of : Form) → Result Form TypingFault
-size_type image (form.Image dim arrayed class) = Ok (extent dim)
-size_type image _ = Err (InvalidImage image)
+size_type image of = elim of [ form.Image dim arrayed class ↦ Ok (extent dim) | _ ↦ Err (InvalidImage image) ]
 
 -- the size by the dimension, and any other number by itself
 abbrev pub image_query_type : (image : ℕ) → ImageQuery → (of : Form) → Result Form TypingFault

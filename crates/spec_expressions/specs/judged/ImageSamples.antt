@@ -22,8 +22,7 @@ texel s = form.Vector Quad s
 
 -- a depth, or four of them where they are gathered
 abbrev pub depth_sample : Option SwizzleComponent → Form
-depth_sample None = form.Scalar (floating 4)
-depth_sample (Some component) = texel (floating 4)
+depth_sample o = elim o [ None ↦ form.Scalar (floating 4) | Some component ↦ texel (floating 4) ]
 
 -- image is the image's expression; storage images are not sampled
 abbrev pub sample_of : (image : ℕ) → Option SwizzleComponent → ImageClass → Result Form TypingFault
@@ -33,5 +32,4 @@ sample_of image gather External = Ok (texel (floating 4))
 sample_of image gather (Storage format access) = Err (InvalidImage image)
 
 abbrev pub image_sample_type : (image : ℕ) → Option SwizzleComponent → (of : Form) → Result Form TypingFault
-image_sample_type image gather (form.Image dim arrayed class) = sample_of image gather class
-image_sample_type image gather _ = Err (InvalidImage image)
+image_sample_type image gather of = elim of [ form.Image dim arrayed class ↦ sample_of image gather class | _ ↦ Err (InvalidImage image) ]

@@ -4,7 +4,6 @@ use Rattle.ir_kinds.specs.declared.spaces.AddressSpace.{AddressSpace}
 use Rattle.ir_kinds.specs.declared.spaces.AddressSpace.TheVariants as space
 use Rattle.ir_kinds.specs.declared.scalars.Scalar.{Scalar}
 use Rattle.ir_kinds.specs.declared.scalars.VectorSize.{VectorSize}
-use Rattle.ir_kinds.specs.judged.Scalars.{unsigned}
 use Rattle.ir_types.specs.judged.Plain.{PlainInner, plain, PlainType}
 use Rattle.ir_types.specs.declared.types.TypeInner.TheVariants as inner
 use Rattle.ir_items.specs.judged.GlobalPlain.{PlainGlobal}
@@ -23,40 +22,31 @@ argument_type c number = ok_or (option_map (λ a. form_of_type c.types a.ty) (sl
 
 -- a variable of this type in a space: what is bound as a handle is meant itself, and of all else a pointer to it
 abbrev pub variable_type : List PlainType → (type : ℕ) → AddressSpace → Form
-variable_type types type space.Handle = form_of_type types type
-variable_type types type other = pointer_to types type other
+variable_type types type s = elim s [ space.Handle ↦ form_of_type types type | other ↦ pointer_to types type other ]
 
 abbrev pub global_if : List PlainType → Option PlainGlobal → Form
-global_if types (Some g) = variable_type types g.ty g.space
-global_if types None = form.Nothing
+global_if types o = elim o [ Some g ↦ variable_type types g.ty g.space | None ↦ form.Nothing ]
 
 abbrev pub global_type : Context → ℕ → Form
 global_type c global = global_if c.types (slice_get c.globals global)
 
 -- a pointer to a variable of a type, or to none
 abbrev pub local_if : List PlainType → Option ℕ → Form
-local_if types (Some type) = pointer_to types type space.Function
-local_if types None = form.Nothing
+local_if types o = elim o [ Some type ↦ pointer_to types type space.Function | None ↦ form.Nothing ]
 
 abbrev pub local_type : Context → ℕ → Form
 local_type c local = local_if c.types (option_map (λ l. l.ty) (slice_get c.locals local))
 
 -- what is loaded of what a pointer leads to: of an atomic its scalar, and else the whole
 abbrev pub loaded : List PlainType → (base : ℕ) → Option PlainInner → Form
-loaded types base (Some (plain (inner.Atomic s))) = form.Scalar s
-loaded types base _ = form_of_type types base
+loaded types base o = elim o [ Some (plain (inner.Atomic s)) ↦ form.Scalar s | _ ↦ form_of_type types base ]
 
 -- a vector of this size, or a scalar
 abbrev pub loaded_value : Option VectorSize → Scalar → Form
-loaded_value None s = form.Scalar s
-loaded_value (Some n) s = form.Vector n s
+loaded_value o s = elim o [ None ↦ form.Scalar s | Some n ↦ form.Vector n s ]
 
 -- pointer is the pointer's expression
 abbrev pub load_type : List PlainType → (pointer : ℕ) → (of : Form) → Result Form TypingFault
 load_type types pointer (form.Pointer base space) = Ok (loaded types base (inner_at types base))
 load_type types pointer (form.ValuePointer n s space) = Ok (loaded_value n s)
 load_type types pointer _ = Err (InvalidPointer pointer)
-
--- the length of an array is a 32-bit unsigned integer
-abbrev pub array_length_type : Form
-array_length_type = form.Scalar (unsigned 4)

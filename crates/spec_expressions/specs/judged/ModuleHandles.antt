@@ -5,7 +5,7 @@ use Rattle.spec_expressions.specs.judged.FunctionHandles.{HandlesInRange}
 use Rattle.spec_expressions.specs.judged.ModuleReferences.{ModulePart, NamesIn, IsThereIn}
 use Rattle.spec_expressions.specs.judged.Order.{Ordered, kind_of, place_of, DependsOn, IsBefore}
 use Rattle.spec_expressions.specs.judged.References.{Site, Named, item, operand, range, Names, IsThere}
-use Rattle.spec_expressions.specs.judged.StatementNames.{Emitted}
+use Rattle.spec_expressions.specs.judged.Kinds.{Emitted}
 use Rattle.spec_expressions.specs.declared.item.ItemKind.{ItemKind}
 use Rattle.spec_expressions.specs.declared.item.ItemKind.TheVariants as kind
 use Rattle.spec_expressions.specs.declared.target.Target.TheVariants as target

@@ -2,7 +2,8 @@
 use Rattle.std.specs.Prelude.{ℕ, List, map, filter_map, option_map, bit_or}
 use Rattle.ir_types.specs.judged.ExpressionPlain.{PlainExpression}
 use Rattle.ir_blocks.specs.judged.Plain.{PlainStatement}
-use Rattle.spec_expressions.specs.judged.Operands.{Operands, these, each_of, expression_slots, statement_slots}
+use Rattle.spec_expressions.specs.judged.Operands.{Operands, these, each_of}
+use Rattle.spec_expressions.specs.judged.Kinds.{expression_slots, statement_slots}
 use Rattle.spec_expressions.specs.declared.operand.Slot.{Slot}
 use Rattle.spec_expressions.specs.declared.operand.Usage.{Usage}
 use Rattle.spec_expressions.specs.declared.operand.Usage.TheVariants.{Base, Read, Write, ReadWrite, Query, Atomic}

@@ -10,15 +10,9 @@ use Rattle.typing_forms.specs.declared.form.Form.TheVariants as form
 use Rattle.spec_expressions.specs.declared.faults.TypingFault.{TypingFault}
 use Rattle.spec_expressions.specs.declared.faults.TypingFault.TheVariants.{IncompatibleOperands}
 
--- an operation on one value gives a value of its type
-abbrev pub unary_type : (of : Form) → Form
-unary_type of = of
-
 -- truth values in the shape of a value: one for a scalar, one a component for a vector
 abbrev pub truth_of : Form → Result Form TypingFault
-truth_of (form.Scalar s) = Ok (form.Scalar boolean)
-truth_of (form.Vector n s) = Ok (form.Vector n boolean)
-truth_of _ = Err IncompatibleOperands
+truth_of t = elim t [ form.Scalar s ↦ Ok (form.Scalar boolean) | form.Vector n s ↦ Ok (form.Vector n boolean) | _ ↦ Err IncompatibleOperands ]
 
 -- a vector times a vector is taken by components, and times a matrix it has one for each column
 abbrev pub vector_times : (left right : Form) → Result Form TypingFault
@@ -36,8 +30,7 @@ matrix_times left rows s _ = Err IncompatibleOperands
 
 -- anything else is multiplied by scalars alone
 abbrev pub other_times : (left right : Form) → Result Form TypingFault
-other_times left (form.Scalar s) = Ok left
-other_times left _ = Err IncompatibleOperands
+other_times left o = elim o [ form.Scalar s ↦ Ok left | _ ↦ Err IncompatibleOperands ]
 
 -- a scalar scales what the other operand is; products of vectors, of matrices and of both; nothing else
 abbrev pub product : (left right : Form) → Result Form TypingFault

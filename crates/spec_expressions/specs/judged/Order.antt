@@ -52,8 +52,7 @@ pub data NamesType (m : PlainModule) (x : PlainExpression) : ℕ → Type 0 wher
 pub data DependsOn (m : PlainModule) : Ordered → Ordered → Type 0 where
   type_on_named : {i t : ℕ} {x : PlainType} → slice_get m.types i ≡ Some x → Contains (named_types x.inner) t → DependsOn m (a_type i) (a_type t)
   type_on_override : {i o : ℕ} {x : PlainType} {override : PlainOverride} → slice_get m.types i ≡ Some x → pending_of x.inner ≡ Some o
-      → slice_get m.overrides o ≡ Some override
-      → DependsOn m (a_type i) (a_type override.ty)
+      → slice_get m.overrides o ≡ Some override → DependsOn m (a_type i) (a_type override.ty)
   type_on_expression : {i o init e t : ℕ} {x : PlainType} {override : PlainOverride} {y : PlainExpression} → slice_get m.types i ≡ Some x
       → pending_of x.inner ≡ Some o → slice_get m.overrides o ≡ Some override → override.init ≡ Some init
       → e ≤ init → slice_get m.global_expressions e ≡ Some y → NamesType m y t → DependsOn m (a_type i) (a_type t)
@@ -61,19 +60,16 @@ pub data DependsOn (m : PlainModule) : Ordered → Ordered → Type 0 where
   expression_on_operand : {e o : ℕ} {x : PlainExpression} → slice_get m.global_expressions e ≡ Some x → Contains (expression_operands x) o
       → DependsOn m (an_expression e) (an_expression o)
   expression_on_constant : {e c : ℕ} {x : PlainExpression} {constant : PlainConstant} → slice_get m.global_expressions e ≡ Some x
-      → expression_item x ≡ Some (target.Constant c)
-      → slice_get m.constants c ≡ Some constant → DependsOn m (an_expression e) (an_expression constant.init)
+      → expression_item x ≡ Some (target.Constant c) → slice_get m.constants c ≡ Some constant → DependsOn m (an_expression e) (an_expression constant.init)
   expression_on_override : {e o init : ℕ} {x : PlainExpression} {override : PlainOverride} → slice_get m.global_expressions e ≡ Some x
       → expression_item x ≡ Some (target.Override o)
       → slice_get m.overrides o ≡ Some override → override.init ≡ Some init → DependsOn m (an_expression e) (an_expression init)
   function_on_callee : {i c : ℕ} {f : PlainFunction} {site : Site} → slice_get m.functions i ≡ Some f → Names f site (item (target.Function c))
       → DependsOn m (a_function i) (a_function c)
   inside_function : {i e o : ℕ} {f : PlainFunction} {x : PlainExpression} → slice_get m.functions i ≡ Some f → slice_get f.expressions e ≡ Some x
-      → Contains (expression_operands x) o
-      → DependsOn m (of_function i e) (of_function i o)
+      → Contains (expression_operands x) o → DependsOn m (of_function i e) (of_function i o)
   inside_entry : {k e o : ℕ} {entry : PlainEntry} {x : PlainExpression} → slice_get m.entries k ≡ Some entry → slice_get entry.function.expressions e ≡ Some x
-      → Contains (expression_operands x) o
-      → DependsOn m (of_entry k e) (of_entry k o)
+      → Contains (expression_operands x) o → DependsOn m (of_entry k e) (of_entry k o)
 
 -- Items that depend on one another are of one list, in which the first comes before the second.
 abbrev pub IsBefore : Ordered → Ordered → Type 0

@@ -1,8 +1,6 @@
 -- What ray queries answer.
 use Rattle.std.specs.Prelude.{ℕ, Option, option_map, Result, ok_or}
-use Rattle.ir_kinds.specs.judged.Scalars.{boolean}
 use Rattle.typing_forms.specs.declared.form.Form.{Form}
-use Rattle.typing_forms.specs.declared.form.Form.TheVariants as form
 use Rattle.typing_forms.specs.judged.Forms.{form_of_type}
 use Rattle.spec_expressions.specs.judged.Context.{Context}
 use Rattle.spec_expressions.specs.declared.faults.TypingFault.{TypingFault}
@@ -11,15 +9,3 @@ use Rattle.spec_expressions.specs.declared.faults.TypingFault.TheVariants.{Missi
 -- a type that the module has, if it has it
 abbrev pub special_type : Context → Option ℕ → Result Form TypingFault
 special_type c type = ok_or (option_map (form_of_type c.types) type) MissingSpecialType
-
--- the vertices of a triangle that was hit
-abbrev pub vertex_positions_type : Context → Result Form TypingFault
-vertex_positions_type c = special_type c c.special.ray_vertex_return
-
--- what was hit
-abbrev pub intersection_type : Context → Result Form TypingFault
-intersection_type c = special_type c c.special.ray_intersection
-
--- whether the query went on
-abbrev pub proceed_type : Form
-proceed_type = form.Scalar boolean

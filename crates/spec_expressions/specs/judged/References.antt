@@ -6,7 +6,8 @@ use Rattle.ir_types.specs.judged.ExpressionPlain.{PlainExpression}
 use Rattle.ir_items.specs.judged.Plain.{PlainArgument, PlainLocal, PlainFunction, PlainModule}
 use Rattle.ir_items.specs.declared.functions.FunctionResult.{FunctionResult}
 use Rattle.spec_expressions.specs.judged.ExpressionNames.{expression_operands, expression_item}
-use Rattle.spec_expressions.specs.judged.StatementNames.{statement_operands, statement_result, Emitted, statement_range, statement_callee}
+use Rattle.spec_expressions.specs.judged.StatementNames.{statement_operands, statement_result, statement_range, statement_callee}
+use Rattle.spec_expressions.specs.judged.Kinds.{Emitted}
 use Rattle.spec_expressions.specs.declared.target.Target.{Target}
 use Rattle.spec_expressions.specs.declared.target.Target.TheVariants as target
 

@@ -14,11 +14,3 @@ result_of c function = option_and_then (λ f. f.result) (slice_get c.functions f
 -- what a call answered has the type that the function declares
 abbrev pub call_result_type : Context → ℕ → Result Form TypingFault
 call_result_type c function = ok_or (option_map (λ (r : FunctionResult). form_of_type c.types r.ty) (result_of c function)) FunctionReturnsVoid
-
--- what an atomic operation answered has the type that it says
-abbrev pub atomic_result_type : Context → ℕ → Form
-atomic_result_type c type = form_of_type c.types type
-
--- so has what a uniform load answered
-abbrev pub uniform_load_type : Context → ℕ → Form
-uniform_load_type c type = form_of_type c.types type

@@ -8,10 +8,6 @@ use Rattle.typing_forms.specs.declared.form.Form.TheVariants as form
 use Rattle.spec_expressions.specs.judged.Operators.{truth_of}
 use Rattle.spec_expressions.specs.declared.faults.TypingFault.{TypingFault}
 
--- a choice has the type of what is taken where the condition holds
-abbrev pub select_type : (accept : Form) → Form
-select_type accept = accept
-
 -- all or any of the components: one truth value; about numbers: one for each
 abbrev pub relational_type : RelationalFunction → (of : Form) → Result Form TypingFault
 relational_type All of = Ok (form.Scalar boolean)

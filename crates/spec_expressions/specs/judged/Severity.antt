@@ -25,6 +25,5 @@ IsNearest nodes start rule found = (trail : List PlainFilterNode) × FilterChain
 -- The severity of a rule in a function: that of the nearest filter from the function's leaf on; where there is none, that of
 -- the nearest from the module's leaf on; where there is none either, `Error`.
 abbrev pub HasSeverity : PlainModule → PlainFunction → StandardFilterableTriggeringRule → Severity → Type 0
-HasSeverity m f rule severity =
-    IsNearest m.filters f.leaf rule (Some severity)
+HasSeverity m f rule severity = IsNearest m.filters f.leaf rule (Some severity)
     ⊎ IsNearest m.filters f.leaf rule None × (IsNearest m.filters m.leaf rule (Some severity) ⊎ IsNearest m.filters m.leaf rule None × (severity ≡ Error))

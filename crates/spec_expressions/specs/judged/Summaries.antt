@@ -57,9 +57,7 @@ JoinsUse f summaries g k = UsesDirectly g k f ⊎ ((arguments : List ℕ) × (t 
 pub record IsJoined (globals : ℕ) (f : PlainFunction) (summaries : List Summary) (s : Summary) : Type 0 where
   pub uses : (g k : ℕ) → g < globals
       → HasBit s g k ↔ (JoinsUse f summaries g k ⊎ ((bit_at QUERY.0 k ≡ 1) × NamesGlobal g f × ((j : ℕ) → JoinsUse f summaries g j → ⊥)))
-  pub pairs : (p : SamplingPair)
-      → IsAmong p s.pairs
-      ↔ (Samples (global_or_argument f.expressions) f p
+  pub pairs : (p : SamplingPair) → IsAmong p s.pairs ↔ (Samples (global_or_argument f.expressions) f p
       ⊎ ((arguments : List ℕ) × (t : Summary) × (q : SamplingPair) × CallsOne f summaries arguments t × IsAmong q t.pairs × ComesUp f.expressions arguments q p))
   pub may_kill : IsTrue s.may_kill ↔ (Discards f ⊎ ((arguments : List ℕ) × (t : Summary) × CallsOne f summaries arguments t × IsTrue t.may_kill))
 
@@ -97,8 +95,7 @@ IsWrongArgument expressions arguments part e = (number : ℕ) × (part ≡ Argum
 -- At e stands a sampling whose image or sampler has another form, or an argument of another form that is passed for an image
 -- or a sampler of a callee's pair.
 abbrev pub IsFormFault : PlainFunction → List Summary → ℕ → Type 0
-IsFormFault f summaries e =
-    ((image : ℕ) × (sampler : ℕ) × IsAmong (samples e image sampler) (effects_of f)
+IsFormFault f summaries e = ((image : ℕ) × (sampler : ℕ) × IsAmong (samples e image sampler) (effects_of f)
     × ((global_or_argument f.expressions image ≡ None) ⊎ (global_or_argument f.expressions sampler ≡ None)))
     ⊎ ((arguments : List ℕ) × (t : Summary) × (q : SamplingPair) × CallsOne f summaries arguments t × IsAmong q t.pairs
     × (IsWrongArgument f.expressions arguments q.0 e ⊎ IsWrongArgument f.expressions arguments q.1 e))

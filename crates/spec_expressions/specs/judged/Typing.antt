@@ -1,82 +1,47 @@
 -- The type of an expression by the types of its operands: a rule for each kind, and the relation that the rules give.
-use Rattle.std.specs.Prelude.{◌≡◌, ℕ, List, [], ◌∷◌, Option, Some, None, Result, Ok, slice_get}
+use Rattle.std.specs.Prelude.{◌≡◌, ℕ, List, Option, Some, None, Result, Ok, slice_get, option_map}
 use Rattle.ir_types.specs.judged.ExpressionPlain.{PlainExpression, compose, plain}
 use Rattle.ir_types.specs.declared.expressions.Expression.{Expression}
 use Rattle.ir_types.specs.declared.expressions.Expression.TheVariants as x
 use Rattle.ir_items.specs.judged.Plain.{PlainFunction, PlainModule}
+use Rattle.typing_forms.specs.judged.Forms.{form_of_type}
 use Rattle.typing_forms.specs.declared.form.Form.{Form}
 use Rattle.typing_forms.specs.declared.form.Form.TheVariants as form
 use Rattle.typing_rules.specs.judged.Laws.{IsAmong}
+use Rattle.spec_expressions.specs.judged.Kinds.{row_of_expression}
 use Rattle.spec_expressions.specs.judged.Access.{access_type, access_index_type}
-use Rattle.spec_expressions.specs.judged.Compositions.{compose_type, splat_type, swizzle_type}
-use Rattle.spec_expressions.specs.judged.Context.{Context, inside, outside}
+use Rattle.spec_expressions.specs.judged.Compositions.{splat_type, swizzle_type}
+use Rattle.spec_expressions.specs.judged.Context.{Context, inside, outside, form_if}
 use Rattle.spec_expressions.specs.judged.Conversions.{as_type}
-use Rattle.spec_expressions.specs.judged.CooperativeMatrices.{cooperative_load_type, multiply_add_type}
-use Rattle.spec_expressions.specs.judged.Derivatives.{derivative_type}
+use Rattle.spec_expressions.specs.judged.CooperativeMatrices.{cooperative_load_type}
 use Rattle.spec_expressions.specs.judged.ImageLoads.{image_load_type, image_query_type}
 use Rattle.spec_expressions.specs.judged.ImageSamples.{image_sample_type}
-use Rattle.spec_expressions.specs.judged.Literals.{literal_type, constant_type, override_type, zero_type}
-use Rattle.spec_expressions.specs.judged.Loads.{argument_type, global_type, local_type, load_type, array_length_type}
-use Rattle.spec_expressions.specs.judged.Maths.{math_operands, math_type}
-use Rattle.spec_expressions.specs.judged.Operators.{unary_type, binary_type}
-use Rattle.spec_expressions.specs.judged.RayQueries.{vertex_positions_type, intersection_type, proceed_type}
-use Rattle.spec_expressions.specs.judged.Results.{call_result_type, atomic_result_type, uniform_load_type}
-use Rattle.spec_expressions.specs.judged.Selections.{select_type, relational_type}
-use Rattle.spec_expressions.specs.judged.Subgroups.{ballot_type, subgroup_type}
+use Rattle.spec_expressions.specs.judged.Loads.{argument_type, global_type, local_type, load_type}
+use Rattle.spec_expressions.specs.judged.Maths.{math_type}
+use Rattle.spec_expressions.specs.judged.Operators.{binary_type}
+use Rattle.spec_expressions.specs.judged.RayQueries.{special_type}
+use Rattle.spec_expressions.specs.judged.Results.{call_result_type}
+use Rattle.spec_expressions.specs.judged.Selections.{relational_type}
 use Rattle.spec_expressions.specs.declared.faults.TypingFault.{TypingFault}
-
--- ---- operands
+use Rattle.ir_kinds.specs.declared.scalars.VectorSize.TheVariants.{Quad}
+use Rattle.ir_kinds.specs.judged.Scalars.{boolean, unsigned}
+use Rattle.ir_kinds.specs.judged.Values.{literal_scalar}
 
 -- the operands whose types make that of the expression, in order
-abbrev pub typed_operands : Expression → List ℕ
-typed_operands (x.Literal value) = []
-typed_operands (x.Constant constant) = []
-typed_operands (x.Override override) = []
-typed_operands (x.ZeroValue type) = []
-typed_operands (x.Compose type components) = []
-typed_operands (x.Access base index) = base ∷ []
-typed_operands (x.AccessIndex base index) = base ∷ []
-typed_operands (x.Splat size value) = value ∷ []
-typed_operands (x.Swizzle size vector pattern) = vector ∷ []
-typed_operands (x.FunctionArgument number) = []
-typed_operands (x.GlobalVariable global) = []
-typed_operands (x.LocalVariable local) = []
-typed_operands (x.Load pointer) = pointer ∷ []
-typed_operands (x.ImageSample image sampler gather coordinate array_index offset level depth_ref clamp_to_edge) = image ∷ []
-typed_operands (x.ImageLoad image coordinate array_index sample level) = image ∷ []
-typed_operands (x.ImageQuery image query) = image ∷ []
-typed_operands (x.Unary op expr) = expr ∷ []
-typed_operands (x.Binary op left right) = left ∷ right ∷ []
-typed_operands (x.Select condition accept reject) = accept ∷ []
-typed_operands (x.Derivative axis ctrl expr) = expr ∷ []
-typed_operands (x.Relational fun argument) = argument ∷ []
-typed_operands (x.Math fun arg arg1 arg2 arg3) = math_operands arg arg1 arg2 arg3
-typed_operands (x.As expr kind convert) = expr ∷ []
-typed_operands (x.CallResult function) = []
-typed_operands (x.AtomicResult type comparison) = []
-typed_operands (x.WorkGroupUniformLoadResult type) = []
-typed_operands (x.ArrayLength array) = []
-typed_operands (x.RayQueryVertexPositions query committed) = []
-typed_operands x.RayQueryProceedResult = []
-typed_operands (x.RayQueryGetIntersection query committed) = []
-typed_operands x.SubgroupBallotResult = []
-typed_operands (x.SubgroupOperationResult type) = []
-typed_operands (x.CooperativeLoad columns rows role block) = block.pointer ∷ []
-typed_operands (x.CooperativeMultiplyAdd a b c) = c ∷ []
-
 abbrev pub typing_operands : PlainExpression → List ℕ
-typing_operands (compose type components) = []
-typing_operands (plain expression) = typed_operands expression
+typing_operands x = (row_of_expression x).typed
 
 -- ---- one rule a kind
 
--- The type of an expression, or why it has none, where its operands have the forms a, b, c and d, in order.
+-- The type of an expression, or why it has none, where its operands have the forms a, b, c and d, in order. What is written,
+-- declared or answered has the type that is said; a choice, an operation on one value, a derivative and a product with a third
+-- matrix added have that of an operand; a ballot has a bit for each invocation.
 abbrev pub rule_of : Context → Expression → (a b c d : Form) → Result Form TypingFault
-rule_of context (x.Literal value) a b c d = Ok (literal_type value)
-rule_of context (x.Constant constant) a b c d = Ok (constant_type context constant)
-rule_of context (x.Override override) a b c d = Ok (override_type context override)
-rule_of context (x.ZeroValue type) a b c d = Ok (zero_type context type)
-rule_of context (x.Compose type components) a b c d = Ok (compose_type context type)
+rule_of context (x.Literal value) a b c d = Ok (form.Scalar (literal_scalar value))
+rule_of context (x.Constant constant) a b c d = Ok (form_if context.types (option_map (λ k. k.ty) (slice_get context.constants constant)))
+rule_of context (x.Override override) a b c d = Ok (form_if context.types (option_map (λ o. o.ty) (slice_get context.overrides override)))
+rule_of context (x.ZeroValue type) a b c d = Ok (form_of_type context.types type)
+rule_of context (x.Compose type components) a b c d = Ok (form_of_type context.types type)
 rule_of context (x.Access base index) a b c d = access_type context.types base a
 rule_of context (x.AccessIndex base index) a b c d = access_index_type context.types base index a
 rule_of context (x.Splat size value) a b c d = splat_type size value a
@@ -88,33 +53,32 @@ rule_of context (x.Load pointer) a b c d = load_type context.types pointer a
 rule_of context (x.ImageSample image sampler gather coordinate array_index offset level depth_ref clamp_to_edge) a b c d = image_sample_type image gather a
 rule_of context (x.ImageLoad image coordinate array_index sample level) a b c d = image_load_type image a
 rule_of context (x.ImageQuery image query) a b c d = image_query_type image query a
-rule_of context (x.Unary op expr) a b c d = Ok (unary_type a)
+rule_of context (x.Unary op expr) a b c d = Ok a
 rule_of context (x.Binary op left right) a b c d = binary_type op a b
-rule_of context (x.Select condition accept reject) a b c d = Ok (select_type a)
-rule_of context (x.Derivative axis ctrl expr) a b c d = Ok (derivative_type a)
+rule_of context (x.Select condition accept reject) a b c d = Ok a
+rule_of context (x.Derivative axis ctrl expr) a b c d = Ok a
 rule_of context (x.Relational fun argument) a b c d = relational_type fun a
 rule_of context (x.Math fun arg arg1 arg2 arg3) a b c d = math_type context fun arg1 arg2 arg3 a b c d
 rule_of context (x.As expr kind convert) a b c d = as_type kind convert a
 rule_of context (x.CallResult function) a b c d = call_result_type context function
-rule_of context (x.AtomicResult type comparison) a b c d = Ok (atomic_result_type context type)
-rule_of context (x.WorkGroupUniformLoadResult type) a b c d = Ok (uniform_load_type context type)
-rule_of context (x.ArrayLength array) a b c d = Ok array_length_type
-rule_of context (x.RayQueryVertexPositions query committed) a b c d = vertex_positions_type context
-rule_of context x.RayQueryProceedResult a b c d = Ok proceed_type
-rule_of context (x.RayQueryGetIntersection query committed) a b c d = intersection_type context
-rule_of context x.SubgroupBallotResult a b c d = Ok ballot_type
-rule_of context (x.SubgroupOperationResult type) a b c d = Ok (subgroup_type context type)
+rule_of context (x.AtomicResult type comparison) a b c d = Ok (form_of_type context.types type)
+rule_of context (x.WorkGroupUniformLoadResult type) a b c d = Ok (form_of_type context.types type)
+rule_of context (x.ArrayLength array) a b c d = Ok (form.Scalar (unsigned 4))
+rule_of context (x.RayQueryVertexPositions query committed) a b c d = special_type context context.special.ray_vertex_return
+rule_of context x.RayQueryProceedResult a b c d = Ok (form.Scalar boolean)
+rule_of context (x.RayQueryGetIntersection query committed) a b c d = special_type context context.special.ray_intersection
+rule_of context x.SubgroupBallotResult a b c d = Ok (form.Vector Quad (unsigned 4))
+rule_of context (x.SubgroupOperationResult type) a b c d = Ok (form_of_type context.types type)
 rule_of context (x.CooperativeLoad columns rows role block) a b c d = cooperative_load_type context.types columns rows role block.pointer a
-rule_of context (x.CooperativeMultiplyAdd p q r) a b c d = Ok (multiply_add_type a)
+rule_of context (x.CooperativeMultiplyAdd p q r) a b c d = Ok a
 
 abbrev pub expression_rule : Context → PlainExpression → (a b c d : Form) → Result Form TypingFault
-expression_rule context (compose type components) a b c d = Ok (compose_type context type)
+expression_rule context (compose type components) a b c d = Ok (form_of_type context.types type)
 expression_rule context (plain expression) a b c d = rule_of context expression a b c d
 
 -- the form of an operand, where there is one
 abbrev pub form_read : (ℕ → Form) → Option ℕ → Form
-form_read past (Some operand) = past operand
-form_read past None = form.Nothing
+form_read past o = elim o [ Some operand ↦ past operand | None ↦ form.Nothing ]
 
 abbrev pub operand_form : (ℕ → Form) → List ℕ → (place : ℕ) → Form
 operand_form past operands place = form_read past (slice_get operands place)

@@ -2,14 +2,12 @@
 use Rattle.std.specs.Prelude.{◌≡◌, ◌⊎◌, ◌≤◌, ◌<◌, ℕ, List, Option, Some, None, IfSome, IsSomeAnd, IsTrue, slice_get}
 use Rattle.ir_flags.specs.Sets.{Has}
 use Rattle.ir_kinds.specs.judged.Scalars.{floating}
-use Rattle.ir_kinds.specs.declared.bindings.BuiltIn.{BuiltIn}
 use Rattle.ir_kinds.specs.declared.stages.ShaderStage.{ShaderStage}
 use Rattle.ir_kinds.specs.declared.stages.ShaderStage.TheVariants.{Mesh}
 use Rattle.ir_types.specs.judged.Plain.{PlainType}
 use Rattle.ir_types.specs.declared.types.ArraySize.{ArraySize}
 use Rattle.ir_types.specs.declared.types.ArraySize.TheVariants as size
 use Rattle.spec_interface.specs.judged.Contexts.{VaryingContext, stage_set}
-use Rattle.spec_interface.specs.judged.BuiltInRows.{built_in_row}
 use Rattle.spec_interface.specs.declared.rows.BuiltInRow.{BuiltInRow}
 use Rattle.spec_interface.specs.declared.rows.BuiltInType.{BuiltInType}
 use Rattle.spec_interface.specs.declared.rows.BuiltInType.TheVariants.{Value, Distances}
@@ -33,55 +31,38 @@ RowOccursAt PrimitiveOutput stage r = Has r.outputs.0 (stage_set stage).0 ⊎ Is
 
 -- what needs no capability at a stage, though its row names one
 abbrev pub IsFree : ShaderStage → Exception → Type 0
-IsFree stage exception.None = ⊥
-IsFree stage exception.FreeAtHits = Has HITS.0 (stage_set stage).0
-IsFree stage exception.NotAfterTasks = ⊥
-IsFree stage exception.RowsOnly = ⊥
+IsFree stage e = elim e [ exception.FreeAtHits ↦ Has HITS.0 (stage_set stage).0 | _ ↦ ⊥ ]
 
--- workgroups are rows: they have one invocation in all ways but the first
-abbrev pub IsLinearWorkgroup : List ℕ → Type 0
-IsLinearWorkgroup sizes = (way many : ℕ) → 0 < way → slice_get sizes way ≡ Some many → many ≤ 1
-
--- a mesh shader is ahead of all where no task hands it a payload
-abbrev pub HasNoTaskPayload : VaryingContext → Type 0
-HasNoTaskPayload c = c.stage ≡ Mesh → c.payload ≡ None
-
--- what a row says besides
+-- What a row says besides: that a mesh shader is ahead of all where no task hands it a payload, or that workgroups are rows, which have
+-- one invocation in all ways but the first.
 abbrev pub ExceptionOK : VaryingContext → Exception → Type 0
 ExceptionOK c exception.None = Unit {0}
 ExceptionOK c exception.FreeAtHits = Unit {0}
-ExceptionOK c exception.NotAfterTasks = HasNoTaskPayload c
-ExceptionOK c exception.RowsOnly = IsLinearWorkgroup c.sizes
+ExceptionOK c exception.NotAfterTasks = c.stage ≡ Mesh → c.payload ≡ None
+ExceptionOK c exception.RowsOnly = (way many : ℕ) → 0 < way → slice_get c.sizes way ≡ Some many → many ≤ 1
 
 -- ---- of which type it is
 
 -- the elements of an array of so many
 abbrev pub array_of_form : Form → Option (ℕ × ArraySize)
-array_of_form (form.Array base size stride) = Some (base, size)
-array_of_form _ = None
+array_of_form t = elim t [ form.Array base size stride ↦ Some (base, size) | _ ↦ None ]
 
 -- it has so many elements, and no override says how many
 abbrev pub IsCounted : ArraySize → (ℕ → Type 0) → Type 0
-IsCounted (size.Constant count) P = P count
-IsCounted (size.Pending override) P = ⊥
-IsCounted size.Dynamic P = ⊥
+IsCounted n P = elim n [ size.Constant count ↦ P count | _ ↦ ⊥ ]
 
 -- floats of four bytes in a row, eight at most
 abbrev pub AreDistances : List PlainType → Form → Type 0
 AreDistances types t = IsSomeAnd (array_of_form t) (λ a. (form_of_type types a.0 ≡ form.Scalar (floating 4)) × IsCounted a.1 (λ count. count ≤ 8))
 
 abbrev pub IsOfType : List PlainType → BuiltInType → (type : ℕ) → Type 0
-IsOfType types (Value t) type = form_of_type types type ≡ t
-IsOfType types Distances type = AreDistances types (form_of_type types type)
+IsOfType types b type = elim b [ Value t ↦ form_of_type types type ≡ t | Distances ↦ AreDistances types (form_of_type types type) ]
 
 -- ---- the whole
 
+-- A value of the type may be the built-in one of the row.
 pub record RowOK (c : VaryingContext) (type : ℕ) (r : BuiltInRow) : Type 0 where
   pub capable : IsFree c.stage r.exception ⊎ IfSome r.capability (λ x. Has c.capabilities.0 x.0)
   pub stands : RowOccursAt c.direction c.stage r
   pub besides : ExceptionOK c r.exception
   pub typed : IsOfType c.types r.ty type
-
--- A value of the type may be the built-in one.
-abbrev pub BuiltInOK : VaryingContext → (type : ℕ) → BuiltIn → Type 0
-BuiltInOK c type b = RowOK c type (built_in_row b)

@@ -3,11 +3,10 @@ use Rattle.std.specs.Prelude.{ℕ, List, Option}
 use Rattle.ir_flags.specs.declared.settings.Capabilities.{Capabilities}
 use Rattle.ir_flags.specs.declared.settings.ValidationFlags.{ValidationFlags}
 use Rattle.ir_flags.specs.declared.stages.ShaderStages.{ShaderStages}
-use Rattle.ir_flags.specs.declared.stages.TheConstants.ShaderStages as stages
 use Rattle.ir_items.specs.judged.Plain.{PlainEntry, PlainModule}
 use Rattle.ir_kinds.specs.declared.stages.ShaderStage.{ShaderStage}
-use Rattle.ir_kinds.specs.declared.stages.ShaderStage.TheVariants.{Vertex, Fragment, Compute, Mesh, Task, RayGeneration, AnyHit, ClosestHit, Miss}
 use Rattle.ir_types.specs.judged.Plain.{PlainType}
+use Rattle.spec_interface.specs.judged.Stages.{stage_row}
 use Rattle.spec_interface.specs.declared.varyings.Direction.{Direction}
 
 -- The checks that are made, the capabilities and types of the module, and of the entry point its stage, the sizes of its
@@ -28,12 +27,4 @@ context_of flags capabilities m e direction =
 
 -- the set of one stage
 abbrev pub stage_set : ShaderStage → ShaderStages
-stage_set Vertex = stages.VERTEX
-stage_set Fragment = stages.FRAGMENT
-stage_set Compute = stages.COMPUTE
-stage_set Mesh = stages.MESH
-stage_set Task = stages.TASK
-stage_set RayGeneration = stages.RAY_GENERATION
-stage_set AnyHit = stages.ANY_HIT
-stage_set ClosestHit = stages.CLOSEST_HIT
-stage_set Miss = stages.MISS
+stage_set stage = (stage_row stage).set

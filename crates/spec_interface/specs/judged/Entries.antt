@@ -12,14 +12,15 @@ use Rattle.spec_interface.specs.judged.Stages.{StageOK}
 use Rattle.spec_interface.specs.judged.Uses.{EntryUses}
 use Rattle.spec_interface.specs.judged.UsedVariables.{VariablesOK}
 use Rattle.spec_statements.specs.judged.Functions.{Reading, FunctionOK, AllowsStage}
-use Rattle.spec_interface.specs.judged.Contexts.{stage_set}
-use Rattle.spec_interface.specs.judged.Varyings.{ArgumentVaryingsOK, ResultVaryingsOK}
+use Rattle.spec_interface.specs.judged.Contexts.{context_of, stage_set}
+use Rattle.spec_interface.specs.judged.Varyings.{VaryingsOK, argument_varyings, result_varyings}
+use Rattle.spec_interface.specs.declared.varyings.Direction.TheVariants.{Input, Output}
 
 -- What connects an entry point with other stages and with hosts: what it is given and gives, and the global variables, which it uses
 -- in this way.
 pub record ConnectionsOK (flags : ValidationFlags) (capabilities : Capabilities) (m : PlainModule) (e : PlainEntry) (Uses : ℕ → ℕ → Type 0) : Type 0 where
-  pub arguments : ArgumentVaryingsOK flags capabilities m e
-  pub result : ResultVaryingsOK flags capabilities m e
+  pub arguments : VaryingsOK (context_of flags capabilities m e Input) (argument_varyings m.types e.function.arguments)
+  pub result : VaryingsOK (context_of flags capabilities m e Output) (result_varyings m.types e.function.result)
   pub answer : StageResultOK m.types e.stage e.function.result
   pub variables : VariablesOK flags m e Uses
   pub mesh : IfSome e.mesh (MeshOK flags capabilities m e)

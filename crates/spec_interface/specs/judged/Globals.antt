@@ -1,5 +1,5 @@
 -- Which global variables a module may have.
-use Rattle.std.specs.Prelude.{◌≡◌, ◌≢◌, ◌↔◌, ◌<◌, ℕ, IsTrue, Option, Some, None, IfSome, IsSome, length, slice_get}
+use Rattle.std.specs.Prelude.{◌≡◌, ◌≢◌, ◌↔◌, ◌<◌, ℕ, IsTrue, Some, IfSome, IsSome, length, slice_get}
 use Rattle.ir_flags.specs.Sets.{Has}
 use Rattle.ir_flags.specs.declared.memory.MemoryDecorations.{MemoryDecorations}
 use Rattle.ir_flags.specs.declared.memory.TheConstants.MemoryDecorations.{COHERENT, VOLATILE}
@@ -13,11 +13,12 @@ use Rattle.ir_kinds.specs.declared.spaces.AddressSpace.{AddressSpace}
 use Rattle.ir_kinds.specs.declared.spaces.AddressSpace.TheVariants.{Private}
 use Rattle.spec_expressions.specs.judged.Overrides.{IsKnownByOverrides}
 use Rattle.spec_expressions.specs.judged.Typing.{HasGlobalType}
-use Rattle.spec_interface.specs.judged.Spaces.{effective_type, ArraysOK, required, HasAll, space_capability, LiesIn, is_resource, is_storage}
+use Rattle.spec_interface.specs.judged.Spaces.{array_base, effective_type, HasArrayCapability, space_row, space_capability, LiesIn, is_storage}
 use Rattle.typing_layout.specs.judged.View.{type_tree}
 use Rattle.typing_forms.specs.judged.Forms.{form_of_type}
 use Rattle.typing_forms.specs.declared.form.Form.{Form}
 use Rattle.typing_forms.specs.judged.Resolutions.{inner_at}
+use Rattle.typing_layout.specs.judged.Flags.{TypeFlag, HasFlag, among}
 
 -- what is said of the memory is said of storage buffers, each word with its capability
 pub record DecorationsOK (capabilities : Capabilities) (space : AddressSpace) (decorations : MemoryDecorations) : Type 0 where
@@ -34,34 +35,20 @@ pub record BeginsBy (HasForm : (expression : ℕ) → Form → Type 0) (m : Plai
 
 -- A module may have the variable, by a typing of its global expressions.
 pub record VariableBy (HasForm : (expression : ℕ) → Form → Type 0) (flags : ValidationFlags) (capabilities : Capabilities) (m : PlainModule) (v : PlainGlobal) : Type 0 where
-  pub arrays : ArraysOK capabilities v.space m.types v.ty
+  pub arrays : IfSome (array_base (inner_at m.types v.ty)) (λ base. HasArrayCapability capabilities v.space (inner_at m.types base))
   pub needed : IfSome (space_capability v.space (inner_at m.types (effective_type m.types v.ty))) (λ c. Has capabilities.0 c.0)
   pub lies : LiesIn flags v.space (inner_at m.types (effective_type m.types v.ty)) (type_tree m.types (effective_type m.types v.ty))
-  pub used : HasAll (required v.space) (type_tree m.types (effective_type m.types v.ty))
-  pub bound : Has flags.0 BINDINGS.0 → IsTrue (is_resource v.space) ↔ IsSome v.binding
+  pub used : (f : TypeFlag) → IsTrue (among (space_row v.space).flags f) → HasFlag f (type_tree m.types (effective_type m.types v.ty))
+  pub bound : Has flags.0 BINDINGS.0 → IsTrue (space_row v.space).bound ↔ IsSome v.binding
   pub decorated : DecorationsOK capabilities v.space v.decorations
   pub begins : IfSome v.init (BeginsBy HasForm m v.space v.ty)
 
--- ---- by the types of global expressions
-
-abbrev pub BeginsOK : PlainModule → AddressSpace → (type init : ℕ) → Type 0
-BeginsOK m = BeginsBy (HasGlobalType m) m
-
-abbrev pub VariableOK : ValidationFlags → Capabilities → PlainModule → PlainGlobal → Type 0
-VariableOK flags capabilities m = VariableBy (HasGlobalType m) flags capabilities m
-
--- the global variable at a handle is such
+-- the module may have the global variable at a handle, by the types of its global expressions
 pub record GlobalOK (flags : ValidationFlags) (capabilities : Capabilities) (m : PlainModule) (handle : ℕ) : Type 0 where
   pub variable : PlainGlobal
   pub at : slice_get m.globals handle ≡ Some variable
-  pub ok : VariableOK flags capabilities m variable
+  pub ok : VariableBy (HasGlobalType m) flags capabilities m variable
 
 -- all global variables of a module are
 abbrev pub GlobalsOK : ValidationFlags → Capabilities → PlainModule → Type 0
 GlobalsOK flags capabilities m = (handle : ℕ) → handle < length m.globals → GlobalOK flags capabilities m handle
-
--- The one at a handle is the first that is not.
-pub record IsFirstFailingGlobal (flags : ValidationFlags) (capabilities : Capabilities) (m : PlainModule) (handle : ℕ) : Type 0 where
-  pub within : handle < length m.globals
-  pub before : (other : ℕ) → other < handle → GlobalOK flags capabilities m other
-  pub fails : ¬ GlobalOK flags capabilities m handle

@@ -37,12 +37,7 @@ PerPrimitiveOK PrimitiveOutput stage per_primitive = per_primitive ≡ true
 
 -- the elements of an array of three
 abbrev pub three : (base : ℕ) → ArraySize → Option ℕ
-three base (size.Constant count) = if count == 3 then Some base else None
-three base (size.Pending override) = None
-three base size.Dynamic = None
-
-abbrev pub of_three : Form → Option ℕ
-of_three t = option_and_then (λ a. three a.0 a.1) (array_of_form t)
+three base n = elim n [ size.Constant count ↦ if count == 3 then Some base else None | _ ↦ None ]
 
 -- the type that counts: where every vertex gives its own value, that of the elements
 abbrev pub varying_type : List PlainType → Option Interpolation → (type : ℕ) → Option ℕ
@@ -50,7 +45,7 @@ varying_type types None type = Some type
 varying_type types (Some Perspective) type = Some type
 varying_type types (Some Linear) type = Some type
 varying_type types (Some Flat) type = Some type
-varying_type types (Some PerVertex) type = of_three (form_of_type types type)
+varying_type types (Some PerVertex) type = option_and_then (λ a. three a.0 a.1) (array_of_form (form_of_type types type))
 
 pub record PerVertexOK (c : VaryingContext) : Type 0 where
   pub fragment : c.stage ≡ Fragment
@@ -90,9 +85,7 @@ InterpolationOK kind.AbstractFloat i = Unit {0}
 
 -- what the scalars of a scalar or of a vector are
 abbrev pub kind_of : Form → Option ScalarKind
-kind_of (form.Scalar s) = Some s.kind
-kind_of (form.Vector n s) = Some s.kind
-kind_of _ = None
+kind_of t = elim t [ form.Scalar s ↦ Some s.kind | form.Vector n s ↦ Some s.kind | _ ↦ None ]
 
 -- a scalar or a vector, which is interpolated where that is required
 abbrev pub IsVaryingValue : (between : Type 0) → Option Interpolation → Form → Type 0

@@ -21,10 +21,12 @@ use Rattle.spec_interface.specs.judged.Members.{members_at, topologies_at, types
 use Rattle.spec_interface.specs.judged.Payloads.{space_at}
 use Rattle.spec_interface.specs.declared.parts.MeshPart.TheVariants.{VertexCount, Vertices, PrimitiveCount, Primitives}
 use Rattle.spec_interface.specs.declared.parts.MeshParts.{MeshParts}
-use Rattle.spec_interface.specs.judged.Varyings.{HasBuiltIn, PrimitiveOutputOK, VertexOutputOK, mesh_varyings}
+use Rattle.spec_interface.specs.judged.Varyings.{HasBuiltIn, VaryingsOK, mesh_varyings}
+use Rattle.spec_interface.specs.judged.Contexts.{context_of}
 use Rattle.typing_forms.specs.judged.Forms.{form_of_type}
 use Rattle.typing_forms.specs.judged.Resolutions.{inner_at}
 use Rattle.typing_forms.specs.declared.form.Form.TheVariants as form
+use Rattle.spec_interface.specs.declared.varyings.Direction.TheVariants.{VertexOutput, PrimitiveOutput}
 
 -- ---- the four parts
 
@@ -35,31 +37,21 @@ pub record AreParts (members : List PlainMember) (t : MeshParts) : Type 0 where
   pub primitive_count : types_bound PrimitiveCount members ≡ t.primitive_count ∷ []
   pub primitives : types_bound Primitives members ≡ t.primitives ∷ []
 
--- the members of the struct that a variable is
-abbrev pub variable_members : PlainModule → (variable : ℕ) → Option (List PlainMember)
-variable_members m variable = option_and_then (λ (v : PlainGlobal). members_at m.types v.ty) (slice_get m.globals variable)
-
 -- the variable is a struct with these parts
 pub record HasParts (m : PlainModule) (variable : ℕ) (t : MeshParts) : Type 0 where
   pub members : List PlainMember
-  pub struct : variable_members m variable ≡ Some members
+  pub struct : option_and_then (λ (v : PlainGlobal). members_at m.types v.ty) (slice_get m.globals variable) ≡ Some members
   pub parts : AreParts members t
 
 -- ---- how many there are
 
-abbrev pub IsCount : List PlainType → (type : ℕ) → Type 0
-IsCount types type = form_of_type types type ≡ form.Scalar U32
-
 -- the type of the elements of an array, and how many there are
 abbrev pub array_of : Option PlainInner → Option (ℕ × ArraySize)
-array_of (Some (plain (inner.Array base size stride))) = Some (base, size)
-array_of _ = None
+array_of o = elim o [ Some (plain (inner.Array base size stride)) ↦ Some (base, size) | _ ↦ None ]
 
 -- how many elements there are at most, and the override that says so, where one does; nothing where a buffer says how many
 abbrev pub most : ArraySize → Option (ℕ × Option ℕ)
-most (count.Constant n) = Some (n, None)
-most (count.Pending override) = Some (0, Some override)
-most count.Dynamic = None
+most o = elim o [ count.Constant n ↦ Some (n, None) | count.Pending override ↦ Some (0, Some override) | count.Dynamic ↦ None ]
 
 -- an array of at most so many of this type
 pub record HoldsMost (types : List PlainType) (type : ℕ) (element n : ℕ) (by : Option ℕ) : Type 0 where
@@ -71,8 +63,8 @@ pub record HoldsMost (types : List PlainType) (type : ℕ) (element n : ℕ) (by
 
 -- The fields of the parts are such as they should be: the counts numbers, and the others arrays of this type.
 pub record FieldsOK (types : List PlainType) (t : MeshParts) (i : MeshStageInfo) (vertices_by primitives_by : Option ℕ) : Type 0 where
-  pub vertex_count : IsCount types t.vertex_count
-  pub primitive_count : IsCount types t.primitive_count
+  pub vertex_count : form_of_type types t.vertex_count ≡ form.Scalar U32
+  pub primitive_count : form_of_type types t.primitive_count ≡ form.Scalar U32
   pub vertices : HoldsMost types t.vertices i.vertex_output_type i.max_vertices vertices_by
   pub primitives : HoldsMost types t.primitives i.primitive_output_type i.max_primitives primitives_by
 
@@ -89,40 +81,32 @@ pub record ImpliesMeshInfo (m : PlainModule) (variable : ℕ) (i : MeshStageInfo
 
 -- ---- what is given
 
--- what is said without its overrides
-abbrev pub without_overrides : MeshStageInfo → MeshStageInfo
-without_overrides i = record i { max_vertices_override = None; max_primitives_override = None }
-
 -- the override that an expression is, if it is one
 abbrev pub override_of : PlainExpression → Option ℕ
-override_of (plain_expression (Override override)) = Some override
-override_of _ = None
-
-abbrev pub override_at : PlainModule → (expression : ℕ) → Option ℕ
-override_at m expression = option_and_then override_of (slice_get m.global_expressions expression)
+override_of e = elim e [ plain_expression (Override override) ↦ Some override | _ ↦ None ]
 
 -- a global expression that says how many, where it is an override, is the one that is implied
 abbrev pub GivenByOverride : PlainModule → (given by : Option ℕ) → Type 0
-GivenByOverride m given by = (e override : ℕ) → given ≡ Some e → override_at m e ≡ Some override → by ≡ Some override
+GivenByOverride m given by = (e o : ℕ) → given ≡ Some e → option_and_then override_of (slice_get m.global_expressions e) ≡ Some o → by ≡ Some o
 
--- what is said of a mesh shader is what its output implies
+-- what is said of a mesh shader is what its output implies, but for the overrides that are said
 pub record IsSaid (m : PlainModule) (i : MeshStageInfo) : Type 0 where
   pub vertices_by : Option ℕ
   pub primitives_by : Option ℕ
-  pub implied : ImpliesMeshInfo m i.output_variable (without_overrides i) vertices_by primitives_by
+  pub implied : ImpliesMeshInfo m i.output_variable (record i { max_vertices_override = None; max_primitives_override = None }) vertices_by primitives_by
   pub vertices : GivenByOverride m i.max_vertices_override vertices_by
   pub primitives : GivenByOverride m i.max_primitives_override primitives_by
 
 -- a mesh shader may give vertices of this type, a struct, and they have a position
 pub record VertexOK (flags : ValidationFlags) (capabilities : Capabilities) (m : PlainModule) (e : PlainEntry) (type : ℕ) : Type 0 where
   pub struct : IsSome (members_at m.types type)
-  pub given : VertexOutputOK flags capabilities m e type
+  pub given : VaryingsOK (context_of flags capabilities m e VertexOutput) (mesh_varyings m.types type)
   pub position : HasBuiltIn (mesh_varyings m.types type) (Position false)
 
 -- it may give primitives of this type, a struct
 pub record PrimitiveOK (flags : ValidationFlags) (capabilities : Capabilities) (m : PlainModule) (e : PlainEntry) (type : ℕ) : Type 0 where
   pub struct : IsSome (members_at m.types type)
-  pub given : PrimitiveOutputOK flags capabilities m e type
+  pub given : VaryingsOK (context_of flags capabilities m e PrimitiveOutput) (mesh_varyings m.types type)
 
 -- Its output is memory of the workgroup, and what is said of it is what the output implies.
 pub record MeshOK (flags : ValidationFlags) (capabilities : Capabilities) (m : PlainModule) (e : PlainEntry) (i : MeshStageInfo) : Type 0 where

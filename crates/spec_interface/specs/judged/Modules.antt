@@ -37,9 +37,3 @@ pub record EntryAtOK (s : Settings) (m : PlainModule) (index : ℕ) : Type 0 whe
 -- all entry points of a module do
 abbrev pub EntriesOK : Settings → PlainModule → Type 0
 EntriesOK s m = (index : ℕ) → index < length m.entries → EntryAtOK s m index
-
--- The entry point at an index is the first that does not.
-pub record IsFirstFailingEntry (s : Settings) (m : PlainModule) (index : ℕ) : Type 0 where
-  pub within : index < length m.entries
-  pub before : (other : ℕ) → other < index → EntryAtOK s m other
-  pub fails : ¬ EntryAtOK s m index

@@ -17,9 +17,7 @@ binding_at m g = option_and_then (λ (v : PlainGlobal). v.binding) (slice_get m.
 
 -- a task shader hands a payload on, and a mesh shader may be handed one
 abbrev pub has_payload : ShaderStage → Bool
-has_payload Mesh = true
-has_payload Task = true
-has_payload _ = false
+has_payload stage = elim stage [ Mesh ↦ true | Task ↦ true | _ ↦ false ]
 
 pub record PayloadOK (m : PlainModule) (e : PlainEntry) : Type 0 where
   pub handed : e.stage ≡ Task → IsSome e.payload

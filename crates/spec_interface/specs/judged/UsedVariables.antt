@@ -1,5 +1,5 @@
 -- When the global variables that an entry point uses are such as it may use, and so as it uses them.
-use Rattle.std.specs.Prelude.{◌≡◌, ◌≤◌, ℕ, Option, Some, IsTrue, slice_get}
+use Rattle.std.specs.Prelude.{◌≡◌, ◌≤◌, ℕ, Some, IsTrue, slice_get}
 use Rattle.std.specs.Int.{bit_at}
 use Rattle.ir_flags.specs.Sets.{Has}
 use Rattle.ir_flags.specs.declared.settings.ValidationFlags.{ValidationFlags}
@@ -8,7 +8,6 @@ use Rattle.ir_items.specs.judged.GlobalPlain.{PlainGlobal}
 use Rattle.ir_items.specs.judged.Plain.{PlainEntry, PlainModule}
 use Rattle.ir_kinds.specs.declared.bindings.ResourceBinding.{ResourceBinding}
 use Rattle.ir_kinds.specs.declared.spaces.AddressSpace.TheVariants.{Immediate, TaskPayload}
-use Rattle.ir_types.specs.judged.Plain.{PlainInner}
 use Rattle.spec_interface.specs.judged.Payloads.{space_at, binding_at}
 use Rattle.spec_interface.specs.judged.Uses.{allowed_uses, is_reached}
 use Rattle.spec_interface.specs.judged.Spaces.{effective_type}
@@ -20,40 +19,20 @@ use Rattle.typing_forms.specs.judged.Resolutions.{inner_at}
 abbrev pub IsUsed : (ℕ → ℕ → Type 0) → (g : ℕ) → Type 0
 IsUsed Uses g = (k : ℕ) × Uses g k
 
--- the fewest bytes that a payload of a task takes
-abbrev pub least_payload : ℕ
-least_payload = 4
-
--- it is the payload of the entry point, of some bytes
+-- it is the payload of the entry point, and takes four bytes at least
 pub record OwnPayloadOK (m : PlainModule) (e : PlainEntry) (g : ℕ) (v : PlainGlobal) : Type 0 where
   pub own : e.payload ≡ Some g
-  pub bytes : least_payload ≤ size (type_tree m.types v.ty)
+  pub bytes : 4 ≤ size (type_tree m.types v.ty)
 
--- what the variable is made of; of a binding array what its elements are made of
-abbrev pub effective_inner : PlainModule → PlainGlobal → Option PlainInner
-effective_inner m v = inner_at m.types (effective_type m.types v.ty)
-
--- these ways to use the variable are allowed
-abbrev pub AllowsUses : PlainModule → PlainEntry → PlainGlobal → (Uses : (k : ℕ) → Type 0) → Type 0
-AllowsUses m e v Uses = (k : ℕ) → Uses k → bit_at (allowed_uses e.stage v.space (effective_inner m v)).0 k ≡ 1
-
--- the entry point may use the variable in these ways
+-- the entry point may use the variable in these ways, by what it is made of; of a binding array by what its elements are made of
 pub record UsedVariableOK (m : PlainModule) (e : PlainEntry) (g : ℕ) (v : PlainGlobal) (Uses : (k : ℕ) → Type 0) : Type 0 where
   pub payload : v.space ≡ TaskPayload → OwnPayloadOK m e g v
   pub reached : IsTrue (is_reached e.stage v.space)
-  pub allowed : AllowsUses m e v Uses
-
-abbrev pub OneImmediate : PlainModule → (ℕ → ℕ → Type 0) → Type 0
-OneImmediate m Uses = (g h : ℕ) → IsUsed Uses g → IsUsed Uses h → space_at m g ≡ Some Immediate → space_at m h ≡ Some Immediate → g ≡ h
-
-abbrev pub BindingsApart : PlainModule → (ℕ → ℕ → Type 0) → Type 0
-BindingsApart m Uses = (g h : ℕ) (b : ResourceBinding) → IsUsed Uses g → IsUsed Uses h → binding_at m g ≡ Some b → binding_at m h ≡ Some b → g ≡ h
-
-abbrev pub EachOK : PlainModule → PlainEntry → (ℕ → ℕ → Type 0) → Type 0
-EachOK m e Uses = (g : ℕ) (v : PlainGlobal) → slice_get m.globals g ≡ Some v → IsUsed Uses g → UsedVariableOK m e g v (Uses g)
+  pub allowed : (k : ℕ) → Uses k → bit_at (allowed_uses e.stage v.space (inner_at m.types (effective_type m.types v.ty))).0 k ≡ 1
 
 -- The entry point may use all that it uses; it uses one immediate at most, and no two variables that a host binds to the same.
 pub record VariablesOK (flags : ValidationFlags) (m : PlainModule) (e : PlainEntry) (Uses : ℕ → ℕ → Type 0) : Type 0 where
-  pub each : EachOK m e Uses
-  pub immediate : OneImmediate m Uses
-  pub bound : Has flags.0 BINDINGS.0 → BindingsApart m Uses
+  pub each : (g : ℕ) (v : PlainGlobal) → slice_get m.globals g ≡ Some v → IsUsed Uses g → UsedVariableOK m e g v (Uses g)
+  pub immediate : (g h : ℕ) → IsUsed Uses g → IsUsed Uses h → space_at m g ≡ Some Immediate → space_at m h ≡ Some Immediate → g ≡ h
+  pub bound : Has flags.0 BINDINGS.0
+      → (g h : ℕ) (b : ResourceBinding) → IsUsed Uses g → IsUsed Uses h → binding_at m g ≡ Some b → binding_at m h ≡ Some b → g ≡ h

@@ -1,5 +1,5 @@
 -- What entry points may do with global variables, by the memory in which these lie.
-use Rattle.std.specs.Prelude.{◌≡◌, ◌==◌, ◌⊎◌, ℕ, List, Bool, true, false, Option, Some, if◌then◌else◌, bit_and, bit_or, option_map}
+use Rattle.std.specs.Prelude.{◌≡◌, ◌==◌, ◌⊎◌, ℕ, Bool, Option, Some, if◌then◌else◌, bit_and, bit_or, option_map}
 use Rattle.std.specs.Int.{bit_at}
 use Rattle.spec_expressions.specs.declared.global_use.GlobalUse.{GlobalUse}
 use Rattle.spec_expressions.specs.declared.global_use.TheConstants.GlobalUse as use_
@@ -12,9 +12,11 @@ use Rattle.ir_kinds.specs.declared.images.ImageClass.TheVariants as class
 use Rattle.ir_kinds.specs.declared.spaces.AddressSpace.{AddressSpace}
 use Rattle.ir_kinds.specs.declared.spaces.AddressSpace.TheVariants as space
 use Rattle.ir_kinds.specs.declared.stages.ShaderStage.{ShaderStage}
-use Rattle.ir_kinds.specs.declared.stages.ShaderStage.TheVariants.{Vertex, Fragment, Compute, Mesh, Task, RayGeneration, AnyHit, ClosestHit, Miss}
+use Rattle.ir_kinds.specs.declared.stages.ShaderStage.TheVariants.{Mesh, Task}
 use Rattle.ir_types.specs.judged.Plain.{PlainInner, plain}
 use Rattle.ir_types.specs.declared.types.TypeInner.TheVariants.{Image}
+use Rattle.spec_interface.specs.judged.Spaces.{space_row}
+use Rattle.spec_interface.specs.judged.Stages.{stage_row}
 
 -- ---- kinds of use
 
@@ -47,22 +49,13 @@ class_uses (class.Storage format access) = access_uses access
 
 -- what is made of this
 abbrev pub handle_uses : Option PlainInner → GlobalUse
-handle_uses (Some (plain (Image dim arrayed class))) = class_uses class
-handle_uses _ = read_uses
+handle_uses o = elim o [ Some (plain (Image dim arrayed class)) ↦ class_uses class | _ ↦ read_uses ]
 
 -- ---- spaces
 
--- a task shader writes the payload that it hands on
+-- the payload of a task, where a stage may have one: a task shader writes what it hands on, and others read it
 abbrev pub payload_uses : ShaderStage → GlobalUse
-payload_uses Task = all_but_atomic
-payload_uses Vertex = read_uses
-payload_uses Fragment = read_uses
-payload_uses Compute = read_uses
-payload_uses Mesh = read_uses
-payload_uses RayGeneration = read_uses
-payload_uses AnyHit = read_uses
-payload_uses ClosestHit = read_uses
-payload_uses Miss = read_uses
+payload_uses stage = elim stage [ Task ↦ all_but_atomic | _ ↦ read_uses ]
 
 -- what a stage may do with a variable in a space, of what is made of this; of a binding array what its elements are made of
 abbrev pub allowed_uses : ShaderStage → AddressSpace → Option PlainInner → GlobalUse
@@ -77,56 +70,15 @@ allowed_uses stage space.TaskPayload i = payload_uses stage
 allowed_uses stage space.RayPayload i = all_but_atomic
 allowed_uses stage space.IncomingRayPayload i = all_but_atomic
 
--- it traces rays with payloads
-abbrev pub traces_rays : ShaderStage → Bool
-traces_rays Vertex = false
-traces_rays Fragment = false
-traces_rays Compute = false
-traces_rays Mesh = false
-traces_rays Task = false
-traces_rays RayGeneration = true
-traces_rays AnyHit = false
-traces_rays ClosestHit = true
-traces_rays Miss = true
-
--- it runs for a ray that has one
-abbrev pub sees_incoming_payload : ShaderStage → Bool
-sees_incoming_payload Vertex = false
-sees_incoming_payload Fragment = false
-sees_incoming_payload Compute = false
-sees_incoming_payload Mesh = false
-sees_incoming_payload Task = false
-sees_incoming_payload RayGeneration = false
-sees_incoming_payload AnyHit = true
-sees_incoming_payload ClosestHit = true
-sees_incoming_payload Miss = true
-
 -- a stage has variables in a space at all
 abbrev pub is_reached : ShaderStage → AddressSpace → Bool
-is_reached stage space.Function = true
-is_reached stage space.Private = true
-is_reached stage space.WorkGroup = true
-is_reached stage space.Uniform = true
-is_reached stage (space.Storage access) = true
-is_reached stage space.Handle = true
-is_reached stage space.Immediate = true
-is_reached stage space.TaskPayload = true
-is_reached stage space.RayPayload = traces_rays stage
-is_reached stage space.IncomingRayPayload = sees_incoming_payload stage
+is_reached stage s = (space_row s).reach (stage_row stage)
 
 -- ---- what an entry point does with the variables that it names beside its function
 
--- its payload
+-- its payload, where its stage may have one
 abbrev pub own_payload_use : ShaderStage → GlobalUse
-own_payload_use Task = record { 0 = bit_or use_.READ.0 use_.WRITE.0 }
-own_payload_use Mesh = use_.READ
-own_payload_use Vertex = no_uses
-own_payload_use Fragment = no_uses
-own_payload_use Compute = no_uses
-own_payload_use RayGeneration = no_uses
-own_payload_use AnyHit = no_uses
-own_payload_use ClosestHit = no_uses
-own_payload_use Miss = no_uses
+own_payload_use stage = elim stage [ Task ↦ record { 0 = bit_or use_.READ.0 use_.WRITE.0 } | Mesh ↦ use_.READ | _ ↦ no_uses ]
 
 -- the variable that holds what a mesh shader gives, which is read
 abbrev pub mesh_output : PlainEntry → Option ℕ

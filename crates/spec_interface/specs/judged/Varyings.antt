@@ -1,24 +1,23 @@
 -- The varyings of an entry point, and what is required of all that go one way.
 use Rattle.std.specs.Prelude.{◌≡◌, ◌<◌, ◌||◌, ◌++◌, ℕ, zero, suc, Bool, false, List, [], ◌∷◌, map, Option, Some, None, is_some, slice_get, if◌then◌else◌}
 use Rattle.ir_flags.specs.Sets.{Has}
-use Rattle.ir_flags.specs.declared.settings.Capabilities.{Capabilities}
-use Rattle.ir_flags.specs.declared.settings.ValidationFlags.{ValidationFlags}
 use Rattle.ir_flags.specs.declared.settings.TheConstants.ValidationFlags.{BINDINGS}
-use Rattle.ir_items.specs.judged.Plain.{PlainArgument, PlainEntry, PlainModule}
+use Rattle.ir_items.specs.judged.Plain.{PlainArgument}
 use Rattle.ir_items.specs.declared.functions.FunctionResult.{FunctionResult}
 use Rattle.ir_kinds.specs.declared.bindings.Binding.{Binding}
 use Rattle.ir_kinds.specs.declared.bindings.Binding.TheVariants as binding
 use Rattle.ir_kinds.specs.declared.bindings.BuiltIn.{BuiltIn}
 use Rattle.ir_kinds.specs.declared.bindings.BuiltIn.TheVariants.{Position, Barycentric}
 use Rattle.ir_kinds.specs.declared.stages.ShaderStage.TheVariants.{Fragment}
-use Rattle.ir_types.specs.judged.Plain.{PlainInner, PlainMember, PlainType, struct, plain}
+use Rattle.ir_types.specs.judged.Plain.{PlainInner, PlainMember, PlainType, struct}
 use Rattle.typing_layout.specs.judged.Flags.{blend_source}
-use Rattle.spec_interface.specs.judged.BuiltIns.{BuiltInOK}
-use Rattle.spec_interface.specs.judged.Contexts.{VaryingContext, context_of}
+use Rattle.spec_interface.specs.judged.BuiltIns.{RowOK}
+use Rattle.spec_interface.specs.judged.BuiltInRows.{built_in_row}
+use Rattle.spec_interface.specs.judged.Contexts.{VaryingContext}
 use Rattle.spec_interface.specs.judged.Locations.{LocationOK}
 use Rattle.spec_interface.specs.declared.varyings.Bound.{Bound}
 use Rattle.spec_interface.specs.declared.varyings.Bound.TheVariants.{BuiltIn as built_in, Location as location, BlendSources, Nothing, NoMember}
-use Rattle.spec_interface.specs.declared.varyings.Direction.TheVariants.{Input, Output, VertexOutput, PrimitiveOutput}
+use Rattle.spec_interface.specs.declared.varyings.Direction.TheVariants.{Output}
 use Rattle.spec_interface.specs.declared.varyings.Varying.{Varying}
 use Rattle.typing_forms.specs.judged.Resolutions.{inner_at}
 
@@ -32,8 +31,7 @@ bound_value type (binding.Location place interpolation sampling source per_primi
 
 -- the member at a place
 abbrev pub bound_member : (place type : ℕ) → Option Binding → Bound
-bound_member place type (Some b) = bound_value type b
-bound_member place type None = NoMember place
+bound_member place type o = elim o [ Some b ↦ bound_value type b | None ↦ NoMember place ]
 
 -- members from a place on
 abbrev pub bound_members : (place : ℕ) → List PlainMember → List Bound
@@ -48,13 +46,11 @@ has_source (m ∷ ms) = is_some (blend_source m.binding) || has_source ms
 -- what denotes a value that is not bound: the members of a struct, each by itself, unless they are the sources of a blend
 abbrev pub unbound : Option PlainInner → List Bound
 unbound (Some (struct members span)) = if has_source members then (BlendSources ∷ []) else (bound_members zero members)
-unbound (Some (plain i)) = Nothing ∷ []
-unbound None = Nothing ∷ []
+unbound _ = Nothing ∷ []
 
 -- what is bound of a value of a type with this binding
 abbrev pub bounds : List PlainType → (type : ℕ) → Option Binding → List Bound
-bounds types type (Some b) = bound_value type b ∷ []
-bounds types type None = unbound (inner_at types type)
+bounds types type o = elim o [ Some b ↦ bound_value type b ∷ [] | None ↦ unbound (inner_at types type) ]
 
 abbrev pub varying : (index : ℕ) → Bound → Varying
 varying index b = record { index = index; bound = b }
@@ -73,8 +69,7 @@ argument_varyings types arguments = argument_varyings_from types zero arguments
 
 -- those of an answer, if there is one
 abbrev pub result_varyings : List PlainType → Option FunctionResult → List Varying
-result_varyings types (Some r) = varyings_of types zero r.ty r.binding
-result_varyings types None = []
+result_varyings types o = elim o [ Some r ↦ varyings_of types zero r.ty r.binding | None ↦ [] ]
 
 -- those of the vertices or the primitives of a mesh, which are of this type
 abbrev pub mesh_varyings : List PlainType → (type : ℕ) → List Varying
@@ -84,9 +79,7 @@ mesh_varyings types type = varyings_of types zero type None
 
 -- the built-in value by its word: what it says besides does not count
 abbrev pub canonical : BuiltIn → BuiltIn
-canonical (Position invariant) = Position false
-canonical (Barycentric perspective) = Barycentric false
-canonical other = other
+canonical b = elim b [ Position invariant ↦ Position false | Barycentric perspective ↦ Barycentric false | other ↦ other ]
 
 abbrev pub built_in_of : Bound → Option BuiltIn
 built_in_of (built_in type b) = Some (canonical b)
@@ -123,7 +116,7 @@ HasBlendSources vs = (place : ℕ) × (v : Varying) × (slice_get vs place ≡ S
 
 -- of each by itself
 abbrev pub BoundOK : VaryingContext → Bound → Type 0
-BoundOK c (built_in type b) = BuiltInOK c type b
+BoundOK c (built_in type b) = RowOK c type (built_in_row b)
 BoundOK c (location type l) = LocationOK c type l
 BoundOK c BlendSources = (c.stage ≡ Fragment) × (c.direction ≡ Output)
 BoundOK c Nothing = ¬ Has c.flags.0 BINDINGS.0
@@ -134,18 +127,3 @@ pub record VaryingsOK (c : VaryingContext) (vs : List Varying) : Type 0 where
   pub each : (place : ℕ) (v : Varying) → slice_get vs place ≡ Some v → BoundOK c v.bound
   pub once : VaryingsApart built_in_of vs
   pub apart : Has c.flags.0 BINDINGS.0 → VaryingsApart location_of vs
-
--- ---- of an entry point
-
-abbrev pub ArgumentVaryingsOK : ValidationFlags → Capabilities → PlainModule → PlainEntry → Type 0
-ArgumentVaryingsOK flags capabilities m e = VaryingsOK (context_of flags capabilities m e Input) (argument_varyings m.types e.function.arguments)
-
-abbrev pub ResultVaryingsOK : ValidationFlags → Capabilities → PlainModule → PlainEntry → Type 0
-ResultVaryingsOK flags capabilities m e = VaryingsOK (context_of flags capabilities m e Output) (result_varyings m.types e.function.result)
-
--- of a mesh shader whose vertices, or whose primitives, are of this type
-abbrev pub VertexOutputOK : ValidationFlags → Capabilities → PlainModule → PlainEntry → (type : ℕ) → Type 0
-VertexOutputOK flags capabilities m e type = VaryingsOK (context_of flags capabilities m e VertexOutput) (mesh_varyings m.types type)
-
-abbrev pub PrimitiveOutputOK : ValidationFlags → Capabilities → PlainModule → PlainEntry → (type : ℕ) → Type 0
-PrimitiveOutputOK flags capabilities m e type = VaryingsOK (context_of flags capabilities m e PrimitiveOutput) (mesh_varyings m.types type)

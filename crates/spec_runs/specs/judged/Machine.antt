@@ -1,5 +1,5 @@
 -- Runs of an entry point of a module, on every list of answers and in every number of steps.
-use Rattle.std.specs.Prelude.{ℕ, zero, suc, ◌+◌, ℤ, pos, Bool, true, false, List, [], ◌∷◌, ◌++◌, map, Option, Some, None, slice_get}
+use Rattle.std.specs.Prelude.{ℕ, zero, suc, ◌+◌, ℤ, pos, Bool, true, false, List, [], ◌∷◌, ◌++◌, map, Option, Some, None, slice_get, unwrap_or}
 use Rattle.std.specs.List.{flat_map}
 use Rattle.std.specs.Ordering.{int_eq}
 use Rattle.spec_expressions.specs.declared.sampling.GlobalOrArgument.{GlobalOrArgument}
@@ -76,15 +76,10 @@ answered (a ∷ more) now go = go a (record now { answers = more })
 
 -- ---- global variables
 
--- what a frame says of an argument; nothing where it has no such argument
-abbrev pub argument_global : Option (Option ℕ) → Option ℕ
-argument_global (Some g) = g
-argument_global None = None
-
--- the global variable that something denotes, where the frame's arguments denote these
+-- the global variable that something denotes, where the frame's arguments denote these; nothing where it has no such argument
 abbrev pub global_meant : List (Option ℕ) → Option GlobalOrArgument → Option ℕ
 global_meant arguments (Some (Global g)) = Some g
-global_meant arguments (Some (Argument n)) = argument_global (slice_get arguments n)
+global_meant arguments (Some (Argument n)) = unwrap_or (slice_get arguments n) None
 global_meant arguments None = None
 
 -- the one that an expression denotes in a frame
@@ -122,8 +117,7 @@ begins u frame p s now =
 
 -- an expression is introduced: it and its operands mention global variables, these operands are used, and it is live from then on
 abbrev pub introduces_one : UsedOperands → Frame → ℕ → Configuration → Configuration
-introduces_one u frame e now =
-    let begun = happen (introduced_expression frame.function e ∷ mentions frame (e ∷ [])) now in
+introduces_one u frame e now = let begun = happen (introduced_expression frame.function e ∷ mentions frame (e ∷ [])) now in
     record (uses frame (introduced_operands u (slice_get frame.function.expressions e)) begun) { live = now.live ++ (e ∷ []) }
 
 -- so are these, one after the other
@@ -200,9 +194,7 @@ unless_none (case value body falls rest) one other = one
 
 -- from the first case on whose value is the answer, else from the default on
 abbrev pub chosen : (answer : ℤ) → (ℕ → Place → Place) → PlainCases → Cases
-chosen a at cases =
-    let one = from_first (λ v. is_value v a) at cases in
-    unless_none one.cases one (from_first is_default at cases)
+chosen a at cases = let one = from_first (λ v. is_value v a) at cases in unless_none one.cases one (from_first is_default at cases)
 
 -- goes on into the next case after a fall through
 abbrev pub fall : (falls : Bool) → Outcome → (Configuration → Outcome) → Outcome
@@ -250,9 +242,7 @@ module _ (u : UsedOperands) (frame : Frame) (go : Evaluation) (l : Loop) (start 
   after_continuing halted now = completes halted now
 
   abbrev pub eval_continuing : Configuration → Outcome
-  eval_continuing now =
-      let r = go (in_block (λ p. l.at (inside loop_continuing p)) l.continuing) now in
-      after_continuing r.completion r.after
+  eval_continuing now = let r = go (in_block (λ p. l.at (inside loop_continuing p)) l.continuing) now in after_continuing r.completion r.after
 
   -- after a continue, what it left out of the body is skipped
   abbrev pub after_body : Completion → Configuration → Outcome
@@ -263,9 +253,7 @@ module _ (u : UsedOperands) (frame : Frame) (go : Evaluation) (l : Loop) (start 
   after_body halted now = completes halted now
 
   abbrev pub eval_turn : Outcome
-  eval_turn =
-      let r = go (in_block (λ p. l.at (inside loop_body p)) l.body) start in
-      leave_scope start (after_body r.completion r.after)
+  eval_turn = let r = go (in_block (λ p. l.at (inside loop_body p)) l.body) start in leave_scope start (after_body r.completion r.after)
 
 -- ---- calls
 
@@ -316,9 +304,7 @@ module _ (u : UsedOperands) (m : PlainModule) where
   -- what a task does first, where `go` does what is inside; each statement and each turn that begins takes a step
   abbrev pub eval_task : (Frame → Evaluation) → Frame → Evaluation
   eval_task go frame (in_block at stop) now = completes normal now
-  eval_task go frame (in_block at (next s rest)) now =
-      step now.steps now (λ begun.
-      let r = eval_statement m go frame at s (begins u frame (at here) s begun) in
+  eval_task go frame (in_block at (next s rest)) now = step now.steps now (λ begun. let r = eval_statement m go frame at s (begins u frame (at here) s begun) in
       sequence (introduced s ++ top_level rest) r.completion r.after (λ end. go frame (in_block (λ p. at (later p)) rest) (introduces u frame (introduced s) end)))
   eval_task go frame (in_loop l) now = step now.steps now (λ begun. eval_turn u frame (go frame) l begun)
 
@@ -346,9 +332,7 @@ initial answers n = record { live = []; skipped = []; last = None; answers = ans
 
 -- what happens as the function is run on these answers, in at most n steps
 abbrev pub trace_of : UsedOperands → PlainModule → PlainFunction → List ℤ → ℕ → List Event
-trace_of u m f answers n =
-    let r = eval u m (suc n) (entry_frame f) (in_block (λ p. p) f.body) (initial answers n) in
-    finish f r.completion r.after
+trace_of u m f answers n = let r = eval u m (suc n) (entry_frame f) (in_block (λ p. p) f.body) (initial answers n) in finish f r.completion r.after
 
 -- the run of an entry point
 abbrev pub trace : UsedOperands → PlainModule → PlainEntry → List ℤ → ℕ → List Event

@@ -1,50 +1,31 @@
 -- Indexes of accesses.
-use Rattle.std.specs.Prelude.{◌<◌, ℕ, ℤ, pos, negsuc, List, Option, Some, None, IfSome, option_and_then}
-use Rattle.ir_types.specs.judged.ExpressionPlain.{PlainExpression, compose, plain}
-use Rattle.ir_types.specs.declared.expressions.Expression.{Expression}
+use Rattle.std.specs.Prelude.{◌<◌, ℕ, ℤ, pos, negsuc, List, Option, Some, None, IfSome, option_and_then, option_map}
+use Rattle.ir_types.specs.judged.ExpressionPlain.{PlainExpression, plain}
 use Rattle.ir_types.specs.declared.expressions.Expression.TheVariants as x
 use Rattle.ir_kinds.specs.judged.Scalars.{component_count}
-use Rattle.ir_kinds.specs.declared.scalars.VectorSize.{VectorSize}
 use Rattle.ir_kinds.specs.declared.values.Literal.{Literal}
 use Rattle.ir_kinds.specs.declared.values.Literal.TheVariants as literal
-use Rattle.ir_types.specs.judged.Plain.{PlainInner, struct, plain as plain_type, PlainType}
+use Rattle.ir_types.specs.judged.Plain.{PlainInner, plain as plain_type, PlainType}
 use Rattle.ir_types.specs.declared.types.ArraySize.{ArraySize}
 use Rattle.ir_types.specs.declared.types.ArraySize.TheVariants as count
 use Rattle.ir_types.specs.declared.types.TypeInner.TheVariants as inner
 use Rattle.typing_forms.specs.declared.form.Form.{Form}
 use Rattle.typing_forms.specs.declared.form.Form.TheVariants as form
 use Rattle.typing_forms.specs.judged.Resolutions.{inner_at}
+use Rattle.typing_forms.specs.judged.Order.{declared_size}
 use Rattle.spec_statements.specs.judged.Shapes.{IsIntegerScalar}
 
 -- ---- how many parts there are, where the module says it
 
 abbrev pub element_count : ArraySize → Option ℕ
-element_count (count.Constant n) = Some n
-element_count (count.Pending override) = None
-element_count count.Dynamic = None
+element_count o = elim o [ count.Constant n ↦ Some n | count.Pending override ↦ None | count.Dynamic ↦ None ]
 
 -- of what a pointer leads to
 abbrev pub pointed_count : Option PlainInner → Option ℕ
-pointed_count None = None
-pointed_count (Some (struct members span)) = None
-pointed_count (Some (plain_type (inner.Scalar s))) = None
 pointed_count (Some (plain_type (inner.Vector n s))) = Some (component_count n)
 pointed_count (Some (plain_type (inner.Matrix columns rows s))) = Some (component_count columns)
-pointed_count (Some (plain_type (inner.CooperativeMatrix columns rows s role))) = None
-pointed_count (Some (plain_type (inner.Atomic s))) = None
-pointed_count (Some (plain_type (inner.Pointer base space))) = None
-pointed_count (Some (plain_type (inner.ValuePointer n s space))) = None
-pointed_count (Some (plain_type (inner.Array base n stride))) = element_count n
-pointed_count (Some (plain_type (inner.Struct members span))) = None
-pointed_count (Some (plain_type (inner.Image dim arrayed class))) = None
-pointed_count (Some (plain_type (inner.Sampler comparison))) = None
-pointed_count (Some (plain_type (inner.AccelerationStructure vertex_return))) = None
-pointed_count (Some (plain_type (inner.RayQuery vertex_return))) = None
-pointed_count (Some (plain_type (inner.BindingArray base n))) = element_count n
-
-abbrev pub row_count : Option VectorSize → Option ℕ
-row_count (Some n) = Some (component_count n)
-row_count None = None
+pointed_count (Some i) = option_and_then element_count (declared_size i)
+pointed_count None = None
 
 -- of a vector, the columns of a matrix, of an array whose length is written, and of what a pointer to one of these leads to
 abbrev pub known_length : List PlainType → Form → Option ℕ
@@ -52,7 +33,7 @@ known_length types (form.Vector n s) = Some (component_count n)
 known_length types (form.Matrix columns rows s) = Some (component_count columns)
 known_length types (form.Array base n stride) = element_count n
 known_length types (form.BindingArray base n) = element_count n
-known_length types (form.ValuePointer n s space) = row_count n
+known_length types (form.ValuePointer n s space) = option_map component_count n
 known_length types (form.Pointer base space) = pointed_count (inner_at types base)
 known_length types (form.Scalar s) = None
 known_length types (form.CooperativeMatrix columns rows s role) = None
@@ -66,14 +47,8 @@ known_length types form.Nothing = None
 
 -- ---- an index that is computed
 
--- the literal that an expression is
-abbrev pub literal_in : Expression → Option Literal
-literal_in (x.Literal value) = Some value
-literal_in _ = None
-
 abbrev pub literal_of : PlainExpression → Option Literal
-literal_of (compose type components) = None
-literal_of (plain expression) = literal_in expression
+literal_of e = elim e [ plain (x.Literal value) ↦ Some value | _ ↦ None ]
 
 -- the index that a literal is: of 32 bits, signed or not
 abbrev pub index_of : Literal → Option ℤ
@@ -92,8 +67,7 @@ index_of (literal.AbstractFloat bits) = None
 
 -- an index of so many parts, if it is known how many there are
 abbrev pub IsIndexOf : (parts : Option ℕ) → ℤ → Type 0
-IsIndexOf parts (pos n) = IfSome parts (λ many. n < many)
-IsIndexOf parts (negsuc n) = ⊥
+IsIndexOf parts z = elim z [ pos n ↦ IfSome parts (λ many. n < many) | negsuc n ↦ ⊥ ]
 
 -- the index is an integer; where it is written, it is that of a part
 pub record AccessOK (types : List PlainType) (base index : Form) (written : Option PlainExpression) : Type 0 where

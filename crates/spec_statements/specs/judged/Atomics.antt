@@ -27,8 +27,7 @@ use Rattle.spec_statements.specs.judged.Stores.{pointer_space}
 
 -- the scalar of an atomic
 abbrev pub atomic_of : Option PlainInner → Option Scalar
-atomic_of (Some (plain_inner (inner.Atomic s))) = Some s
-atomic_of _ = None
+atomic_of o = elim o [ Some (plain_inner (inner.Atomic s)) ↦ Some s | _ ↦ None ]
 
 -- the scalar of the atomic that a pointer leads to
 abbrev pub changed_scalar : List PlainType → (pointer : Form) → Option Scalar
@@ -73,8 +72,7 @@ pub record AtomicAnswer : Type 0 where
   pub comparison : Bool
 
 abbrev pub declared_answer : PlainExpression → Option AtomicAnswer
-declared_answer (plain (x.AtomicResult type comparison)) = Some (record { ty = type; comparison = comparison })
-declared_answer _ = None
+declared_answer e = elim e [ plain (x.AtomicResult type comparison) ↦ Some (record { ty = type; comparison = comparison }) | _ ↦ None ]
 
 -- what was there before, or, where it is compared, that and whether it was replaced
 abbrev pub AtomicAnswerOK : BlockContext → Scalar → (compare : Option ℕ) → AtomicAnswer → Type 0

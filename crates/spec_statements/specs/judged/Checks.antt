@@ -12,13 +12,11 @@ use Rattle.spec_statements.specs.judged.ImageSamples.{ImageSampleOK}
 use Rattle.spec_statements.specs.judged.Literals.{ZeroOK}
 use Rattle.spec_expressions.specs.judged.LiteralScalars.{LiteralOK}
 use Rattle.spec_statements.specs.judged.Loads.{LoadOK, ArrayLengthOK}
-use Rattle.spec_statements.specs.judged.Maths.{MathOK}
 use Rattle.spec_statements.specs.judged.Operators.{UnaryOK, BinaryOK}
 use Rattle.spec_statements.specs.judged.ExpressionRayQueries.{VertexPositionsOK, IntersectionOK}
 use Rattle.spec_statements.specs.judged.ExpressionResults.{AtomicResultTypeOK, UniformLoadOK}
 use Rattle.spec_statements.specs.judged.Scene.{Scene, form_among}
 use Rattle.spec_statements.specs.judged.Selections.{SelectOK, RelationalOK}
-use Rattle.spec_statements.specs.judged.ExpressionSubgroups.{SubgroupOK}
 
 -- a composition is no plain expression, so nothing is said of that row
 abbrev pub CheckOf : Scene → Expression → Type 0
@@ -52,7 +50,7 @@ CheckOf s (x.Binary op left right) = BinaryOK op (form_among s.forms left) (form
 CheckOf s (x.Select condition accept reject) = SelectOK (form_among s.forms condition) (form_among s.forms accept) (form_among s.forms reject)
 CheckOf s (x.Derivative axis ctrl expr) = DerivativeOK (form_among s.forms expr)
 CheckOf s (x.Relational fun argument) = RelationalOK fun (form_among s.forms argument)
-CheckOf s (x.Math fun arg arg1 arg2 arg3) = MathOK
+CheckOf s (x.Math fun arg arg1 arg2 arg3) = Unit {0}
 CheckOf s (x.As expr kind convert) = AsOK s.capabilities kind convert (form_among s.forms expr)
 CheckOf s (x.CallResult function) = Unit {0}
 CheckOf s (x.AtomicResult type comparison) = AtomicResultTypeOK s.capabilities s.types type comparison
@@ -61,7 +59,7 @@ CheckOf s (x.ArrayLength array) = ArrayLengthOK s.types (form_among s.forms arra
 CheckOf s (x.RayQueryVertexPositions query committed) = VertexPositionsOK s.types (form_among s.forms query)
 CheckOf s x.RayQueryProceedResult = Unit {0}
 CheckOf s (x.RayQueryGetIntersection query committed) = IntersectionOK s.types (form_among s.forms query)
-CheckOf s x.SubgroupBallotResult = SubgroupOK
-CheckOf s (x.SubgroupOperationResult type) = SubgroupOK
+CheckOf s x.SubgroupBallotResult = Unit {0}
+CheckOf s (x.SubgroupOperationResult type) = Unit {0}
 CheckOf s (x.CooperativeLoad columns rows role block) = CooperativeLoadOK (form_among s.forms block.stride)
 CheckOf s (x.CooperativeMultiplyAdd a b c) = MultiplyAddOK (form_among s.forms a) (form_among s.forms b) (form_among s.forms c)

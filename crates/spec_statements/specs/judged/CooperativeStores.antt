@@ -10,8 +10,7 @@ use Rattle.spec_statements.specs.judged.Stores.{IsWritable}
 
 -- the scalar of a cooperative matrix
 abbrev pub matrix_scalar : Form → Option Scalar
-matrix_scalar (form.CooperativeMatrix columns rows s role) = Some s
-matrix_scalar _ = None
+matrix_scalar t = elim t [ form.CooperativeMatrix columns rows s role ↦ Some s | _ ↦ None ]
 
 -- A matrix goes where its scalars lie and may be written; the stride is of any type.
 pub record CooperativeStoreOK (c : BlockContext) (target : ℕ) (place : CooperativeData) : Type 0 where

@@ -7,8 +7,7 @@ use Rattle.spec_statements.specs.judged.Shapes.{pointed_in}
 
 -- whether a ray query gives the vertices of a hit
 abbrev pub query_of : Option PlainInner → Option Bool
-query_of (Some (plain (inner.RayQuery vertex_return))) = Some vertex_return
-query_of _ = None
+query_of o = elim o [ Some (plain (inner.RayQuery vertex_return)) ↦ Some vertex_return | _ ↦ None ]
 
 -- a pointer to a ray query that gives them
 abbrev pub VertexPositionsOK : List PlainType → (query : Form) → Type 0

@@ -1,7 +1,7 @@
 -- What statements may answer.
-use Rattle.std.specs.Prelude.{◌≡◌, ℕ, List, [], ◌∷◌, Option, Some, None, Bool, true, false, IsSomeAnd, codes}
+use Rattle.std.specs.Prelude.{◌≡◌, ℕ, List, [], ◌∷◌, Option, Some, Bool, true, false, IsSomeAnd, codes}
 use Rattle.ir_flags.specs.declared.settings.Capabilities.{Capabilities}
-use Rattle.ir_types.specs.judged.Plain.{PlainInner, PlainMember, struct, plain, PlainType}
+use Rattle.ir_types.specs.judged.Plain.{PlainInner, PlainMember, struct, PlainType}
 use Rattle.typing_layout.specs.judged.Flags.{HasFlag, Sized, Constructible}
 use Rattle.typing_layout.specs.judged.Widths.{AtomicOK}
 use Rattle.typing_layout.specs.judged.View.{type_tree}
@@ -22,16 +22,12 @@ pub record AreExchanged (IsOld : Form → Type 0) (types : List PlainType) (old 
   pub exchanged_type : IsMadeOf IsScalarShape IsBool (form_of_type types exchanged.ty)
 
 abbrev pub AreExchangeMembers : (IsOld : Form → Type 0) → List PlainType → List PlainMember → Type 0
-AreExchangeMembers IsOld types [] = ⊥
-AreExchangeMembers IsOld types (old ∷ []) = ⊥
 AreExchangeMembers IsOld types (old ∷ exchanged ∷ []) = AreExchanged IsOld types old exchanged
-AreExchangeMembers IsOld types (old ∷ exchanged ∷ more ∷ rest) = ⊥
+AreExchangeMembers IsOld types _ = ⊥
 
 -- a struct of exactly these members
 abbrev pub IsExchangeOf : (IsOld : Form → Type 0) → List PlainType → Option PlainInner → Type 0
-IsExchangeOf IsOld types (Some (struct members span)) = AreExchangeMembers IsOld types members
-IsExchangeOf IsOld types (Some (plain i)) = ⊥
-IsExchangeOf IsOld types None = ⊥
+IsExchangeOf IsOld types o = elim o [ Some (struct members span) ↦ AreExchangeMembers IsOld types members | _ ↦ ⊥ ]
 
 -- of a scalar that atomics have
 abbrev pub IsExchange : Capabilities → List PlainType → Option PlainInner → Type 0

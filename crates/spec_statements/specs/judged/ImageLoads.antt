@@ -18,10 +18,7 @@ use Rattle.spec_statements.specs.declared.shapes.Picture.{Picture}
 
 -- the number of a texel each way, of any integers; those of cubes have none
 abbrev pub IsFlat : ImageDimension → Type 0
-IsFlat D1 = Unit {0}
-IsFlat D2 = Unit {0}
-IsFlat D3 = Unit {0}
-IsFlat Cube = ⊥
+IsFlat dim = elim dim [ D1 ↦ Unit {0} | D2 ↦ Unit {0} | D3 ↦ Unit {0} | Cube ↦ ⊥ ]
 
 abbrev pub IsTexelCoordinate : ImageDimension → (coordinate : Form) → Type 0
 IsTexelCoordinate dim coordinate = IsFlat dim × IsSomeAnd (shaped_of coordinate) (λ x. IsInteger x.scalar.kind × (coordinate ≡ coordinate_form dim x.scalar))

@@ -8,7 +8,7 @@ use Rattle.ir_kinds.specs.judged.Scalars.{signed, floating}
 use Rattle.ir_kinds.specs.declared.images.ImageClass.{ImageClass}
 use Rattle.ir_kinds.specs.declared.images.ImageClass.TheVariants.{Sampled, Depth, External, Storage}
 use Rattle.ir_kinds.specs.declared.images.ImageDimension.{ImageDimension}
-use Rattle.ir_kinds.specs.declared.images.ImageDimension.TheVariants.{D1, D2, D3, Cube}
+use Rattle.ir_kinds.specs.declared.images.ImageDimension.TheVariants.{D2, Cube}
 use Rattle.ir_kinds.specs.declared.scalars.ScalarKind.TheVariants.{Float}
 use Rattle.ir_kinds.specs.declared.scalars.SwizzleComponent.{SwizzleComponent}
 use Rattle.ir_kinds.specs.declared.scalars.SwizzleComponent.TheVariants.{X}
@@ -35,10 +35,7 @@ IsFiltered (Storage format access) gather = Unit {0}
 
 -- of squares and of cubes
 abbrev pub HasNeighbours : ImageDimension → Type 0
-HasNeighbours D1 = ⊥
-HasNeighbours D2 = Unit {0}
-HasNeighbours D3 = ⊥
-HasNeighbours Cube = Unit {0}
+HasNeighbours dim = elim dim [ D2 ↦ Unit {0} | Cube ↦ Unit {0} | _ ↦ ⊥ ]
 
 -- four texels of the finest level; of depths their one component
 pub record IsGathered (image : Picture) (level : SampleLevel) (letter : SwizzleComponent) : Type 0 where
@@ -66,8 +63,7 @@ IsClamped image = (image.dim ≡ D2) × (image.arrayed ≡ false) × ((multi : B
 
 -- images from outside are always clamped, others where they may be
 abbrev pub ClampOK : Picture → (clamp_to_edge : Bool) → Type 0
-ClampOK image true = (image.class ≡ External) ⊎ IsClamped image
-ClampOK image false = image.class ≢ External
+ClampOK image clamp_to_edge = elim clamp_to_edge [ true ↦ (image.class ≡ External) ⊎ IsClamped image | false ↦ image.class ≢ External ]
 
 -- images from outside are sampled at the finest level as they are
 abbrev pub ExternalOK : ImageClass → (gather : Option SwizzleComponent) → (offset : Option ℕ) → SampleLevel → Type 0

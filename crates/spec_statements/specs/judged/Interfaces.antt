@@ -27,9 +27,7 @@ pub record LocalOK (c : BlockContext) (local : PlainLocal) : Type 0 where
 
 -- functions are given pointers to variables of one invocation alone
 abbrev pub IsGiven : AddressSpace → Type 0
-IsGiven space.Function = Unit {0}
-IsGiven space.Private = Unit {0}
-IsGiven _ = ⊥
+IsGiven s = elim s [ space.Function ↦ Unit {0} | space.Private ↦ Unit {0} | _ ↦ ⊥ ]
 
 -- entry says that the function is an entry point's, which alone has bindings
 pub record ArgumentOK (m : PlainModule) (entry : Bool) (a : PlainArgument) : Type 0 where

@@ -33,9 +33,3 @@ pub record FunctionAtOK (s : Settings) (m : PlainModule) (index : ℕ) : Type 0 
 -- all functions of a module do
 abbrev pub FunctionsOK : Settings → PlainModule → Type 0
 FunctionsOK s m = (index : ℕ) → index < length m.functions → FunctionAtOK s m index
-
--- The function at an index is the first that does not.
-pub record IsFirstFailingFunction (s : Settings) (m : PlainModule) (index : ℕ) : Type 0 where
-  pub within : index < length m.functions
-  pub before : (other : ℕ) → other < index → FunctionAtOK s m other
-  pub fails : ¬ FunctionAtOK s m index

@@ -8,7 +8,7 @@ use Rattle.ir_kinds.specs.declared.operators.UnaryOperator.TheVariants.{Negate, 
 use Rattle.ir_kinds.specs.declared.scalars.ScalarKind.{ScalarKind}
 use Rattle.ir_kinds.specs.declared.scalars.ScalarKind.TheVariants as kind
 use Rattle.typing_forms.specs.declared.form.Form.{Form}
-use Rattle.spec_statements.specs.judged.Shapes.{shaped_of, form_of_shape, AnyShape, IsScalarShape, IsScalarOrVector, IsInteger, IsNumeric, IsBool, IsMadeOf, IsValue}
+use Rattle.spec_statements.specs.judged.Shapes.{shaped_of, form_of_shape, AnyShape, IsScalarShape, IsScalarOrVector, IsInteger, IsNumeric, IsBool, IsMadeOf, AnyKind}
 use Rattle.spec_statements.specs.declared.shapes.Shape.{Shape}
 use Rattle.spec_statements.specs.declared.shapes.Shape.TheVariants as shape
 
@@ -16,9 +16,7 @@ use Rattle.spec_statements.specs.declared.shapes.Shape.TheVariants as shape
 
 -- negative numbers are signed integers and floats
 abbrev pub IsSigned : ScalarKind → Type 0
-IsSigned kind.Sint = Unit {0}
-IsSigned kind.Float = Unit {0}
-IsSigned _ = ⊥
+IsSigned k = elim k [ kind.Sint ↦ Unit {0} | kind.Float ↦ Unit {0} | _ ↦ ⊥ ]
 
 -- the scalars that an operation on one value takes
 abbrev pub TakesKind : UnaryOperator → ScalarKind → Type 0
@@ -36,10 +34,8 @@ UnaryOK op of = IsMadeOf AnyShape (TakesKind op) of
 abbrev pub IsIntegerOrBool : ScalarKind → Type 0
 IsIntegerOrBool kind.Sint = Unit {0}
 IsIntegerOrBool kind.Uint = Unit {0}
-IsIntegerOrBool kind.Float = ⊥
 IsIntegerOrBool kind.Bool = Unit {0}
-IsIntegerOrBool kind.AbstractInt = ⊥
-IsIntegerOrBool kind.AbstractFloat = ⊥
+IsIntegerOrBool _ = ⊥
 
 -- numbers alone and in a row, and any matrix
 abbrev pub IsAdded : Shape → ScalarKind → Type 0
@@ -58,35 +54,19 @@ AreMultiplied shape.One right = Unit {0}
 AreMultiplied (shape.Row n) shape.One = Unit {0}
 AreMultiplied (shape.Row n) (shape.Row m) = n ≡ m
 AreMultiplied (shape.Row n) (shape.Grid columns rows) = n ≡ rows
-AreMultiplied (shape.Row n) (shape.Shared columns rows role) = ⊥
 AreMultiplied (shape.Grid columns rows) shape.One = Unit {0}
 AreMultiplied (shape.Grid columns rows) (shape.Row n) = columns ≡ n
 AreMultiplied (shape.Grid columns rows) (shape.Grid more lines) = columns ≡ lines
-AreMultiplied (shape.Grid columns rows) (shape.Shared more lines role) = ⊥
 AreMultiplied (shape.Shared columns rows role) shape.One = Unit {0}
-AreMultiplied (shape.Shared columns rows role) (shape.Row n) = ⊥
-AreMultiplied (shape.Shared columns rows role) (shape.Grid more lines) = ⊥
-AreMultiplied (shape.Shared columns rows role) (shape.Shared more lines other) = ⊥
+AreMultiplied _ _ = ⊥
 
 -- of one scalar, in shapes that are multiplied
 abbrev pub ProductOK : (left right : Form) → Type 0
 ProductOK left right = IsSomeAnd (shaped_of left) (λ x. IsSomeAnd (shaped_of right) (λ y. (x.scalar ≡ y.scalar) × AreMultiplied x.shape y.shape))
 
--- two of one type: numbers, values, truth values alone, scalars of any shape that are truth values or integers
-abbrev pub NumbersOK : (left right : Form) → Type 0
-NumbersOK left right = (left ≡ right) × IsMadeOf IsScalarOrVector IsNumeric left
-
-abbrev pub ValuesOK : (left right : Form) → Type 0
-ValuesOK left right = (left ≡ right) × IsValue left
-
-abbrev pub TruthsOK : (left right : Form) → Type 0
-TruthsOK left right = (left ≡ right) × IsMadeOf IsScalarShape IsBool left
-
-abbrev pub BitsOK : (left right : Form) → Type 0
-BitsOK left right = (left ≡ right) × IsMadeOf AnyShape IsIntegerOrBool left
-
-abbrev pub IntegersOK : (left right : Form) → Type 0
-IntegersOK left right = (left ≡ right) × IsMadeOf AnyShape IsInteger left
+-- two of one type, made of such scalars in such a shape
+abbrev pub AreAlike : (Shape → Type 0) → (ScalarKind → Type 0) → (left right : Form) → Type 0
+AreAlike In Of left right = (left ≡ right) × IsMadeOf In Of left
 
 -- integers of any shape, shifted by as many 32-bit unsigned ones
 abbrev pub ShiftOK : (left right : Form) → Type 0
@@ -96,18 +76,18 @@ abbrev pub BinaryOK : BinaryOperator → (left right : Form) → Type 0
 BinaryOK Add left right = SumOK left right
 BinaryOK Subtract left right = SumOK left right
 BinaryOK Multiply left right = ProductOK left right
-BinaryOK Divide left right = NumbersOK left right
-BinaryOK Modulo left right = NumbersOK left right
-BinaryOK Equal left right = ValuesOK left right
-BinaryOK NotEqual left right = ValuesOK left right
-BinaryOK Less left right = NumbersOK left right
-BinaryOK LessEqual left right = NumbersOK left right
-BinaryOK Greater left right = NumbersOK left right
-BinaryOK GreaterEqual left right = NumbersOK left right
-BinaryOK And left right = BitsOK left right
-BinaryOK ExclusiveOr left right = IntegersOK left right
-BinaryOK InclusiveOr left right = BitsOK left right
-BinaryOK LogicalAnd left right = TruthsOK left right
-BinaryOK LogicalOr left right = TruthsOK left right
+BinaryOK Divide left right = AreAlike IsScalarOrVector IsNumeric left right
+BinaryOK Modulo left right = AreAlike IsScalarOrVector IsNumeric left right
+BinaryOK Equal left right = AreAlike IsScalarOrVector AnyKind left right
+BinaryOK NotEqual left right = AreAlike IsScalarOrVector AnyKind left right
+BinaryOK Less left right = AreAlike IsScalarOrVector IsNumeric left right
+BinaryOK LessEqual left right = AreAlike IsScalarOrVector IsNumeric left right
+BinaryOK Greater left right = AreAlike IsScalarOrVector IsNumeric left right
+BinaryOK GreaterEqual left right = AreAlike IsScalarOrVector IsNumeric left right
+BinaryOK And left right = AreAlike AnyShape IsIntegerOrBool left right
+BinaryOK ExclusiveOr left right = AreAlike AnyShape IsInteger left right
+BinaryOK InclusiveOr left right = AreAlike AnyShape IsIntegerOrBool left right
+BinaryOK LogicalAnd left right = AreAlike IsScalarShape IsBool left right
+BinaryOK LogicalOr left right = AreAlike IsScalarShape IsBool left right
 BinaryOK ShiftLeft left right = ShiftOK left right
 BinaryOK ShiftRight left right = ShiftOK left right

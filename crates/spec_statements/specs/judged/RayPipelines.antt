@@ -10,9 +10,7 @@ use Rattle.spec_statements.specs.judged.RayQueries.{structure_of, IsRayDescripto
 
 -- the spaces of payloads: of what the shaders on a ray's way are handed
 abbrev pub IsPayloadSpace : AddressSpace → Type 0
-IsPayloadSpace space.RayPayload = Unit {0}
-IsPayloadSpace space.IncomingRayPayload = Unit {0}
-IsPayloadSpace _ = ⊥
+IsPayloadSpace s = elim s [ space.RayPayload ↦ Unit {0} | space.IncomingRayPayload ↦ Unit {0} | _ ↦ ⊥ ]
 
 -- In what a ray is traced, how it is described, and its payload.
 pub record TraceOK (c : BlockContext) (acceleration_structure descriptor payload : ℕ) : Type 0 where

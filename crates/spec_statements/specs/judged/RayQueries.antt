@@ -18,8 +18,7 @@ use Rattle.spec_statements.specs.judged.BlockContext.{BlockContext, form_at}
 
 -- whether an acceleration structure gives the vertices of a hit
 abbrev pub structure_of : Form → Option Bool
-structure_of (form.AccelerationStructure vertex_return) = Some vertex_return
-structure_of _ = None
+structure_of t = elim t [ form.AccelerationStructure vertex_return ↦ Some vertex_return | _ ↦ None ]
 
 -- What describes a ray is made as the module's type of such: a struct of the same members, names of types aside, and anything
 -- else in the same canonical form.
@@ -35,8 +34,7 @@ IsRayDescriptor c descriptor = IsSomeAnd c.m.special.ray_desc (λ declared. IsMa
 
 -- the type of the variable that an expression is
 abbrev pub local_of : PlainExpression → Option ℕ
-local_of (plain (x.LocalVariable local)) = Some local
-local_of _ = None
+local_of e = elim e [ plain (x.LocalVariable local) ↦ Some local | _ ↦ None ]
 
 abbrev pub local_type_at : PlainFunction → ℕ → Option ℕ
 local_type_at f e = option_and_then (λ l. option_map (λ v. v.ty) (slice_get f.locals l)) (option_and_then local_of (slice_get f.expressions e))
@@ -56,5 +54,4 @@ RayStepOK c vertices ray.Terminate = Unit {0}
 
 -- the query is a variable of the function
 abbrev pub RayQueryOK : BlockContext → (query : ℕ) → RayQueryFunction → Type 0
-RayQueryOK c query fun =
-    IsSomeAnd (option_and_then (λ t. query_of (inner_at c.m.types t)) (local_type_at c.f query)) (λ vertices. RayStepOK c vertices fun)
+RayQueryOK c query fun = IsSomeAnd (option_and_then (λ t. query_of (inner_at c.m.types t)) (local_type_at c.f query)) (λ vertices. RayStepOK c vertices fun)

@@ -5,5 +5,4 @@ use Rattle.spec_statements.specs.judged.BlockContext.{BlockContext, form_at}
 
 -- a value exactly where the function answers one, and of its type
 abbrev pub ReturnOK : BlockContext → (value : Option ℕ) → Type 0
-ReturnOK c None = c.f.result ≡ None
-ReturnOK c (Some value) = IsSomeAnd c.f.result (λ r. form_at c value ≡ form_of_type c.m.types r.ty)
+ReturnOK c o = elim o [ None ↦ c.f.result ≡ None | Some value ↦ IsSomeAnd c.f.result (λ r. form_at c value ≡ form_of_type c.m.types r.ty) ]

@@ -8,8 +8,7 @@ use Rattle.spec_statements.specs.judged.Tables.{checked_at, introduced_at}
 
 -- literals, constants, overrides, zero values, arguments and variables are always in scope, and never emitted
 abbrev pub is_pre_emitted : PlainExpression → Bool
-is_pre_emitted (compose type components) = false
-is_pre_emitted (plain expression) = always_in_scope expression
+is_pre_emitted e = elim e [ compose type components ↦ false | plain expression ↦ always_in_scope expression ]
 
 abbrev pub PreEmitted : PlainFunction → ℕ → Type 0
 PreEmitted f e = IsSomeAnd (slice_get f.expressions e) (λ x. is_pre_emitted x ≡ true)

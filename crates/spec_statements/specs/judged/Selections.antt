@@ -10,12 +10,8 @@ use Rattle.spec_statements.specs.declared.shapes.Shape.TheVariants as shape
 -- one truth value for the whole, or one for each of as many components
 abbrev pub ChoosesFrom : (condition value : Shape) → Type 0
 ChoosesFrom shape.One value = Unit {0}
-ChoosesFrom (shape.Row n) shape.One = ⊥
 ChoosesFrom (shape.Row n) (shape.Row m) = n ≡ m
-ChoosesFrom (shape.Row n) (shape.Grid columns rows) = ⊥
-ChoosesFrom (shape.Row n) (shape.Shared columns rows role) = ⊥
-ChoosesFrom (shape.Grid columns rows) value = ⊥
-ChoosesFrom (shape.Shared columns rows role) value = ⊥
+ChoosesFrom _ _ = ⊥
 
 abbrev pub IsCondition : (condition : Form) → (value : Shape) → Type 0
 IsCondition condition value = IsSomeAnd (shaped_of condition) (λ x. IsBool x.scalar.kind × ChoosesFrom x.shape value)

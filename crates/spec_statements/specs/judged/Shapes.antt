@@ -21,17 +21,13 @@ abbrev pub AnyKind : ScalarKind → Type 0
 AnyKind k = Unit {0}
 
 abbrev pub IsInteger : ScalarKind → Type 0
-IsInteger kind.Sint = Unit {0}
-IsInteger kind.Uint = Unit {0}
-IsInteger _ = ⊥
+IsInteger k = elim k [ kind.Sint ↦ Unit {0} | kind.Uint ↦ Unit {0} | _ ↦ ⊥ ]
 
 abbrev pub IsFloating : ScalarKind → Type 0
-IsFloating kind.Float = Unit {0}
-IsFloating _ = ⊥
+IsFloating k = elim k [ kind.Float ↦ Unit {0} | _ ↦ ⊥ ]
 
 abbrev pub IsBool : ScalarKind → Type 0
-IsBool kind.Bool = Unit {0}
-IsBool _ = ⊥
+IsBool k = elim k [ kind.Bool ↦ Unit {0} | _ ↦ ⊥ ]
 
 -- numbers are all but truth values
 abbrev pub IsNumeric : ScalarKind → Type 0
@@ -45,19 +41,14 @@ IsNumeric kind.AbstractFloat = Unit {0}
 -- ---- shapes
 
 abbrev pub IsScalarShape : Shape → Type 0
-IsScalarShape shape.One = Unit {0}
-IsScalarShape _ = ⊥
+IsScalarShape s = elim s [ shape.One ↦ Unit {0} | _ ↦ ⊥ ]
 
 abbrev pub IsVectorShape : Shape → Type 0
-IsVectorShape (shape.Row n) = Unit {0}
-IsVectorShape _ = ⊥
+IsVectorShape s = elim s [ shape.Row n ↦ Unit {0} | _ ↦ ⊥ ]
 
 -- that of a value: one scalar, or a vector
 abbrev pub IsScalarOrVector : Shape → Type 0
-IsScalarOrVector shape.One = Unit {0}
-IsScalarOrVector (shape.Row n) = Unit {0}
-IsScalarOrVector (shape.Grid columns rows) = ⊥
-IsScalarOrVector (shape.Shared columns rows role) = ⊥
+IsScalarOrVector s = elim s [ shape.One ↦ Unit {0} | shape.Row n ↦ Unit {0} | _ ↦ ⊥ ]
 
 -- ---- what is made of scalars
 
@@ -82,36 +73,20 @@ IsMadeOf In Of t = IsSomeAnd (shaped_of t) (λ x. In x.shape × Of x.scalar.kind
 abbrev pub AnyShape : Shape → Type 0
 AnyShape x = Unit {0}
 
--- a scalar or a vector
-abbrev pub IsValue : Form → Type 0
-IsValue = IsMadeOf IsScalarOrVector AnyKind
-
 abbrev pub IsIntegerScalar : Form → Type 0
 IsIntegerScalar = IsMadeOf IsScalarShape IsInteger
 
 -- ---- images, and what a pointer leads to
 
 abbrev pub picture_of : Form → Option Picture
-picture_of (form.Image dim arrayed class) = Some (record { dim = dim; arrayed = arrayed; class = class })
-picture_of _ = None
+picture_of t = elim t [ form.Image dim arrayed class ↦ Some (record { dim = dim; arrayed = arrayed; class = class }) | _ ↦ None ]
 
 -- whether a sampler compares
 abbrev pub sampler_of : Form → Option Bool
-sampler_of (form.Sampler comparison) = Some comparison
-sampler_of _ = None
-
--- the type that a pointer leads to, where that is neither a scalar nor a vector
-abbrev pub pointee_of : Form → Option ℕ
-pointee_of (form.Pointer base space) = Some base
-pointee_of _ = None
-
--- what it is made of
-abbrev pub pointed_inner : List PlainType → Option ℕ → Option PlainInner
-pointed_inner types (Some base) = inner_at types base
-pointed_inner types None = None
+sampler_of t = elim t [ form.Sampler comparison ↦ Some comparison | _ ↦ None ]
 
 abbrev pub pointed_in : List PlainType → Form → Option PlainInner
-pointed_in types t = pointed_inner types (pointee_of t)
+pointed_in types t = elim t [ form.Pointer base space ↦ inner_at types base | _ ↦ None ]
 
 -- ---- places in images
 

@@ -29,24 +29,20 @@ use Rattle.spec_statements.specs.judged.Variables.{variable_at, accessed_at}
 
 -- the type of the resources of an array of such
 abbrev pub resource_of : Form → Option ℕ
-resource_of (form.BindingArray base size) = Some base
-resource_of _ = None
+resource_of t = elim t [ form.BindingArray base size ↦ Some base | _ ↦ None ]
 
 -- texels are written in a global variable that is an image, or in one of an array of images
 abbrev pub written_image : PlainModule → PlainFunction → (image : ℕ) → Option Picture
-written_image m f image = option_or
-    (option_and_then (λ g. picture_of (form_of_type m.types g.ty)) (variable_at m f image))
+written_image m f image = option_or (option_and_then (λ g. picture_of (form_of_type m.types g.ty)) (variable_at m f image))
     (option_and_then (λ g. option_and_then (λ r. picture_of (form_of_type m.types r)) (resource_of (form_of_type m.types g.ty))) (accessed_at m f image))
 
 -- an array of images counts as one of them
 abbrev pub picture_in : List PlainType → Form → Option ℕ → Option Picture
-picture_in types t (Some resource) = picture_of (form_of_type types resource)
-picture_in types t None = picture_of t
+picture_in types t o = elim o [ Some resource ↦ picture_of (form_of_type types resource) | None ↦ picture_of t ]
 
 -- texels are changed atomically in a global variable, or in an element of one, which are images or arrays of them
 abbrev pub changed_image : PlainModule → PlainFunction → (image : ℕ) → Option Picture
-changed_image m f image =
-    option_and_then (λ g. picture_in m.types (form_of_type m.types g.ty) (resource_of (form_of_type m.types g.ty)))
+changed_image m f image = option_and_then (λ g. picture_in m.types (form_of_type m.types g.ty) (resource_of (form_of_type m.types g.ty)))
     (option_or (variable_at m f image) (accessed_at m f image))
 
 -- ---- the texel
@@ -58,10 +54,7 @@ pub record IsTexelOf (c : BlockContext) (image : Picture) (coordinate : ℕ) (ar
 
 -- a value of the image's format
 abbrev pub IsWritten : ImageClass → (value : Form) → Type 0
-IsWritten (class.Sampled kind multi) value = ⊥
-IsWritten (class.Depth multi) value = ⊥
-IsWritten class.External value = ⊥
-IsWritten (class.Storage format access) value = value ≡ form.Vector Quad (format_scalar format)
+IsWritten o value = elim o [ class.Storage format access ↦ value ≡ form.Vector Quad (format_scalar format) | _ ↦ ⊥ ]
 
 abbrev pub ImageStoreOK : BlockContext → (image coordinate : ℕ) → (array_index : Option ℕ) → (value : ℕ) → Type 0
 ImageStoreOK c image coordinate array_index value =
@@ -70,20 +63,17 @@ ImageStoreOK c image coordinate array_index value =
 -- ---- what is done with it
 
 abbrev pub IsMinOrMax : AtomicFunction → Type 0
-IsMinOrMax fun.Min = Unit {0}
-IsMinOrMax fun.Max = Unit {0}
-IsMinOrMax _ = ⊥
+IsMinOrMax done = elim done [ fun.Min ↦ Unit {0} | fun.Max ↦ Unit {0} | _ ↦ ⊥ ]
 
 -- all but subtractions and exchanges
 abbrev pub IsDoneAtTexels : AtomicFunction → Type 0
 IsDoneAtTexels fun.Add = Unit {0}
-IsDoneAtTexels fun.Subtract = ⊥
 IsDoneAtTexels fun.And = Unit {0}
 IsDoneAtTexels fun.ExclusiveOr = Unit {0}
 IsDoneAtTexels fun.InclusiveOr = Unit {0}
 IsDoneAtTexels fun.Min = Unit {0}
 IsDoneAtTexels fun.Max = Unit {0}
-IsDoneAtTexels (fun.Exchange compare) = ⊥
+IsDoneAtTexels _ = ⊥
 
 -- What the texels of a format are changed by, with the capability that it needs.
 pub data FormatAllows (capabilities : Capabilities) (done : AtomicFunction) : StorageFormat → Type 0 where
@@ -98,12 +88,8 @@ pub record IsChangedBy (capabilities : Capabilities) (format : StorageFormat) (a
   pub fits : value ≡ form.Scalar (format_scalar format)
 
 abbrev pub IsChanged : Capabilities → ImageClass → AtomicFunction → (value : Form) → Type 0
-IsChanged capabilities (class.Sampled kind multi) done value = ⊥
-IsChanged capabilities (class.Depth multi) done value = ⊥
-IsChanged capabilities class.External done value = ⊥
-IsChanged capabilities (class.Storage format access) done value = IsChangedBy capabilities format access done value
+IsChanged capabilities o done value = elim o [ class.Storage format access ↦ IsChangedBy capabilities format access done value | _ ↦ ⊥ ]
 
 abbrev pub ImageAtomicOK : BlockContext → (image coordinate : ℕ) → (array_index : Option ℕ) → AtomicFunction → (value : ℕ) → Type 0
-ImageAtomicOK c image coordinate array_index done value =
-    IsSomeAnd (changed_image c.m c.f image)
+ImageAtomicOK c image coordinate array_index done value = IsSomeAnd (changed_image c.m c.f image)
     (λ picture. IsTexelOf c picture coordinate array_index × IsChanged c.capabilities picture.class done (form_at c value))

@@ -1,7 +1,6 @@
 -- Values that are stored.
 use Rattle.std.specs.Prelude.{◌≡◌, ℕ, List, Option, Some, None, IsSomeAnd, option_and_then, slice_get}
-use Rattle.ir_types.specs.judged.ExpressionPlain.{PlainExpression, compose, plain}
-use Rattle.ir_types.specs.declared.expressions.Expression.{Expression}
+use Rattle.ir_types.specs.judged.ExpressionPlain.{PlainExpression, plain}
 use Rattle.ir_types.specs.declared.expressions.Expression.TheVariants as x
 use Rattle.ir_flags.specs.Sets.{Has}
 use Rattle.ir_flags.specs.declared.memory.TheConstants.StorageAccess.{STORE}
@@ -27,28 +26,18 @@ pub data BeginsAt (expressions : List PlainExpression) : ℕ → ℕ → Type 0 
   through : {e base start : ℕ} → base_at expressions e ≡ Some base → BeginsAt expressions base start → BeginsAt expressions e start
 
 -- variables and arguments
-abbrev pub IsVariable : Expression → Type 0
-IsVariable (x.FunctionArgument number) = Unit {0}
-IsVariable (x.GlobalVariable variable) = Unit {0}
-IsVariable (x.LocalVariable variable) = Unit {0}
-IsVariable _ = ⊥
-
 abbrev pub IsVariableOf : PlainExpression → Type 0
-IsVariableOf (compose type components) = ⊥
-IsVariableOf (plain expression) = IsVariable expression
+IsVariableOf (plain (x.FunctionArgument number)) = Unit {0}
+IsVariableOf (plain (x.GlobalVariable variable)) = Unit {0}
+IsVariableOf (plain (x.LocalVariable variable)) = Unit {0}
+IsVariableOf _ = ⊥
 
 abbrev pub IsVariableAt : List PlainExpression → ℕ → Type 0
 IsVariableAt expressions e = IsSomeAnd (slice_get expressions e) IsVariableOf
 
--- a variable, an argument, or a chain of accesses on one
-abbrev pub IsPlaceOfVariable : List PlainExpression → ℕ → Type 0
-IsPlaceOfVariable expressions e = (start : ℕ) × BeginsAt expressions e start × IsVariableAt expressions start
-
 -- the space that a pointer points into
 abbrev pub pointer_space : Form → Option AddressSpace
-pointer_space (form.Pointer base space) = Some space
-pointer_space (form.ValuePointer n s space) = Some space
-pointer_space _ = None
+pointer_space t = elim t [ form.Pointer base space ↦ Some space | form.ValuePointer n s space ↦ Some space | _ ↦ None ]
 
 -- it is a pointer to what may be written
 abbrev pub IsWritable : (pointer : Form) → Type 0
@@ -82,7 +71,7 @@ FitsAt types _ value = ⊥
 
 -- What may be stored, where it fits and may be written.
 pub record StoreOK (c : BlockContext) (pointer value : ℕ) : Type 0 where
-  pub place : IsPlaceOfVariable c.f.expressions pointer
+  pub place : (start : ℕ) × BeginsAt c.f.expressions pointer start × IsVariableAt c.f.expressions start
   pub storable : IsStorable (form_at c value)
   pub fits : FitsAt c.m.types (form_at c pointer) (form_at c value)
   pub writable : IsWritable (form_at c pointer)

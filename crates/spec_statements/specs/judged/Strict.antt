@@ -1,5 +1,5 @@
 -- Strict scope, a check of this library's own: every operand is in scope where it is used, and what a continue may skip doesn't count.
-use Rattle.std.specs.Prelude.{◌≡◌, ◌⊎◌, ◌<◌, ◌≤◌, ℕ, true, List, [], ◌∷◌, Some, Contains, slice_get}
+use Rattle.std.specs.Prelude.{◌≡◌, ◌⊎◌, ◌<◌, ◌≤◌, ℕ, true, List, ◌∷◌, Some, Contains, slice_get, []}
 use Rattle.ir_blocks.specs.judged.Places.{Place, here, later, inside, condition, IsTop, Before, Spot, nothing, statement, loop_condition, spot_at, OccursAt}
 use Rattle.ir_blocks.specs.judged.Plain.{PlainStatement, emit, continue, operation, PlainBlock, ray_query, ballot}
 use Rattle.ir_blocks.specs.judged.Shapes.{Part, inner, accepting, rejecting, case_at, loop_body, loop_continuing}
@@ -8,7 +8,8 @@ use Rattle.ir_types.specs.judged.ExpressionPlain.{PlainExpression, plain}
 use Rattle.ir_types.specs.declared.expressions.Expression.TheVariants.{RayQueryProceedResult, SubgroupBallotResult}
 use Rattle.ir_items.specs.judged.Plain.{PlainFunction}
 use Rattle.spec_expressions.specs.judged.ExpressionNames.{expression_operands}
-use Rattle.spec_expressions.specs.judged.Operands.{given, statement_slots, looked_up}
+use Rattle.spec_expressions.specs.judged.Operands.{given, looked_up}
+use Rattle.spec_expressions.specs.judged.Kinds.{statement_slots}
 use Rattle.spec_statements.specs.judged.Scope.{PreEmitted, Introduces}
 
 -- ---- what a continue may skip
@@ -21,9 +22,7 @@ InNoLoop (inside inner p) = InNoLoop p
 InNoLoop (inside accepting p) = InNoLoop p
 InNoLoop (inside rejecting p) = InNoLoop p
 InNoLoop (inside (case_at k) p) = InNoLoop p
-InNoLoop (inside loop_body p) = ⊥
-InNoLoop (inside loop_continuing p) = ⊥
-InNoLoop condition = ⊥
+InNoLoop _ = ⊥
 
 -- q stands at the top level of a block, and a statement before it there is the one at c, or holds it in no loop
 pub data IsPast : (c q : Place) → Type 0 where
@@ -53,9 +52,7 @@ abbrev pub statement_needed : PlainStatement → List ℕ
 statement_needed s = looked_up true (statement_slots s)
 
 abbrev pub needed_at : Spot → List ℕ
-needed_at nothing = []
-needed_at (statement s) = statement_needed s
-needed_at (loop_condition break_if) = given (break_if ∷ [])
+needed_at spot = elim spot [ nothing ↦ [] | statement s ↦ statement_needed s | loop_condition break_if ↦ given (break_if ∷ []) ]
 
 -- what stands at the place uses the expression, whether or not it has to be in scope without the check
 abbrev pub Needs : PlainBlock → Place → ℕ → Type 0
@@ -66,8 +63,7 @@ Needs b p e = Contains (needed_at (spot_at p b)) e
 pub record StrictOK (f : PlainFunction) : Type 0 where
   pub used : (p : Place) (o : ℕ) → Needs f.body p o → InStrictScope f p o
   pub emitted : (p : Place) (first end : ℕ) → OccursAt f.body p (emit first end) → (e : ℕ) → first ≤ e → e < end → (x : PlainExpression)
-      → slice_get f.expressions e ≡ Some x
-      → (o : ℕ) → Contains (expression_operands x) o → ((first ≤ o) × (o < e)) ⊎ InStrictScope f p o
+      → slice_get f.expressions e ≡ Some x → (o : ℕ) → Contains (expression_operands x) o → ((first ≤ o) × (o < e)) ⊎ InStrictScope f p o
   pub proceeds : (p : Place) (query result : ℕ) → OccursAt f.body p (operation (ray_query query (Proceed result)))
       → slice_get f.expressions result ≡ Some (plain RayQueryProceedResult)
   pub ballots : (p : Place) (result : ℕ) (predicate : _) → OccursAt f.body p (operation (ballot result predicate))

@@ -1,13 +1,12 @@
 -- Operations of subgroups.
 use Rattle.std.specs.Prelude.{◌≡◌, ◌≤◌, ℕ, Option, Some, None, IfSome, IsSomeAnd, option_and_then, slice_get}
 use Rattle.ir_blocks.specs.declared.operations.GatherMode.{GatherMode}
-use Rattle.ir_blocks.specs.declared.operations.GatherMode.TheVariants as mode
 use Rattle.ir_types.specs.judged.ExpressionPlain.{PlainExpression, plain}
 use Rattle.ir_types.specs.declared.expressions.Expression.TheVariants as x
 use Rattle.ir_flags.specs.Sets.{Has}
 use Rattle.ir_flags.specs.declared.settings.TheConstants.Capabilities.{SUBGROUP}
 use Rattle.ir_flags.specs.declared.stages.SubgroupOperationSet.{SubgroupOperationSet}
-use Rattle.ir_flags.specs.declared.stages.TheConstants.SubgroupOperationSet.{VOTE, ARITHMETIC, BALLOT, SHUFFLE, SHUFFLE_RELATIVE, QUAD}
+use Rattle.ir_flags.specs.declared.stages.TheConstants.SubgroupOperationSet.{VOTE, ARITHMETIC, BALLOT}
 use Rattle.ir_kinds.specs.judged.Scalars.{boolean, unsigned}
 use Rattle.ir_kinds.specs.declared.scalars.Scalar.{Scalar}
 use Rattle.ir_kinds.specs.declared.scalars.ScalarKind.{ScalarKind}
@@ -22,7 +21,7 @@ use Rattle.typing_layout.specs.judged.Constness.{IsOfKind}
 use Rattle.typing_layout.specs.declared.constness.ExpressionKind.TheVariants.{Const}
 use Rattle.spec_statements.specs.judged.Shapes.{IsScalarShape, IsInteger, IsScalarOrVector, IsBool, IsMadeOf, shaped_of}
 use Rattle.spec_statements.specs.declared.shapes.Shape.{Shape}
-use Rattle.spec_expressions.specs.judged.Operands.{gather_index}
+use Rattle.spec_expressions.specs.judged.Operands.{gather_index, gather_row}
 use Rattle.spec_statements.specs.judged.BlockContext.{BlockContext, form_at}
 
 -- ---- what is needed
@@ -39,14 +38,7 @@ collective_needs op.Or = ARITHMETIC
 collective_needs op.Xor = ARITHMETIC
 
 abbrev pub gather_needs : GatherMode → SubgroupOperationSet
-gather_needs mode.BroadcastFirst = BALLOT
-gather_needs (mode.Broadcast index) = BALLOT
-gather_needs (mode.Shuffle index) = SHUFFLE
-gather_needs (mode.ShuffleDown index) = SHUFFLE_RELATIVE
-gather_needs (mode.ShuffleUp index) = SHUFFLE_RELATIVE
-gather_needs (mode.ShuffleXor index) = SHUFFLE
-gather_needs (mode.QuadBroadcast index) = QUAD
-gather_needs (mode.QuadSwap direction) = QUAD
+gather_needs how = (gather_row how).needs
 
 -- The module may use subgroups, and the operation.
 pub record HasOperation (c : BlockContext) (needed : SubgroupOperationSet) : Type 0 where
@@ -57,13 +49,11 @@ pub record HasOperation (c : BlockContext) (needed : SubgroupOperationSet) : Typ
 
 -- the type that a `SubgroupOperationResult` declares
 abbrev pub answered_type : PlainExpression → Option ℕ
-answered_type (plain (x.SubgroupOperationResult type)) = Some type
-answered_type _ = None
+answered_type e = elim e [ plain (x.SubgroupOperationResult type) ↦ Some type | _ ↦ None ]
 
 -- the answer is of the argument's type
 abbrev pub AnswersAs : BlockContext → (argument result : ℕ) → Type 0
-AnswersAs c argument result =
-    IsSomeAnd (option_and_then answered_type (slice_get c.f.expressions result)) (λ t. form_of_type c.m.types t ≡ form_at c argument)
+AnswersAs c argument result = IsSomeAnd (option_and_then answered_type (slice_get c.f.expressions result)) (λ t. form_of_type c.m.types t ≡ form_at c argument)
 
 -- ---- ballots
 
@@ -79,9 +69,7 @@ abbrev pub IsSubgroupNumber : ScalarKind → Type 0
 IsSubgroupNumber kind.Sint = Unit {0}
 IsSubgroupNumber kind.Uint = Unit {0}
 IsSubgroupNumber kind.Float = Unit {0}
-IsSubgroupNumber kind.Bool = ⊥
-IsSubgroupNumber kind.AbstractInt = ⊥
-IsSubgroupNumber kind.AbstractFloat = ⊥
+IsSubgroupNumber _ = ⊥
 
 -- truth values are required one by one; bits are of integers of four bytes up
 abbrev pub TakesShape : SubgroupOperation → Shape → Scalar → Type 0
@@ -96,15 +84,11 @@ TakesShape op.Or shape s = IsScalarOrVector shape × IsInteger s.kind × (4 ≤ 
 TakesShape op.Xor shape s = IsScalarOrVector shape × IsInteger s.kind × (4 ≤ s.width)
 
 abbrev pub IsScanned : SubgroupOperation → Type 0
-IsScanned op.Add = Unit {0}
-IsScanned op.Mul = Unit {0}
-IsScanned _ = ⊥
+IsScanned o = elim o [ op.Add ↦ Unit {0} | op.Mul ↦ Unit {0} | _ ↦ ⊥ ]
 
 -- reductions are of all operations, scans of sums and products
 abbrev pub GoesOver : CollectiveOperation → SubgroupOperation → Type 0
-GoesOver over.Reduce operation = Unit {0}
-GoesOver over.InclusiveScan operation = IsScanned operation
-GoesOver over.ExclusiveScan operation = IsScanned operation
+GoesOver how operation = elim how [ over.Reduce ↦ Unit {0} | over.InclusiveScan ↦ IsScanned operation | over.ExclusiveScan ↦ IsScanned operation ]
 
 pub record CollectiveOK (c : BlockContext) (done : SubgroupOperation) (over_all : CollectiveOperation) (argument result : ℕ) : Type 0 where
   pub operation : HasOperation c (collective_needs done)
@@ -116,14 +100,7 @@ pub record CollectiveOK (c : BlockContext) (done : SubgroupOperation) (over_all 
 
 -- the index is known as the module is written
 abbrev pub IndexIsKnown : BlockContext → GatherMode → Type 0
-IndexIsKnown c mode.BroadcastFirst = Unit {0}
-IndexIsKnown c (mode.Broadcast index) = IsOfKind c.f.expressions index Const
-IndexIsKnown c (mode.Shuffle index) = Unit {0}
-IndexIsKnown c (mode.ShuffleDown index) = Unit {0}
-IndexIsKnown c (mode.ShuffleUp index) = Unit {0}
-IndexIsKnown c (mode.ShuffleXor index) = Unit {0}
-IndexIsKnown c (mode.QuadBroadcast index) = IsOfKind c.f.expressions index Const
-IndexIsKnown c (mode.QuadSwap direction) = Unit {0}
+IndexIsKnown c how = IfSome (gather_row how).constant (λ index. IsOfKind c.f.expressions index Const)
 
 pub record GatherOK (c : BlockContext) (how : GatherMode) (argument result : ℕ) : Type 0 where
   pub operation : HasOperation c (gather_needs how)

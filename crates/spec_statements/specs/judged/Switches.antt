@@ -15,9 +15,7 @@ case_values (case value body falls rest) = value ∷ case_values rest
 
 -- the value is of the selector's kind
 abbrev pub FitsKind : ScalarKind → SwitchValue → Type 0
-FitsKind kind (I32 z) = kind ≡ Sint
-FitsKind kind (U32 n) = kind ≡ Uint
-FitsKind kind Default = Unit {0}
+FitsKind kind v = elim v [ I32 z ↦ kind ≡ Sint | U32 n ↦ kind ≡ Uint | Default ↦ Unit {0} ]
 
 -- whether the last of these cases falls through, or what is given where there is none
 abbrev pub falls_at_end : Bool → PlainCases → Bool

@@ -1,10 +1,11 @@
 -- What a statement uses that has to be in scope, and what it brings into scope.
-use Rattle.std.specs.Prelude.{ℕ, false, List, [], ◌∷◌, Some, option_to_list}
+use Rattle.std.specs.Prelude.{ℕ, false, List, ◌∷◌, Some, option_to_list, Option, None, []}
 use Rattle.ir_arena.specs.judged.Handles.{handles_between}
 use Rattle.ir_blocks.specs.judged.Places.{Spot, nothing, statement, loop_condition}
-use Rattle.ir_blocks.specs.judged.Plain.{PlainStatement, emit, block, if_, switch, loop, break, continue, return, kill, operation, call}
-use Rattle.spec_expressions.specs.judged.Operands.{given, statement_slots, looked_up}
-use Rattle.spec_expressions.specs.judged.StatementNames.{operation_result}
+use Rattle.ir_blocks.specs.judged.Plain.{PlainStatement}
+use Rattle.spec_expressions.specs.judged.StatementNames.{statement_range, statement_result}
+use Rattle.spec_expressions.specs.judged.Operands.{given, looked_up}
+use Rattle.spec_expressions.specs.judged.Kinds.{statement_slots, Emitted}
 
 -- ---- what has to be in scope
 
@@ -13,27 +14,16 @@ abbrev pub statement_checked : PlainStatement → List ℕ
 statement_checked s = looked_up false (statement_slots s)
 
 abbrev pub checked_at : Spot → List ℕ
-checked_at nothing = []
-checked_at (statement s) = statement_checked s
-checked_at (loop_condition break_if) = given (break_if ∷ [])
+checked_at spot = elim spot [ nothing ↦ [] | statement s ↦ statement_checked s | loop_condition break_if ↦ given (break_if ∷ []) ]
 
 -- ---- what comes into scope
 
+abbrev pub introduced_by : Option Emitted → (result : Option ℕ) → List ℕ
+introduced_by o result = elim o [ Some range ↦ handles_between (range.first, range.end) | None ↦ option_to_list result ]
+
 -- what is emitted, and what denotes an answer
 abbrev pub introduced : PlainStatement → List ℕ
-introduced (emit first end) = handles_between (first, end)
-introduced (block b) = []
-introduced (if_ condition accept reject) = []
-introduced (switch selector cases) = []
-introduced (loop body continuing break_if) = []
-introduced break = []
-introduced continue = []
-introduced (return value) = []
-introduced kill = []
-introduced (operation a) = option_to_list (operation_result a)
-introduced (call function arguments result) = option_to_list result
+introduced s = introduced_by (statement_range s) (statement_result s)
 
 abbrev pub introduced_at : Spot → List ℕ
-introduced_at nothing = []
-introduced_at (statement s) = introduced s
-introduced_at (loop_condition break_if) = []
+introduced_at spot = elim spot [ nothing ↦ [] | statement s ↦ introduced s | loop_condition break_if ↦ [] ]

@@ -14,8 +14,7 @@ use Rattle.spec_statements.specs.judged.Stores.{pointer_space}
 
 -- the type that a `WorkGroupUniformLoadResult` declares
 abbrev pub loaded_type : PlainExpression → Option ℕ
-loaded_type (plain (x.WorkGroupUniformLoadResult type)) = Some type
-loaded_type _ = None
+loaded_type e = elim e [ plain (x.WorkGroupUniformLoadResult type) ↦ Some type | _ ↦ None ]
 
 -- a pointer to what is answered, or to an atomic of it
 abbrev pub LeadsTo : List PlainType → (pointer : Form) → (type : ℕ) → Type 0

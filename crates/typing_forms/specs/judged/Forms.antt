@@ -15,8 +15,7 @@ pointing base space _ = form.Pointer base space
 
 -- a struct is its handle
 abbrev pub struct_at : Option ℕ → Form
-struct_at (Some handle) = form.Struct handle
-struct_at None = form.Nothing
+struct_at o = elim o [ Some handle ↦ form.Struct handle | None ↦ form.Nothing ]
 
 -- the form of what is made of this, and has the handle, if it has one
 abbrev pub form_in : List PlainType → Option ℕ → PlainInner → Form
@@ -38,16 +37,14 @@ form_in types handle (plain (inner.BindingArray base size)) = form.BindingArray 
 
 -- the form of the type at a handle
 abbrev pub form_found : List PlainType → ℕ → Option PlainInner → Form
-form_found types handle (Some i) = form_in types (Some handle) i
-form_found types handle None = form.Nothing
+form_found types handle o = elim o [ Some i ↦ form_in types (Some handle) i | None ↦ form.Nothing ]
 
 abbrev pub form_of_type : List PlainType → ℕ → Form
 form_of_type types handle = form_found types handle (inner_at types handle)
 
 -- the form of a resolution
 abbrev pub form_of : List PlainType → PlainResolution → Form
-form_of types (by_handle handle) = form_of_type types handle
-form_of types (by_value i) = form_in types None i
+form_of types r = elim r [ by_handle handle ↦ form_of_type types handle | by_value i ↦ form_in types None i ]
 
 -- it is made of members
 abbrev pub IsStruct : PlainInner → Type 0

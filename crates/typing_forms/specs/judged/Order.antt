@@ -1,26 +1,35 @@
 -- Types are built of types that come before them.
-use Rattle.std.specs.Prelude.{◌≡◌, ℕ, ◌<◌, List, [], ◌∷◌, Some, map, All}
+use Rattle.std.specs.Prelude.{◌≡◌, ℕ, ◌<◌, List, [], ◌∷◌, Option, Some, None, map, All}
 use Rattle.ir_types.specs.judged.Plain.{PlainInner, struct, plain, PlainType}
+use Rattle.ir_types.specs.declared.types.ArraySize.{ArraySize}
 use Rattle.ir_types.specs.declared.types.TypeInner.TheVariants as inner
 use Rattle.typing_forms.specs.judged.Resolutions.{inner_at}
 
+-- what a type is made of: the types that it names, and how many elements it has, where it is made of elements
+abbrev pub made_of : PlainInner → List ℕ × Option ArraySize
+made_of (struct members span) = (map (λ m. m.ty) members, None)
+made_of (plain (inner.Scalar s)) = ([], None)
+made_of (plain (inner.Vector n s)) = ([], None)
+made_of (plain (inner.Matrix columns rows s)) = ([], None)
+made_of (plain (inner.CooperativeMatrix columns rows s role)) = ([], None)
+made_of (plain (inner.Atomic s)) = ([], None)
+made_of (plain (inner.Pointer base space)) = (base ∷ [], None)
+made_of (plain (inner.ValuePointer n s space)) = ([], None)
+made_of (plain (inner.Array base size stride)) = (base ∷ [], Some size)
+made_of (plain (inner.Struct members span)) = (map (λ m. m.ty) members.items, None)
+made_of (plain (inner.Image dim arrayed class)) = ([], None)
+made_of (plain (inner.Sampler comparison)) = ([], None)
+made_of (plain (inner.AccelerationStructure vertex_return)) = ([], None)
+made_of (plain (inner.RayQuery vertex_return)) = ([], None)
+made_of (plain (inner.BindingArray base size)) = (base ∷ [], Some size)
+
 -- the types that a type names
 abbrev pub named_types : PlainInner → List ℕ
-named_types (struct members span) = map (λ m. m.ty) members
-named_types (plain (inner.Scalar s)) = []
-named_types (plain (inner.Vector n s)) = []
-named_types (plain (inner.Matrix columns rows s)) = []
-named_types (plain (inner.CooperativeMatrix columns rows s role)) = []
-named_types (plain (inner.Atomic s)) = []
-named_types (plain (inner.Pointer base space)) = base ∷ []
-named_types (plain (inner.ValuePointer n s space)) = []
-named_types (plain (inner.Array base size stride)) = base ∷ []
-named_types (plain (inner.Struct members span)) = map (λ m. m.ty) members.items
-named_types (plain (inner.Image dim arrayed class)) = []
-named_types (plain (inner.Sampler comparison)) = []
-named_types (plain (inner.AccelerationStructure vertex_return)) = []
-named_types (plain (inner.RayQuery vertex_return)) = []
-named_types (plain (inner.BindingArray base size)) = base ∷ []
+named_types i = (made_of i).0
+
+-- how many elements a type has, where it is made of elements
+abbrev pub declared_size : PlainInner → Option ArraySize
+declared_size i = (made_of i).1
 
 -- each type names only types before it
 pub record TypesGoBack (types : List PlainType) : Type 0 where

@@ -9,8 +9,7 @@ float_ranks = (floating 4, 1) ∷ (floating 2, 2) ∷ (floating 8, 3) ∷ []
 
 -- what an abstract integer becomes, with the ranks
 abbrev pub integer_ranks : List (Scalar × ℕ)
-integer_ranks =
-    (signed 4, 4) ∷ (unsigned 4, 5) ∷ (signed 2, 6) ∷ (unsigned 2, 7) ∷ (signed 8, 8) ∷ (unsigned 8, 9)
+integer_ranks = (signed 4, 4) ∷ (unsigned 4, 5) ∷ (signed 2, 6) ∷ (unsigned 2, 7) ∷ (signed 8, 8) ∷ (unsigned 8, 9)
     ∷ (abstract_float, 10) ∷ (floating 4, 11) ∷ (floating 2, 12) ∷ (floating 8, 13) ∷ []
 
 abbrev pub rank_in : List (Scalar × ℕ) → Scalar → Option ℕ
@@ -19,8 +18,7 @@ rank_in (row ∷ rows) to = if same_scalar row.0 to then Some row.1 else rank_in
 
 -- the rank of a conversion to another scalar, if there is one
 abbrev pub conversion : Scalar → Scalar → Option ℕ
-conversion from to =
-    if same_scalar from abstract_int then rank_in integer_ranks to
+conversion from to = if same_scalar from abstract_int then rank_in integer_ranks to
     else if same_scalar from abstract_float then rank_in float_ranks to else None
 
 -- the same, where a scalar is taken for itself at the best rank

@@ -15,9 +15,7 @@ rounded_up step n = (n + (step - 1)) / step * step
 
 -- the alignment of a vector of this size whose scalars take so many bytes
 abbrev pub vector_alignment : VectorSize → (width : ℕ) → ℕ
-vector_alignment Bi width = 2 * width
-vector_alignment Tri width = 4 * width
-vector_alignment Quad width = 4 * width
+vector_alignment n width = elim n [ Bi ↦ 2 * width | Tri ↦ 4 * width | Quad ↦ 4 * width ]
 
 -- a column of a matrix, rounded up to its alignment
 abbrev pub column_size : VectorSize → (width : ℕ) → ℕ
@@ -25,9 +23,7 @@ column_size rows width = rounded_up (vector_alignment rows width) (component_cou
 
 -- how many elements count: one where the number isn't known
 abbrev pub counted : ArraySize → ℕ
-counted (count.Constant n) = n
-counted (count.Pending override) = 1
-counted count.Dynamic = 1
+counted o = elim o [ count.Constant n ↦ n | count.Pending override ↦ 1 | count.Dynamic ↦ 1 ]
 
 abbrev pub type_size : PlainInner → ℕ
 type_size (struct members span) = span

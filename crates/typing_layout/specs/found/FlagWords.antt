@@ -1,8 +1,8 @@
 -- The words of what types may be used for.
-use Rattle.std.specs.Prelude.{List, [], ◌∷◌, codes}
+use Rattle.std.specs.Prelude.{List, [], ◌∷◌}
 use Rattle.ir_flags.specs.Words.{Row, numbered}
 
 abbrev pub type_flags : List Row
 type_flags =
-    numbered (codes "DATA" ∷ codes "SIZED" ∷ codes "COPY" ∷ codes "IO_SHAREABLE" ∷ codes "HOST_SHAREABLE" ∷ codes "CREATION_RESOLVED" ∷ codes "ARGUMENT" ∷
-    codes "CONSTRUCTIBLE" ∷ [])
+    numbered ("DATA" ∷ "SIZED" ∷ "COPY" ∷ "IO_SHAREABLE" ∷ "HOST_SHAREABLE" ∷ "CREATION_RESOLVED" ∷ "ARGUMENT" ∷
+    "CONSTRUCTIBLE" ∷ [])

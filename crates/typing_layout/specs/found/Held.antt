@@ -6,7 +6,8 @@ use Rattle.ir_types.specs.found.Faults.{error_of, spans_of}
 use Rattle.ir_types.specs.judged.Plain.{PlainType}
 use Rattle.typing_forms.specs.judged.Order.{TypesGoBack}
 use Rattle.typing_forms.specs.declared.sizes.TheConstants.{MAX_TYPE_SIZE}
-use Rattle.typing_layout.specs.judged.Layout.{size, alignment, IsWidthOK, LayoutOK}
+use Rattle.typing_layout.specs.judged.Layout.{size, alignment, LayoutOK}
+use Rattle.typing_layout.specs.found.Laid.{IsWidthOK}
 use Rattle.typing_layout.specs.judged.Tree.{Tree}
 use Rattle.typing_layout.specs.judged.View.{type_tree}
 use Rattle.typing_layout.specs.declared.error.LayoutError.{LayoutError}

@@ -1,12 +1,17 @@
 -- The alignment of a type from those of the types before it.
-use Rattle.std.specs.Prelude.{◌≡◌, ℕ, List, Option, Some, None, slice_get}
-use Rattle.typing_layout.specs.judged.Layout.{alignment, IsWidthOK}
+use Rattle.std.specs.Prelude.{◌≡◌, ℕ, List, Option, Some, None, IfSome, slice_get}
+use Rattle.std.specs.Int.{IsPowerOfTwo}
+use Rattle.typing_layout.specs.judged.Layout.{alignment, tree_scalar}
 use Rattle.typing_layout.specs.judged.Tree.{Tree}
 use Rattle.typing_layout.specs.declared.layout.TypeLayout.{TypeLayout}
 
 -- the layouts have the alignments of the trees
 pub record AreAligned (tree : ℕ → Tree) (layouts : List TypeLayout) : Type 0 where
   pub each : (handle : ℕ) (l : TypeLayout) → slice_get layouts handle ≡ Some l → l.alignment ≡ alignment (tree handle)
+
+-- size and alignment are found by the width of the scalar, where there is one
+abbrev pub IsWidthOK : Tree → Type 0
+IsWidthOK t = IfSome (tree_scalar t) (λ s. IsPowerOfTwo s.width)
 
 -- the alignment of a type, or none where the width by which it is found isn't one
 abbrev pub IsAlignmentOf : Tree → Option ℕ → Type 0

@@ -9,8 +9,7 @@ use Rattle.typing_layout.specs.declared.constness.ExpressionKind.TheVariants.{Co
 abbrev pub later : ExpressionKind → ExpressionKind → ExpressionKind
 later Const k = k
 later Override Const = Override
-later Override Override = Override
-later Override Runtime = Runtime
+later Override k = k
 later Runtime k = Runtime
 
 -- the latest of some kinds, and const where there is none
@@ -47,8 +46,7 @@ pub data IsOfKind (expressions : List PlainExpression) : ℕ → ExpressionKind 
   by_itself : {handle : ℕ} {e : PlainExpression} {k : ExpressionKind} → slice_get expressions handle ≡ Some e → origin_of e ≡ own k
       → IsOfKind expressions handle k
   by_operands : {handle : ℕ} {e : PlainExpression} {operands : List ℕ} (kind : ℕ → ExpressionKind) → slice_get expressions handle ≡ Some e
-      → origin_of e ≡ latest_of operands
-      → ((place operand : ℕ) → slice_get operands place ≡ Some operand → IsOfKind expressions operand (kind operand))
+      → origin_of e ≡ latest_of operands → ((place operand : ℕ) → slice_get operands place ≡ Some operand → IsOfKind expressions operand (kind operand))
       → IsOfKind expressions handle (latest (map kind operands))
 
 -- the operands by which an expression has its kind
@@ -68,6 +66,5 @@ pub record AreKinds (expressions : List PlainExpression) (kinds : List Expressio
 
 -- an expression is of one kind at most
 abbrev pub OneKind : Type 0
-OneKind =
-    (expressions : List PlainExpression) (handle : ℕ) (left right : ExpressionKind) → IsOfKind expressions handle left → IsOfKind expressions handle right
+OneKind = (expressions : List PlainExpression) (handle : ℕ) (left right : ExpressionKind) → IsOfKind expressions handle left → IsOfKind expressions handle right
     → left ≡ right

@@ -53,30 +53,21 @@ value_flags = Data ∷ Sized ∷ Copy ∷ CreationResolved ∷ Argument ∷ Cons
 abbrev pub shareable_flags : List TypeFlag
 shareable_flags = HostShareable ∷ value_flags
 
-abbrev pub number_flags : List TypeFlag
-number_flags = IoShareable ∷ shareable_flags
-
 abbrev pub scalar_flags : ScalarKind → List TypeFlag
-scalar_flags kind.Sint = number_flags
-scalar_flags kind.Uint = number_flags
-scalar_flags kind.Float = number_flags
+scalar_flags kind.Sint = IoShareable ∷ shareable_flags
+scalar_flags kind.Uint = IoShareable ∷ shareable_flags
+scalar_flags kind.Float = IoShareable ∷ shareable_flags
 scalar_flags kind.Bool = value_flags
-scalar_flags kind.AbstractInt = number_flags
-scalar_flags kind.AbstractFloat = number_flags
-
-abbrev pub atomic_flags : List TypeFlag
-atomic_flags = Data ∷ Sized ∷ HostShareable ∷ CreationResolved ∷ []
+scalar_flags kind.AbstractInt = IoShareable ∷ shareable_flags
+scalar_flags kind.AbstractFloat = IoShareable ∷ shareable_flags
 
 abbrev pub shared_pointer_flags : List TypeFlag
 shared_pointer_flags = Sized ∷ Copy ∷ CreationResolved ∷ []
 
-abbrev pub invocation_pointer_flags : List TypeFlag
-invocation_pointer_flags = Argument ∷ shared_pointer_flags
-
 -- functions take pointers to an invocation's own variables
 abbrev pub pointer_flags : AddressSpace → List TypeFlag
-pointer_flags space.Function = invocation_pointer_flags
-pointer_flags space.Private = invocation_pointer_flags
+pointer_flags space.Function = Argument ∷ shared_pointer_flags
+pointer_flags space.Private = Argument ∷ shared_pointer_flags
 pointer_flags space.WorkGroup = shared_pointer_flags
 pointer_flags space.Uniform = shared_pointer_flags
 pointer_flags (space.Storage access) = shared_pointer_flags
@@ -88,12 +79,6 @@ pointer_flags space.IncomingRayPayload = shared_pointer_flags
 
 abbrev pub resource_flags : List TypeFlag
 resource_flags = CreationResolved ∷ Argument ∷ []
-
-abbrev pub query_flags : List TypeFlag
-query_flags = Data ∷ Sized ∷ Constructible ∷ CreationResolved ∷ []
-
-abbrev pub binding_array_flags : List TypeFlag
-binding_array_flags = CreationResolved ∷ []
 
 -- those that an array may have from its elements
 abbrev pub array_flags : ArraySize → List TypeFlag
@@ -134,7 +119,7 @@ abbrev mutual
   HasFlag f (vector n s) = IsTrue (among (scalar_flags s.kind) f)
   HasFlag f (matrix columns rows s) = IsTrue (among shareable_flags f)
   HasFlag f (cooperative_matrix columns rows s role) = IsTrue (among shareable_flags f)
-  HasFlag f (atomic s) = IsTrue (among atomic_flags f)
+  HasFlag f (atomic s) = IsTrue (among (Data ∷ Sized ∷ HostShareable ∷ CreationResolved ∷ []) f)
   HasFlag f (pointer base space) = IsTrue (among (pointer_flags space) f)
   HasFlag f (value_pointer n s space) = IsTrue (among (pointer_flags space) f)
   HasFlag f (array base n stride) = HasFlag f base × IsTrue (among (array_flags n) f)
@@ -142,8 +127,8 @@ abbrev mutual
   HasFlag f (image dim arrayed class) = IsTrue (among resource_flags f)
   HasFlag f (sampler comparison) = IsTrue (among resource_flags f)
   HasFlag f (acceleration_structure vertex_return) = IsTrue (among resource_flags f)
-  HasFlag f (ray_query vertex_return) = IsTrue (among query_flags f)
-  HasFlag f (binding_array base n) = IsTrue (among binding_array_flags f)
+  HasFlag f (ray_query vertex_return) = IsTrue (among (Data ∷ Sized ∷ Constructible ∷ CreationResolved ∷ []) f)
+  HasFlag f (binding_array base n) = IsTrue (among (CreationResolved ∷ []) f)
 
   pub AllHave : TypeFlag → Members → Type 0
   AllHave f no_members = Unit {0}

@@ -6,25 +6,40 @@ use Rattle.ir_kinds.specs.judged.Scalars.{component_count, cooperative_count}
 use Rattle.ir_types.specs.judged.Plain.{PlainInner}
 use Rattle.typing_forms.specs.judged.Sizes.{rounded_up, vector_alignment, column_size, counted, type_size}
 use Rattle.typing_forms.specs.declared.sizes.TheConstants.{MAX_TYPE_SIZE}
+use Rattle.ir_types.specs.declared.types.ArraySize.{ArraySize}
 use Rattle.typing_layout.specs.judged.Tree.{Tree, scalar, vector, matrix, cooperative_matrix, atomic, pointer, value_pointer, array, struct, image, sampler, acceleration_structure, ray_query, binding_array, Members, no_members, member}
 use Rattle.typing_layout.specs.judged.View.{tree_by}
 
+-- What a type is put together of where it lies: of elements, of members, or of no other type. Then it takes so many bytes, and a
+-- scalar is what it is, or is put together of, or none is.
+pub data TreeParts : Type 0 where
+  has_elements : (base : Tree) → ArraySize → (stride : ℕ) → TreeParts
+  has_members : Members → (span : ℕ) → TreeParts
+  has_no_parts : Option Scalar → (bytes : ℕ) → TreeParts
+
+abbrev pub tree_parts : Tree → TreeParts
+tree_parts (scalar s) = has_no_parts (Some s) s.width
+tree_parts (vector n s) = has_no_parts (Some s) (component_count n * s.width)
+tree_parts (matrix columns rows s) = has_no_parts (Some s) (component_count columns * column_size rows s.width)
+tree_parts (cooperative_matrix columns rows s role) = has_no_parts (Some s) (cooperative_count columns * cooperative_count rows * s.width)
+tree_parts (atomic s) = has_no_parts (Some s) s.width
+tree_parts (pointer base space) = has_no_parts None 4
+tree_parts (value_pointer n s space) = has_no_parts None 4
+tree_parts (array base n stride) = has_elements base n stride
+tree_parts (struct ms span) = has_members ms span
+tree_parts (image dim arrayed class) = has_no_parts None 0
+tree_parts (sampler comparison) = has_no_parts None 0
+tree_parts (acceleration_structure vertex_return) = has_no_parts None 0
+tree_parts (ray_query vertex_return) = has_no_parts None 0
+tree_parts (binding_array base n) = has_no_parts None 0
+
 -- the size of a value in bytes; an array counts one element where their number isn't known
 abbrev pub size : Tree → ℕ
-size (scalar s) = s.width
-size (vector n s) = component_count n * s.width
-size (matrix columns rows s) = component_count columns * column_size rows s.width
-size (cooperative_matrix columns rows s role) = cooperative_count columns * cooperative_count rows * s.width
-size (atomic s) = s.width
-size (pointer base space) = 4
-size (value_pointer n s space) = 4
-size (array base n stride) = counted n * stride
-size (struct ms span) = span
-size (image dim arrayed class) = 0
-size (sampler comparison) = 0
-size (acceleration_structure vertex_return) = 0
-size (ray_query vertex_return) = 0
-size (binding_array base n) = 0
+size t = elim (tree_parts t) [ has_elements base n stride ↦ counted n * stride | has_members ms span ↦ span | has_no_parts s bytes ↦ bytes ]
+
+-- the scalar that a value is, or is put together of; elements and members have their own
+abbrev pub tree_scalar : Tree → Option Scalar
+tree_scalar t = elim (tree_parts t) [ has_elements base n stride ↦ None | has_members ms span ↦ None | has_no_parts s bytes ↦ s ]
 
 abbrev mutual
   -- the number of bytes of which each address of a value is a multiple
@@ -49,30 +64,10 @@ abbrev mutual
   greatest_alignment no_members = 1
   greatest_alignment (member t binding offset ms) = max (alignment t) (greatest_alignment ms)
 
--- the scalar that a value is, or is put together of; elements and members have their own
-abbrev pub tree_scalar : Tree → Option Scalar
-tree_scalar (scalar s) = Some s
-tree_scalar (vector n s) = Some s
-tree_scalar (matrix columns rows s) = Some s
-tree_scalar (cooperative_matrix columns rows s role) = Some s
-tree_scalar (atomic s) = Some s
-tree_scalar (pointer base space) = None
-tree_scalar (value_pointer n s space) = None
-tree_scalar (array base n stride) = None
-tree_scalar (struct ms span) = None
-tree_scalar (image dim arrayed class) = None
-tree_scalar (sampler comparison) = None
-tree_scalar (acceleration_structure vertex_return) = None
-tree_scalar (ray_query vertex_return) = None
-tree_scalar (binding_array base n) = None
-
--- size and alignment are found by the width of the scalar, where there is one
-abbrev pub IsWidthOK : Tree → Type 0
-IsWidthOK t = IfSome (tree_scalar t) (λ s. IsPowerOfTwo s.width)
-
--- a type has a layout: the width by which it is found is a power of two, and no value is too large
+-- a type has a layout: the width of the scalar by which size and alignment are found, where there is one, is a power of two, and
+-- no value is too large
 pub record LayoutOK (t : Tree) : Type 0 where
-  pub width : IsWidthOK t
+  pub width : IfSome (tree_scalar t) (λ s. IsPowerOfTwo s.width)
   pub in_range : size t ≤ MAX_TYPE_SIZE
 
 -- ---- what is known of them

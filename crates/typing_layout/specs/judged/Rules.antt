@@ -4,7 +4,6 @@ use Rattle.ir_flags.specs.Sets.{Has}
 use Rattle.ir_flags.specs.declared.settings.Capabilities.{Capabilities}
 use Rattle.ir_flags.specs.declared.settings.TheConstants.Capabilities.{COOPERATIVE_MATRIX}
 use Rattle.ir_kinds.specs.judged.Scalars.{floating}
-use Rattle.ir_kinds.specs.declared.images.ImageClass.{ImageClass}
 use Rattle.ir_kinds.specs.declared.images.ImageClass.TheVariants as class
 use Rattle.ir_kinds.specs.declared.scalars.Scalar.{Scalar}
 use Rattle.ir_kinds.specs.declared.scalars.ScalarKind.TheVariants as kind
@@ -27,8 +26,7 @@ abbrev pub CooperativeOK : Capabilities → Scalar → Type 0
 CooperativeOK capabilities s = Has capabilities.0 COOPERATIVE_MATRIX.0 × ((s ≡ floating 4) ⊎ (s ≡ floating 2))
 
 abbrev pub IsStorageSpace : AddressSpace → Type 0
-IsStorageSpace (space.Storage access) = Unit {0}
-IsStorageSpace _ = ⊥
+IsStorageSpace s = elim s [ space.Storage access ↦ Unit {0} | _ ↦ ⊥ ]
 
 -- what has no known size lies in storage buffers
 abbrev pub PointerOK : (base : Tree) → AddressSpace → Type 0
@@ -36,23 +34,17 @@ PointerOK base space = HasFlag Data base × (HasFlag Sized base ⊎ IsStorageSpa
 
 -- where overrides are resolved, none gives the number of elements; an array of runtime size is no matter here
 abbrev pub CountIsResolved : (resolved : Bool) → ArraySize → Type 0
-CountIsResolved resolved (count.Constant n) = Unit {0}
-CountIsResolved resolved (count.Pending override) = resolved ≡ false
-CountIsResolved resolved count.Dynamic = Unit {0}
+CountIsResolved resolved o = elim o [ count.Constant n ↦ Unit {0} | count.Pending override ↦ resolved ≡ false | count.Dynamic ↦ Unit {0} ]
 
 abbrev pub ArrayOK : (resolved : Bool) → (base : Tree) → ArraySize → Type 0
 ArrayOK resolved base n = HasFlag Data base × HasFlag Sized base × CountIsResolved resolved n
 
-abbrev pub IsBindingArrayImage : ImageClass → Type 0
-IsBindingArrayImage class.External = ⊥
-IsBindingArrayImage (class.Sampled kind multi) = Unit {0}
-IsBindingArrayImage (class.Depth multi) = Unit {0}
-IsBindingArrayImage (class.Storage format access) = Unit {0}
-
--- what stands in binding arrays
+-- what stands in binding arrays: no image from outside
 abbrev pub IsBindingArrayBase : Tree → Type 0
 IsBindingArrayBase (struct ms span) = Unit {0}
-IsBindingArrayBase (image dim arrayed class) = IsBindingArrayImage class
+IsBindingArrayBase (image dim arrayed (class.Sampled kind multi)) = Unit {0}
+IsBindingArrayBase (image dim arrayed (class.Depth multi)) = Unit {0}
+IsBindingArrayBase (image dim arrayed (class.Storage format access)) = Unit {0}
 IsBindingArrayBase (sampler comparison) = Unit {0}
 IsBindingArrayBase (acceleration_structure vertex_return) = Unit {0}
 IsBindingArrayBase _ = ⊥

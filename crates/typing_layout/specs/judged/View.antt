@@ -31,8 +31,7 @@ tree_by tree (plain (inner.RayQuery vertex_return)) = ray_query vertex_return
 tree_by tree (plain (inner.BindingArray base size)) = binding_array (tree base) size
 
 abbrev pub tree_found : (tree : ℕ → Tree) → Option PlainInner → Tree
-tree_found tree (Some i) = tree_by tree i
-tree_found tree None = no_type
+tree_found tree o = elim o [ Some i ↦ tree_by tree i | None ↦ no_type ]
 
 -- ---- a type of a module
 
@@ -54,5 +53,4 @@ TreeByTrees = (types : List PlainType) → TypesGoBack types → (handle : ℕ) 
 
 -- where types are added after, the trees of the others stay
 abbrev pub TreesStay : Type 0
-TreesStay = (types more : List PlainType) → TypesGoBack types → (handle : ℕ) → handle < length types
-    → type_tree (types ++ more) handle ≡ type_tree types handle
+TreesStay = (types more : List PlainType) → TypesGoBack types → (handle : ℕ) → handle < length types → type_tree (types ++ more) handle ≡ type_tree types handle

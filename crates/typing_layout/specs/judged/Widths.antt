@@ -5,7 +5,7 @@ use Rattle.ir_flags.specs.declared.settings.Capabilities.{Capabilities}
 use Rattle.ir_flags.specs.declared.settings.TheConstants.Capabilities.{FLOAT64, SHADER_FLOAT16, SHADER_INT16, SHADER_INT64, SHADER_FLOAT32_ATOMIC, SHADER_INT64_ATOMIC_MIN_MAX, SHADER_INT64_ATOMIC_ALL_OPS}
 use Rattle.ir_kinds.specs.declared.scalars.Scalar.{Scalar}
 use Rattle.ir_kinds.specs.declared.scalars.ScalarKind.{ScalarKind}
-use Rattle.ir_kinds.specs.declared.scalars.ScalarKind.TheVariants.{Sint, Uint, Float, Bool, AbstractInt, AbstractFloat}
+use Rattle.ir_kinds.specs.declared.scalars.ScalarKind.TheVariants.{Sint, Uint, Float, Bool}
 
 -- a width of four bytes, or of two or eight with its capability
 abbrev pub IsWidthAllowed : Capabilities → (two eight : Capabilities) → (width : ℕ) → Type 0
@@ -16,8 +16,7 @@ IsKindAllowed capabilities Bool width = width ≡ 1
 IsKindAllowed capabilities Sint width = IsWidthAllowed capabilities SHADER_INT16 SHADER_INT64 width
 IsKindAllowed capabilities Uint width = IsWidthAllowed capabilities SHADER_INT16 SHADER_INT64 width
 IsKindAllowed capabilities Float width = IsWidthAllowed capabilities SHADER_FLOAT16 FLOAT64 width
-IsKindAllowed capabilities AbstractInt width = ⊥
-IsKindAllowed capabilities AbstractFloat width = ⊥
+IsKindAllowed capabilities _ width = ⊥
 
 -- a scalar that types and literals may have
 abbrev pub ScalarOK : Capabilities → Scalar → Type 0
@@ -25,16 +24,13 @@ ScalarOK capabilities s = IsKindAllowed capabilities s.kind s.width
 
 -- an integer of four bytes, or of eight with a capability of atomics of this width
 abbrev pub IsAtomicInteger : Capabilities → (width : ℕ) → Type 0
-IsAtomicInteger capabilities width =
-    (width ≡ 4) ⊎ ((width ≡ 8) × (Has capabilities.0 SHADER_INT64_ATOMIC_MIN_MAX.0 ⊎ Has capabilities.0 SHADER_INT64_ATOMIC_ALL_OPS.0))
+IsAtomicInteger capabilities w = (w ≡ 4) ⊎ ((w ≡ 8) × (Has capabilities.0 SHADER_INT64_ATOMIC_MIN_MAX.0 ⊎ Has capabilities.0 SHADER_INT64_ATOMIC_ALL_OPS.0))
 
 abbrev pub IsAtomicKind : Capabilities → ScalarKind → (width : ℕ) → Type 0
 IsAtomicKind capabilities Sint width = IsAtomicInteger capabilities width
 IsAtomicKind capabilities Uint width = IsAtomicInteger capabilities width
 IsAtomicKind capabilities Float width = (width ≡ 4) × Has capabilities.0 SHADER_FLOAT32_ATOMIC.0
-IsAtomicKind capabilities Bool width = ⊥
-IsAtomicKind capabilities AbstractInt width = ⊥
-IsAtomicKind capabilities AbstractFloat width = ⊥
+IsAtomicKind capabilities _ width = ⊥
 
 -- a scalar that an atomic may have
 abbrev pub AtomicOK : Capabilities → Scalar → Type 0

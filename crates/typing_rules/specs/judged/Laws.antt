@@ -29,8 +29,7 @@ IsAmong x (y ∷ ys) = (y ≡ x) ⊎ IsAmong x ys
 
 -- whatever is required of the rules of a function: at no supplied argument another rule that is left has a smaller rank than the first one
 abbrev pub PreferredIsBest : Type 0
-PreferredIsBest =
-    (function : MathFunction) (demands : List Demand) (preferred other : Rule)
+PreferredIsBest = (function : MathFunction) (demands : List Demand) (preferred other : Rule)
     → slice_get (left_by demands (math_overloads function)) 0 ≡ Some preferred → IsAmong other (left_by demands (math_overloads function))
     → (place : ℕ) (given : PlainInner) → IsAmong (supplied place given) demands
     → (type : ValueType) (x y : ℕ) → value_type_of given ≡ Some type → rank_at place type preferred ≡ Some x → rank_at place type other ≡ Some y → x ≤ y

@@ -70,83 +70,57 @@ square_matrices = size.Matrix Bi Bi ∷ size.Matrix Tri Tri ∷ size.Matrix Quad
 
 -- matrices by columns, then rows
 abbrev pub matrices : List ConstructorSize
-matrices =
-    size.Matrix Bi Bi ∷ size.Matrix Bi Tri ∷ size.Matrix Bi Quad ∷ size.Matrix Tri Bi ∷ size.Matrix Tri Tri ∷ size.Matrix Tri Quad
-    ∷ size.Matrix Quad Bi ∷ size.Matrix Quad Tri ∷ size.Matrix Quad Quad ∷ []
+matrices = flat_map (λ columns. map (λ rows. size.Matrix columns rows) (Bi ∷ Tri ∷ Quad ∷ [])) (Bi ∷ Tri ∷ Quad ∷ [])
 
 -- ---- one rule, of a shape and a scalar
 
 -- a vector with one component for each column of a matrix
 abbrev pub vector_of_columns : ConstructorSize → ConstructorSize
-vector_of_columns (size.Matrix c r) = size.Vector c
-vector_of_columns n = n
+vector_of_columns o = elim o [ size.Matrix c r ↦ size.Vector c | n ↦ n ]
 
 -- a vector with one component for each row of a matrix
 abbrev pub vector_of_rows : ConstructorSize → ConstructorSize
-vector_of_rows (size.Matrix c r) = size.Vector r
-vector_of_rows n = n
+vector_of_rows o = elim o [ size.Matrix c r ↦ size.Vector r | n ↦ n ]
 
 abbrev pub transposed : ConstructorSize → ConstructorSize
-transposed (size.Matrix c r) = size.Matrix r c
-transposed n = n
+transposed o = elim o [ size.Matrix c r ↦ size.Matrix r c | n ↦ n ]
 
 -- the size that the key of a predeclared struct has: none for a scalar
 abbrev pub vector_size : ConstructorSize → Option VectorSize
-vector_size (size.Vector n) = Some n
-vector_size _ = None
+vector_size o = elim o [ size.Vector n ↦ Some n | _ ↦ None ]
 
 -- a 32-bit unsigned integer
 abbrev pub word : ValueType
 word = value_type size.Scalar u32
 
--- what a rule requires
-abbrev pub arguments_of : Pattern → ConstructorSize → Scalar → Arguments
-arguments_of Same n s = One (value_type n s)
-arguments_of SameTwo n s = Two (value_type n s) (value_type n s)
-arguments_of SameThree n s = Three (value_type n s) (value_type n s) (value_type n s)
-arguments_of ToScalar n s = One (value_type n s)
-arguments_of TwoToScalar n s = Two (value_type n s) (value_type n s)
-arguments_of WithScalar n s = Three (value_type n s) (value_type n s) (value_type size.Scalar s)
-arguments_of WithExponent n s = Two (value_type n s) (value_type n i32)
-arguments_of WithRange n s = Three (value_type n s) word word
-arguments_of TwoWithRange n s = Four (value_type n s) (value_type n s) word word
-arguments_of ToFraction n s = One (value_type n s)
-arguments_of ToExponent n s = One (value_type n s)
-arguments_of ToOuter n s = Two (value_type (vector_of_columns n) s) (value_type (vector_of_rows n) s)
-arguments_of ToTransposed n s = One (value_type n s)
-arguments_of ToWord n s = One (value_type n s)
-arguments_of FromWord n s = One word
-arguments_of FromTwoWords n s = Two word word
+-- a rule: what it requires, and what it gives
+abbrev pub a_rule : Arguments → Conclusion → Rule
+a_rule arguments conclusion = record { arguments = arguments; conclusion = conclusion }
 
--- what it gives
-abbrev pub conclusion_of : Pattern → ConstructorSize → Scalar → Conclusion
-conclusion_of Same n s = Value (value_type n s)
-conclusion_of SameTwo n s = Value (value_type n s)
-conclusion_of SameThree n s = Value (value_type n s)
-conclusion_of ToScalar n s = Value (value_type size.Scalar s)
-conclusion_of TwoToScalar n s = Value (value_type size.Scalar s)
-conclusion_of WithScalar n s = Value (value_type n s)
-conclusion_of WithExponent n s = Value (value_type n s)
-conclusion_of WithRange n s = Value (value_type n s)
-conclusion_of TwoWithRange n s = Value (value_type n s)
-conclusion_of ToFraction n s = Predeclared (ModfResult (vector_size n) s)
-conclusion_of ToExponent n s = Predeclared (FrexpResult (vector_size n) s)
-conclusion_of ToOuter n s = Value (value_type n s)
-conclusion_of ToTransposed n s = Value (value_type (transposed n) s)
-conclusion_of ToWord n s = Value word
-conclusion_of FromWord n s = Value (value_type n s)
-conclusion_of FromTwoWords n s = Value (value_type n s)
-
+-- the rule that a pattern makes of a shape and a scalar
 abbrev pub math_rule : Pattern → ConstructorSize → Scalar → Rule
-math_rule p n s = record { arguments = arguments_of p n s; conclusion = conclusion_of p n s }
+math_rule Same n s = a_rule (One (value_type n s)) (Value (value_type n s))
+math_rule SameTwo n s = a_rule (Two (value_type n s) (value_type n s)) (Value (value_type n s))
+math_rule SameThree n s = a_rule (Three (value_type n s) (value_type n s) (value_type n s)) (Value (value_type n s))
+math_rule ToScalar n s = a_rule (One (value_type n s)) (Value (value_type size.Scalar s))
+math_rule TwoToScalar n s = a_rule (Two (value_type n s) (value_type n s)) (Value (value_type size.Scalar s))
+math_rule WithScalar n s = a_rule (Three (value_type n s) (value_type n s) (value_type size.Scalar s)) (Value (value_type n s))
+math_rule WithExponent n s = a_rule (Two (value_type n s) (value_type n i32)) (Value (value_type n s))
+math_rule WithRange n s = a_rule (Three (value_type n s) word word) (Value (value_type n s))
+math_rule TwoWithRange n s = a_rule (Four (value_type n s) (value_type n s) word word) (Value (value_type n s))
+math_rule ToFraction n s = a_rule (One (value_type n s)) (Predeclared (ModfResult (vector_size n) s))
+math_rule ToExponent n s = a_rule (One (value_type n s)) (Predeclared (FrexpResult (vector_size n) s))
+math_rule ToOuter n s = a_rule (Two (value_type (vector_of_columns n) s) (value_type (vector_of_rows n) s)) (Value (value_type n s))
+math_rule ToTransposed n s = a_rule (One (value_type n s)) (Value (value_type (transposed n) s))
+math_rule ToWord n s = a_rule (One (value_type n s)) (Value word)
+math_rule FromWord n s = a_rule (One word) (Value (value_type n s))
+math_rule FromTwoWords n s = a_rule (Two word word) (Value (value_type n s))
 
 -- ---- the rules of a function: by shape, then by scalar
 
-abbrev pub row : Pattern → List Scalar → ConstructorSize → List Rule
-row p ss n = map (math_rule p n) ss
-
+-- a rule of each of the shapes with each of the scalars
 abbrev pub rules_over : Pattern → List Scalar → List ConstructorSize → List Rule
-rules_over p ss ns = flat_map (row p ss) ns
+rules_over p ss ns = flat_map (λ n. map (math_rule p n) ss) ns
 
 abbrev pub one_rule : Pattern → ConstructorSize → Scalar → List Rule
 one_rule p n s = rules_over p (s ∷ []) (n ∷ [])

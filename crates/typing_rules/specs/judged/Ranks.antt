@@ -1,5 +1,5 @@
 -- Which arguments a rule accepts, and at which rank.
-use Rattle.std.specs.Prelude.{ℕ, List, [], ◌∷◌, Option, Some, None, Bool, true, false, ◌&&◌, not, ◌==◌, is_some, slice_get, if◌then◌else◌}
+use Rattle.std.specs.Prelude.{ℕ, List, [], ◌∷◌, Option, Some, None, Bool, true, false, ◌&&◌, not, ◌==◌, is_some, option_and_then, slice_get, if◌then◌else◌}
 use Rattle.ir_kinds.specs.declared.scalars.ScalarKind.{ScalarKind}
 use Rattle.ir_kinds.specs.declared.scalars.ScalarKind.TheVariants as kind
 use Rattle.ir_types.specs.judged.Plain.{PlainInner}
@@ -14,21 +14,13 @@ use Rattle.typing_rules.specs.judged.Types.{constructor_place, value_type_of, ar
 abbrev pub type_rank : ValueType → ValueType → Option ℕ
 type_rank given wanted = if constructor_place given.size == constructor_place wanted.size then rank given.scalar wanted.scalar else None
 
-abbrev pub rank_if : ValueType → Option ValueType → Option ℕ
-rank_if given (Some wanted) = type_rank given wanted
-rank_if given None = None
-
--- from what is given at a place to what the rule requires there
+-- from what is given at a place to what the rule requires there, if it has such an argument
 abbrev pub rank_at : ℕ → ValueType → Rule → Option ℕ
-rank_at place given rule = rank_if given (slice_get (argument_list rule.arguments) place)
+rank_at place given rule = option_and_then (type_rank given) (slice_get (argument_list rule.arguments) place)
 
 -- a rule accepts an argument that has a rank
-abbrev pub accepts : ℕ → ValueType → Rule → Bool
-accepts place given rule = is_some (rank_at place given rule)
-
 abbrev pub accepts_if : ℕ → Option ValueType → Rule → Bool
-accepts_if place (Some given) rule = accepts place given rule
-accepts_if place None rule = false
+accepts_if place o rule = elim o [ Some given ↦ is_some (rank_at place given rule) | None ↦ false ]
 
 -- no rule accepts what is neither a scalar nor a vector nor a matrix
 abbrev pub accepts_inner : ℕ → PlainInner → Rule → Bool

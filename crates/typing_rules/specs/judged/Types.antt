@@ -1,7 +1,7 @@
 -- The types that rules speak of: a shape and a scalar.
-use Rattle.std.specs.Prelude.{ℕ, List, [], ◌∷◌, Option, Some, None}
+use Rattle.std.specs.Prelude.{ℕ, ◌+◌, ◌-◌, ◌*◌, List, [], ◌∷◌, Option, Some, None}
 use Rattle.ir_kinds.specs.declared.scalars.Scalar.{Scalar}
-use Rattle.ir_kinds.specs.declared.scalars.VectorSize.TheVariants.{Bi, Tri, Quad}
+use Rattle.ir_kinds.specs.judged.Scalars.{component_count}
 use Rattle.ir_types.specs.judged.Plain.{PlainInner, plain}
 use Rattle.ir_types.specs.declared.types.TypeInner.{TypeInner}
 use Rattle.ir_types.specs.declared.types.TypeInner.TheVariants as inner
@@ -17,24 +17,12 @@ value_type n s = record { size = n; scalar = s }
 -- a shape's place among the thirteen: the scalar, vectors by their size, matrices by columns and then rows
 abbrev pub constructor_place : ConstructorSize → ℕ
 constructor_place size.Scalar = 0
-constructor_place (size.Vector Bi) = 1
-constructor_place (size.Vector Tri) = 2
-constructor_place (size.Vector Quad) = 3
-constructor_place (size.Matrix Bi Bi) = 4
-constructor_place (size.Matrix Bi Tri) = 5
-constructor_place (size.Matrix Bi Quad) = 6
-constructor_place (size.Matrix Tri Bi) = 7
-constructor_place (size.Matrix Tri Tri) = 8
-constructor_place (size.Matrix Tri Quad) = 9
-constructor_place (size.Matrix Quad Bi) = 10
-constructor_place (size.Matrix Quad Tri) = 11
-constructor_place (size.Matrix Quad Quad) = 12
+constructor_place (size.Vector n) = component_count n - 1
+constructor_place (size.Matrix columns rows) = 3 * (component_count columns - 1) + (component_count rows - 1)
 
 -- the inner form of a shape with a scalar
 abbrev pub inner_of : ConstructorSize → Scalar → TypeInner
-inner_of size.Scalar s = inner.Scalar s
-inner_of (size.Vector n) s = inner.Vector n s
-inner_of (size.Matrix c r) s = inner.Matrix c r s
+inner_of o s = elim o [ size.Scalar ↦ inner.Scalar s | size.Vector n ↦ inner.Vector n s | size.Matrix c r ↦ inner.Matrix c r s ]
 
 -- the shape and the scalar of an inner form that is a scalar, a vector or a matrix
 abbrev pub value_type_of : PlainInner → Option ValueType

@@ -5,7 +5,8 @@ use Rattle.ir_flags.specs.Sets.{Has}
 use Rattle.ir_items.specs.found.GlobalView.{global_view}
 use Rattle.module_constants.proofs.FlagLemmas.{info_at}
 use Rattle.module_globals.specs.Contexts.{module_of}
-use Rattle.spec_interface.specs.judged.Spaces.{space_capability, required, HasAll}
+use Rattle.spec_interface.specs.judged.Spaces.{space_capability, space_row}
+use Rattle.spec_interface.specs.found.Variables.{HasAll}
 use Rattle.typing_layout.specs.judged.View.{type_tree}
 use Rattle.typing_layout.specs.found.Infos.{AreFlags}
 use Rattle.typing_forms.specs.judged.Resolutions.{inner_at}
@@ -26,7 +27,7 @@ returns-then-contains c =
     let told = info_at m.types c.args.context.now.infos.now c.args.ty c.index.result c.index-context-index.result c.requires.known.told (subst (λ n. c.args.ty < n) (sym c.requires.known.many) c.requires.within) c.index.ensures.value in
     λ given flags. (
       subst (λ k. IfSome (space_capability v.space (inner_at m.types k)) (λ x. Has c.args.context.now.capabilities.0 x.0)) c.requires.counts met,
-      subst (λ k. HasAll (required v.space) (type_tree m.types k)) c.requires.counts
+      subst (λ k. HasAll (space_row v.space).flags (type_tree m.types k)) c.requires.counts
           (all_asked v.space info.flags.0 c.required-required.result.0 (type_tree m.types c.args.ty) info.flags c.required-required.ensures refl told.flags (eqb-true _ _ (sym (c.contains-2.ensures tt) ∙ c.if-contains.true))),
     )
 
@@ -40,6 +41,6 @@ returns-else-contains c =
       c.required-required.ensures,
       subst (λ k. AreFlags info.flags (type_tree m.types k)) c.requires.counts told.flags,
       λ all. (let has = eq-eqb _ _
-          (none_missing v.space info.flags.0 c.required-required.result.0 (type_tree m.types c.args.ty) info.flags c.required-required.ensures refl told.flags (subst (λ k. HasAll (required v.space) (type_tree m.types k)) (sym c.requires.counts) all)) in
+          (none_missing v.space info.flags.0 c.required-required.result.0 (type_tree m.types c.args.ty) info.flags c.required-required.ensures refl told.flags (subst (λ k. HasAll (space_row v.space).flags (type_tree m.types k)) (sym c.requires.counts) all)) in
           let not = sym (c.contains-2.ensures tt) ∙ c.if-contains.false in cc),
     )

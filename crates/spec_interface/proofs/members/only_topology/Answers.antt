@@ -2,7 +2,8 @@ use Rattle.std.proofs.Common.{◌+◌, map, take, sym, subst, ◌∙◌, ap}
 use Rattle.spec_interface.proofs.Finds.{found_more}
 use Rattle.spec_interface.specs.found.Found.{Stands}
 use Rattle.ir_types.specs.judged.Plain.{PlainMember, member_view}
-use Rattle.spec_interface.specs.judged.Members.{member_topologies, topology_of}
+use Rattle.spec_interface.specs.judged.Members.{topology_of}
+use Rattle.spec_interface.specs.found.Members.{member_topologies}
 use Rattle.spec_interface.proofs.members.only_topology.Goals as goal
 
 pub loop-member-preserved : goal.loop-member-preserved

@@ -1,7 +1,7 @@
 use Rattle.std.proofs.Common.{map, take}
 use Rattle.spec_interface.specs.found.Found.{Stands}
 use Rattle.ir_types.specs.judged.Plain.{member_view}
-use Rattle.spec_interface.specs.judged.Members.{member_topologies}
+use Rattle.spec_interface.specs.found.Members.{member_topologies}
 use Rattle.spec_interface.proofs.members.only_topology.Given as goal
 
 -- what is found among the members before this one

@@ -2,7 +2,8 @@ use Rattle.std.proofs.Common.{◌+◌, map, take, sym, subst, ◌∙◌, ap}
 use Rattle.spec_interface.proofs.Finds.{found_more}
 use Rattle.spec_interface.specs.found.Found.{Stands}
 use Rattle.ir_types.specs.judged.Plain.{member_view}
-use Rattle.spec_interface.specs.judged.Members.{type_bound, types_bound}
+use Rattle.spec_interface.specs.judged.Members.{types_bound}
+use Rattle.spec_interface.specs.found.Members.{type_bound}
 use Rattle.spec_interface.proofs.members.only_type.Goals as goal
 
 pub loop-member-preserved : goal.loop-member-preserved

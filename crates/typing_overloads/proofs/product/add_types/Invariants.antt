@@ -1,5 +1,5 @@
 use Rattle.std.proofs.Common.{◌≡◌, ◌++◌}
-use Rattle.typing_rules.specs.judged.MathTable.{row}
+use Rattle.typing_overloads.specs.Products.{row}
 use Rattle.typing_rules.specs.found.Members.{scalars_in}
 use Rattle.typing_overloads.specs.Sets.{arguments_at}
 use Rattle.typing_overloads.proofs.product.add_types.Given as goal

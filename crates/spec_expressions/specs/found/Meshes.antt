@@ -1,0 +1,6 @@
+-- The variable of what a mesh stage gives.
+use Rattle.std.specs.Prelude.{ℕ, List, [], ◌∷◌, Option, Some, None}
+use Rattle.ir_items.specs.declared.entries.MeshStageInfo.{MeshStageInfo}
+
+abbrev pub mesh_variables : Option MeshStageInfo → List ℕ
+mesh_variables o = elim o [ None ↦ [] | Some mesh ↦ mesh.output_variable ∷ [] ]
