@@ -16,7 +16,7 @@ import modules
 import run
 
 MOST_SHARE = 0.5
-STEP = "function_validator::validate::validate_function"
+STEP = "function_whole::validate::validate_function"
 
 
 def of_run(kind):

@@ -20,7 +20,7 @@ MEASURES = TOP / "crates/test_calls/out/test_calls"
 MOST_SHARE = 0.25
 # The steps up to overrides; and where the compiler has put them into the function that asks all steps, that one: the documents
 # have no function, no global variable and no entry point.
-STEPS = ("module_validator::validator::ModuleValidator::judge", "shader_check::whole::judge")
+STEPS = ("module_steps::validator::ModuleValidator::judge", "shader_check::whole::judge")
 FLAGS = ["EXPRESSIONS", "BLOCKS", "CONTROL_FLOW_UNIFORMITY", "STRUCT_LAYOUTS", "CONSTANTS", "BINDINGS"]
 ONE = ["Literal", "f32", 1065353216]
 BASE = [[None, ["Scalar", "u32"]], [None, ["Scalar", "f32"]], [None, ["Vector", 4, "f32"]]]

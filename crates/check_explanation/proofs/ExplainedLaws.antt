@@ -16,7 +16,7 @@ use Rattle.check_explanation.specs.Listed.{CanReportIn, ExplainsBytes, ExplainsD
 use Rattle.check_explanation.specs.declared.explanation.Explanation.TheVariants.{NoDocument, Accepted, Refused}
 use Rattle.ir_items.specs.judged.Plain.{PlainModule}
 use Rattle.judgement.specs.judged.Steps.{IsPrepared}
-use Rattle.check_errors.specs.declared.error.ValidationError.{ValidationError}
+use Rattle.function_errors.specs.declared.error.ValidationError.{ValidationError}
 use Rattle.document_reader.specs.found.Reasons.{IsReason}
 use Rattle.shader_check.specs.found.Examined.{IsExamined, IsExaminedDocument, finding_in, refused_by}
 use Rattle.shader_check.specs.declared.examined.Examined.{Examined}

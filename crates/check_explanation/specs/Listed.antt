@@ -5,7 +5,7 @@ use Rattle.document_reader.specs.judged.Form.{Reads}
 use Rattle.document_reader.specs.judged.Plain.{PlainDocument}
 use Rattle.document_reader.specs.found.Reasons.{IsReason}
 use Rattle.document_reader.specs.declared.error.DocumentError.TheVariants as unread
-use Rattle.check_errors.specs.declared.error.ValidationError.{ValidationError}
+use Rattle.function_errors.specs.declared.error.ValidationError.{ValidationError}
 use Rattle.check_explanation.specs.declared.explanation.Requested.{Requested}
 use Rattle.check_explanation.specs.declared.explanation.Requested.TheVariants.{Nothing, Leaves, Report}
 use Rattle.check_explanation.specs.declared.explanation.Explanation.{Explanation}

@@ -11,7 +11,7 @@ use Rattle.ir_blocks.specs.judged.Places.{statement, loop_condition}
 use Rattle.ir_blocks.specs.judged.Plain.{PlainStatement, emit, block, if_, switch, loop, break, continue, return, kill, operation, call}
 use Rattle.ir_types.specs.judged.ExpressionPlain.{PlainExpression}
 use Rattle.ir_items.specs.judged.Plain.{PlainFunction}
-use Rattle.ir_references.specs.First.{emitted_view}
+use Rattle.typing_references.specs.First.{emitted_view}
 use Rattle.spec_expressions.specs.judged.StatementNames.{statement_callee, statement_range, statement_result}
 use Rattle.spec_expressions.specs.judged.Kinds.{Emitted}
 use Rattle.spec_statements.specs.judged.Results.{answer_of}

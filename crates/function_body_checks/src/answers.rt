@@ -11,7 +11,7 @@ use crate::error::ScopeError;
 use crate::list::ExpressionList;
 use ir_arena::handle::Handle;
 use ir_items::{Statement, key};
-use ir_references::callee_of;
+use typing_references::callee_of;
 
 // By what a call or an atomic operation answers.
 fn answer_of(statement: &Statement) -> Option<Handle<key::Expression>>

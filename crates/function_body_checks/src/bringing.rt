@@ -16,8 +16,8 @@ use crate::operands::is_known;
 use ir_arena::handle::Handle;
 use ir_arena::range::Range;
 use ir_items::{Function, Statement, key};
-use ir_references::{callee_of, range_of, result_of};
 use std::alloc::AllocError;
+use typing_references::{callee_of, range_of, result_of};
 
 // Brings an expression into scope, and answers whether it was not there. The error is out of memory.
 #[tactic(auto, using(crate::proofs::Tables::reported_known, crate::proofs::Tables::reported_unknown, crate::proofs::Tables::added_known))]

@@ -12,8 +12,8 @@ ghost use Rattle.spec_statements.specs.judged.Scope.{is_pre_emitted};
 use crate::list::ExpressionList;
 use ir_arena::handle::Handle;
 use ir_items::{Expression, Function, Statement, key};
-use ir_references::{OperandUser, with_statement_operands};
 use spec_expressions::{Scoping, Slot};
+use typing_references::{OperandUser, with_statement_operands};
 
 // Whether an expression is in scope everywhere.
 #[tactic(auto, using(crate::proofs::Lists::same_pre))]
@@ -24,7 +24,7 @@ fn is_pre_emitted(expression: &Expression) -> bool
 }
 
 /// The same of the expression at a handle.
-#[tactic(auto, using(ir_references::proofs::Entries::entries))]
+#[tactic(auto, using(typing_references::proofs::Entries::entries))]
 pub fn is_always_known(function: &Function, handle: Handle<key::Expression>) -> bool
     ensures { result ≡ pre_known (slice_get (function_view function.now).expressions handle) }
 {

@@ -18,7 +18,7 @@ use crate::operands::{is_known, unknown_operand, unknown_place};
 use ir_arena::handle::Handle;
 use ir_blocks::plain_operation;
 use ir_items::{Function, Statement, key};
-use ir_references::callee_of;
+use typing_references::callee_of;
 
 /// What a walk over a body carries: the expressions in scope, and those by which calls and atomic operations have answered.
 #[derive(Drop)]

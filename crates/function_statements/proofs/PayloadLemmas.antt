@@ -9,8 +9,8 @@ use Rattle.ir_blocks.specs.judged.Plain.{PlainStatement, operation, ray_pipeline
 use Rattle.ir_blocks.specs.declared.operations.RayPipelineFunction.TheVariants.{TraceRay}
 use Rattle.ir_flags.specs.declared.settings.ValidationFlags.{ValidationFlags}
 use Rattle.ir_items.specs.judged.Plain.{PlainFunction, PlainModule}
-use Rattle.ir_references.specs.First.{first_in}
-use Rattle.ir_references.proofs.FirstLaws.{none_at, place_found}
+use Rattle.typing_references.specs.First.{first_in}
+use Rattle.typing_references.proofs.FirstLaws.{none_at, place_found}
 use Rattle.function_statements.specs.Payloads.{payload_type, unlike, AreOfOneType}
 use Rattle.spec_statements.specs.judged.BlockContext.{BlockContext}
 use Rattle.spec_statements.specs.judged.Payloads.{HasPayload}

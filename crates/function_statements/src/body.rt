@@ -11,11 +11,11 @@ ghost use Rattle.function_statements.specs.Faults.{IsBodyRefusal};
 use crate::error::StatementError;
 use crate::rules::Rules;
 use function_statement_checks::StatementContext;
-use ir_references::check_each;
 use ir_types::refusal::Refusal;
 use ir_types::with_span::WithSpan;
 use std::alloc::Global;
 use typing_errors::FunctionError;
+use typing_references::check_each;
 
 /// Whether each statement of the context's function, at any depth, meets the rule of its kind (a part of naga's
 /// `validate_block_impl`). Scope, and how statements leave their blocks, are no part of it. Requires that the base of each access

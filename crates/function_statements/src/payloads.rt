@@ -11,9 +11,9 @@ ghost use Rattle.spec_statements.specs.judged.Variables.{variable_at};
 use function_statement_checks::{StatementContext, variable_at};
 use ir_arena::handle::Handle;
 use ir_blocks::{RayPipelineFunction, Statement};
-use ir_references::{StatementLook, first_in};
 use ir_types::key;
 use typing_errors::FunctionError;
+use typing_references::{StatementLook, first_in};
 
 // ---- one payload
 

@@ -79,7 +79,7 @@ fn answers_of(statement: &Statement) -> Answers
 }
 
 // Whether the expression at a handle denotes the answer of a `Proceed`.
-#[tactic(auto, using(ir_references::proofs::Entries::entries))]
+#[tactic(auto, using(typing_references::proofs::Entries::entries))]
 fn is_proceed_result(function: &Function, handle: Handle<key::Expression>) -> bool
     ensures { result ≡ is_proceed (slice_get (function_view function.now).expressions handle) }
 {
@@ -90,7 +90,7 @@ fn is_proceed_result(function: &Function, handle: Handle<key::Expression>) -> bo
 }
 
 // The same of a ballot.
-#[tactic(auto, using(ir_references::proofs::Entries::entries))]
+#[tactic(auto, using(typing_references::proofs::Entries::entries))]
 fn is_ballot_result(function: &Function, handle: Handle<key::Expression>) -> bool
     ensures { result ≡ is_ballot (slice_get (function_view function.now).expressions handle) }
 {

@@ -9,9 +9,9 @@ ghost use Rattle.function_strict_scope.specs.Tables.{operands_given};
 
 use ir_arena::handle::Handle;
 use ir_items::{Expression, Function, key};
-use ir_references::{OperandUser, with_operands};
 use spec_expressions::{Scoping, Slot};
 use std::alloc::AllocError;
+use typing_references::{OperandUser, with_operands};
 
 // Adds these to a list.
 fn add_all(
@@ -78,7 +78,7 @@ fn add_operands(
 }
 
 /// Puts the operands of the expression at a handle into a list, in order, in place of what is there. The error is out of memory.
-#[tactic(auto, using(ir_references::proofs::Entries::entries))]
+#[tactic(auto, using(typing_references::proofs::Entries::entries))]
 pub fn list_operands(
     list: &mut Vec<Handle<key::Expression>>,
     function: &Function,

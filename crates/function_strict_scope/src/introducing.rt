@@ -18,8 +18,8 @@ use function_body_checks::{ExpressionList, is_known};
 use ir_arena::handle::Handle;
 use ir_arena::range::Range;
 use ir_items::{Function, Statement, key};
-use ir_references::{range_of, result_of};
 use std::alloc::{AllocError, Global};
+use typing_references::{range_of, result_of};
 
 // Brings an expression into scope after the others.
 fn add(sure: &mut ExpressionList, handle: Handle<key::Expression>) -> Result<(), StrictError>

@@ -27,7 +27,7 @@ fn is_pre_emitted(expression: &Expression) -> bool
 }
 
 // The same of the expression at a handle.
-#[tactic(auto, using(ir_references::proofs::Entries::entries))]
+#[tactic(auto, using(typing_references::proofs::Entries::entries))]
 fn is_always_known(function: &Function, handle: Handle<key::Expression>) -> bool
     ensures { result ≡ pre_known (slice_get (function_view function.now).expressions handle) }
 {

@@ -19,7 +19,7 @@ use function_body_checks::{ExpressionList, is_known, unknown_operand, unknown_pl
 use ir_arena::handle::Handle;
 use ir_blocks::plain_operation;
 use ir_items::{Function, Statement, key};
-use ir_references::callee_of;
+use typing_references::callee_of;
 
 // What is passed where a statement is a call.
 fn arguments_of(statement: &Statement) -> &[Handle<key::Expression>]

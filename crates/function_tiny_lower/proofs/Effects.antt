@@ -6,7 +6,7 @@ use Rattle.std.specs.Option.{is_some, option_or}
 use Rattle.ir_blocks.specs.judged.Plain.{PlainStatement, emit, block, if_, switch, loop, break, continue, return, kill, operation, call, PlainBlock, stop, next, PlainCases, no_case, case}
 use Rattle.ir_types.specs.judged.ExpressionPlain.{PlainExpression, plain}
 use Rattle.ir_types.specs.declared.expressions.Expression.TheVariants as x
-use Rattle.ir_references.specs.First.{first_in, first_at, first_in_cases}
+use Rattle.typing_references.specs.First.{first_in, first_at, first_in_cases}
 use Rattle.typing_rules.specs.judged.Laws.{IsAmong}
 use Rattle.spec_expressions.specs.judged.Effects.{Effect, takes, samples, sampling_at, expression_effects, expressions_effects, leaving_effects, statement_effects, effects_in, effects_inside, effects_in_cases}
 use Rattle.spec_expressions.specs.judged.OperandUses.{Operand, expression_uses, statement_uses}

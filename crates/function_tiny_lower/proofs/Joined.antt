@@ -8,8 +8,8 @@ use Rattle.ir_blocks.specs.judged.Plain.{PlainStatement, emit, block, if_, switc
 use Rattle.ir_types.specs.judged.ExpressionPlain.{PlainExpression, plain}
 use Rattle.ir_types.specs.declared.expressions.Expression.TheVariants as x
 use Rattle.ir_items.specs.judged.Plain.{PlainFunction, PlainModule}
-use Rattle.ir_references.proofs.FirstLaws.{place_found}
-use Rattle.ir_references.specs.First.{first_in}
+use Rattle.typing_references.proofs.FirstLaws.{place_found}
+use Rattle.typing_references.specs.First.{first_in}
 use Rattle.typing_rules.specs.judged.Laws.{IsAmong}
 use Rattle.spec_expressions.proofs.Members.{among-cases}
 use Rattle.spec_expressions.specs.judged.CallChains.{Discards}

@@ -7,7 +7,7 @@ use Rattle.function_interface.specs.Question.{question}
 use Rattle.ir_flags.specs.declared.settings.ValidationFlags.{ValidationFlags}
 use Rattle.ir_flags.specs.declared.stages.ShaderStages.{ShaderStages}
 use Rattle.ir_items.specs.judged.Plain.{PlainFunction, PlainModule}
-use Rattle.ir_references.specs.First.{first_in}
+use Rattle.typing_references.specs.First.{first_in}
 use Rattle.spec_expressions.proofs.SummaryLaws.{joined_by_callees}
 use Rattle.spec_expressions.specs.judged.Summaries.{Summary, AgreeOnCallees}
 use Rattle.spec_statements.specs.judged.ExpressionStages.{all_stages}

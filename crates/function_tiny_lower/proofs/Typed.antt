@@ -7,7 +7,7 @@ use Rattle.ir_types.specs.judged.ExpressionPlain.{PlainExpression, expression_vi
 use Rattle.ir_types.specs.declared.expressions.Expression.{Expression}
 use Rattle.ir_items.specs.found.GlobalView.{values_of}
 use Rattle.ir_items.specs.judged.Plain.{PlainFunction, PlainModule}
-use Rattle.ir_references.proofs.Entries.{slice_get-entries}
+use Rattle.typing_references.proofs.Entries.{slice_get-entries}
 use Rattle.ir_types.specs.judged.Plain.{PlainType}
 use Rattle.typing_rules.specs.judged.Laws.{IsAmong}
 use Rattle.function_tiny_lower.specs.Typing.{earlier, expression_type, types_after, types_of, HasForm, IsUntyped}

@@ -2,15 +2,15 @@
 
 ghost use Rattle.std.specs.Prelude.{◌≡◌, is_some, map, slice_get};
 ghost use Rattle.ir_items.specs.found.View.{function_view};
-ghost use Rattle.ir_references.specs.First.{first_in};
+ghost use Rattle.typing_references.specs.First.{first_in};
 ghost use Rattle.function_tiny_lower.specs.Ends.{ends_in, may_end, summary_of};
 
 use crate::tiny::TinyInfo;
 use ir_arena::handle::Handle;
 use ir_blocks::plain_operation;
 use ir_items::{Function, Statement};
-use ir_references::{StatementLook, first_in};
 use ir_types::key;
+use typing_references::{StatementLook, first_in};
 
 // Whether a function that is called may.
 fn may_end(callees: &[TinyInfo], function: Handle<key::Function>) -> bool

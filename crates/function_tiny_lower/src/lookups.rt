@@ -40,7 +40,7 @@ pub(crate) fn argument_type(
 }
 
 // The function at a handle, if it is there.
-#[tactic(auto, using(ir_references::proofs::Entries::entries))]
+#[tactic(auto, using(typing_references::proofs::Entries::entries))]
 fn function_at(module: &Module, function: Handle<key::Function>) -> Option<&Function>
     ensures { option_map (λ f. function_view f.now) result ≡ slice_get (module_view «module».now).functions function }
 {

@@ -1,9 +1,9 @@
 -- What the faults of functions say of their module.
 use Rattle.std.proofs.Common.{◌≡◌, inl, inr, ℕ, Some, refl, sym, slice_get}
 use Rattle.ir_items.specs.judged.Plain.{PlainFunction, PlainEntry, PlainModule}
-use Rattle.ir_references.specs.Faults.{IsMissingFault, IsForwardOperand, IsForwardCallee, IsForwardParent}
-use Rattle.ir_references.specs.declared.fault.HandleFault.{HandleFault}
-use Rattle.ir_references.specs.declared.fault.HandleFault.TheVariants as fault
+use Rattle.typing_references.specs.Faults.{IsMissingFault, IsForwardOperand, IsForwardCallee, IsForwardParent}
+use Rattle.typing_references.specs.declared.fault.HandleFault.{HandleFault}
+use Rattle.typing_references.specs.declared.fault.HandleFault.TheVariants as fault
 use Rattle.module_handles.specs.InOrder.{IsFaultIn, IsFunctionFault, IsEntryFault}
 use Rattle.module_handles.proofs.OutsideFaults.{entry_fault}
 use Rattle.spec_expressions.specs.judged.ModuleHandles.{in_function, in_entry}

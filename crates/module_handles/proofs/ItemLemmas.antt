@@ -6,9 +6,9 @@ use Rattle.ir_items.specs.found.GlobalView.{values_of, constant_view, override_v
 use Rattle.ir_items.specs.judged.Plain.{PlainModule}
 use Rattle.ir_items.specs.found.View.{module_view}
 use Rattle.ir_items.specs.declared.module.Module.{Module}
-use Rattle.ir_references.specs.Faults.{outside_functions}
-use Rattle.ir_references.specs.declared.bounds.Bounds.{Bounds}
-use Rattle.ir_references.specs.declared.fault.HandleFault.{HandleFault}
+use Rattle.typing_references.specs.Faults.{outside_functions}
+use Rattle.typing_references.specs.declared.bounds.Bounds.{Bounds}
+use Rattle.typing_references.specs.declared.fault.HandleFault.{HandleFault}
 use Rattle.module_handles.proofs.OutsideFaults.{special_fault, leaf_fault, constant_fault, override_fault, variable_fault}
 use Rattle.module_handles.proofs.Viewed.{reported_viewed}
 use Rattle.module_handles.specs.Found.{special_missing, leaf_missing, constant_missing, override_missing, variable_missing}

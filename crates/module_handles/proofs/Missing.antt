@@ -2,8 +2,8 @@
 use Rattle.std.proofs.Common.{◌≡◌, ℕ, List, [], ◌∷◌, ◌++◌, true, false, if◌then◌else◌, Option, Some, None, option_map, option_to_list, nat_lt, refl, ap}
 use Rattle.std.specs.Option.{option_or}
 use Rattle.ir_items.specs.declared.entries.MeshStageInfo.{MeshStageInfo}
-use Rattle.ir_references.specs.First.{first_past}
-use Rattle.ir_references.specs.declared.fault.HandleFault.TheVariants as fault
+use Rattle.typing_references.specs.First.{first_past}
+use Rattle.typing_references.specs.declared.fault.HandleFault.TheVariants as fault
 use Rattle.module_handles.specs.Found.{first_missing}
 use Rattle.spec_expressions.specs.judged.Operands.{given}
 use Rattle.spec_expressions.specs.found.Meshes.{mesh_variables}

@@ -4,8 +4,8 @@ use Rattle.std.proofs.lemmas.Bool.{eq-eqb, eqb-true}
 use Rattle.ir_blocks.specs.judged.Plain.{PlainStatement, call}
 use Rattle.ir_blocks.specs.judged.Places.{OccursAt}
 use Rattle.ir_items.specs.judged.Plain.{PlainFunction, PlainModule}
-use Rattle.ir_references.proofs.FirstLaws.{none_at, place_found}
-use Rattle.ir_references.specs.First.{first_in}
+use Rattle.typing_references.proofs.FirstLaws.{none_at, place_found}
+use Rattle.typing_references.specs.First.{first_in}
 use Rattle.spec_expressions.specs.judged.CallArities.{AritiesMatch}
 use Rattle.module_handles.specs.Tests.{count_of, fault_at, wrong_count, arity_fault_of, PassesWrongCount}
 use Rattle.module_handles.specs.declared.arities.ArityFault.{ArityFault}

@@ -9,7 +9,7 @@ use Rattle.ir_types.specs.declared.expressions.Expression.{Expression}
 use Rattle.ir_types.specs.declared.expressions.Expression.TheVariants as x
 use Rattle.ir_items.specs.found.GlobalView.{values_of}
 use Rattle.ir_items.specs.found.View.{function_view, entry_view, module_view}
-use Rattle.ir_references.proofs.FaultLaws.{map_some}
+use Rattle.typing_references.proofs.FaultLaws.{map_some}
 use Rattle.module_handles.specs.Steps.{OrderGivesOrigins}
 use Rattle.module_handles.proofs.Whole.{conditions}
 use Rattle.spec_expressions.specs.judged.FunctionHandles.{OperandsPrecede}

@@ -4,11 +4,11 @@ use borrow.Author.Tests.{ltb-true, ltb-false}
 use Rattle.ir_types.specs.judged.ExpressionPlain.{PlainExpression}
 use Rattle.ir_items.specs.judged.GlobalPlain.{PlainConstant, PlainOverride, PlainGlobal}
 use Rattle.ir_items.specs.judged.Plain.{PlainEntry, PlainModule}
-use Rattle.ir_references.proofs.FaultLaws.{missing_none, missing_some, then_some, map_none, map_some}
-use Rattle.ir_references.proofs.FirstLaws.{or_some, some_is, below_each, past_one}
-use Rattle.ir_references.specs.Faults.{outside_functions, missing, item_missing}
-use Rattle.ir_references.specs.declared.fault.HandleFault.{HandleFault}
-use Rattle.ir_references.specs.declared.fault.HandleFault.TheVariants as fault
+use Rattle.typing_references.proofs.FaultLaws.{missing_none, missing_some, then_some, map_none, map_some}
+use Rattle.typing_references.proofs.FirstLaws.{or_some, some_is, below_each, past_one}
+use Rattle.typing_references.specs.Faults.{outside_functions, missing, item_missing}
+use Rattle.typing_references.specs.declared.fault.HandleFault.{HandleFault}
+use Rattle.typing_references.specs.declared.fault.HandleFault.TheVariants as fault
 use Rattle.ir_types.specs.judged.Plain.{PlainInner, PlainType}
 use Rattle.module_handles.specs.Found.{first_missing, special_missing, leaf_missing, constant_missing, override_missing, variable_missing, entry_missing, pending_missing, built_forward, up_to, looked_through}
 use Rattle.module_handles.specs.LookupFound.{type_of, init_of, forward, counted_by, counted_forward}

@@ -2,7 +2,7 @@
 use Rattle.std.proofs.Common.{◌≡◌, ◌⊎◌, inl, inr, rules, ℕ, ◌+◌, ◌<◌, ◌≤◌, List, Option, Some, None, sym, subst, slice_get, length, arith}
 use Rattle.std.proofs.lemmas.Option.{slice_get_within}
 use Rattle.std.specs.Option.{MatchOption}
-use Rattle.ir_references.specs.declared.fault.HandleFault.{HandleFault}
+use Rattle.typing_references.specs.declared.fault.HandleFault.{HandleFault}
 use Rattle.module_handles.specs.Lists.{AllPass, SomeFails}
 
 -- each item before this place passes

@@ -9,12 +9,12 @@ use Rattle.ir_types.specs.judged.ExpressionPlain.{PlainExpression, expression_vi
 use Rattle.ir_types.specs.declared.expressions.Expression.{Expression}
 use Rattle.ir_items.specs.found.GlobalView.{values_of}
 use Rattle.ir_items.specs.judged.Plain.{PlainModule}
-use Rattle.ir_references.proofs.FaultLaws.{map_some}
-use Rattle.ir_references.proofs.FirstLaws.{or_none, or_some}
-use Rattle.ir_references.specs.Faults.{outside_functions}
-use Rattle.ir_references.specs.First.{first_past}
-use Rattle.ir_references.specs.declared.fault.HandleFault.{HandleFault}
-use Rattle.ir_references.specs.declared.fault.HandleFault.TheVariants as fault
+use Rattle.typing_references.proofs.FaultLaws.{map_some}
+use Rattle.typing_references.proofs.FirstLaws.{or_none, or_some}
+use Rattle.typing_references.specs.Faults.{outside_functions}
+use Rattle.typing_references.specs.First.{first_past}
+use Rattle.typing_references.specs.declared.fault.HandleFault.{HandleFault}
+use Rattle.typing_references.specs.declared.fault.HandleFault.TheVariants as fault
 use Rattle.ir_types.specs.judged.Plain.{PlainInner, PlainMember, PlainType, inner_view, member_view, type_view}
 use Rattle.ir_types.specs.declared.types.IrType.{IrType}
 use Rattle.ir_types.specs.declared.types.StructMember.{StructMember}

@@ -5,9 +5,9 @@ use Rattle.std.specs.Option.{MatchOption}
 use Rattle.ir_arena.specs.found.Arenas.{value_at}
 use Rattle.ir_arena.specs.declared.span.Span.{Span}
 use Rattle.ir_items.specs.found.GlobalView.{values_of}
-use Rattle.ir_references.proofs.Entries.{slice_get-entries}
-use Rattle.ir_references.proofs.FaultLaws.{map_some}
-use Rattle.ir_references.specs.declared.fault.HandleFault.{HandleFault}
+use Rattle.typing_references.proofs.Entries.{slice_get-entries}
+use Rattle.typing_references.proofs.FaultLaws.{map_some}
+use Rattle.typing_references.specs.declared.fault.HandleFault.{HandleFault}
 use Rattle.module_handles.proofs.PassLemmas.{weaker}
 use Rattle.module_handles.specs.Lists.{AllPass, SomeFails}
 

@@ -5,9 +5,9 @@ use Rattle.std.proofs.lemmas.Option.{slice_get_within}
 use Rattle.ir_types.specs.judged.ExpressionPlain.{PlainExpression}
 use Rattle.ir_items.specs.judged.GlobalPlain.{PlainConstant, PlainOverride}
 use Rattle.ir_items.specs.judged.Plain.{PlainFunction, PlainEntry, PlainModule}
-use Rattle.ir_references.proofs.FaultLaws.{missing_none, then_none, map_none, map_some}
-use Rattle.ir_references.proofs.FirstLaws.{or_none, below_each}
-use Rattle.ir_references.specs.Faults.{outside_functions, missing, item_missing}
+use Rattle.typing_references.proofs.FaultLaws.{missing_none, then_none, map_none, map_some}
+use Rattle.typing_references.proofs.FirstLaws.{or_none, below_each}
+use Rattle.typing_references.specs.Faults.{outside_functions, missing, item_missing}
 use Rattle.ir_types.specs.judged.Plain.{PlainInner, PlainType}
 use Rattle.ir_items.specs.found.Filters.{ParentsPrecede}
 use Rattle.module_handles.proofs.OutsideFaults.{forward_none, each_there, item_there, type_found}

@@ -5,11 +5,11 @@ use Rattle.std.specs.Option.{option_or}
 use Rattle.ir_types.specs.judged.ExpressionPlain.{PlainExpression}
 use Rattle.ir_items.specs.judged.GlobalPlain.{PlainConstant, PlainOverride, PlainGlobal, PlainSpecialTypes}
 use Rattle.ir_items.specs.judged.Plain.{PlainEntry, PlainModule}
-use Rattle.ir_references.specs.Faults.{missing, item_missing}
-use Rattle.ir_references.specs.First.{first_past}
-use Rattle.ir_references.specs.declared.bounds.Bounds.{Bounds}
-use Rattle.ir_references.specs.declared.fault.HandleFault.{HandleFault}
-use Rattle.ir_references.specs.declared.fault.HandleFault.TheVariants as fault
+use Rattle.typing_references.specs.Faults.{missing, item_missing}
+use Rattle.typing_references.specs.First.{first_past}
+use Rattle.typing_references.specs.declared.bounds.Bounds.{Bounds}
+use Rattle.typing_references.specs.declared.fault.HandleFault.{HandleFault}
+use Rattle.typing_references.specs.declared.fault.HandleFault.TheVariants as fault
 use Rattle.ir_types.specs.judged.Plain.{PlainInner}
 use Rattle.module_handles.specs.LookupFound.{type_of, init_of, forward, counted_by}
 use Rattle.spec_expressions.specs.judged.ExpressionNames.{expression_item}

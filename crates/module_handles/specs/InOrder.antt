@@ -3,9 +3,9 @@ use Rattle.std.specs.Prelude.{◌≡◌, ◌⊎◌, ℕ, ◌<◌, ◌≤◌, Som
 use Rattle.ir_types.specs.judged.ExpressionPlain.{PlainExpression}
 use Rattle.ir_items.specs.judged.GlobalPlain.{PlainConstant, PlainOverride, PlainGlobal}
 use Rattle.ir_items.specs.judged.Plain.{PlainFunction, PlainEntry, PlainModule}
-use Rattle.ir_references.specs.Faults.{outside_functions, IsMissingFault, IsForwardOperand, IsForwardCallee}
-use Rattle.ir_references.specs.declared.fault.HandleFault.{HandleFault}
-use Rattle.ir_references.specs.declared.fault.HandleFault.TheVariants as fault
+use Rattle.typing_references.specs.Faults.{outside_functions, IsMissingFault, IsForwardOperand, IsForwardCallee}
+use Rattle.typing_references.specs.declared.fault.HandleFault.{HandleFault}
+use Rattle.typing_references.specs.declared.fault.HandleFault.TheVariants as fault
 use Rattle.ir_types.specs.judged.Plain.{PlainInner, PlainType}
 use Rattle.module_handles.specs.Found.{special_missing, leaf_missing, constant_missing, override_missing, variable_missing, entry_missing, named_missing, pending_missing, init_forward, built_forward, named_forward, looked_through}
 use Rattle.module_handles.specs.LookupFound.{counted_forward}

@@ -1,6 +1,6 @@
 -- What is required of each item of a list, and what is found at one of them.
 use Rattle.std.specs.Prelude.{◌≡◌, ℕ, List, Some, slice_get}
-use Rattle.ir_references.specs.declared.fault.HandleFault.{HandleFault}
+use Rattle.typing_references.specs.declared.fault.HandleFault.{HandleFault}
 
 -- each item passes at its place
 abbrev pub AllPass : {T : Type 0} → (ℕ → T → Type 0) → List T → Type 0

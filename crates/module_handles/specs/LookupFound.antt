@@ -2,8 +2,8 @@
 use Rattle.std.specs.Prelude.{ℕ, nat_lt, if◌then◌else◌, Option, Some, None, option_map, option_and_then, slice_get}
 use Rattle.ir_items.specs.judged.GlobalPlain.{PlainConstant, PlainOverride}
 use Rattle.ir_items.specs.judged.Plain.{PlainModule}
-use Rattle.ir_references.specs.declared.fault.HandleFault.{HandleFault}
-use Rattle.ir_references.specs.declared.fault.HandleFault.TheVariants as fault
+use Rattle.typing_references.specs.declared.fault.HandleFault.{HandleFault}
+use Rattle.typing_references.specs.declared.fault.HandleFault.TheVariants as fault
 use Rattle.ir_types.specs.judged.Plain.{PlainInner}
 use Rattle.spec_expressions.specs.judged.ItemNames.{pending_of}
 use Rattle.spec_expressions.specs.declared.item.ItemKind.{ItemKind}

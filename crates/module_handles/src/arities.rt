@@ -2,14 +2,14 @@
 
 ghost use Rattle.std.specs.Prelude.{◌≡◌, ◌↔◌, IsTrue, MatchOption, option_map, slice_get};
 ghost use Rattle.ir_items.specs.found.View.{function_view, module_view};
-ghost use Rattle.ir_references.specs.First.{first_in};
+ghost use Rattle.typing_references.specs.First.{first_in};
 ghost use Rattle.spec_expressions.specs.judged.CallArities.{AritiesMatch};
 ghost use Rattle.module_handles.specs.Tests.{arity_fault_of, count_of, wrong_count, PassesWrongCount};
 
 use ir_arena::handle::Handle;
 use ir_blocks::plain_operation;
 use ir_items::{Function, Module, Statement, key};
-use ir_references::{StatementLook, first_in};
+use typing_references::{StatementLook, first_in};
 
 /// A call that passes another number of arguments than its function has.
 #[derive(Clone, Copy, PartialEq, Eq, Debug)]
@@ -23,7 +23,7 @@ pub struct ArityFault {
 }
 
 // The function at a handle, if it is there.
-#[tactic(auto, using(ir_references::proofs::Entries::entries))]
+#[tactic(auto, using(typing_references::proofs::Entries::entries))]
 fn function_at(module: &Module, handle: Handle<key::Function>) -> Option<&Function>
     ensures { option_map (λ f. function_view f.now) result ≡ slice_get (module_view «module».now).functions handle }
 {

@@ -5,7 +5,7 @@ ghost use Rattle.ir_items.specs.found.View.{function_view};
 ghost use Rattle.spec_expressions.specs.judged.FunctionHandles.{CalleesPrecede};
 
 use ir_items::{Function, Module};
-use ir_references::forward_callee;
+use typing_references::forward_callee;
 
 /// Whether each function that the function names, by a call or by what denotes the answer of one, is one of the first
 /// `before` of its module: as many as come before a function, all for an entry point.

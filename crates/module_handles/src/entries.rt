@@ -13,8 +13,8 @@ ghost use Rattle.spec_expressions.specs.declared.item.ItemKind.TheVariants as ki
 use crate::lists::{ItemCheck, fault_of_items, first_missing};
 use crate::place_of;
 use ir_items::{EntryPoint, MeshStageInfo, Module};
-use ir_references::{Bounds, HandleFault, forward_operand, missing_in_function};
 use spec_expressions::ItemKind;
+use typing_references::{Bounds, HandleFault, forward_operand, missing_in_function};
 
 fn mesh_types_missing(mesh: &Option<MeshStageInfo>, there: usize) -> Option<HandleFault>
     ensures { result ≡ first_missing kind.Type there (mesh_types mesh.now) }

@@ -10,8 +10,8 @@ ghost use Rattle.module_handles.specs.InOrder.{IsFaultIn, GlobalExpressionsOK};
 use crate::lists::{ItemCheck, fault_of_values};
 use crate::{forward, init_named};
 use ir_items::{Expression, Module};
-use ir_references::{Bounds, HandleFault, item_of};
 use spec_expressions::ItemKind;
+use typing_references::{Bounds, HandleFault, item_of};
 
 fn named_missing(expression: &Expression, bounds: &Bounds) -> Option<HandleFault>
     ensures { result ≡ named_missing bounds.now (expression_view expression.now) }

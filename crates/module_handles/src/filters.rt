@@ -5,7 +5,7 @@ ghost use Rattle.ir_items.specs.found.View.{module_view};
 ghost use Rattle.ir_items.specs.found.Filters.{ParentsPrecede};
 
 use ir_items::{Function, Module};
-use ir_references::forward_parent;
+use typing_references::forward_parent;
 
 /// Whether the parent of each diagnostic filter of the module comes before it.
 pub fn filter_parents_precede(_function: &Function, module: &Module) -> bool

@@ -6,7 +6,7 @@ ghost use Rattle.module_handles.specs.InOrder.{IsFaultIn, FunctionsOK};
 
 use crate::lists::{ItemCheck, fault_of_values};
 use ir_items::{Function, Module};
-use ir_references::{HandleFault, forward_callee, forward_operand, missing_in_function};
+use typing_references::{HandleFault, forward_callee, forward_operand, missing_in_function};
 
 // Functions of a module.
 #[derive(Drop)]

@@ -4,7 +4,7 @@ ghost use Rattle.std.specs.Prelude.{◌≡◌, map, option_and_then};
 ghost use Rattle.std.specs.Option.{MatchOption, option_or};
 ghost use Rattle.ir_items.specs.found.GlobalView.{constant_view, override_view, global_view, special_view};
 ghost use Rattle.ir_items.specs.found.View.{module_view};
-ghost use Rattle.ir_references.specs.First.{first_past};
+ghost use Rattle.typing_references.specs.First.{first_past};
 ghost use Rattle.module_handles.specs.Found.{first_missing, special_missing, leaf_missing, constant_missing, override_missing, variable_missing};
 ghost use Rattle.module_handles.specs.InOrder.{IsFaultIn, ItemsOK};
 ghost use Rattle.spec_expressions.specs.declared.item.ItemKind.TheVariants as kind;
@@ -17,8 +17,8 @@ use ir_items::{
     Constant, DiagnosticFilterNode, GlobalVariable, Module, Override, SpecialTypes, key,
 };
 use ir_kinds::PredeclaredType;
-use ir_references::{Bounds, HandleFault};
 use spec_expressions::{ItemKind, Target};
+use typing_references::{Bounds, HandleFault};
 
 // The first of the types of what built-in functions answer that is not there.
 fn predeclared_missing(

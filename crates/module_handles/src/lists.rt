@@ -3,20 +3,20 @@
 ghost use Rattle.std.specs.Prelude.{◌≡◌};
 ghost use Rattle.std.specs.Option.{MatchOption};
 ghost use Rattle.ir_items.specs.found.GlobalView.{values_of};
-ghost use Rattle.ir_references.specs.First.{first_past};
+ghost use Rattle.typing_references.specs.First.{first_past};
 ghost use Rattle.module_handles.specs.Found.{first_missing};
 ghost use Rattle.module_handles.specs.Lists.{AllPass, SomeFails};
 ghost use Rattle.spec_expressions.specs.judged.Operands.{given};
 
 use ir_arena::arena::Arena;
 use ir_arena::handle::Handle;
-use ir_references::HandleFault;
 use spec_expressions::ItemKind;
+use typing_references::HandleFault;
 
 // What is required of the items of a list, each at its place.
 pub(crate) trait ItemCheck<T> {
     ghost use Rattle.std.specs.Prelude.{ℕ};
-    ghost use Rattle.ir_references.specs.declared.fault.HandleFault.{HandleFault};
+    ghost use Rattle.typing_references.specs.declared.fault.HandleFault.{HandleFault};
 
     ghost passes: { Self → ℕ → T → Type 0 };
 

@@ -9,11 +9,11 @@ ghost use Rattle.spec_expressions.specs.judged.ExpressionNames.{expression_item}
 
 use ir_arena::handle::Handle;
 use ir_items::{Constant, Expression, Module, Override, key};
-use ir_references::{HandleFault, item_of};
 use spec_expressions::{ItemKind, Target};
+use typing_references::{HandleFault, item_of};
 
 // The constant at a handle, if it is there.
-#[tactic(auto, using(ir_references::proofs::Entries::entries))]
+#[tactic(auto, using(typing_references::proofs::Entries::entries))]
 fn constant_at(module: &Module, handle: Handle<key::Constant>) -> Option<&Constant>
     ensures { option_map (λ x. constant_view x.now) result ≡ slice_get (module_view «module».now).constants handle }
 {
@@ -24,7 +24,7 @@ fn constant_at(module: &Module, handle: Handle<key::Constant>) -> Option<&Consta
 }
 
 // The override at a handle, if it is there.
-#[tactic(auto, using(ir_references::proofs::Entries::entries))]
+#[tactic(auto, using(typing_references::proofs::Entries::entries))]
 fn override_at(module: &Module, handle: Handle<key::Override>) -> Option<&Override>
     ensures { option_map (λ x. override_view x.now) result ≡ slice_get (module_view «module».now).overrides handle }
 {

@@ -5,7 +5,7 @@ ghost use Rattle.ir_items.specs.found.View.{function_view};
 ghost use Rattle.spec_expressions.specs.judged.FunctionHandles.{OperandsPrecede};
 
 use ir_items::{Function, Module};
-use ir_references::forward_operand;
+use typing_references::forward_operand;
 
 /// Whether the operands of each expression of the function come before it.
 pub fn operands_precede(function: &Function, _module: &Module) -> bool

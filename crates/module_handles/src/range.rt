@@ -5,7 +5,7 @@ ghost use Rattle.ir_items.specs.found.View.{function_view, module_view};
 ghost use Rattle.spec_expressions.specs.judged.FunctionHandles.{HandlesInRange};
 
 use ir_items::{Function, Module};
-use ir_references::missing_in_function;
+use typing_references::missing_in_function;
 
 /// Whether each handle of the function and each range in it names what is there: the types of its arguments, its result
 /// and its variables, what these begin as, its diagnostic filter, and what its expressions and its statements name, those

@@ -9,8 +9,8 @@ ghost use Rattle.spec_expressions.specs.judged.ItemNames.{pending_in, pending_of
 use crate::lookups::{forward, place_of, type_of};
 use ir_arena::handle::Handle;
 use ir_items::{ArraySize, Module, TypeInner, key};
-use ir_references::HandleFault;
 use spec_expressions::{ItemKind, Target};
+use typing_references::HandleFault;
 
 // The override that says how many there are.
 fn pending_in(size: ArraySize) -> Option<Handle<key::Override>>

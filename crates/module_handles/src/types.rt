@@ -4,8 +4,8 @@ ghost use Rattle.std.specs.Prelude.{◌≡◌, ◌<◌, [], ◌∷◌, length, m
 ghost use Rattle.std.specs.Option.{MatchOption, option_or};
 ghost use Rattle.ir_types.specs.judged.ExpressionPlain.{expression_view};
 ghost use Rattle.ir_items.specs.found.View.{module_view};
-ghost use Rattle.ir_references.specs.Faults.{outside_functions};
-ghost use Rattle.ir_references.specs.First.{first_past};
+ghost use Rattle.typing_references.specs.Faults.{outside_functions};
+ghost use Rattle.typing_references.specs.First.{first_past};
 ghost use Rattle.ir_types.specs.judged.Plain.{inner_view, member_view};
 ghost use Rattle.module_handles.specs.Found.{pending_missing, built_forward, named_forward, looked_through};
 ghost use Rattle.module_handles.specs.LookupFound.{counted_forward};
@@ -16,8 +16,8 @@ ghost use Rattle.typing_forms.specs.judged.Resolutions.{inner_at};
 use crate::{counted_by, counted_forward, forward, init_of, pending_of, type_named};
 use ir_arena::handle::Handle;
 use ir_items::{Expression, Module, StructMember, TypeInner, key};
-use ir_references::{Bounds, HandleFault};
 use spec_expressions::{ItemKind, Target};
+use typing_references::{Bounds, HandleFault};
 
 // The first of the types of members that does not come before the end.
 fn member_past(members: &[StructMember], end: usize) -> Option<usize>

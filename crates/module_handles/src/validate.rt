@@ -19,8 +19,8 @@ use crate::{FwdDepError, InvalidHandleError};
 use ir_arena::handle::{BadHandle, Kind};
 use ir_arena::range::{BadRangeError, Range};
 use ir_items::{Module, key};
-use ir_references::{HandleFault, forward_operand, forward_parent};
 use spec_expressions::ItemKind;
+use typing_references::{HandleFault, forward_operand, forward_parent};
 
 // The word for what an item is.
 fn word(kind: ItemKind) -> &'static str

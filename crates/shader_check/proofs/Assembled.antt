@@ -5,9 +5,9 @@ use Rattle.shader_check.proofs.Staged.{are_stages}
 use Rattle.shader_check.specs.found.Judged.{AreJudged}
 use Rattle.shader_check.specs.found.JudgedEntries.{AreEntriesJudged, AreEntryNotes, IsEntryRefusal, Note}
 use Rattle.shader_check.specs.found.Validated.{AreEntriesKept, IsEntryFault, IsFaultAfter, IsKeptWith, IsRefusedWith, IsReportedBy, IsValidated, IsValidationFault}
-use Rattle.check_errors.specs.declared.error.InvalidEntryPoint.{InvalidEntryPoint}
-use Rattle.check_errors.specs.declared.error.ValidationError.{ValidationError}
-use Rattle.check_errors.specs.declared.error.ValidationError.TheVariants as error
+use Rattle.function_errors.specs.declared.error.InvalidEntryPoint.{InvalidEntryPoint}
+use Rattle.function_errors.specs.declared.error.ValidationError.{ValidationError}
+use Rattle.function_errors.specs.declared.error.ValidationError.TheVariants as error
 use Rattle.ir_types.specs.found.Faults.{error_of}
 use Rattle.ir_types.specs.declared.refusal.Refusal.{Refusal}
 use Rattle.ir_types.specs.declared.refusal.Refusal.TheVariants as refusal
@@ -19,13 +19,13 @@ use Rattle.ir_items.specs.judged.Plain.{PlainModule}
 use Rattle.module_handles.proofs.Whole.{order_gives_conditions}
 use Rattle.typing_infos.specs.declared.info.ModuleInfo.{ModuleInfo}
 use Rattle.module_context.specs.AcceptedTypes.{AreAccepted}
-use Rattle.module_validator.specs.Faults as items
-use Rattle.module_validator.specs.Faults.{IsModuleFault}
-use Rattle.module_validator.specs.Refusals as variables
-use Rattle.module_validator.specs.Refusals.{IsVariableFault}
-use Rattle.module_validator.specs.Reported.{IsInfoOf}
-use Rattle.module_validator.specs.declared.error.ModuleError.{ModuleError}
-use Rattle.module_validator.specs.declared.globals.InvalidGlobalVariable.{InvalidGlobalVariable}
+use Rattle.module_steps.specs.Faults as items
+use Rattle.module_steps.specs.Faults.{IsModuleFault}
+use Rattle.module_steps.specs.Refusals as variables
+use Rattle.module_steps.specs.Refusals.{IsVariableFault}
+use Rattle.module_steps.specs.Reported.{IsInfoOf}
+use Rattle.module_steps.specs.declared.error.ModuleError.{ModuleError}
+use Rattle.module_steps.specs.declared.globals.InvalidGlobalVariable.{InvalidGlobalVariable}
 use Rattle.function_real_lower.specs.Made.{IsMadeOf}
 use Rattle.function_real_lower.specs.Readings.{reading_of, faults_of}
 use Rattle.spec_expressions.specs.judged.Summaries.{Summary}

@@ -3,14 +3,14 @@ use Rattle.std.proofs.Common.{◌≡◌, ℕ, true, Bool, List, length, Option, 
 use Rattle.std.proofs.lemmas.Option.{slice_get_within}
 use Rattle.function_entry_checks.specs.declared.error.EntryPointError.{EntryPointError}
 use Rattle.function_interface.specs.Question.{question}
-use Rattle.function_validator.specs.Validated.{IsEntryNoted}
+use Rattle.function_whole.specs.Validated.{IsEntryNoted}
 use Rattle.shader_check.proofs.ByChains.{ok_by_chains, ok_by_summaries}
 use Rattle.shader_check.proofs.Chained.{some_is}
 use Rattle.shader_check.proofs.EntryHeld.{one_entry_held}
 use Rattle.shader_check.proofs.EntrySteps.{entry_conditions, entry_known}
 use Rattle.shader_check.specs.found.JudgedEntries.{IsEntryAcceptedAt, IsEntryRefusedAt, IsWrong, conflicting, unaccepted, IsFirstEntryRefused}
 use Rattle.shader_check.specs.found.Validated.{IsEntryFault}
-use Rattle.check_errors.specs.declared.error.InvalidEntryPoint.{InvalidEntryPoint}
+use Rattle.function_errors.specs.declared.error.InvalidEntryPoint.{InvalidEntryPoint}
 use Rattle.ir_flags.specs.declared.stages.ShaderStages.{ShaderStages}
 use Rattle.ir_flags.specs.declared.settings.Settings.{Settings}
 use Rattle.ir_items.specs.judged.Plain.{PlainEntry, PlainFunction, PlainModule}

@@ -5,14 +5,14 @@ use Rattle.std.proofs.lemmas.Option.{slice_get_cases}
 use Rattle.std.specs.Prelude.{Contains, IfSome, None, option_to_list}
 use Rattle.function_entry_checks.specs.Faults.{IsRefusedFor}
 use Rattle.function_entry_checks.specs.declared.error.EntryPointError.{EntryPointError}
-use Rattle.function_validator.specs.EntryFaults.{IsRefusedAs}
-use Rattle.function_validator.specs.Validated.{IsEntryNoted, IsEntrySummary, IsEntryValidated}
+use Rattle.function_whole.specs.EntryFaults.{IsRefusedAs}
+use Rattle.function_whole.specs.Validated.{IsEntryNoted, IsEntrySummary, IsEntryValidated}
 use Rattle.function_interface.specs.Analysis.{Faults}
 use Rattle.function_interface.specs.Question.{Question, question}
 use Rattle.shader_check.proofs.Chained.{one_more_at, some_is, one_longer, below_or_here}
 use Rattle.shader_check.proofs.EntryHeld.{entry_held_next}
 use Rattle.shader_check.specs.found.JudgedEntries.{reading_at, Note, IsEntryAcceptedAt, IsEntryRefusedAt, conflicting, unaccepted, AreEntryNotes, AreEntrySummaries, AreEntriesJudged, IsFirstEntryRefused, IsEntryReportedAt, IsConflictReported, IsEntryRefusal}
-use Rattle.check_errors.specs.declared.error.InvalidEntryPoint.{InvalidEntryPoint}
+use Rattle.function_errors.specs.declared.error.InvalidEntryPoint.{InvalidEntryPoint}
 use Rattle.ir_types.specs.found.Faults.{error_of}
 use Rattle.ir_types.specs.declared.refusal.Refusal.{Refusal}
 use Rattle.ir_types.specs.declared.refusal.Refusal.TheVariants as refusal

@@ -5,7 +5,7 @@ use Rattle.shader_check.proofs.ByChains.{accepted_at, refused_at}
 use Rattle.shader_check.specs.found.Chains.{AreKept, IsFunctionFault}
 use Rattle.shader_check.specs.found.Judged.{AreJudged, IsFirstRefused, IsRefusal}
 use Rattle.shader_check.specs.found.Validated.{IsRefusedWith}
-use Rattle.check_errors.specs.declared.error.InvalidFunction.{InvalidFunction}
+use Rattle.function_errors.specs.declared.error.InvalidFunction.{InvalidFunction}
 use Rattle.ir_types.specs.declared.refusal.Refusal.{Refusal}
 use Rattle.ir_types.specs.declared.refusal.Refusal.TheVariants as refusal
 use Rattle.ir_flags.specs.declared.stages.ShaderStages.{ShaderStages}

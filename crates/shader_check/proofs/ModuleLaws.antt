@@ -6,12 +6,12 @@ use Rattle.typing_errors.specs.declared.const_expressions.ConstExpressionError.T
 use Rattle.ir_items.specs.judged.Plain.{PlainModule}
 use Rattle.judgement.specs.judged.Steps.{IsFinding}
 use Rattle.judgement.specs.declared.finding.Finding.TheVariants.{Refused}
-use Rattle.module_validator.specs.Faults.{IsExpressionRefused, IsModuleFault}
-use Rattle.module_validator.specs.declared.error.ModuleError.{ModuleError}
-use Rattle.module_validator.specs.declared.error.ModuleError.TheVariants as error
+use Rattle.module_steps.specs.Faults.{IsExpressionRefused, IsModuleFault}
+use Rattle.module_steps.specs.declared.error.ModuleError.{ModuleError}
+use Rattle.module_steps.specs.declared.error.ModuleError.TheVariants as error
 use Rattle.shader_check.specs.found.Validated.{IsValidationFault}
-use Rattle.check_errors.specs.declared.error.ValidationError.{ValidationError}
-use Rattle.check_errors.specs.declared.error.ValidationError.TheVariants as validation
+use Rattle.function_errors.specs.declared.error.ValidationError.{ValidationError}
+use Rattle.function_errors.specs.declared.error.ValidationError.TheVariants as validation
 use Rattle.shader_check.specs.found.Examined.{step_of, refused_early, refused_by, finding_in, IsExamined}
 use Rattle.shader_check.specs.declared.examined.Examined.{Examined}
 use Rattle.shader_check.specs.declared.examined.Examined.TheVariants as examined

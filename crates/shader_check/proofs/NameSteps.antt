@@ -1,7 +1,7 @@
 -- The names of the first so many entry points, with one more.
 use Rattle.std.proofs.Common.{◌≡◌, ◌⊎◌, ◌↔◌, inl, inr, ℕ, ◌+◌, List, Some, sym, ap, subst, ◌∙◌, arith, slice_get}
-use Rattle.function_validator.specs.EntryNames.{AreNamesBelow, IsNamedBelow, IsSeen}
-use Rattle.function_validator.specs.declared.entry_names.SeenNames.{SeenNames}
+use Rattle.function_whole.specs.EntryNames.{AreNamesBelow, IsNamedBelow, IsSeen}
+use Rattle.function_whole.specs.declared.entry_names.SeenNames.{SeenNames}
 use Rattle.shader_check.proofs.Chained.{below_or_here, some_is}
 use Rattle.ir_items.specs.judged.Plain.{PlainEntry, PlainModule}
 use Rattle.ir_kinds.specs.declared.stages.ShaderStage.{ShaderStage}

@@ -2,7 +2,7 @@
 
 ghost use Rattle.std.specs.Prelude.{◌≡◌, ◌<◌, ◌+◌, ◌++◌, ◌∷◌, [], MatchResult, OnOk, Some, length, map, slice_get};
 ghost use Rattle.function_entries.specs.Interfaces.{AreInterfacesKnown};
-ghost use Rattle.function_validator.specs.EntryNames.{AreNamesBelow};
+ghost use Rattle.function_whole.specs.EntryNames.{AreNamesBelow};
 ghost use Rattle.shader_check.specs.found.JudgedEntries.{AreEntriesJudgedWith, EntryKeeps, IsConflictReported, IsEntryRefusal, IsEntryReportedAt, note_of};
 ghost use Rattle.ir_items.specs.judged.Plain.{PlainEntry};
 ghost use Rattle.ir_items.specs.found.View.{module_view};
@@ -14,11 +14,11 @@ ghost use Rattle.function_statement_checks.specs.Descriptors.{AreDescriptors};
 
 use crate::functions::Judged;
 use crate::validator::Validator;
-use check_errors::InvalidEntryPoint;
 use function_entries::KnownInterfaces;
 use function_entry_checks::EntryPointError;
+use function_errors::InvalidEntryPoint;
 use function_interface::Lower;
-use function_validator::{SeenNames, Validated, validate_entry_point_with};
+use function_whole::{SeenNames, Validated, validate_entry_point_with};
 use ir_arena::handle::Handle;
 use ir_items::{EntryPoint, Module};
 use ir_types::key;

@@ -2,9 +2,9 @@
 ghost use Rattle.std.specs.Prelude.{◌≡◌};
 ghost use Rattle.shader_check.specs.found.Examined.{step_of, refused_early, refused_by, finding_in};
 
-use check_errors::ValidationError;
+use function_errors::ValidationError;
 use judgement::{Finding, Step};
-use module_validator::ModuleError;
+use module_steps::ModuleError;
 use typing_errors::ConstExpressionError;
 use typing_infos::ModuleInfo;
 

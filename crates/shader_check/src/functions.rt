@@ -7,9 +7,9 @@ ghost use Rattle.spec_expressions.specs.judged.ModuleHandles.{HandlesOK};
 ghost use Rattle.function_statement_checks.specs.Descriptors.{AreDescriptors};
 
 use crate::validator::Validator;
-use check_errors::InvalidFunction;
+use function_errors::InvalidFunction;
 use function_interface::Lower;
-use function_validator::{Validated, validate_function_with};
+use function_whole::{Validated, validate_function_with};
 use ir_arena::handle::Handle;
 use ir_items::Module;
 use ir_types::key;

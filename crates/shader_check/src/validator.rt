@@ -2,10 +2,10 @@
 
 ghost use Rattle.std.specs.Prelude.{◌≡◌, ◌<◌, ◌↔◌, ℕ, IfErr, IfOk, IfSome, MatchResult, None, OnErr, OnOk, false, length, map};
 ghost use Rattle.function_entry_checks.specs.Faults.{IsRefusedFor as IsRefusalFor};
-ghost use Rattle.function_validator.specs.EntryFaults.{IsRefusedAs};
-ghost use Rattle.function_validator.specs.Globals.{IsRefusedFor as IsVariableRefused, IsVariableOf};
-ghost use Rattle.function_validator.specs.Validated.{IsEntryValidated};
-ghost use Rattle.function_validator.specs.Faults.{IsFunctionFault};
+ghost use Rattle.function_whole.specs.EntryFaults.{IsRefusedAs};
+ghost use Rattle.function_whole.specs.Globals.{IsRefusedFor as IsVariableRefused, IsVariableOf};
+ghost use Rattle.function_whole.specs.Validated.{IsEntryValidated};
+ghost use Rattle.function_whole.specs.Faults.{IsFunctionFault};
 ghost use Rattle.function_interface.specs.Analysis.{IsRefusedFor};
 ghost use Rattle.function_interface.specs.Question.{question};
 ghost use Rattle.shader_check.specs.found.Judged.{AreJudgedWith, FunctionKeeps, IsRefusal};
@@ -27,11 +27,11 @@ ghost use Rattle.spec_statements.specs.judged.Payloads.{IsPayloadAfter};
 
 use crate::functions::judge_all;
 use bitflags::Flags;
-use check_errors::InvalidFunction;
 use function_entry_checks::EntryPointError;
+use function_errors::InvalidFunction;
 use function_interface::Lower;
 use function_statement_checks::descriptors_of;
-use function_validator::{validate_entry_point, validate_function, validate_global_var};
+use function_whole::{validate_entry_point, validate_function, validate_global_var};
 use ir_arena::handle::Handle;
 use ir_flags::{Capabilities, Settings, ShaderStages, SubgroupOperationSet, ValidationFlags};
 use ir_items::{EntryPoint, Function, GlobalVariable, Module};

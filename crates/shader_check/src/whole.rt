@@ -1,14 +1,14 @@
 //! A whole module.
 
 ghost use Rattle.std.specs.Prelude.{◌≡◌, IfErr, IfOk, MatchResult, None, OnOk, false, true};
-ghost use Rattle.check_errors.specs.Spans.{IsRefusedAt};
+ghost use Rattle.function_errors.specs.Spans.{IsRefusedAt};
 ghost use Rattle.shader_check.specs.found.Validated.{IsFaultAfter, IsKeptWith, IsRefusedWith, IsReportedBy, IsValidated, IsValidationFault};
-ghost use Rattle.check_errors.specs.declared.error.ValidationError.TheVariants as error;
+ghost use Rattle.function_errors.specs.declared.error.ValidationError.TheVariants as error;
 ghost use Rattle.ir_items.specs.found.View.{module_view};
 ghost use Rattle.module_context.specs.AcceptedTypes.{AreAccepted};
-ghost use Rattle.module_validator.specs.Faults.{IsModuleFault};
-ghost use Rattle.module_validator.specs.Refusals.{IsVariableFault};
-ghost use Rattle.module_validator.specs.Reported.{IsInfoOf};
+ghost use Rattle.module_steps.specs.Faults.{IsModuleFault};
+ghost use Rattle.module_steps.specs.Refusals.{IsVariableFault};
+ghost use Rattle.module_steps.specs.Reported.{IsInfoOf};
 ghost use Rattle.ir_items.specs.found.Filters.{ParentsPrecede};
 ghost use Rattle.function_real_lower.specs.Made.{IsMadeOf};
 ghost use Rattle.function_real_lower.specs.Severities.{AreKnown};
@@ -21,13 +21,13 @@ ghost use Rattle.typing_infos.specs.Types.{AreTypes};
 use crate::entries::judge_entries;
 use crate::functions::judge_all;
 use crate::validator::Validator;
-use check_errors::{InvalidEntryPoint, InvalidFunction, ValidationError, with_spans};
+use function_errors::{InvalidEntryPoint, InvalidFunction, ValidationError, with_spans};
 use function_real_lower::RealLower;
 use function_statement_checks::descriptors_of;
 use ir_items::Module;
 use ir_types::refusal::Refusal;
 use ir_types::with_span::WithSpan;
-use module_validator::{InvalidGlobalVariable, ModuleError, ModuleValidator, validate_globals};
+use module_steps::{InvalidGlobalVariable, ModuleError, ModuleValidator, validate_globals};
 use std::alloc::{AllocError, Global};
 use typing_infos::ModuleInfo;
 

@@ -12,7 +12,7 @@ use ir_items::Module;
 use ir_sets::unique_arena::UniqueArena;
 use ir_types::refusal::Refusal;
 use ir_types::{IrType, key};
-use module_validator::validate_types;
+use module_steps::validate_types;
 use std::alloc::{AllocError, Global};
 use typing_forms::types_go_back;
 use typing_layout::{Layouter, TypeInfo};

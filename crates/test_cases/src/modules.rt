@@ -3,7 +3,7 @@ use document_reader::Document;
 use ir_items::Module;
 use ir_types::refusal::Refusal;
 use module_handles::{InvalidHandleError, validate_module_handles};
-use module_validator::{InvalidType, ModuleError, ModuleInfo, ModuleValidator};
+use module_steps::{InvalidType, ModuleError, ModuleInfo, ModuleValidator};
 use std::alloc::{AllocError, Global};
 use std::fmt::Debug;
 use test_support::call::freeing;

@@ -8,7 +8,7 @@ use ir_flags::Capabilities;
 use ir_sets::unique_arena::UniqueArena;
 use ir_types::refusal::Refusal;
 use ir_types::{IrType, key};
-use module_validator::{InvalidType, validate_types};
+use module_steps::{InvalidType, validate_types};
 use std::alloc::{AllocError, Global};
 use test_support::call::{completed, freeing, push};
 use typing_forms::types_go_back;

@@ -10,9 +10,9 @@ ghost use Rattle.typing_summaries.specs.Tallies.{counted, take_one, take_all};
 use crate::counts::{Counts, Start};
 use ir_arena::handle::Handle;
 use ir_blocks::Statement;
-use ir_references::{OperandUser, with_operands, with_statement_operands};
 use ir_types::{Expression, key};
 use spec_expressions::{GlobalUse, Scoping, Slot, Usage};
+use typing_references::{OperandUser, with_operands, with_statement_operands};
 
 // Counts operands.
 #[derive(Drop)]

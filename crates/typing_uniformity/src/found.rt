@@ -9,9 +9,9 @@ ghost use Rattle.spec_expressions.specs.judged.Operands.{these};
 ghost use Rattle.typing_uniformity.specs.Facts.{or_known, find_all};
 
 use ir_arena::handle::Handle;
-use ir_references::{OperandUser, with_operands};
 use ir_types::{Expression, key};
 use spec_expressions::{Scoping, Slot};
+use typing_references::{OperandUser, with_operands};
 
 type Operand = Handle<key::Expression>;
 

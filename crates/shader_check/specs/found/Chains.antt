@@ -2,7 +2,7 @@
 use Rattle.std.specs.Prelude.{◌≡◌, List, length}
 use Rattle.ir_flags.specs.declared.settings.Settings.{Settings}
 use Rattle.shader_check.specs.found.Judged.{IsRefusedAt}
-use Rattle.check_errors.specs.declared.error.InvalidFunction.{InvalidFunction}
+use Rattle.function_errors.specs.declared.error.InvalidFunction.{InvalidFunction}
 use Rattle.ir_items.specs.judged.Plain.{PlainModule}
 use Rattle.function_real_lower.specs.Readings.{reading_of, faults_of}
 use Rattle.spec_expressions.specs.judged.Summaries.{Summary, AreSummaries}

@@ -5,8 +5,8 @@ use Rattle.document_reader.specs.judged.Plain.{PlainDocument}
 use Rattle.typing_errors.specs.declared.const_expressions.ConstExpressionError.{ConstExpressionError}
 use Rattle.typing_errors.specs.declared.const_expressions.ConstExpressionError.TheVariants as constant
 use Rattle.shader_check.specs.found.Validated.{IsValidated, IsValidationFault}
-use Rattle.check_errors.specs.declared.error.ValidationError.{ValidationError}
-use Rattle.check_errors.specs.declared.error.ValidationError.TheVariants as error
+use Rattle.function_errors.specs.declared.error.ValidationError.{ValidationError}
+use Rattle.function_errors.specs.declared.error.ValidationError.TheVariants as error
 use Rattle.ir_types.specs.found.Faults.{error_of}
 use Rattle.ir_types.specs.declared.refusal.Refusal.{Refusal}
 use Rattle.ir_types.specs.declared.refusal.Refusal.TheVariants as refusal
@@ -20,8 +20,8 @@ use Rattle.judgement.specs.declared.finding.Finding.TheVariants.{Accepted, Refus
 use Rattle.judgement.specs.declared.finding.Step.{Step}
 use Rattle.judgement.specs.declared.finding.Step.TheVariants.{Layout, «Type», Typing, Expression, Constant, Override, Global, Function, Entry}
 use Rattle.check_report.specs.Reported.{IsReported}
-use Rattle.module_validator.specs.declared.error.ModuleError.{ModuleError}
-use Rattle.module_validator.specs.declared.error.ModuleError.TheVariants as module_error
+use Rattle.module_steps.specs.declared.error.ModuleError.{ModuleError}
+use Rattle.module_steps.specs.declared.error.ModuleError.TheVariants as module_error
 use Rattle.shader_check.specs.declared.examined.Examined.{Examined}
 use Rattle.shader_check.specs.declared.examined.Examined.TheVariants as examined
 

@@ -1,10 +1,10 @@
 -- What is said of the functions of a module that are judged one after the other.
 use Rattle.std.specs.Prelude.{◌≡◌, ◌<◌, ◌↔◌, ℕ, Bool, false, [], List, length, Option, Some, slice_get}
 use Rattle.typing_errors.specs.declared.error.FunctionError.{FunctionError}
-use Rattle.function_validator.specs.Faults.{IsFunctionFault}
+use Rattle.function_whole.specs.Faults.{IsFunctionFault}
 use Rattle.function_interface.specs.Analysis.{Faults}
 use Rattle.function_interface.specs.Question.{Question, question}
-use Rattle.check_errors.specs.declared.error.InvalidFunction.{InvalidFunction}
+use Rattle.function_errors.specs.declared.error.InvalidFunction.{InvalidFunction}
 use Rattle.ir_types.specs.found.Faults.{error_of, spans_of}
 use Rattle.ir_types.specs.declared.refusal.Refusal.{Refusal}
 use Rattle.ir_types.specs.declared.refusal.Refusal.TheVariants as refusal

@@ -5,9 +5,9 @@ use Rattle.function_entry_checks.specs.declared.error.EntryPointError.TheVariant
 use Rattle.function_interface.specs.Analysis.{Faults}
 use Rattle.function_interface.specs.Question.{Question, question}
 use Rattle.shader_check.specs.found.Judged.{AreOwn}
-use Rattle.function_validator.specs.EntryFaults.{IsRefusedAs}
-use Rattle.function_validator.specs.Validated.{IsEntryNoted, IsEntrySummary}
-use Rattle.check_errors.specs.declared.error.InvalidEntryPoint.{InvalidEntryPoint}
+use Rattle.function_whole.specs.EntryFaults.{IsRefusedAs}
+use Rattle.function_whole.specs.Validated.{IsEntryNoted, IsEntrySummary}
+use Rattle.function_errors.specs.declared.error.InvalidEntryPoint.{InvalidEntryPoint}
 use Rattle.ir_types.specs.found.Faults.{error_of, spans_of}
 use Rattle.ir_types.specs.declared.refusal.Refusal.{Refusal}
 use Rattle.ir_types.specs.declared.refusal.Refusal.TheVariants as refusal

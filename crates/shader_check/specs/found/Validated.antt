@@ -6,9 +6,9 @@ use Rattle.shader_check.specs.found.Chains.{AreKept, IsFunctionFault}
 use Rattle.shader_check.specs.found.Judged.{AreOwn, FunctionKeeps}
 use Rattle.function_real_lower.specs.Infos.{IsOwnInfo}
 use Rattle.shader_check.specs.found.JudgedEntries.{AreEntryNotes, AreEntrySummaries, EntryKeeps, IsEntryRefusedAt, note_of}
-use Rattle.check_errors.specs.declared.error.InvalidEntryPoint.{InvalidEntryPoint}
-use Rattle.check_errors.specs.declared.error.ValidationError.{ValidationError}
-use Rattle.check_errors.specs.declared.error.ValidationError.TheVariants as error
+use Rattle.function_errors.specs.declared.error.InvalidEntryPoint.{InvalidEntryPoint}
+use Rattle.function_errors.specs.declared.error.ValidationError.{ValidationError}
+use Rattle.function_errors.specs.declared.error.ValidationError.TheVariants as error
 use Rattle.ir_types.specs.found.Faults.{error_of, spans_of}
 use Rattle.ir_types.specs.declared.refusal.Refusal.{Refusal}
 use Rattle.ir_types.specs.declared.refusal.Refusal.TheVariants as refusal
@@ -17,8 +17,8 @@ use Rattle.ir_flags.specs.declared.settings.Settings.{Settings}
 use Rattle.ir_items.specs.judged.Plain.{PlainModule}
 use Rattle.typing_infos.specs.declared.info.ModuleInfo.{ModuleInfo}
 use Rattle.module_context.specs.AcceptedTypes.{AreAccepted}
-use Rattle.module_validator.specs.Faults.{IsModuleFault}
-use Rattle.module_validator.specs.Refusals.{IsVariableFault}
+use Rattle.module_steps.specs.Faults.{IsModuleFault}
+use Rattle.module_steps.specs.Refusals.{IsVariableFault}
 use Rattle.function_real_lower.specs.Readings.{reading_of, faults_of}
 use Rattle.spec_expressions.specs.judged.Summaries.{Summary, AreSummaries}
 use Rattle.spec_interface.specs.judged.Modules.{EntryAtOK}

@@ -1,7 +1,7 @@
 use Rattle.std.proofs.Common.{rules, ◌≡◌, IfOk, Some, subst}
 use Rattle.ir_blocks.specs.found.View.{statement_view}
 use Rattle.ir_items.specs.found.View.{function_view}
-use Rattle.ir_references.specs.First.{emitted_view}
+use Rattle.typing_references.specs.First.{emitted_view}
 use Rattle.spec_expressions.specs.judged.StatementNames.{statement_range}
 use Rattle.function_body_checks.proofs.Tables.{emitted}
 use Rattle.function_body_checks.specs.Carried.{AreBrought}

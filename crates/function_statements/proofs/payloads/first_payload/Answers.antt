@@ -1,5 +1,5 @@
 use Rattle.std.proofs.Common.{ap, ◌∙◌}
-use Rattle.ir_references.specs.First.{first_in}
+use Rattle.typing_references.specs.First.{first_in}
 use Rattle.function_statements.proofs.PayloadLemmas.{first_reported}
 use Rattle.function_statements.specs.Payloads.{payload_type}
 use Rattle.function_statements.proofs.payloads.first_payload.Goals as goal

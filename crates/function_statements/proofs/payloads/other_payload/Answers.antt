@@ -1,5 +1,5 @@
 use Rattle.std.proofs.Common.{ap, ◌∙◌}
-use Rattle.ir_references.specs.First.{first_in}
+use Rattle.typing_references.specs.First.{first_in}
 use Rattle.function_statements.proofs.PayloadLemmas.{other_told}
 use Rattle.function_statements.specs.Payloads.{payload_type, unlike}
 use Rattle.function_statements.proofs.payloads.other_payload.Goals as goal

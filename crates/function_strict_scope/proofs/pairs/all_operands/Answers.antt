@@ -1,6 +1,6 @@
 use Rattle.std.proofs.Common.{rules, ◌≡◌, true, ap, ◌∙◌, arith}
 use Rattle.ir_items.specs.found.View.{function_view}
-use Rattle.ir_references.proofs.Entries.{none_past}
+use Rattle.typing_references.proofs.Entries.{none_past}
 use Rattle.ir_types.specs.judged.ExpressionPlain.{expression_view}
 use Rattle.function_strict_scope.proofs.LiveLemmas.{indexed_more, all_indexed}
 use Rattle.function_strict_scope.specs.Live.{operands_at}

@@ -1,5 +1,5 @@
 use Rattle.std.proofs.Common.{◌≡◌, drop}
-use Rattle.ir_references.specs.First.{first_past}
+use Rattle.typing_references.specs.First.{first_past}
 use Rattle.spec_expressions.specs.judged.Operands.{given}
 use Rattle.module_handles.proofs.lists.given_past.Given as goal
 

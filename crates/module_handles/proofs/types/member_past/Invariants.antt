@@ -1,5 +1,5 @@
 use Rattle.std.proofs.Common.{◌≡◌, drop, map}
-use Rattle.ir_references.specs.First.{first_past}
+use Rattle.typing_references.specs.First.{first_past}
 use Rattle.module_handles.proofs.types.member_past.Given as goal
 
 -- the first of the rest is the first of all

@@ -1,7 +1,7 @@
 use Rattle.std.proofs.Common.{◌≡◌, ◌∙◌, ap, Bool, true, false, refl, true≢false, sym}
 use Rattle.shader_check.proofs.NameSteps.{apart, conflict, names_more}
 use Rattle.shader_check.proofs.Placed.{item_there}
-use Rattle.check_errors.specs.declared.error.InvalidEntryPoint.{InvalidEntryPoint}
+use Rattle.function_errors.specs.declared.error.InvalidEntryPoint.{InvalidEntryPoint}
 use Rattle.ir_items.specs.found.View.{entry_view, module_view}
 use Rattle.shader_check.proofs.entries.check_name.Goals as goal
 

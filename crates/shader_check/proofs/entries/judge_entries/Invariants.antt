@@ -1,6 +1,6 @@
 use Rattle.std.proofs.Common.{map}
 use Rattle.function_entries.specs.Interfaces.{AreInterfacesKnown}
-use Rattle.function_validator.specs.EntryNames.{AreNamesBelow}
+use Rattle.function_whole.specs.EntryNames.{AreNamesBelow}
 use Rattle.shader_check.specs.found.JudgedEntries.{AreEntriesJudgedWith, EntryKeeps, note_of}
 use Rattle.ir_items.specs.found.View.{module_view}
 use Rattle.shader_check.proofs.entries.judge_entries.Given as goal

@@ -2,12 +2,12 @@ use Rattle.std.proofs.Common.{sym, subst}
 use Rattle.ir_flags.specs.declared.settings.Settings.{Settings}
 use Rattle.shader_check.proofs.Assembled.{fault_after, made_of, reported_by, validated, widened}
 use Rattle.shader_check.specs.found.Validated.{IsFaultAfter, IsKeptWith, IsRefusedWith, IsValidationFault}
-use Rattle.check_errors.specs.declared.error.ValidationError.TheVariants as error
+use Rattle.function_errors.specs.declared.error.ValidationError.TheVariants as error
 use Rattle.ir_items.specs.found.View.{module_view}
 use Rattle.typing_infos.specs.declared.info.ModuleInfo.{ModuleInfo}
 use Rattle.module_handles.proofs.Whole.{order_gives_conditions}
-use Rattle.module_validator.specs.Faults.{IsModuleFault}
-use Rattle.module_validator.specs.Refusals.{IsVariableFault}
+use Rattle.module_steps.specs.Faults.{IsModuleFault}
+use Rattle.module_steps.specs.Refusals.{IsVariableFault}
 use Rattle.function_real_lower.specs.Made.{IsMadeOf}
 use Rattle.shader_check.proofs.whole.judge.Goals as goal
 

@@ -10,7 +10,7 @@ use Rattle.shader_check.specs.found.Judged.{AreOwn, FunctionKeeps}
 use Rattle.function_real_lower.specs.Infos.{IsOwnInfo}
 use Rattle.shader_check.specs.found.JudgedEntries.{AreEntriesJudged, EntryKeeps, IsEntryRefusal, note_of}
 use Rattle.shader_check.specs.found.Validated.{AreEntriesKept, AreNoted, IsEntryFault, IsFaultAfter}
-use Rattle.check_errors.specs.declared.error.ValidationError.TheVariants as error
+use Rattle.function_errors.specs.declared.error.ValidationError.TheVariants as error
 use Rattle.ir_items.specs.found.View.{module_view}
 use Rattle.typing_infos.specs.declared.info.ModuleInfo.{ModuleInfo}
 use Rattle.function_real_lower.specs.Readings.{reading_of, faults_of}

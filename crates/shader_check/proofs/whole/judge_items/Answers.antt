@@ -4,9 +4,9 @@ use Rattle.ir_flags.specs.declared.settings.Settings.{Settings}
 use Rattle.shader_check.proofs.Assembled.{if_err_as, items_refused}
 use Rattle.shader_check.specs.found.Validated.{IsRefusedWith}
 use Rattle.ir_items.specs.found.View.{module_view}
-use Rattle.module_validator.specs.Faults as items
-use Rattle.module_validator.specs.Faults.{IsModuleFault}
-use Rattle.module_validator.specs.Reported.{IsInfoOf}
+use Rattle.module_steps.specs.Faults as items
+use Rattle.module_steps.specs.Faults.{IsModuleFault}
+use Rattle.module_steps.specs.Reported.{IsInfoOf}
 use Rattle.judgement.specs.judged.ModuleSteps.{ModuleOK}
 use Rattle.shader_check.proofs.whole.judge_items.Goals as goal
 

@@ -1,8 +1,8 @@
 use Rattle.shader_check.proofs.Assembled.{if_err_as, variables_refused}
 use Rattle.shader_check.specs.found.Validated.{IsRefusedWith}
 use Rattle.ir_items.specs.found.View.{module_view}
-use Rattle.module_validator.specs.Refusals as variables
-use Rattle.module_validator.specs.Refusals.{IsVariableFault}
+use Rattle.module_steps.specs.Refusals as variables
+use Rattle.module_steps.specs.Refusals.{IsVariableFault}
 use Rattle.shader_check.proofs.whole.judge_variables.Goals as goal
 
 pub returns-clause-refused : goal.returns-clause-refused

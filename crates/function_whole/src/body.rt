@@ -1,0 +1,91 @@
+//! The checks of a function's body.
+
+ghost use Rattle.std.specs.Prelude.{IfErr, MatchResult, OnOk};
+ghost use Rattle.function_whole.specs.Faults.{IsFaultOfBody};
+ghost use Rattle.function_whole.specs.Judged.{IsBodyMet};
+ghost use Rattle.function_interface.specs.Analysis.{IsRefusedFor};
+ghost use Rattle.ir_flags.specs.Sets.{Has};
+ghost use Rattle.ir_flags.specs.declared.settings.TheConstants.ValidationFlags.{STRICT_SCOPE};
+ghost use Rattle.ir_items.specs.found.View.{function_view};
+ghost use Rattle.ir_items.specs.judged.Bases.{BasesPrecede};
+ghost use Rattle.spec_expressions.specs.judged.CallArities.{AritiesMatch};
+ghost use Rattle.spec_statements.specs.judged.Scope.{ScopeOK};
+ghost use Rattle.spec_statements.specs.judged.Strict.{StrictOK};
+ghost use Rattle.function_statement_checks.specs.View.{context_view, IsKnown};
+ghost use Rattle.function_strict_scope.specs.Faults.{IsStrictFault};
+
+use bitflags::Flags;
+use function_body_checks::{ExpressionList, check_control, check_scope};
+use function_statement_checks::BlockContext;
+use function_statements::{payload_of, validate_statements};
+use function_strict_scope::check_strict;
+use ir_arena::handle::Handle;
+use ir_flags::{Settings, ValidationFlags};
+use ir_items::Function;
+use ir_types::key;
+use ir_types::refusal::Refusal;
+use ir_types::with_span::WithSpan;
+use std::alloc::Global;
+use typing_errors::FunctionError;
+
+/// What is found of a body.
+#[derive(Drop)]
+pub(crate) struct BodyFound {
+    /// By what its calls and its atomic operations answer.
+    pub answered: ExpressionList,
+    /// The type of the payloads of all functions so far, if one has any.
+    pub held: Option<Handle<key::IrType>>,
+}
+
+// Whether strict scope is as it should be, where it is required. It goes over a body whose scope is in order.
+fn check_strictly(
+    alloc: Global,
+    flags: ValidationFlags,
+    function: &Function,
+) -> Result<(), Refusal<FunctionError>>
+    ensures strict { OnOk result (Has flags.0 STRICT_SCOPE.0 → StrictOK (function_view function.now)) }
+    ensures fault { ScopeOK (function_view function.now) → IfErr result (IsRefusedFor (λ e. Has flags.0 STRICT_SCOPE.0 × IsStrictFault (function_view function.now) e)) }
+{
+    if flags.contains(ValidationFlags::STRICT_SCOPE) {
+        check_strict(alloc, function)
+    } else {
+        Ok(())
+    }
+}
+
+/// Whether all that is required of the body of the context's function is met, but that each expression that denotes an answer is
+/// answered.
+pub(crate) fn check_body(
+    alloc: Global,
+    settings: Settings,
+    held: Option<Handle<key::IrType>>,
+    context: &BlockContext<'_>,
+) -> Result<BodyFound, Refusal<FunctionError>>
+    requires known { IsKnown context.now }
+    requires precede { BasesPrecede (context_view context.now).f.expressions }
+    requires arities { AritiesMatch (context_view context.now).m (context_view context.now).f }
+    ensures { MatchResult result
+        (λ found. IsBodyMet settings held (context_view context.now) found.answered found.held)
+        (IsRefusedFor (IsFaultOfBody settings held (context_view context.now))) }
+{
+    match check_control(&context.function.body) {
+        Ok(()) => {}
+        Err(error) => return Err(Refusal::Fault(WithSpan::new(alloc, error))),
+    }
+    let answered = match check_scope(alloc, settings.flags, context.function) {
+        Ok(answered) => answered,
+        Err(refusal) => return Err(refusal),
+    };
+    match check_strictly(alloc, settings.flags, context.function) {
+        Ok(()) => {}
+        Err(refusal) => return Err(refusal),
+    }
+    match validate_statements(alloc, context) {
+        Ok(()) => {}
+        Err(refusal) => return Err(refusal),
+    }
+    match payload_of(context, held) {
+        Ok(held) => Ok(BodyFound { answered, held }),
+        Err(error) => Err(Refusal::Fault(WithSpan::new(alloc, error))),
+    }
+}

@@ -1,7 +1,0 @@
-use Rattle.std.proofs.Common.{◌≡◌, drop}
-use Rattle.ir_references.specs.First.{first_past}
-use Rattle.ir_references.proofs.lists.first_past.Given as goal
-
--- the first of the rest is the first of all
-abbrev pub invariant-loop-handle : goal.invariant-loop-handle
-invariant-loop-handle l = first_past l.end (drop l.handle-index l.handles) ≡ first_past l.end l.handles

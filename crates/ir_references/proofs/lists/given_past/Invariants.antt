@@ -1,8 +1,0 @@
-use Rattle.std.proofs.Common.{◌≡◌, drop}
-use Rattle.ir_references.specs.First.{first_past}
-use Rattle.spec_expressions.specs.judged.Operands.{these, handles_of}
-use Rattle.ir_references.proofs.lists.given_past.Given as goal
-
--- the first of the rest is the first of all
-abbrev pub invariant-loop-slot : goal.invariant-loop-slot
-invariant-loop-slot l = first_past l.end (handles_of (these (drop l.slot-index l.slots))) ≡ first_past l.end (handles_of (these l.slots))

@@ -1,0 +1,125 @@
+//! The checks of one item, of which the others are known.
+//!
+//! What a context says of capabilities does not count: they are the validator's.
+
+ghost use Rattle.std.specs.Prelude.{◌<◌, ◌≤◌, length, MatchResult};
+ghost use Rattle.module_context.specs.OperandView.{IsKnown as IsKnownOfExpressions};
+ghost use Rattle.module_expressions.specs.Faults.{IsExpressionFault};
+ghost use Rattle.module_constants.specs.Known.{IsKnown as IsKnownOfValues, module_in};
+ghost use Rattle.module_constants.specs.Refusals.{IsExpressionRefused};
+ghost use Rattle.module_context.specs.AcceptedTypes.{IsAccepted};
+ghost use Rattle.module_steps.specs.Validated.{IsRefusedFor};
+ghost use Rattle.module_steps.specs.Seen.{scene_by};
+ghost use Rattle.spec_statements.specs.judged.Expressions.{ExpressionOK};
+ghost use Rattle.spec_statements.specs.judged.ExpressionStages.{IsRunBy};
+ghost use Rattle.spec_expressions.specs.judged.GlobalExpressions.{GlobalExpressionOK};
+ghost use Rattle.module_type_checks.specs.Known.{IsKnown as IsKnownOfTypes, types_in};
+
+use crate::validate_type;
+use crate::validator::ModuleValidator;
+use ir_arena::handle::Handle;
+use ir_flags::ShaderStages;
+use ir_types::key;
+use module_constants::{GlobalContext, validate_const_expression};
+use module_context::CheckContext;
+use module_expressions::validate_expression;
+use module_type_checks::TypeContext;
+use typing_errors::{ConstExpressionError, ExpressionError};
+use typing_layout::{TypeError, TypeInfo};
+
+impl ModuleValidator {
+    /// What is reported of the type at a handle, if a module may have it, from what is reported of the types before it (naga's
+    /// `Validator::validate_type`).
+    ///
+    /// Requires that types go back, that what the context reports on types and layouts is theirs, and that it reports of each type
+    /// before this one.
+    ///
+    /// # Errors
+    ///
+    /// A fault of the type: each is answered only where it occurs. Where several stand, it is one of them.
+    pub fn validate_type(
+        &self,
+        context: &TypeContext<'_>,
+        handle: Handle<key::IrType>,
+    ) -> Result<TypeInfo, TypeError>
+        requires known { IsKnownOfTypes context.now }
+        requires before { handle ≤ length context.now.infos.now }
+        requires laid { handle < length context.now.layouter.now }
+        requires within { handle < length context.now.types.now }
+        ensures { MatchResult result
+            (IsAccepted self.now.settings.capabilities context.now.overrides_resolved (types_in context.now) handle)
+            (IsRefusedFor self.now.settings.capabilities context.now.overrides_resolved (types_in context.now) handle) }
+    {
+        let own = TypeContext {
+            capabilities: self.settings.capabilities,
+            overrides_resolved: context.overrides_resolved,
+            types: context.types,
+            layouter: context.layouter,
+            infos: context.infos,
+        };
+        validate_type(&own, handle)
+    }
+
+    /// Whether a module may have the global expression at a handle (naga's `Validator::validate_const_expression`).
+    ///
+    /// Requires that what the module's constants, overrides and compositions name is there, and that what the context reports of
+    /// types and global expressions is reported of all of them.
+    ///
+    /// # Errors
+    ///
+    /// Its value is known only when the shader runs, it was not worked out, it is a literal that may not be used, or a
+    /// composition that can't be made: each is answered only where it occurs.
+    pub fn validate_const_expression(
+        &self,
+        context: &GlobalContext<'_>,
+        handle: Handle<key::Expression>,
+    ) -> Result<(), ConstExpressionError>
+        requires known { IsKnownOfValues context.now }
+        requires within { handle < length context.now.«module».now.global_expressions }
+        ensures { MatchResult result
+            (λ _. GlobalExpressionOK self.now.settings.capabilities context.now.overrides_resolved (module_in context.now) handle)
+            (IsExpressionRefused self.now.settings.capabilities context.now.overrides_resolved (module_in context.now) handle) }
+    {
+        let own = GlobalContext {
+            capabilities: self.settings.capabilities,
+            overrides_resolved: context.overrides_resolved,
+            module: context.module,
+            kinds: context.kinds,
+            forms: context.forms,
+            infos: context.infos,
+        };
+        validate_const_expression(&own, handle)
+    }
+
+    /// Whether the expression at a handle is accepted, and which stages may run it (naga's `Validator::validate_expression`).
+    ///
+    /// Requires that what the context reports on types and of constants is reported of all of them.
+    ///
+    /// # Errors
+    ///
+    /// [`ExpressionError::Literal`] and [`ExpressionError::Compose`] for a literal that may not be used and for a composition
+    /// that can't be made, [`ExpressionError::Other`] where what is required of an expression of another kind does not hold; each
+    /// is answered only where it occurs.
+    pub fn validate_expression(
+        &self,
+        context: &CheckContext<'_>,
+        handle: Handle<key::Expression>,
+    ) -> Result<ShaderStages, ExpressionError>
+        requires known { IsKnownOfExpressions context.now }
+        requires within { handle < length context.now.expressions.now }
+        ensures { MatchResult result
+            (λ stages. ExpressionOK (scene_by self.now.settings.capabilities context.now) handle × IsRunBy context.now.callees.now (scene_by self.now.settings.capabilities context.now).expressions handle stages)
+            (IsExpressionFault (scene_by self.now.settings.capabilities context.now) handle) }
+    {
+        let own = CheckContext {
+            capabilities: self.settings.capabilities,
+            types: context.types,
+            infos: context.infos,
+            expressions: context.expressions,
+            forms: context.forms,
+            kinds: context.kinds,
+            callees: context.callees,
+        };
+        validate_expression(&own, handle)
+    }
+}

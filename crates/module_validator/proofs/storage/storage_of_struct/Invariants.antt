@@ -1,9 +1,0 @@
--- The members that were passed lie as their types require.
-use Rattle.std.proofs.Common.{map}
-use Rattle.ir_types.specs.judged.Plain.{member_view}
-use Rattle.module_validator.specs.Layouts.{StoragePart}
-use Rattle.module_type_checks.specs.Placed.{parts_in, Below}
-use Rattle.module_validator.proofs.storage.storage_of_struct.Given as goal
-
-abbrev pub invariant-loop-place : goal.invariant-loop-place
-invariant-loop-place l = Below StoragePart (parts_in l.context (map member_view l.members)) l.place
