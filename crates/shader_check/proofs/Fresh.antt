@@ -14,7 +14,7 @@ use Rattle.shader_check.proofs.Failing.{Family, up_to_overrides, at_variables, a
 use Rattle.shader_check.proofs.Once.{step_back}
 use Rattle.shader_check.specs.found.Examined.{refused_by}
 use Rattle.shader_check.specs.found.Fresh.{AreAlike, AnswersAreAlike}
-use Rattle.shader_check.specs.found.Validated.{IsValidated, IsValidationFault}
+use Rattle.function_modules.specs.Validated.{IsValidated, IsValidationFault}
 use Rattle.function_errors.specs.declared.error.ValidationError.{ValidationError}
 use Rattle.function_errors.specs.declared.error.ValidationError.TheVariants as validation
 use Rattle.spec_expressions.specs.judged.ModuleHandles.{HandlesOK}

@@ -19,7 +19,7 @@ use Rattle.function_errors.specs.Spans.{IsRefusedAt}
 use Rattle.shader_check.proofs.Kept.{reported}
 use Rattle.shader_check.proofs.ModuleLaws.{found_of}
 use Rattle.shader_check.specs.found.Examined.{finding_in, refused_early, refused_by, IsExamined, IsExaminedDocument, IsKeptIn, IsRefusedSo}
-use Rattle.shader_check.specs.found.Validated.{IsValidationFault}
+use Rattle.function_modules.specs.Validated.{IsValidationFault}
 use Rattle.shader_check.specs.found.Judgements.{FindsIn, Judged, IsReported, IsReportedOf, IsJudgementOf, IsJudgementOn}
 use Rattle.shader_check.specs.judged.Theorem.{IsReportedIn}
 use Rattle.shader_check.specs.declared.examined.Examined.{Examined}

@@ -5,12 +5,12 @@ use Rattle.std.proofs.lemmas.Option.{slice_get-map}
 use Rattle.ir_flags.specs.declared.settings.Settings.{Settings}
 use Rattle.typing_infos.specs.Infos.{summary_of}
 use Rattle.typing_infos.specs.declared.function_info.FunctionInfo.{FunctionInfo}
-use Rattle.shader_check.specs.found.Validated.{IsValidated}
+use Rattle.function_modules.specs.Validated.{IsValidated}
 use Rattle.ir_items.specs.judged.Plain.{PlainEntry, PlainModule}
-use Rattle.module_handles.proofs.Whole.{order_gives_conditions}
+use Rattle.typing_handles.proofs.Ordered.{order_gives_conditions}
 use Rattle.typing_infos.specs.declared.info.ModuleInfo.{ModuleInfo}
-use Rattle.check_report.proofs.Noted.{noted_is_reported}
-use Rattle.check_report.specs.Reported.{IsEntryInfo, IsReported}
+use Rattle.judgement_report.proofs.Noted.{noted_is_reported}
+use Rattle.judgement_report.specs.Reported.{IsEntryInfo, IsReported}
 use Rattle.spec_expressions.specs.judged.ModuleReferences as part
 use Rattle.spec_expressions.specs.judged.References.{item}
 use Rattle.spec_expressions.specs.declared.target.Target.TheVariants as target

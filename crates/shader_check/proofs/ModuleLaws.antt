@@ -9,7 +9,7 @@ use Rattle.judgement.specs.declared.finding.Finding.TheVariants.{Refused}
 use Rattle.module_steps.specs.Faults.{IsExpressionRefused, IsModuleFault}
 use Rattle.module_steps.specs.declared.error.ModuleError.{ModuleError}
 use Rattle.module_steps.specs.declared.error.ModuleError.TheVariants as error
-use Rattle.shader_check.specs.found.Validated.{IsValidationFault}
+use Rattle.function_modules.specs.Validated.{IsValidationFault}
 use Rattle.function_errors.specs.declared.error.ValidationError.{ValidationError}
 use Rattle.function_errors.specs.declared.error.ValidationError.TheVariants as validation
 use Rattle.shader_check.specs.found.Examined.{step_of, refused_early, refused_by, finding_in, IsExamined}

@@ -1,13 +1,11 @@
 // Laws of the judgement over bytes, and what is required of an accepted module.
-ghost use Rattle.std.specs.Prelude.{◌≡◌, false, length, true};
-ghost use Rattle.ir_items.specs.found.View.{module_view};
-ghost use Rattle.judgement_laws.specs.judged.Sound.{BoundsDepth};
+ghost use Rattle.std.specs.Prelude.{false, true};
 ghost use Rattle.shader_check.specs.found.Fresh.{AnswersAreAlike};
 ghost use Rattle.shader_check.specs.judged.Theorem.{AcceptedTextsAreSound, OneText, SomeText, ReturnsDontShow};
 
-pub use check_report::{Leaf, buffer_leaves};
+pub use judgement_report::{Leaf, buffer_leaves};
 pub use document_reader::laws::{distinct_types, one_document};
-use ir_items::Module;
+pub use function_modules::laws::entry_depth_bound;
 
 /// One text is expected for some bytes: every answer to the same bytes is the same.
 pub fn one_text()
@@ -42,13 +40,3 @@ pub fn validate_answers_as_fresh()
 pub fn validate_resolved_overrides_answers_as_fresh()
     ensures { AnswersAreAlike true }
 {}
-
-/// How deep the calls of a run nest at most, the entry point's own body being at 0: as deep as the module has functions.
-///
-/// So it is for every module that all steps of the check accept with the flags for layouts, bodies and expressions.
-pub fn entry_depth_bound(module: &Module) -> usize
-    ensures value { result ≡ length (module_view «module».now).functions }
-    ensures bound { BoundsDepth (module_view «module».now) result }
-{
-    module.functions.len()
-}

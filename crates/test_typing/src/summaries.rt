@@ -4,7 +4,7 @@ ghost use Rattle.ir_items.specs.found.View.{function_view, module_view};
 ghost use Rattle.ir_items.specs.found.Filters.{ParentsPrecede};
 ghost use Rattle.spec_expressions.specs.judged.FunctionHandles.{HandlesInRange, OperandsPrecede};
 
-use function_real_lower::process_function;
+use typing_analysis::process_function;
 use ir_flags::ValidationFlags;
 use ir_items::{Function, Module};
 use ir_types::refusal::Refusal;

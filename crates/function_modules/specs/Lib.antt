@@ -1,0 +1,5 @@
+pub mod Settings
+pub mod Judged
+pub mod JudgedEntries
+pub mod Chains
+pub mod Validated
