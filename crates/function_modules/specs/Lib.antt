@@ -3,3 +3,4 @@ pub mod Judged
 pub mod JudgedEntries
 pub mod Chains
 pub mod Validated
+pub mod MadeFor

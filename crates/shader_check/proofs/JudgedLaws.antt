@@ -49,7 +49,7 @@ judged_document d m x h = found_in d m (finding_in x) h.prepared (found_of d.set
 -- ---- what is reported
 
 pub kept_in : (d : PlainDocument) (m : PlainModule) (x : Examined) → IsExaminedDocument d m x → IsKeptIn m x
-kept_in d m (examined.Accepted strict info) h = reported d.settings m info h.examined.0
+kept_in d m (examined.Accepted strict info) h = reported d.settings false m info h.examined.0
 kept_in d m (examined.Refused e) h = tt
 
 early_reported : (d : PlainDocument) (m : PlainModule) (e : ModuleError) (behind : List ℕ) → IsReportedIn m (refused_early e) behind → IsReportedOf d (refused_early e) behind

@@ -1,5 +1,5 @@
 -- What is kept of a module that is accepted is enough for the report on it.
-use Rattle.std.proofs.Common.{◌≡◌, ◌∙◌, ℕ, false, Some, option_map, slice_get, sym, ap}
+use Rattle.std.proofs.Common.{◌≡◌, ◌∙◌, ℕ, Bool, Some, option_map, slice_get, sym, ap}
 use Rattle.std.proofs.lemmas.List.{length-map}
 use Rattle.std.proofs.lemmas.Option.{slice_get-map}
 use Rattle.ir_flags.specs.declared.settings.Settings.{Settings}
@@ -15,7 +15,7 @@ use Rattle.spec_expressions.specs.judged.ModuleReferences as part
 use Rattle.spec_expressions.specs.judged.References.{item}
 use Rattle.spec_expressions.specs.declared.target.Target.TheVariants as target
 
-module _ (s : Settings) (m : PlainModule) (info : ModuleInfo) (h : IsValidated s false m info) where
+module _ (s : Settings) (resolved : Bool) (m : PlainModule) (info : ModuleInfo) (h : IsValidated s resolved m info) where
   entry_info : (number : ℕ) (e : PlainEntry) (i : FunctionInfo) → slice_get m.entries number ≡ Some e → slice_get info.entry_points.items number ≡ Some i → IsEntryInfo m e i
   entry_info number e i at there =
       let is = h.entries.known number e (summary_of i) at (slice_get-map summary_of info.entry_points.items number ∙ ap (option_map summary_of) there) in

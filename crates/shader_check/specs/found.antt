@@ -1,3 +1,4 @@
 pub mod Examined
 pub mod Judgements
 pub mod Fresh
+pub mod Reported

@@ -1,11 +1,15 @@
 // Laws of the judgement over bytes, and what is required of an accepted module.
 ghost use Rattle.std.specs.Prelude.{false, true};
 ghost use Rattle.shader_check.specs.found.Fresh.{AnswersAreAlike};
+ghost use Rattle.shader_check.specs.found.Reported.{ValidatedIsReported};
 ghost use Rattle.shader_check.specs.judged.Theorem.{AcceptedTextsAreSound, OneText, SomeText, ReturnsDontShow};
 
-pub use judgement_report::{Leaf, buffer_leaves};
 pub use document_reader::laws::{distinct_types, one_document};
-pub use function_modules::laws::entry_depth_bound;
+pub use function_modules::laws::{entry_depth_bound, made_for_accepted};
+pub use judgement::module_laws::more_capabilities;
+pub use judgement::report_laws::{named_are_reported, one_report, some_report};
+pub use judgement_laws::accepted_laws::{answered_by_one, bindings_differ, calls_fall};
+pub use judgement_report::{Leaf, buffer_leaves};
 
 /// One text is expected for some bytes: every answer to the same bytes is the same.
 pub fn one_text()
@@ -39,4 +43,10 @@ pub fn validate_answers_as_fresh()
 /// So it does by [`crate::Validator::validate_resolved_overrides`].
 pub fn validate_resolved_overrides_answers_as_fresh()
     ensures { AnswersAreAlike true }
+{}
+
+/// What is kept of a module that [`crate::Validator::validate`] accepts, or
+/// [`crate::Validator::validate_resolved_overrides`], is what [`crate::report`] requires of it.
+pub fn validated_is_reported()
+    ensures { ValidatedIsReported }
 {}

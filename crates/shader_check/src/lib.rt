@@ -14,8 +14,9 @@ pub use document_reader::{Document, DocumentError, build_module, read_document, 
 pub use examined::{Examined, refused_by};
 pub use function_errors::{InvalidEntryPoint, InvalidFunction, Named, ValidationError};
 pub use function_modules::Validator;
+pub use function_real_lower::RealLower;
 pub use ir_flags::Settings;
 pub use judge::{examine_document, judge_document};
 pub use judgement::{Finding, Step};
 pub use module_steps::{InvalidGlobalVariable, ModuleError};
-pub use reported::Judgement;
+pub use reported::{Judgement, report};

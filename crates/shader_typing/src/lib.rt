@@ -10,14 +10,17 @@
 
 pub mod laws;
 
+pub use ir_flags::{Capabilities, ShaderStages, SubgroupOperationSet, ValidationFlags};
+pub use ir_kinds::{Scalar, ScalarKind};
+pub use ir_types::TypeInner;
 pub use spec_expressions::{
     ConclusionExt, ExpressionInfo, GlobalOrArgument, GlobalUse, MissingSpecialType, SamplingKey,
     SamplingPair, TypingFault, Uniformity, UniformityRequirements,
 };
 pub use typing_analysis::process_function;
 pub use typing_errors::{
-    AtomicError, CallError, ComposeError, ExpressionError, FunctionError, LocalVariableError,
-    ResolveError, ResolveRefusal, SubgroupError, UniformityDisruptor,
+    AtomicError, CallError, ComposeError, ConstExpressionError, ExpressionError, FunctionError,
+    LocalVariableError, ResolveError, ResolveRefusal, SubgroupError, UniformityDisruptor,
 };
 pub use typing_forms::{
     Form, IndexableLength, IndexableLengthError, MAX_TYPE_SIZE, ResolveArraySizeError, ScalarExt,
@@ -34,7 +37,7 @@ pub use typing_infos::{
 };
 pub use typing_layout::{
     Alignment, ExpressionKind, ExpressionKindTracker, LayoutError, LayoutErrorInner, Layouter,
-    TypeLayout, origins_precede,
+    LiteralError, TypeLayout, WidthError, origins_precede,
 };
 pub use typing_overloads::{AnyOverloadSet, List, MathFunctionExt, OverloadSet, Regular};
 pub use typing_resolve::ResolveContext;
