@@ -1,9 +1,12 @@
--- When what is kept of an entry point is what the report reads.
-use Rattle.std.specs.Prelude.{◌≡◌, ◌<◌, ◌↔◌, ℕ, length}
+-- When what is kept of an entry point is what the report reads, and when a module has what its leaves require.
+use Rattle.std.specs.Prelude.{◌≡◌, ◌<◌, ◌↔◌, ℕ, Bool, length}
+use Rattle.ir_flags.specs.declared.settings.Settings.{Settings}
 use Rattle.spec_expressions.specs.judged.Pairs.{SamplingPair}
 use Rattle.typing_infos.specs.declared.function_info.FunctionInfo.{FunctionInfo}
 use Rattle.ir_items.specs.judged.Plain.{PlainEntry, PlainModule}
+use Rattle.judgement.specs.judged.ModuleSteps.{ModuleOK}
 use Rattle.judgement_report.specs.Reported.{IsEntryInfo}
+use Rattle.judgement_report.specs.Rows.{AreLaid}
 use Rattle.typing_rules.specs.judged.Laws.{IsAmong}
 use Rattle.spec_expressions.specs.judged.CallChains.{HasUse, HasPair}
 use Rattle.spec_expressions.specs.judged.Summaries.{HasUseBit}
@@ -19,3 +22,7 @@ pub record IsNotedOf (m : PlainModule) (e : PlainEntry) (info : FunctionInfo) : 
 -- such an info is what the report reads
 abbrev pub NotedIsReported : Type 0
 NotedIsReported = (m : PlainModule) (e : PlainEntry) (info : FunctionInfo) → IsNotedOf m e info → IsEntryInfo m e info
+
+-- each type of a module that the steps up to overrides accept has a layout
+abbrev pub AcceptedIsLaid : Type 0
+AcceptedIsLaid = (s : Settings) (resolved : Bool) (m : PlainModule) → ModuleOK s resolved m → AreLaid m

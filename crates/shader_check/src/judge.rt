@@ -12,7 +12,6 @@ ghost use Rattle.shader_check.specs.found.Judgements.{IsJudgementOf, IsJudgement
 use crate::examined::Examined;
 use crate::reported::Judgement;
 use bitflags::Flags;
-use judgement_report::report;
 use document_reader::{Document, DocumentError, take_document};
 use function_errors::ValidationError;
 use function_modules::Validator;
@@ -21,6 +20,7 @@ use ir_flags::{Settings, ValidationFlags};
 use ir_items::Module;
 use ir_types::refusal::Refusal;
 use judgement::Finding;
+use judgement_report::report;
 use std::alloc::{AllocError, Global};
 use typing_infos::ModuleInfo;
 

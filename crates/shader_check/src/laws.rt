@@ -9,6 +9,7 @@ pub use function_modules::laws::{entry_depth_bound, made_for_accepted};
 pub use judgement::module_laws::more_capabilities;
 pub use judgement::report_laws::{named_are_reported, one_report, some_report};
 pub use judgement_laws::accepted_laws::{answered_by_one, bindings_differ, calls_fall};
+pub use judgement_report::laws::accepted_is_laid;
 pub use judgement_report::{Leaf, buffer_leaves};
 
 /// One text is expected for some bytes: every answer to the same bytes is the same.

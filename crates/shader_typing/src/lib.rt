@@ -28,8 +28,8 @@ pub use typing_forms::{
     form_in, form_of, form_of_type, inner_of, types_go_back,
 };
 pub use typing_handles::{
-    ArityFault, arities_match, arity_fault, callees_precede, filter_parents_precede, handles_in_range,
-    operands_precede,
+    ArityFault, arities_match, arity_fault, callees_precede, filter_parents_precede,
+    handles_in_range, operands_precede,
 };
 pub use typing_infos::{
     CompareTypes, FunctionInfo, TypingRefusal, const_expression_types, process_const_expression,
