@@ -96,7 +96,7 @@ fn judge_items(
     ensures told { IfOk result (IsInfoOf validator.now.settings resolved (module_view «module».now)) }
     ensures refused { IfErr result (IsRefusedWith (IsModuleFault validator.now.settings resolved (module_view «module».now))) }
 {
-    let mut items = ModuleValidator::new(validator.alloc, validator.settings);
+    let mut items = ModuleValidator::with_settings(validator.alloc, validator.settings);
     if resolved {
         items.validate_resolved_overrides(module)
     } else {

@@ -55,7 +55,7 @@ kept_in d m (examined.Refused e) h = tt
 early_reported : (d : PlainDocument) (m : PlainModule) (e : ModuleError) (behind : List ℕ) → IsReportedIn m (refused_early e) behind → IsReportedOf d (refused_early e) behind
 early_reported d m (module_error.InvalidHandle e) behind t = t
 early_reported d m (module_error.Layouter e) behind t = t
-early_reported d m (module_error.Type e) behind t = t
+early_reported d m (module_error.Typing e) behind t = t
 early_reported d m (module_error.ConstExpression e) behind t = t
 early_reported d m (module_error.Constant e) behind t = t
 early_reported d m (module_error.Override e) behind t = t

@@ -33,7 +33,7 @@ expression_is s m h constant.Other (inr x) = absurd x.1
 pub found_is : (s : Settings) (m : PlainModule) (e : ModuleError) → IsModuleFault s false m e → IsFinding s m (refused_early e)
 found_is s m (error.InvalidHandle e) x = x.1
 found_is s m (error.Layouter e) x = x.0
-found_is s m (error.Type e) x = x.0
+found_is s m (error.Typing e) x = x.0
 found_is s m (error.ConstExpression e) x = expression_is s m e.expression e.error x
 found_is s m (error.Constant e) x = x.0
 found_is s m (error.Override e) x = x.0

@@ -46,7 +46,7 @@ pub fn accepts_items(
     settings: Settings,
     module: &Module,
 ) -> Result<bool, AllocError> {
-    let mut validator = ModuleValidator::new(alloc, settings);
+    let mut validator = ModuleValidator::new(alloc, settings.flags, settings.capabilities);
     let answer = validator.validate(module);
     freeing(freeing(is_accepted(&answer), answer), validator)
 }
@@ -59,7 +59,7 @@ pub fn accepts_functions(
     module: &Module,
 ) -> Result<bool, AllocError> {
     made_for_accepted();
-    let mut items = ModuleValidator::new(alloc, settings);
+    let mut items = ModuleValidator::new(alloc, settings.flags, settings.capabilities);
     match items.validate(module) {
         Ok(info) => {
             let lower = RealLower::new(info);
@@ -88,7 +88,7 @@ pub fn leaves_of(
     global: Handle<key::GlobalVariable>,
 ) -> Result<Option<Vec<Leaf>>, AllocError> {
     accepted_is_laid();
-    let mut items = ModuleValidator::new(alloc, settings);
+    let mut items = ModuleValidator::new(alloc, settings.flags, settings.capabilities);
     if items.validate(module).is_err() {
         return Ok(None);
     }

@@ -38,7 +38,7 @@ step_of constant.Other = Expression
 abbrev pub refused_early : ModuleError → Finding
 refused_early (module_error.InvalidHandle e) = RefusedHandles
 refused_early (module_error.Layouter e) = Refused Layout e.ty
-refused_early (module_error.Type e) = Refused «Type» e.ty
+refused_early (module_error.Typing e) = Refused «Type» e.ty
 refused_early (module_error.ConstExpression e) = Refused (step_of e.error) e.expression
 refused_early (module_error.Constant e) = Refused Constant e.constant
 refused_early (module_error.Override e) = Refused Override e.id

@@ -16,30 +16,30 @@ moved P s t asked resolved same is h = subst (λ (z : Settings). P z resolved) s
 
 pub returns-then-resolved-clause-accepted : goal.returns-then-resolved-clause-accepted
 returns-then-resolved-clause-accepted c =
-    moved (λ s b. OnOk c.validate_resolved_overrides.result (ModuleOK s b (module_view c.args.«module».now))) _ _ _ c.args.resolved c.new-items.ensures c.if-resolved.true c.validate_resolved_overrides.ensures.accepted
+    moved (λ s b. OnOk c.validate_resolved_overrides.result (ModuleOK s b (module_view c.args.«module».now))) _ _ _ c.args.resolved c.with_settings-items.ensures c.if-resolved.true c.validate_resolved_overrides.ensures.accepted
 
 pub returns-then-resolved-clause-told : goal.returns-then-resolved-clause-told
 returns-then-resolved-clause-told c =
-    moved (λ s b. IfOk c.validate_resolved_overrides.result (IsInfoOf s b (module_view c.args.«module».now))) _ _ _ c.args.resolved c.new-items.ensures c.if-resolved.true c.validate_resolved_overrides.ensures.told
+    moved (λ s b. IfOk c.validate_resolved_overrides.result (IsInfoOf s b (module_view c.args.«module».now))) _ _ _ c.args.resolved c.with_settings-items.ensures c.if-resolved.true c.validate_resolved_overrides.ensures.told
 
 pub returns-then-resolved-clause-refused : goal.returns-then-resolved-clause-refused
 returns-then-resolved-clause-refused c =
     let v = c.args.validator.now in
     let m = module_view c.args.«module».now in
     if_err_as (items.IsRefusal v.settings c.args.resolved m) (IsRefusedWith (IsModuleFault v.settings c.args.resolved m)) (items_refused v.settings c.args.resolved m) c.validate_resolved_overrides.result
-    (moved (λ s b. IfErr c.validate_resolved_overrides.result (items.IsRefusal s b m)) _ _ _ c.args.resolved c.new-items.ensures c.if-resolved.true c.validate_resolved_overrides.ensures.refused)
+    (moved (λ s b. IfErr c.validate_resolved_overrides.result (items.IsRefusal s b m)) _ _ _ c.args.resolved c.with_settings-items.ensures c.if-resolved.true c.validate_resolved_overrides.ensures.refused)
 
 pub returns-clause-accepted : goal.returns-clause-accepted
 returns-clause-accepted c =
-    moved (λ s b. OnOk c.validate.result (ModuleOK s b (module_view c.args.«module».now))) _ _ _ c.args.resolved c.new-items.ensures c.if-resolved.false c.validate.ensures.accepted
+    moved (λ s b. OnOk c.validate.result (ModuleOK s b (module_view c.args.«module».now))) _ _ _ c.args.resolved c.with_settings-items.ensures c.if-resolved.false c.validate.ensures.accepted
 
 pub returns-clause-told : goal.returns-clause-told
 returns-clause-told c =
-    moved (λ s b. IfOk c.validate.result (IsInfoOf s b (module_view c.args.«module».now))) _ _ _ c.args.resolved c.new-items.ensures c.if-resolved.false c.validate.ensures.told
+    moved (λ s b. IfOk c.validate.result (IsInfoOf s b (module_view c.args.«module».now))) _ _ _ c.args.resolved c.with_settings-items.ensures c.if-resolved.false c.validate.ensures.told
 
 pub returns-clause-refused : goal.returns-clause-refused
 returns-clause-refused c =
     let v = c.args.validator.now in
     let m = module_view c.args.«module».now in
     if_err_as (items.IsRefusal v.settings c.args.resolved m) (IsRefusedWith (IsModuleFault v.settings c.args.resolved m)) (items_refused v.settings c.args.resolved m) c.validate.result
-    (moved (λ s b. IfErr c.validate.result (items.IsRefusal s b m)) _ _ _ c.args.resolved c.new-items.ensures c.if-resolved.false c.validate.ensures.refused)
+    (moved (λ s b. IfErr c.validate.result (items.IsRefusal s b m)) _ _ _ c.args.resolved c.with_settings-items.ensures c.if-resolved.false c.validate.ensures.refused)
