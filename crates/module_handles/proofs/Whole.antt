@@ -4,7 +4,7 @@ use Rattle.std.proofs.lemmas.List.Elements.{All-contains}
 use Rattle.std.proofs.lemmas.Option.{slice_get_within}
 use Rattle.ir_types.specs.judged.ExpressionPlain.{PlainExpression}
 use Rattle.ir_items.specs.judged.GlobalPlain.{PlainConstant, PlainOverride}
-use Rattle.ir_items.specs.judged.Plain.{PlainFunction, PlainEntry, PlainModule}
+use Rattle.ir_items.specs.judged.Plain.{PlainModule}
 use Rattle.typing_references.proofs.FaultLaws.{missing_none, then_none, map_none}
 use Rattle.typing_references.proofs.FirstLaws.{or_none, below_each}
 use Rattle.typing_references.specs.Faults.{outside_functions, missing, item_missing}
@@ -19,8 +19,8 @@ use Rattle.spec_expressions.specs.judged.ExpressionNames.{expression_operands, e
 use Rattle.spec_expressions.specs.judged.ModuleHandles.{HandlesOK}
 use Rattle.spec_expressions.specs.judged.ItemNames.{pending_of, special_types, mesh_types, mesh_expressions, entry_variables}
 use Rattle.spec_expressions.specs.judged.ModuleReferences.{ModulePart, NamesIn, type_names, type_counts, special_names, filter_names, leaf_names, constant_type, constant_value, override_type, override_value, expression_names, expression_reads, variable_type, variable_value, entry_type, entry_expression, entry_variable, IsThereIn}
-use Rattle.spec_expressions.specs.judged.Order.{Ordered, a_type, a_filter, a_function, an_expression, of_function, of_entry, DependsOn, type_on_named, type_on_override, type_on_expression, filter_on_parent, expression_on_operand, expression_on_constant, expression_on_override, function_on_callee, inside_function, inside_entry, IsBefore}
-use Rattle.spec_expressions.specs.judged.References.{Named, item}
+use Rattle.spec_expressions.specs.judged.Order.{Ordered, DependsOn, type_on_named, type_on_override, type_on_expression, filter_on_parent, expression_on_operand, expression_on_constant, expression_on_override, function_on_callee, inside_function, inside_entry, IsBefore}
+use Rattle.spec_expressions.specs.judged.References.{Named}
 use Rattle.spec_expressions.specs.declared.item.ItemKind.TheVariants as kind
 use Rattle.spec_expressions.specs.declared.target.Target.TheVariants as target
 use Rattle.typing_forms.specs.judged.Order.{named_types}

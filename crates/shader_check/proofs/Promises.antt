@@ -1,5 +1,5 @@
 -- What is promised of a document that is accepted holds of the text that is expected for its bytes.
-use Rattle.std.proofs.Common.{◌≡◌, ℕ, suc, Bool, List, [], ◌∷◌, ◌++◌, map, length, IsTrue, codes, nat_eq, refl, ap, subst}
+use Rattle.std.proofs.Common.{◌≡◌, ℕ, Bool, List, ◌++◌, IsTrue, codes, nat_eq, subst}
 use Rattle.std.specs.List.{starts_with}
 use Rattle.document_reader.specs.judged.Plain.{PlainDocument}
 use Rattle.document_reader.specs.judged.Form.{Reads}

@@ -89,18 +89,20 @@ pub fn leaves_of(
 ) -> Result<Option<Vec<Leaf>>, AllocError> {
     accepted_is_laid();
     let mut items = ModuleValidator::new(alloc, settings.flags, settings.capabilities);
-    if items.validate(module).is_err() {
-        return Ok(None);
+    match items.validate(module) {
+        Ok(info) => {
+            drop(info);
+            match module.global_variables.check_contains_handle(global) {
+                Ok(()) => match buffer_leaves(alloc, module, global) {
+                    Ok(leaves) => Ok(Some(leaves)),
+                    Err(error) => Err(error),
+                },
+                Err(_) => Ok(None),
+            }
+        }
+        Err(Refusal::Fault(_)) => Ok(None),
+        Err(Refusal::Memory(error)) => Err(error),
     }
-    if module
-        .global_variables
-        .check_contains_handle(global)
-        .is_err()
-    {
-        return Ok(None);
-    }
-    let leaves = buffer_leaves(alloc, module, global)?;
-    Ok(Some(leaves))
 }
 
 /// How deep calls nest in a run of an entry point of the module at most.
