@@ -21,12 +21,18 @@ PAGES = [
     ("shader_typing", "What is required of types, their layouts, the kinds and types of expressions, and the overload sets of the math functions.",
      [("A caller", "test_calls/src/overload_alone.rt", None)], ["typing_forms", "typing_infos", "typing_layout", "typing_rules",
                                             "typing_overloads",
-                                            "spec_expressions", "typing_resolve"]),
+                                            "spec_expressions", "typing_resolve", "typing_handles", "typing_analysis"]),
+    ("module_validator", "The check of a module up to its overrides, and what is kept of it.",
+     [("A caller", "test_layers/src/judged.rt", "pub fn accepts_items(")],
+     ["module_handles", "module_type_checks", "module_constants", "module_globals", "module_steps", "typing_infos", "judgement"]),
+    ("function_validator", "The check of functions, entry points and whole modules, over any layer beneath or over that of this repository.",
+     [("A caller", "test_layers/src/judged.rt", "pub fn accepts_functions(")],
+     ["function_interface", "function_real_lower", "function_whole", "function_modules", "function_entries", "judgement_laws", "judgement_report"]),
     ("document_reader", "From bytes to a document.",
      [("A caller", "test_items/src/modules.rt", "pub fn document_of(")], ["document_forms", "document_reader"]),
     ("shader_check", "The check of a module that is built by calls, and of a document from a reader to a writer.",
      [("A caller that builds a module", "test_cases/src/built.rt", None),
-      ("A caller that has a document", "checker/src/main.rt", "fn judge(")], ["judgement", "shader_check"]),
+      ("A caller that has a document", "checker/src/main.rt", "fn judge(")], ["judgement", "function_modules", "shader_check"]),
 ]
 
 

@@ -12,8 +12,8 @@ from pathlib import Path
 TOP = Path(__file__).resolve().parent.parent
 CRATES = TOP / "crates"
 # the crates that others build on: what their lib.rt hands on is public
-FRONT = ["shader_ir", "shader_typing", "module_handles", "module_constants", "module_expressions", "module_steps", "function_interface",
-         "function_whole", "document_reader", "check_report", "check_ports", "shader_check"]
+FRONT = ["shader_ir", "shader_typing", "module_handles", "module_constants", "module_expressions", "module_steps", "module_validator",
+         "function_interface", "function_whole", "function_validator", "document_reader", "judgement_report", "check_ports", "shader_check"]
 HEADING = "## What a refusal of memory leaves"
 # an error that holds memory, beside those enums that name it in a variant
 MEMORY = {"AllocError", "AllocFailed", "Refusal"}

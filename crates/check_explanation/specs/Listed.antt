@@ -12,12 +12,12 @@ use Rattle.check_explanation.specs.declared.explanation.Explanation.{Explanation
 use Rattle.check_explanation.specs.declared.explanation.Explanation.TheVariants.{NoDocument, Accepted, Refused}
 use Rattle.ir_items.specs.judged.Plain.{PlainModule}
 use Rattle.judgement.specs.judged.Steps.{IsPrepared}
-use Rattle.check_report.specs.Lines.{leaf_report}
-use Rattle.check_report.specs.Rows.{AreLaid, AreLayoutsIn}
-use Rattle.check_report.specs.Reported.{IsReported}
+use Rattle.judgement_report.specs.Lines.{leaf_report}
+use Rattle.judgement_report.specs.Rows.{AreLaid, AreLayoutsIn}
+use Rattle.judgement_report.specs.Reported.{IsReported}
 use Rattle.judgement.specs.judged.Reports.{IsReport}
 use Rattle.typing_infos.specs.declared.info.ModuleInfo.{ModuleInfo}
-use Rattle.shader_check.specs.found.Validated.{IsValidationFault}
+use Rattle.function_modules.specs.Validated.{IsValidationFault}
 use Rattle.shader_check.specs.declared.examined.Examined.{Examined}
 use Rattle.shader_check.specs.declared.examined.Examined.TheVariants as examined
 use Rattle.spec_expressions.specs.judged.ModuleHandles.{HandlesOK}

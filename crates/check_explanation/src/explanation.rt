@@ -17,7 +17,7 @@ use crate::refused::{RefusedItem, refused_item, value_of};
 use crate::types::type_texts;
 use check_faults::{Refused, accepted_value, no_document_value, refused_value};
 use check_reasons::{PathNames, Slip, hint};
-use check_report::{leaf_report, report};
+use judgement_report::{leaf_report, report};
 use document_forms::Place;
 use document_reader::{Document, DocumentError, MAX_LEN, read_document};
 use ir_items::Module;

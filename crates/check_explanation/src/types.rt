@@ -124,7 +124,7 @@ fn is_of_values(error: &ValidationError) -> bool {
         ValidationError::Module(error) => match error {
             ModuleError::ConstExpression(_) | ModuleError::Constant(_) | ModuleError::Override(_) =>
                 true,
-            ModuleError::InvalidHandle(_) | ModuleError::Layouter(_) | ModuleError::Type(_) =>
+            ModuleError::InvalidHandle(_) | ModuleError::Layouter(_) | ModuleError::Typing(_) =>
                 false,
         },
         ValidationError::GlobalVariable(_) => true,

@@ -60,7 +60,7 @@ variable_label m handle = label (span_at m.global_variables handle) item.GlobalV
 abbrev pub module_label : Module → ModuleError → Option Label
 module_label m (error.InvalidHandle e) = None
 module_label m (error.Layouter e) = Some (label (span_at m.types e.ty) item.«Type»)
-module_label m (error.«Type» e) = Some (label (span_at m.types e.ty) item.«Type»)
+module_label m (error.Typing e) = Some (label (span_at m.types e.ty) item.«Type»)
 module_label m (error.ConstExpression e) = Some (label (span_at m.global_expressions e.expression) item.GlobalExpression)
 module_label m (error.Constant e) = Some (label (span_at m.constants e.constant) item.Constant)
 module_label m (error.Override e) = Some (label (span_at m.overrides e.id) item.Override)

@@ -55,7 +55,7 @@ fn write_early<W: fmt::Write>(f: &mut fmt::Formatter<W>, error: &ModuleError) ->
     match error {
         ModuleError::InvalidHandle(error) => write!(f, "{error:?}"),
         ModuleError::Layouter(error) => write!(f, "{:?}", error.inner),
-        ModuleError::Type(error) => write!(f, "{:?}", error.error),
+        ModuleError::Typing(error) => write!(f, "{:?}", error.error),
         ModuleError::ConstExpression(error) => write!(f, "{:?}", error.error),
         ModuleError::Constant(error) => write!(f, "{:?}", error.error),
         ModuleError::Override(error) => write!(f, "{:?}", error.error),

@@ -55,7 +55,7 @@ pub fn module_label(module: &Module, error: &ModuleError) -> Option<Label>
     let (span, item) = match error {
         ModuleError::InvalidHandle(_) => return None,
         ModuleError::Layouter(error) => (module.types.get_span(error.ty), Item::Type),
-        ModuleError::Type(error) => (module.types.get_span(error.ty), Item::Type),
+        ModuleError::Typing(error) => (module.types.get_span(error.ty), Item::Type),
         ModuleError::ConstExpression(error) => (
             module.global_expressions.get_span(error.expression),
             Item::GlobalExpression,

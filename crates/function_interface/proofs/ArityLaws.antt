@@ -4,8 +4,8 @@ use Rattle.spec_expressions.proofs.Members.{get-within}
 use Rattle.ir_items.specs.judged.Plain.{PlainFunction, PlainModule}
 use Rattle.spec_expressions.specs.judged.FunctionHandles.{HandlesInRange}
 use Rattle.spec_expressions.specs.judged.References.{done, statement_calls}
-use Rattle.module_handles.specs.Tests.{PassesWrongCount, count_of}
-use Rattle.module_handles.specs.declared.arities.ArityFault.{ArityFault}
+use Rattle.typing_handles.specs.Tests.{PassesWrongCount, count_of}
+use Rattle.typing_handles.specs.declared.arities.ArityFault.{ArityFault}
 
 pub never_missing : (m : PlainModule) (f : PlainFunction) (x : ArityFault) → HandlesInRange m f → PassesWrongCount m f x → x.required ≡ None → ⊥
 never_missing m f x there w none =

@@ -7,8 +7,8 @@ ghost use Rattle.spec_expressions.specs.judged.FunctionHandles.{HandlesInRange};
 ghost use Rattle.spec_expressions.specs.judged.CallArities.{AritiesMatch};
 
 use ir_items::{Function, Module};
-use module_handles::arity_fault;
 use typing_errors::{CallError, FunctionError};
+use typing_handles::arity_fault;
 
 /// Whether each call of a function passes as many arguments as the function called has. Requires that the functions called are
 /// there.

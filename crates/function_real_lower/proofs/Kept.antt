@@ -22,12 +22,12 @@ use Rattle.spec_expressions.specs.judged.Summaries.{Summary}
 use Rattle.spec_expressions.specs.judged.Typing.{HasType}
 use Rattle.spec_expressions.specs.judged.FunctionHandles.{HandlesInRange}
 use Rattle.spec_expressions.specs.judged.ModuleHandles.{HandlesOK}
-use Rattle.function_real_lower.specs.Infos.{AreExpressionInfos, IsOwnInfo}
+use Rattle.typing_analysis.specs.Infos.{AreExpressionInfos, IsOwnInfo}
 use Rattle.typing_forms.specs.judged.Forms.{NoStructValue, form_of}
 use Rattle.typing_forms.specs.judged.Resolutions.{PlainResolution, by_handle, by_value, resolution_view}
 use Rattle.typing_forms.specs.declared.resolution.TypeResolution.{TypeResolution}
 use Rattle.typing_forms.specs.declared.form.Form.{Form}
-use Rattle.function_real_lower.specs.Processed.{IsAnalysed, IsProcessed}
+use Rattle.typing_analysis.specs.Processed.{IsAnalysed, IsProcessed}
 use Rattle.typing_errors.specs.Answers.{form_given}
 
 typed_at : (m : PlainModule) (f : PlainFunction) (e : ℕ) (t : Form) (o : Option ExpressionInfo)

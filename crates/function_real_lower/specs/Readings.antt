@@ -9,7 +9,7 @@ use Rattle.spec_statements.specs.judged.Scene.{scene_of}
 use Rattle.spec_statements.specs.judged.ExpressionStages.{IsRunBy}
 use Rattle.spec_expressions.specs.judged.Typing.{HasType}
 use Rattle.spec_statements.specs.judged.Functions.{Reading}
-use Rattle.function_real_lower.specs.Processed.{IsAnalysisFault}
+use Rattle.typing_analysis.specs.Processed.{IsAnalysisFault}
 
 -- its expressions have types by the rules of their kinds, and no fault of the analysis stands
 abbrev pub reading_of : Question → Reading

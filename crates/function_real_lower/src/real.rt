@@ -5,7 +5,6 @@ ghost use Rattle.ir_items.specs.found.View.{module_view};
 ghost use Rattle.ir_items.specs.found.Filters.{ParentsPrecede};
 ghost use Rattle.function_real_lower.specs.Severities.{AreKnown, severities_in};
 
-use crate::process::process_by;
 use function_interface::{Lower, NotedStages};
 use function_statement_checks::BlockContext;
 use ir_arena::handle::Handle;
@@ -18,6 +17,7 @@ use module_context::CheckContext;
 use module_expressions::{expression_stages, validate_expression};
 use spec_expressions::{GlobalUse, SamplingPair};
 use std::alloc::{AllocError, Global};
+use typing_analysis::process_by;
 use typing_errors::{ExpressionError, FunctionError};
 use typing_forms::TypeResolution;
 use typing_infos::{FunctionInfo, ModuleInfo};
@@ -92,7 +92,7 @@ impl Lower for RealLower {
     type Info = FunctionInfo;
 
     ghost use Rattle.typing_infos.specs.Infos.{summary_of};
-    ghost use Rattle.function_real_lower.specs.Infos.{IsOwnInfo};
+    ghost use Rattle.typing_analysis.specs.Infos.{IsOwnInfo};
     ghost use Rattle.function_real_lower.specs.Made.{IsMadeOf, types_of};
     ghost use Rattle.function_real_lower.specs.Severities.{AreKnown};
     ghost use Rattle.function_real_lower.specs.Readings.{reading_of, faults_of};

@@ -23,8 +23,8 @@ use Rattle.spec_statements.specs.judged.Interfaces.{InterfaceOK}
 use Rattle.function_statements.proofs.Refuted.{faults_refute_lem as by_statement}
 use Rattle.function_strict_scope.proofs.Refuted.{strict_faults_refute_lem as by_strict}
 use Rattle.typing_forms.specs.declared.form.Form.{Form}
-use Rattle.module_handles.proofs.OrderLaws.{wrong_refutes}
-use Rattle.module_handles.specs.Tests.{fault_at}
+use Rattle.typing_handles.proofs.OrderLaws.{wrong_refutes}
+use Rattle.typing_handles.specs.Tests.{fault_at}
 use Rattle.function_interface.specs.Arities.{IsArityError, IsArityFault}
 use Rattle.function_whole.specs.Faults.{IsExpressionFault, IsFaultOfBody, IsUnanswered, IsFaultAfter, in_interface, in_expressions, in_body, unanswered, IsFunctionFault, in_arity, in_analysis, behind}
 

@@ -1,7 +1,7 @@
 -- Chains of calls run functions of falling index.
 use Rattle.std.proofs.Common.{◌≡◌, ◌<◌, ◌++◌, ℕ, List, [], ◌∷◌, Some, length, slice_get}
 use Rattle.ir_items.specs.judged.Plain.{PlainFunction, PlainModule}
-use Rattle.module_handles.proofs.Whole.{order_gives_conditions}
+use Rattle.typing_handles.proofs.Ordered.{order_gives_conditions}
 use Rattle.judgement_laws.specs.found.AcceptedLaws.{BeginsAt, at_function, at_entry, AreRun, Rise, CallsFall}
 use Rattle.spec_expressions.proofs.Members.{among-get}
 use Rattle.spec_expressions.specs.judged.CallChains.{Step, IsChain, chain_end}

@@ -13,6 +13,7 @@ ghost use Rattle.typing_forms.specs.judged.Parts.{components_of};
 
 use crate::components::{Components, count_of, form_at, scalars_of};
 use ir_arena::handle::Handle;
+use ir_items::GlobalCtx;
 use ir_kinds::Scalar;
 use ir_sets::unique_arena::UniqueArena;
 use ir_types::{IrType, StructMember, TypeInner, key};
@@ -259,17 +260,18 @@ pub fn check_composition(
 /// Nothing of the type is composed, a component does not fit, or they are too few or too many: each is answered only where
 /// it stands.
 pub fn validate_compose(
-    types: &UniqueArena<IrType, key::IrType>,
-    ty: Handle<key::IrType>,
+    self_ty: Handle<key::IrType>,
+    gctx: GlobalCtx<'_>,
     component_resolutions: &[TypeResolution],
 ) -> Result<(), ComposeError>
-    ensures { MatchResult result
-        (λ _. ComposeOK (types_view types.now) ty (map (form_given (types_view types.now)) component_resolutions.now))
-        (IsComposeFault (types_view types.now) ty (map (form_given (types_view types.now)) component_resolutions.now)) }
+    ensures { let types = types_view gctx.entry.types.now in
+        MatchResult result
+        (λ _. ComposeOK types self_ty (map (form_given types) component_resolutions.now))
+        (IsComposeFault types self_ty (map (form_given types) component_resolutions.now)) }
 {
     let components = Components::Types {
-        types,
+        types: gctx.types,
         resolutions: component_resolutions,
     };
-    check_composition(types, ty, &components)
+    check_composition(gctx.types, self_ty, &components)
 }

@@ -6,8 +6,6 @@ pub mod FunctionFaults
 pub mod ItemLemmas
 pub mod TypeLemmas
 pub mod Whole
-pub mod OrderLaws
-pub mod SameLemmas
 pub mod OrderedExpressions
 pub mod Origins
 pub mod Forms

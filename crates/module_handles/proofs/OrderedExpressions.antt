@@ -4,8 +4,8 @@ use Rattle.ir_types.specs.judged.ExpressionPlain.{PlainExpression, compose, plai
 use Rattle.ir_types.specs.declared.expressions.Expression.TheVariants as x
 use Rattle.ir_items.specs.judged.Plain.{PlainFunction, PlainModule}
 use Rattle.module_handles.specs.Steps.{ExpressionConditions, AllExpressions, OrderGivesExpressions}
-use Rattle.module_handles.proofs.Whole.{conditions}
-use Rattle.module_handles.specs.Conditions.{FunctionConditions}
+use Rattle.typing_handles.proofs.Ordered.{conditions}
+use Rattle.typing_handles.specs.Conditions.{FunctionConditions}
 use Rattle.spec_expressions.specs.judged.Context.{Context, inside, outside, NamesItem}
 use Rattle.spec_expressions.specs.judged.ExpressionNames.{expression_item}
 use Rattle.spec_expressions.specs.judged.ModuleHandles.{HandlesOK}
@@ -14,7 +14,7 @@ use Rattle.spec_expressions.specs.judged.References.{computed, item, ItemExists}
 use Rattle.spec_expressions.specs.judged.References.{expression_names as function_names}
 use Rattle.spec_expressions.specs.declared.target.Target.{Target}
 use Rattle.spec_expressions.specs.declared.target.Target.TheVariants as target
-use Rattle.module_handles.proofs.SameLemmas.{same_order}
+use Rattle.typing_handles.proofs.SameLemmas.{same_order}
 
 -- the item is there, of those that the typing of an expression looks up
 abbrev IsIn : Context → Target → Type 0

@@ -12,7 +12,7 @@ use Rattle.ir_types.specs.judged.Plain.{plain}
 use Rattle.module_handles.proofs.Forms.{at_place, Gives, GivesIf, gives, gives_none, gives_or, some_form, no_form, pointer_made, type_made, element_made, access_index_made, load_made, variable_made}
 use Rattle.module_handles.proofs.Values.{splat_made, swizzle_made, image_sample_made, image_load_made, query_made, binary_made, relational_made, as_made, matrix_loaded, value_size_made}
 use Rattle.module_handles.specs.Types.{IsMadeOf, OrderGivesTypes}
-use Rattle.module_handles.proofs.Whole.{conditions}
+use Rattle.typing_handles.proofs.Ordered.{conditions}
 use Rattle.typing_rules.specs.judged.Laws.{IsAmong}
 use Rattle.typing_rules.specs.declared.rules.Conclusion.{Conclusion}
 use Rattle.typing_rules.specs.declared.rules.Conclusion.TheVariants.{Value, Predeclared}

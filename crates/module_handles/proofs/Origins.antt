@@ -11,7 +11,7 @@ use Rattle.ir_items.specs.found.GlobalView.{values_of}
 use Rattle.ir_items.specs.found.View.{function_view, entry_view, module_view}
 use Rattle.typing_references.proofs.FaultLaws.{map_some}
 use Rattle.module_handles.specs.Steps.{OrderGivesOrigins}
-use Rattle.module_handles.proofs.Whole.{conditions}
+use Rattle.typing_handles.proofs.Ordered.{conditions}
 use Rattle.spec_expressions.specs.judged.FunctionHandles.{OperandsPrecede}
 use Rattle.spec_expressions.specs.judged.ExpressionNames.{expression_operands}
 use Rattle.std.specs.List.{cons_option}

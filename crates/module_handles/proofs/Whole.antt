@@ -1,17 +1,16 @@
--- All parts of a module in order make the whole in order, and a module in order gives what is required after.
+-- All parts of a module in order make the whole in order.
 use Rattle.std.proofs.Common.{◌≡◌, ℕ, ◌+◌, ◌<◌, List, Some, option_map, option_and_then, sym, ap, ◌∙◌, subst, slice_get, length, All, Contains, arith}
-use Rattle.std.proofs.lemmas.List.Elements.{All-contains, All-contains_itself}
+use Rattle.std.proofs.lemmas.List.Elements.{All-contains}
 use Rattle.std.proofs.lemmas.Option.{slice_get_within}
 use Rattle.ir_types.specs.judged.ExpressionPlain.{PlainExpression}
 use Rattle.ir_items.specs.judged.GlobalPlain.{PlainConstant, PlainOverride}
-use Rattle.ir_items.specs.judged.Plain.{PlainFunction, PlainEntry, PlainModule}
-use Rattle.typing_references.proofs.FaultLaws.{missing_none, then_none, map_none, map_some}
+use Rattle.ir_items.specs.judged.Plain.{PlainModule}
+use Rattle.typing_references.proofs.FaultLaws.{missing_none, then_none, map_none}
 use Rattle.typing_references.proofs.FirstLaws.{or_none, below_each}
 use Rattle.typing_references.specs.Faults.{outside_functions, missing, item_missing}
 use Rattle.ir_types.specs.judged.Plain.{PlainInner, PlainType}
 use Rattle.ir_items.specs.found.Filters.{ParentsPrecede}
 use Rattle.module_handles.proofs.OutsideFaults.{forward_none, each_there, item_there, type_found}
-use Rattle.module_handles.specs.Conditions.{FunctionConditions, ModuleConditions, OrderGivesConditions}
 use Rattle.module_handles.specs.Found.{up_to, looked_through}
 use Rattle.module_handles.specs.LookupFound.{type_of, init_of, forward, counted_by}
 use Rattle.module_handles.specs.InOrder.{TypesOK, ItemsOK, GlobalExpressionsOK, FunctionsOK, EntriesOK}
@@ -20,11 +19,11 @@ use Rattle.spec_expressions.specs.judged.ExpressionNames.{expression_operands, e
 use Rattle.spec_expressions.specs.judged.ModuleHandles.{HandlesOK}
 use Rattle.spec_expressions.specs.judged.ItemNames.{pending_of, special_types, mesh_types, mesh_expressions, entry_variables}
 use Rattle.spec_expressions.specs.judged.ModuleReferences.{ModulePart, NamesIn, type_names, type_counts, special_names, filter_names, leaf_names, constant_type, constant_value, override_type, override_value, expression_names, expression_reads, variable_type, variable_value, entry_type, entry_expression, entry_variable, IsThereIn}
-use Rattle.spec_expressions.specs.judged.Order.{Ordered, a_type, a_filter, a_function, an_expression, of_function, of_entry, DependsOn, type_on_named, type_on_override, type_on_expression, filter_on_parent, expression_on_operand, expression_on_constant, expression_on_override, function_on_callee, inside_function, inside_entry, IsBefore}
-use Rattle.spec_expressions.specs.judged.References.{Named, item}
+use Rattle.spec_expressions.specs.judged.Order.{Ordered, DependsOn, type_on_named, type_on_override, type_on_expression, filter_on_parent, expression_on_operand, expression_on_constant, expression_on_override, function_on_callee, inside_function, inside_entry, IsBefore}
+use Rattle.spec_expressions.specs.judged.References.{Named}
 use Rattle.spec_expressions.specs.declared.item.ItemKind.TheVariants as kind
 use Rattle.spec_expressions.specs.declared.target.Target.TheVariants as target
-use Rattle.typing_forms.specs.judged.Order.{named_types, TypesGoBack}
+use Rattle.typing_forms.specs.judged.Order.{named_types}
 
 -- one that comes before an item of the list is in the list
 earlier : {A : Type 0} (xs : List A) (place named : ℕ) (x : A) → slice_get xs place ≡ Some x → named < place → named < length xs
@@ -91,44 +90,3 @@ module _ (m : PlainModule) (types : TypesOK m) (items : ItemsOK m) (globals : Gl
 
   pub whole : HandlesOK m
   whole = record { there = names_there; functions = λ i f at. (functions i f at).in_range; entries = λ k x at. (entries k x at).there; back = depends_back }
-
--- ---- what the steps after require
-
-module _ (m : PlainModule) (ok : HandlesOK m) where
-  go_back : TypesGoBack m.types
-  go_back = record {
-    each = λ handle i at. (let r = map_some (λ (t : PlainType). t.inner) (slice_get m.types handle) i at in
-        subst (λ z. All (λ named. named < handle) (named_types z)) (sym r.2) (each_back handle r.0 r.1));
-  }
-    where
-      each_back : (place : ℕ) (x : PlainType) → slice_get m.types place ≡ Some x → All (λ named. named < place) (named_types x.inner)
-      each_back place x at k d lt = ok.back (a_type place) (a_type _) (type_on_named at (All-contains_itself (named_types x.inner) k d lt))
-
-  back_in : (xs : List PlainExpression) → ((e o : ℕ) (x : PlainExpression) → slice_get xs e ≡ Some x → Contains (expression_operands x) o → o < e) → OperandsPrecede xs
-  back_in xs before e x at k d lt = before e _ x at (All-contains_itself (expression_operands x) k d lt)
-
-  of_a_function : (i : ℕ) (f : PlainFunction) → slice_get m.functions i ≡ Some f → FunctionConditions m i f
-  of_a_function i f at = record {
-    in_range = ok.functions i f at;
-    operands = back_in f.expressions (λ e o x there c. ok.back (of_function i e) (of_function i o) (inside_function at there c));
-    callees = λ site callee names. ok.back (a_function i) (a_function callee) (function_on_callee at names);
-  }
-
-  of_an_entry : (k : ℕ) (x : PlainEntry) → slice_get m.entries k ≡ Some x → FunctionConditions m (length m.functions) x.function
-  of_an_entry k x at = record {
-    in_range = ok.entries k x at;
-    operands = back_in x.function.expressions (λ e o y there c. ok.back (of_entry k e) (of_entry k o) (inside_entry at there c));
-    callees = λ site callee names. ok.entries k x at site (item (target.Function callee)) names;
-  }
-
-  pub conditions : ModuleConditions m
-  conditions = record {
-    types = go_back;
-    filters = λ place parent node at is. ok.back (a_filter place) (a_filter parent) (filter_on_parent at is);
-    global_expressions = back_in m.global_expressions (λ e o x there c. ok.back (an_expression e) (an_expression o) (expression_on_operand there c));
-    functions = of_a_function;
-    entries = of_an_entry;
-  }
-
-pub order_gives_conditions : OrderGivesConditions
-order_gives_conditions m ok = conditions m ok

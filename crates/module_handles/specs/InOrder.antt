@@ -9,7 +9,7 @@ use Rattle.typing_references.specs.declared.fault.HandleFault.TheVariants as fau
 use Rattle.ir_types.specs.judged.Plain.{PlainInner, PlainType}
 use Rattle.module_handles.specs.Found.{special_missing, leaf_missing, constant_missing, override_missing, variable_missing, entry_missing, named_missing, pending_missing, init_forward, built_forward, named_forward, looked_through}
 use Rattle.module_handles.specs.LookupFound.{counted_forward}
-use Rattle.module_handles.specs.Conditions.{FunctionConditions}
+use Rattle.typing_handles.specs.Conditions.{FunctionConditions}
 use Rattle.spec_expressions.specs.judged.FunctionHandles.{HandlesInRange, OperandsPrecede}
 use Rattle.spec_expressions.specs.judged.ModuleHandles.{IsMissing, IsRangeOut, IsForward}
 

@@ -2,9 +2,6 @@ pub mod Lists
 pub mod Found
 pub mod InOrder
 pub mod Errors
-pub mod Conditions
 pub mod LookupFound
-pub mod Tests
-pub mod SameOperands
 pub mod Steps
 pub mod Types

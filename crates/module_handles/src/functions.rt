@@ -16,7 +16,7 @@ struct Functions<'a> {
 
 impl ItemCheck<Function> for Functions<'_> {
     ghost use Rattle.ir_items.specs.found.View.{function_view, module_view};
-    ghost use Rattle.module_handles.specs.Conditions.{FunctionConditions};
+    ghost use Rattle.typing_handles.specs.Conditions.{FunctionConditions};
     ghost use Rattle.module_handles.specs.InOrder.{IsFunctionFault};
 
     ghost passes = { λ t i f. FunctionConditions (module_view t.«module».now) i (function_view f) };

@@ -3,7 +3,7 @@ use Rattle.std.proofs.Common.{◌≡◌, ◌<◌, ℕ, zero, suc, List, [], ◌�
 use Rattle.module_globals.specs.There.{IsThere}
 use Rattle.ir_items.specs.judged.GlobalPlain.{PlainGlobal}
 use Rattle.ir_items.specs.judged.Plain.{PlainModule}
-use Rattle.module_handles.proofs.Whole.{conditions}
+use Rattle.typing_handles.proofs.Ordered.{conditions}
 use Rattle.spec_expressions.specs.judged.ModuleHandles.{HandlesOK}
 use Rattle.spec_expressions.specs.judged.ModuleReferences as part
 use Rattle.spec_expressions.specs.judged.References.{item, operand}

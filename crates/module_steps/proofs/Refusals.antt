@@ -38,7 +38,7 @@ by_handles s resolved m e wrong = (wrong, handle_refuted m e wrong)
 pub by_layout : (s : Settings) (resolved : Bool) (m : PlainModule) (layouts : List TypeLayout) (e : LayoutError) → IsReached s resolved m step.layout → AreLayouts m.types layouts → IsRefused m.types layouts e → IsModuleFault s resolved m (error.Layouter e)
 by_layout s resolved m layouts e reached held refused = (record { reached = reached; item = not_laid s resolved m layouts e held refused }, refused.fault)
 
-pub by_type : (s : Settings) (resolved : Bool) (m : PlainModule) (e : InvalidType) → IsReached s resolved m step.type → IsTypeRefused s.capabilities resolved m.types e → IsModuleFault s resolved m (error.Type e)
+pub by_type : (s : Settings) (resolved : Bool) (m : PlainModule) (e : InvalidType) → IsReached s resolved m step.type → IsTypeRefused s.capabilities resolved m.types e → IsModuleFault s resolved m (error.Typing e)
 by_type s resolved m e reached refused = (record { reached = reached; item = not_told s resolved m e refused }, refused.fault)
 
 pub by_expression : (s : Settings) (resolved : Bool) (m : PlainModule) (e : InvalidGlobalExpression) → IsReached s resolved m step.expression → FailsFirst (item_count m step.expression) (StepOK s resolved m step.expression) e.expression

@@ -34,7 +34,7 @@ IsExpressionRefused s resolved m handle e =
 abbrev pub IsModuleFault : Settings → (resolved : Bool) → PlainModule → ModuleError → Type 0
 IsModuleFault s resolved m (error.InvalidHandle e) = IsHandleError m e × ¬ HandlesOK m
 IsModuleFault s resolved m (error.Layouter e) = IsFirstFailing s resolved m step.layout e.ty × IsFaultOf (type_tree m.types e.ty) e.inner
-IsModuleFault s resolved m (error.Type e) = IsFirstFailing s resolved m step.type e.ty × IsRefusedFor s.capabilities resolved m.types e.ty e.error
+IsModuleFault s resolved m (error.Typing e) = IsFirstFailing s resolved m step.type e.ty × IsRefusedFor s.capabilities resolved m.types e.ty e.error
 IsModuleFault s resolved m (error.ConstExpression e) = IsExpressionRefused s resolved m e.expression e.error
 IsModuleFault s resolved m (error.Constant e) = IsFirstFailing s resolved m step.constant e.constant × IsConstantFault m e.constant e.error
 IsModuleFault s resolved m (error.Override e) = IsFirstFailing s resolved m step.override e.id × IsOverrideFault resolved m e.id e.error

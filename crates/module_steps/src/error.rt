@@ -15,9 +15,9 @@ pub enum ModuleError {
     /// A type has no layout.
     #[error("{0}")]
     Layouter(LayoutError),
-    /// A type is refused.
+    /// A type is refused (naga's `ValidationError::Type`).
     #[error("{0}")]
-    Type(InvalidType),
+    Typing(InvalidType),
     /// A global expression has no type, or is refused.
     #[error("{0}")]
     ConstExpression(InvalidGlobalExpression),

@@ -116,7 +116,7 @@ pub fn type_infos(
             settings,
             overrides_resolved,
             module,
-            ModuleError::Type(fault.into_inner()),
+            ModuleError::Typing(fault.into_inner()),
         )),
     }
 }

@@ -11,7 +11,7 @@ ghost use Rattle.typing_layout.specs.found.Faults.{IsWidthFault};
 ghost use Rattle.module_type_checks.specs.Widths.{IsLiteralFault};
 
 use crate::{ModuleError, check_handles, check_values, expression_types, lay_out, type_infos};
-use ir_flags::Settings;
+use ir_flags::{Capabilities, Settings, ShaderStages, SubgroupOperationSet, ValidationFlags};
 use ir_items::Module;
 use ir_kinds::{Literal, Scalar};
 use ir_types::refusal::Refusal;
@@ -31,8 +31,21 @@ pub struct ModuleValidator {
 }
 
 impl ModuleValidator {
-    /// A validator with these settings. It takes no memory.
-    pub fn new(alloc: Global, settings: Settings) -> Self
+    /// A validator that makes these checks, of shaders that may use this. It takes no memory.
+    pub fn new(alloc: Global, flags: ValidationFlags, capabilities: Capabilities) -> Self
+        ensures { result.settings ≡ record { flags = flags; capabilities = capabilities; subgroup_stages = record { 0 = 0 }; subgroup_operations = record { 0 = 0 } } }
+    {
+        let settings = Settings {
+            flags,
+            capabilities,
+            subgroup_stages: ShaderStages(0),
+            subgroup_operations: SubgroupOperationSet(0),
+        };
+        ModuleValidator::with_settings(alloc, settings)
+    }
+
+    /// A validator that makes the checks of these settings. Of operations of subgroups it checks nothing. It takes no memory.
+    pub fn with_settings(alloc: Global, settings: Settings) -> Self
         ensures { result.settings ≡ settings }
     {
         ModuleValidator {

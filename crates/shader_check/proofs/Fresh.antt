@@ -14,7 +14,7 @@ use Rattle.shader_check.proofs.Failing.{Family, up_to_overrides, at_variables, a
 use Rattle.shader_check.proofs.Once.{step_back}
 use Rattle.shader_check.specs.found.Examined.{refused_by}
 use Rattle.shader_check.specs.found.Fresh.{AreAlike, AnswersAreAlike}
-use Rattle.shader_check.specs.found.Validated.{IsValidated, IsValidationFault}
+use Rattle.function_modules.specs.Validated.{IsValidated, IsValidationFault}
 use Rattle.function_errors.specs.declared.error.ValidationError.{ValidationError}
 use Rattle.function_errors.specs.declared.error.ValidationError.TheVariants as validation
 use Rattle.spec_expressions.specs.judged.ModuleHandles.{HandlesOK}
@@ -37,7 +37,7 @@ expression_step constant.Other = step.expression
 abbrev early_spot : ModuleError → Option Spot
 early_spot (error.InvalidHandle e) = None
 early_spot (error.Layouter e) = Some (record { family = up_to_overrides step.layout; item = e.ty })
-early_spot (error.Type e) = Some (record { family = up_to_overrides step.type; item = e.ty })
+early_spot (error.Typing e) = Some (record { family = up_to_overrides step.type; item = e.ty })
 early_spot (error.ConstExpression e) = Some (record { family = up_to_overrides (expression_step e.error); item = e.expression })
 early_spot (error.Constant e) = Some (record { family = up_to_overrides step.constant; item = e.constant })
 early_spot (error.Override e) = Some (record { family = up_to_overrides step.override; item = e.id })
@@ -63,7 +63,7 @@ expression_found constant.Other h = refl
 early_found : (e : ModuleError) → finding_at (early_spot e) ≡ refused_by (validation.Module e)
 early_found (error.InvalidHandle e) = refl
 early_found (error.Layouter e) = refl
-early_found (error.Type e) = refl
+early_found (error.Typing e) = refl
 early_found (error.ConstExpression e) = expression_found e.error e.expression
 early_found (error.Constant e) = refl
 early_found (error.Override e) = refl
@@ -99,7 +99,7 @@ module _ (resolved : Bool) (s : Settings) (m : PlainModule) where
   early_fails : (e : ModuleError) → IsModuleFault s resolved m e → FailsAt (early_spot e)
   early_fails (error.InvalidHandle e) x = x.1
   early_fails (error.Layouter e) x = x.0
-  early_fails (error.Type e) x = x.0
+  early_fails (error.Typing e) x = x.0
   early_fails (error.ConstExpression e) x = expression_fails e.expression e.error x
   early_fails (error.Constant e) x = x.0
   early_fails (error.Override e) x = x.0

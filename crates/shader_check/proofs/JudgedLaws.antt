@@ -19,7 +19,7 @@ use Rattle.function_errors.specs.Spans.{IsRefusedAt}
 use Rattle.shader_check.proofs.Kept.{reported}
 use Rattle.shader_check.proofs.ModuleLaws.{found_of}
 use Rattle.shader_check.specs.found.Examined.{finding_in, refused_early, refused_by, IsExamined, IsExaminedDocument, IsKeptIn, IsRefusedSo}
-use Rattle.shader_check.specs.found.Validated.{IsValidationFault}
+use Rattle.function_modules.specs.Validated.{IsValidationFault}
 use Rattle.shader_check.specs.found.Judgements.{FindsIn, Judged, IsReported, IsReportedOf, IsJudgementOf, IsJudgementOn}
 use Rattle.shader_check.specs.judged.Theorem.{IsReportedIn}
 use Rattle.shader_check.specs.declared.examined.Examined.{Examined}
@@ -49,13 +49,13 @@ judged_document d m x h = found_in d m (finding_in x) h.prepared (found_of d.set
 -- ---- what is reported
 
 pub kept_in : (d : PlainDocument) (m : PlainModule) (x : Examined) → IsExaminedDocument d m x → IsKeptIn m x
-kept_in d m (examined.Accepted strict info) h = reported d.settings m info h.examined.0
+kept_in d m (examined.Accepted strict info) h = reported d.settings false m info h.examined.0
 kept_in d m (examined.Refused e) h = tt
 
 early_reported : (d : PlainDocument) (m : PlainModule) (e : ModuleError) (behind : List ℕ) → IsReportedIn m (refused_early e) behind → IsReportedOf d (refused_early e) behind
 early_reported d m (module_error.InvalidHandle e) behind t = t
 early_reported d m (module_error.Layouter e) behind t = t
-early_reported d m (module_error.Type e) behind t = t
+early_reported d m (module_error.Typing e) behind t = t
 early_reported d m (module_error.ConstExpression e) behind t = t
 early_reported d m (module_error.Constant e) behind t = t
 early_reported d m (module_error.Override e) behind t = t

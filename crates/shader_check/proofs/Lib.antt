@@ -1,13 +1,3 @@
-mod Placed
-mod Chained
-mod EntryHeld
-mod EntrySteps
-mod NameSteps
-mod ByChains
-mod FunctionKept
-mod Staged
-mod EntryByChains
-mod Assembled
 pub mod Kept
 pub mod ModuleLaws
 pub mod JudgedLaws

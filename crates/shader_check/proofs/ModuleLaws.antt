@@ -9,7 +9,7 @@ use Rattle.judgement.specs.declared.finding.Finding.TheVariants.{Refused}
 use Rattle.module_steps.specs.Faults.{IsExpressionRefused, IsModuleFault}
 use Rattle.module_steps.specs.declared.error.ModuleError.{ModuleError}
 use Rattle.module_steps.specs.declared.error.ModuleError.TheVariants as error
-use Rattle.shader_check.specs.found.Validated.{IsValidationFault}
+use Rattle.function_modules.specs.Validated.{IsValidationFault}
 use Rattle.function_errors.specs.declared.error.ValidationError.{ValidationError}
 use Rattle.function_errors.specs.declared.error.ValidationError.TheVariants as validation
 use Rattle.shader_check.specs.found.Examined.{step_of, refused_early, refused_by, finding_in, IsExamined}
@@ -33,7 +33,7 @@ expression_is s m h constant.Other (inr x) = absurd x.1
 pub found_is : (s : Settings) (m : PlainModule) (e : ModuleError) → IsModuleFault s false m e → IsFinding s m (refused_early e)
 found_is s m (error.InvalidHandle e) x = x.1
 found_is s m (error.Layouter e) x = x.0
-found_is s m (error.Type e) x = x.0
+found_is s m (error.Typing e) x = x.0
 found_is s m (error.ConstExpression e) x = expression_is s m e.expression e.error x
 found_is s m (error.Constant e) x = x.0
 found_is s m (error.Override e) x = x.0

@@ -1,8 +1,6 @@
 -- What is promised of a document that is accepted holds of the text that is expected for its bytes.
-use Rattle.std.proofs.Common.{◌≡◌, ℕ, suc, Bool, List, [], ◌∷◌, ◌++◌, map, length, IsTrue, codes, nat_eq, refl, ap, subst}
+use Rattle.std.proofs.Common.{◌≡◌, ℕ, Bool, List, ◌++◌, IsTrue, codes, nat_eq, subst}
 use Rattle.std.specs.List.{starts_with}
-use Rattle.ir_arena.specs.declared.span.Span.{Span}
-use Rattle.ir_items.specs.found.GlobalView.{values_of}
 use Rattle.document_reader.specs.judged.Plain.{PlainDocument}
 use Rattle.document_reader.specs.judged.Form.{Reads}
 use Rattle.judgement.specs.judged.Steps.{IsFinding}
@@ -14,11 +12,6 @@ use Rattle.judgement_laws.proofs.Sound.{accepted_is_sound}
 use Rattle.judgement.specs.judged.Reports.{IsReport}
 use Rattle.shader_check.proofs.Returns.{returns_dont_show_lem}
 use Rattle.shader_check.specs.judged.Theorem.{IsReportedIn, IsTextOn, of_document, no_document, SoundText, AcceptedTextsAreSound}
-
--- how many values stand in an arena
-pub many_values : {T View : Type 0} (view : T → View) (entries : List (T × Span)) → length (map view (values_of entries)) ≡ length entries
-many_values view [] = refl
-many_values view (e ∷ es) = ap suc (many_values view es)
 
 module _ (bytes text : List ℕ) (d : PlainDocument) (reads : Reads bytes d) (t : IsTextOn d text) where
   accepted_text : (strict : Bool) → IsFinding d.settings t.judged (Accepted strict) → IsReport t.judged t.behind → text ≡ text_of (Accepted strict) ++ t.behind → SoundText bytes text

@@ -1,8 +1,4 @@
-pub mod Settings
-pub mod Judged
-pub mod JudgedEntries
-pub mod Chains
-pub mod Validated
 pub mod Examined
 pub mod Judgements
 pub mod Fresh
+pub mod Reported

@@ -43,7 +43,7 @@ fn refused_early(error: &ModuleError) -> Finding
     match error {
         ModuleError::InvalidHandle(_) => Finding::RefusedHandles,
         ModuleError::Layouter(error) => Finding::Refused(Step::Layout, error.ty.index()),
-        ModuleError::Type(error) => Finding::Refused(Step::Type, error.ty.index()),
+        ModuleError::Typing(error) => Finding::Refused(Step::Type, error.ty.index()),
         ModuleError::ConstExpression(error) => {
             Finding::Refused(step_of(&error.error), error.expression.index())
         }

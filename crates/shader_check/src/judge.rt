@@ -11,16 +11,16 @@ ghost use Rattle.shader_check.specs.found.Judgements.{IsJudgementOf, IsJudgement
 
 use crate::examined::Examined;
 use crate::reported::Judgement;
-use crate::validator::Validator;
 use bitflags::Flags;
-use check_report::report;
 use document_reader::{Document, DocumentError, take_document};
 use function_errors::ValidationError;
+use function_modules::Validator;
 use function_real_lower::RealLower;
 use ir_flags::{Settings, ValidationFlags};
 use ir_items::Module;
 use ir_types::refusal::Refusal;
 use judgement::Finding;
+use judgement_report::report;
 use std::alloc::{AllocError, Global};
 use typing_infos::ModuleInfo;
 
@@ -28,12 +28,7 @@ use typing_infos::ModuleInfo;
 fn validator_for(alloc: Global, settings: Settings) -> Validator<RealLower>
     ensures { result.settings ≡ settings }
 {
-    Validator {
-        alloc,
-        lower: RealLower::new(ModuleInfo::new(alloc)),
-        settings,
-        held: None,
-    }
+    Validator::with_settings(alloc, RealLower::new(ModuleInfo::new(alloc)), settings)
 }
 
 // Whether scope is checked strictly.

@@ -1,13 +1,16 @@
 // Laws of the judgement over bytes, and what is required of an accepted module.
-ghost use Rattle.std.specs.Prelude.{◌≡◌, false, length, true};
-ghost use Rattle.ir_items.specs.found.View.{module_view};
-ghost use Rattle.judgement_laws.specs.judged.Sound.{BoundsDepth};
+ghost use Rattle.std.specs.Prelude.{false, true};
 ghost use Rattle.shader_check.specs.found.Fresh.{AnswersAreAlike};
+ghost use Rattle.shader_check.specs.found.Reported.{ValidatedIsReported};
 ghost use Rattle.shader_check.specs.judged.Theorem.{AcceptedTextsAreSound, OneText, SomeText, ReturnsDontShow};
 
-pub use check_report::{Leaf, buffer_leaves};
 pub use document_reader::laws::{distinct_types, one_document};
-use ir_items::Module;
+pub use function_modules::laws::{entry_depth_bound, made_for_accepted};
+pub use judgement::module_laws::more_capabilities;
+pub use judgement::report_laws::{named_are_reported, one_report, some_report};
+pub use judgement_laws::accepted_laws::{answered_by_one, bindings_differ, calls_fall};
+pub use judgement_report::laws::accepted_is_laid;
+pub use judgement_report::{Leaf, buffer_leaves};
 
 /// One text is expected for some bytes: every answer to the same bytes is the same.
 pub fn one_text()
@@ -43,12 +46,8 @@ pub fn validate_resolved_overrides_answers_as_fresh()
     ensures { AnswersAreAlike true }
 {}
 
-/// How deep the calls of a run nest at most, the entry point's own body being at 0: as deep as the module has functions.
-///
-/// So it is for every module that all steps of the check accept with the flags for layouts, bodies and expressions.
-pub fn entry_depth_bound(module: &Module) -> usize
-    ensures value { result ≡ length (module_view «module».now).functions }
-    ensures bound { BoundsDepth (module_view «module».now) result }
-{
-    module.functions.len()
-}
+/// What is kept of a module that [`crate::Validator::validate`] accepts, or
+/// [`crate::Validator::validate_resolved_overrides`], is what [`crate::report`] requires of it.
+pub fn validated_is_reported()
+    ensures { ValidatedIsReported }
+{}

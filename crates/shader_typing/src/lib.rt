@@ -3,29 +3,33 @@
 //! kinds of expressions of `typing_layout`, the rules of math functions and sets of scalars and of shapes of
 //! `typing_rules`, overload sets of `typing_overloads`, the types of expressions of `typing_resolve`, which are those that
 //! `spec_expressions` defines, those of all expressions of a list and comparing types of `typing_infos`, what the
-//! analysis of a function requires of `module_handles`, and what is kept of a function of `function_real_lower`, with its errors.
+//! analysis of a function requires of `typing_handles`, and what is kept of a function of `typing_analysis`, with its errors.
 //!
 //! Nothing is defined here. A crate that uses the typing as a whole names this crate alone.
 #![tactic(auto)]
 
 pub mod laws;
 
-pub use function_real_lower::process_function;
-pub use module_handles::{
-    arities_match, callees_precede, filter_parents_precede, handles_in_range, operands_precede,
-};
+pub use ir_flags::{Capabilities, ShaderStages, SubgroupOperationSet, ValidationFlags};
+pub use ir_kinds::{Scalar, ScalarKind};
+pub use ir_types::TypeInner;
 pub use spec_expressions::{
     ConclusionExt, ExpressionInfo, GlobalOrArgument, GlobalUse, MissingSpecialType, SamplingKey,
     SamplingPair, TypingFault, Uniformity, UniformityRequirements,
 };
+pub use typing_analysis::process_function;
 pub use typing_errors::{
-    AtomicError, CallError, ComposeError, ExpressionError, FunctionError, LocalVariableError,
-    ResolveError, ResolveRefusal, SubgroupError, UniformityDisruptor,
+    AtomicError, CallError, ComposeError, ConstExpressionError, ExpressionError, FunctionError,
+    LocalVariableError, ResolveError, ResolveRefusal, SubgroupError, UniformityDisruptor,
 };
 pub use typing_forms::{
     Form, IndexableLength, IndexableLengthError, MAX_TYPE_SIZE, ResolveArraySizeError, ScalarExt,
     ScalarKindExt, TypeInnerExt, TypeResolution, compare_types, conversion_rank, converted_rank,
     form_in, form_of, form_of_type, inner_of, types_go_back,
+};
+pub use typing_handles::{
+    ArityFault, arities_match, arity_fault, callees_precede, filter_parents_precede,
+    handles_in_range, operands_precede,
 };
 pub use typing_infos::{
     CompareTypes, FunctionInfo, TypingRefusal, const_expression_types, process_const_expression,
@@ -33,7 +37,7 @@ pub use typing_infos::{
 };
 pub use typing_layout::{
     Alignment, ExpressionKind, ExpressionKindTracker, LayoutError, LayoutErrorInner, Layouter,
-    TypeLayout, origins_precede,
+    LiteralError, TypeLayout, WidthError, origins_precede,
 };
 pub use typing_overloads::{AnyOverloadSet, List, MathFunctionExt, OverloadSet, Regular};
 pub use typing_resolve::ResolveContext;

@@ -12,11 +12,11 @@ use function_tiny_lower::{TinyInfo, TinyLower};
 use ir_flags::{Capabilities, ShaderStages, ValidationFlags};
 use ir_items::{Function, Module};
 use ir_types::refusal::Refusal;
-use module_handles::{filter_parents_precede, handles_in_range, operands_precede};
 use shader_check::{DocumentError, Validator, read_document};
 use std::alloc::{AllocError, Global};
 use test_support::call::{completed, freeing, push};
 use typing_errors::FunctionError;
+use typing_handles::{filter_parents_precede, handles_in_range, operands_precede};
 
 // Whether the handles of a function are in order.
 fn is_in_order(function: &Function, module: &Module) -> bool

@@ -62,7 +62,7 @@ pub fn error_told(alloc: Global, error: &ModuleError) -> Result<String, AllocErr
         ModuleError::Layouter(error) => {
             item_told(alloc, "layout", error.ty.index(), &error.inner)
         }
-        ModuleError::Type(refused) => type_told(alloc, refused),
+        ModuleError::Typing(refused) => type_told(alloc, refused),
         ModuleError::ConstExpression(refused) => item_told(
             alloc,
             "expression",
@@ -99,7 +99,7 @@ pub fn checks_told(
     document: &Document,
     overrides: Overrides,
 ) -> Result<String, AllocError> {
-    let mut validator = ModuleValidator::new(alloc, document.settings);
+    let mut validator = ModuleValidator::with_settings(alloc, document.settings);
     let judged = match overrides {
         Overrides::Open => validator.validate(&document.module),
         Overrides::Resolved => validator.validate_resolved_overrides(&document.module),

@@ -1,10 +1,10 @@
 // Whether the handles of functions are in order.
 use ir_items::{Function, Module};
-use module_handles::{
-    arities_match, callees_precede, filter_parents_precede, handles_in_range, operands_precede,
-};
 use std::alloc::{AllocError, Global};
 use test_support::call::completed;
+use typing_handles::{
+    arities_match, callees_precede, filter_parents_precede, handles_in_range, operands_precede,
+};
 
 /// The tests, in the order in which they are reported.
 #[derive(Clone, Copy, PartialEq)]

@@ -4,17 +4,17 @@ ghost use Rattle.ir_items.specs.found.View.{function_view, module_view};
 ghost use Rattle.ir_items.specs.found.Filters.{ParentsPrecede};
 ghost use Rattle.spec_expressions.specs.judged.FunctionHandles.{HandlesInRange, OperandsPrecede};
 
-use function_real_lower::process_function;
 use ir_flags::ValidationFlags;
 use ir_items::{Function, Module};
 use ir_types::refusal::Refusal;
-use module_handles::{
-    arities_match, callees_precede, filter_parents_precede, handles_in_range, operands_precede,
-};
 use spec_expressions::{ExpressionInfo, GlobalOrArgument, GlobalUse, SamplingPair};
 use std::alloc::{AllocError, Global};
 use test_support::call::{completed, freeing, push};
+use typing_analysis::process_function;
 use typing_errors::{ExpressionError, FunctionError};
+use typing_handles::{
+    arities_match, callees_precede, filter_parents_precede, handles_in_range, operands_precede,
+};
 use typing_infos::FunctionInfo;
 
 // Tells of an expression how often it is used, which global variable it starts at, whether it is the same in all invocations,

@@ -4,7 +4,7 @@ use Rattle.ir_flags.specs.declared.settings.Settings.{Settings}
 use Rattle.document_reader.specs.judged.Plain.{PlainDocument}
 use Rattle.typing_errors.specs.declared.const_expressions.ConstExpressionError.{ConstExpressionError}
 use Rattle.typing_errors.specs.declared.const_expressions.ConstExpressionError.TheVariants as constant
-use Rattle.shader_check.specs.found.Validated.{IsValidated, IsValidationFault}
+use Rattle.function_modules.specs.Validated.{IsValidated, IsValidationFault}
 use Rattle.function_errors.specs.declared.error.ValidationError.{ValidationError}
 use Rattle.function_errors.specs.declared.error.ValidationError.TheVariants as error
 use Rattle.ir_types.specs.found.Faults.{error_of}
@@ -19,7 +19,7 @@ use Rattle.judgement.specs.declared.finding.Finding.{Finding}
 use Rattle.judgement.specs.declared.finding.Finding.TheVariants.{Accepted, RefusedHandles, Refused}
 use Rattle.judgement.specs.declared.finding.Step.{Step}
 use Rattle.judgement.specs.declared.finding.Step.TheVariants.{Layout, «Type», Typing, Expression, Constant, Override, Global, Function, Entry}
-use Rattle.check_report.specs.Reported.{IsReported}
+use Rattle.judgement_report.specs.Reported.{IsReported}
 use Rattle.module_steps.specs.declared.error.ModuleError.{ModuleError}
 use Rattle.module_steps.specs.declared.error.ModuleError.TheVariants as module_error
 use Rattle.shader_check.specs.declared.examined.Examined.{Examined}
@@ -38,7 +38,7 @@ step_of constant.Other = Expression
 abbrev pub refused_early : ModuleError → Finding
 refused_early (module_error.InvalidHandle e) = RefusedHandles
 refused_early (module_error.Layouter e) = Refused Layout e.ty
-refused_early (module_error.Type e) = Refused «Type» e.ty
+refused_early (module_error.Typing e) = Refused «Type» e.ty
 refused_early (module_error.ConstExpression e) = Refused (step_of e.error) e.expression
 refused_early (module_error.Constant e) = Refused Constant e.constant
 refused_early (module_error.Override e) = Refused Override e.id

@@ -4,7 +4,7 @@ use Rattle.ir_flags.specs.declared.settings.Settings.{Settings}
 use Rattle.ir_items.specs.judged.Plain.{PlainModule}
 use Rattle.typing_infos.specs.declared.info.ModuleInfo.{ModuleInfo}
 use Rattle.shader_check.specs.found.Examined.{refused_by}
-use Rattle.shader_check.specs.found.Validated.{IsValidated, IsValidationFault}
+use Rattle.function_modules.specs.Validated.{IsValidated, IsValidationFault}
 use Rattle.function_errors.specs.declared.error.ValidationError.{ValidationError}
 
 -- no module is accepted and refused, and all its faults are at one step and one item

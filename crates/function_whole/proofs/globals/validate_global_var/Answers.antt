@@ -1,6 +1,6 @@
 use Rattle.ir_items.specs.found.GlobalView.{global_view}
 use Rattle.ir_items.specs.found.View.{module_view}
-use Rattle.module_handles.proofs.Whole.{conditions}
+use Rattle.typing_handles.proofs.Ordered.{conditions}
 use Rattle.function_whole.proofs.GlobalLemmas.{is_placed}
 use Rattle.function_whole.proofs.globals.validate_global_var.Goals as goal
 

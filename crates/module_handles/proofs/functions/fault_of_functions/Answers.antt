@@ -2,7 +2,7 @@ use Rattle.ir_items.specs.found.GlobalView.{values_of}
 use Rattle.ir_items.specs.found.View.{function_view, module_view}
 use Rattle.module_handles.proofs.FunctionFaults.{function_fault}
 use Rattle.module_handles.proofs.Viewed.{reported_viewed}
-use Rattle.module_handles.specs.Conditions.{FunctionConditions}
+use Rattle.typing_handles.specs.Conditions.{FunctionConditions}
 use Rattle.module_handles.specs.InOrder.{IsFaultIn, IsFunctionFault}
 use Rattle.module_handles.proofs.functions.fault_of_functions.Goals as goal
 

@@ -2,7 +2,7 @@ use Rattle.std.proofs.Common.{refl, arith, rules}
 use Rattle.ir_items.specs.found.View.{module_view}
 use Rattle.ir_types.specs.judged.Plain.{type_view}
 use Rattle.module_constants.proofs.Reported.{many_viewed}
-use Rattle.module_handles.proofs.Whole.{order_gives_conditions}
+use Rattle.typing_handles.proofs.Ordered.{order_gives_conditions}
 use Rattle.module_steps.proofs.Refusals.{by_told}
 use Rattle.module_steps.proofs.StepLemmas.{laid}
 use Rattle.judgement.proofs.Reached.{reach}

@@ -1,6 +1,6 @@
 use Rattle.std.proofs.Common.{refl}
 use Rattle.ir_items.specs.found.View.{module_view}
-use Rattle.module_handles.proofs.Whole.{order_gives_conditions}
+use Rattle.typing_handles.proofs.Ordered.{order_gives_conditions}
 use Rattle.module_steps.proofs.StepLemmas.{told}
 use Rattle.judgement.proofs.Reached.{reach}
 use Rattle.judgement.specs.judged.ModuleSteps as step

@@ -1,7 +1,7 @@
 use Rattle.std.proofs.Common.{subst, false}
 use Rattle.ir_flags.specs.declared.settings.Settings.{Settings}
 use Rattle.shader_check.proofs.JudgedLaws.{examined_by}
-use Rattle.shader_check.specs.found.Validated.{IsValidated}
+use Rattle.function_modules.specs.Validated.{IsValidated}
 use Rattle.ir_items.specs.found.View.{module_view}
 use Rattle.shader_check.proofs.judge.examine_module.Goals as goal
 

@@ -1,7 +1,0 @@
-use Rattle.std.proofs.Common.{◌≡◌, drop}
-use Rattle.check_report.specs.Paths.{are_word_bytes}
-use Rattle.check_report.proofs.paths.are_word_bytes.Given as goal
-
--- what the rest gives is what all gives
-abbrev pub invariant-loop-byte : goal.invariant-loop-byte
-invariant-loop-byte l = are_word_bytes (drop l.byte-index l.bytes) ≡ are_word_bytes l.bytes

@@ -1,0 +1,7 @@
+//! What holds of layers, of functions and entry points that are refused, and of modules that are accepted.
+
+pub use function_entries::laws::one_implied;
+pub use function_modules::laws::{entry_depth_bound, made_for_accepted};
+pub use judgement_laws::accepted_laws::{answered_by_one, bindings_differ, calls_fall};
+pub use judgement_report::laws::accepted_is_laid;
+pub use judgement_report::{Leaf, buffer_leaves};

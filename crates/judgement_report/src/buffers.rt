@@ -1,0 +1,87 @@
+//! The lines of buffers.
+
+ghost use Rattle.std.specs.Prelude.{◌≡◌, ◌++◌, ◌<◌, OnOk, Some, length, string_bytes};
+ghost use Rattle.ir_items.specs.found.GlobalView.{global_view};
+ghost use Rattle.ir_items.specs.found.View.{module_view};
+ghost use Rattle.ir_types.specs.judged.Plain.{inner_view};
+ghost use Rattle.judgement_report.specs.Reported.{AreLaid, IsReported};
+ghost use Rattle.spec_interface.specs.judged.Spaces.{array_base, effective_type};
+ghost use Rattle.judgement.specs.judged.Lines.{is_buffer, buffer_of, buffers};
+
+use crate::lines::write_buffer;
+use ir_arena::handle::Handle;
+use ir_items::{GlobalVariable, Module};
+use ir_kinds::AddressSpace;
+use ir_types::{TypeInner, key};
+use std::alloc::AllocError;
+use typing_infos::ModuleInfo;
+
+// Whether a host fills it with bytes.
+const fn is_buffer(space: AddressSpace) -> bool
+    ensures { result ≡ is_buffer space }
+{
+    match space {
+        AddressSpace::Uniform | AddressSpace::Storage { .. } => true,
+        AddressSpace::Function
+        | AddressSpace::Private
+        | AddressSpace::WorkGroup
+        | AddressSpace::Handle
+        | AddressSpace::Immediate
+        | AddressSpace::TaskPayload
+        | AddressSpace::RayPayload
+        | AddressSpace::IncomingRayPayload => false,
+    }
+}
+
+// The type of the elements of a binding array; `None` of anything else.
+fn array_base(inner: &TypeInner) -> Option<Handle<key::IrType>>
+    ensures { result ≡ array_base (Some (inner_view inner.now)) }
+{
+    match inner {
+        TypeInner::BindingArray { base, .. } => Some(*base),
+        _ => None,
+    }
+}
+
+// The type whose layout is reported: of a binding array that of its elements.
+fn counted(module: &Module, ty: Handle<key::IrType>) -> Handle<key::IrType>
+    requires { ty < length (module_view «module».now).types }
+    ensures { result ≡ effective_type (module_view «module».now).types ty }
+{
+    array_base(&module.types[ty].inner).unwrap_or(ty)
+}
+
+// The line of a global variable, where it is a buffer.
+fn write_variable(
+    text: &mut String,
+    module: &Module,
+    info: &ModuleInfo,
+    number: usize,
+    variable: &GlobalVariable,
+) -> Result<(), AllocError>
+    requires laid { AreLaid (module_view «module».now) info.now }
+    requires typed { variable.now.ty < length (module_view «module».now).types }
+    ensures { OnOk result (string_bytes text.new ≡ string_bytes text.old ++ buffer_of (module_view «module».now).types number (global_view variable.now)) }
+{
+    if !is_buffer(variable.space) {
+        return Ok(());
+    }
+    let layout = info.layout(counted(module, variable.ty));
+    write_buffer(text, number, layout.size, layout.alignment.get())
+}
+
+/// The lines of all buffers, in order.
+pub(crate) fn write_buffers(
+    text: &mut String,
+    module: &Module,
+    info: &ModuleInfo,
+) -> Result<(), AllocError>
+    requires { IsReported (module_view «module».now) info.now }
+    ensures { OnOk result (string_bytes text.new ≡ string_bytes text.old ++ buffers (module_view «module».now)) }
+{
+    for number in 0..module.global_variables.len() {
+        let variable = &module.global_variables[Handle::at(number)];
+        write_variable(text, module, info, number, variable)?;
+    }
+    Ok(())
+}

@@ -1,0 +1,83 @@
+//! Paths of leaves, step by step.
+
+ghost use Rattle.std.specs.Prelude.{◌≡◌, ◌++◌, IfOk, OnOk, option_map, string_bytes};
+ghost use Rattle.judgement_report.specs.Paths.{are_word_bytes, dot_after, is_word, is_word_byte, member_word, to_element, to_member};
+
+use std::alloc::{AllocError, Global};
+
+// Whether it is a letter, a digit, an underscore or a byte of a character that is not ASCII.
+const fn is_word_byte(byte: u8) -> bool
+    ensures { result ≡ is_word_byte byte }
+{
+    byte.is_ascii_alphanumeric() || byte == b'_' || !byte.is_ascii()
+}
+
+// Whether all are such bytes.
+fn are_word_bytes(bytes: &[u8]) -> bool
+    ensures { result ≡ are_word_bytes bytes.now }
+{
+    for byte in bytes {
+        if !is_word_byte(*byte) {
+            return false;
+        }
+    }
+    true
+}
+
+// Whether a name is written as it is: so that no name is taken for a number, or for several steps or lines.
+fn is_word(name: &str) -> bool
+    ensures { result ≡ is_word name.now }
+{
+    let bytes = name.as_bytes();
+    match bytes.first() {
+        Some(first) => !first.is_ascii_digit() && are_word_bytes(bytes),
+        None => false,
+    }
+}
+
+// A dot after what comes before, if anything does.
+fn dot_after(before: &str) -> &'static str
+    ensures { result.now ≡ dot_after before.now }
+{
+    if before.is_empty() { "" } else { "." }
+}
+
+// Writes how a member is called: by its name, where that is a word, and else by its number.
+fn write_word(path: &mut String, name: &Option<String>, number: usize) -> Result<(), AllocError>
+    ensures { OnOk result (string_bytes path.new ≡ string_bytes path.old ++ member_word (option_map string_bytes name.now) number) }
+{
+    match name {
+        Some(name) => {
+            if is_word(name) {
+                path.push_str(name)
+            } else {
+                write!(path, "{number}")
+            }
+        }
+        None => write!(path, "{number}"),
+    }
+}
+
+/// A path with a step after it to the member with this name, where it has one, and this number.
+pub(crate) fn to_member(
+    alloc: Global,
+    before: &str,
+    name: &Option<String>,
+    number: usize,
+) -> Result<String, AllocError>
+    ensures { IfOk result (λ path. string_bytes path ≡ to_member before.now (option_map string_bytes name.now) number) }
+{
+    let mut path = String::from_str(alloc, before)?;
+    path.push_str(dot_after(before))?;
+    write_word(&mut path, name, number)?;
+    Ok(path)
+}
+
+/// A path with a step after it to the element with this number.
+pub(crate) fn to_element(alloc: Global, before: &str, number: u32) -> Result<String, AllocError>
+    ensures { IfOk result (λ path. string_bytes path ≡ to_element before.now number) }
+{
+    let mut path = String::from_str(alloc, before)?;
+    write!(path, "[{number}]")?;
+    Ok(path)
+}

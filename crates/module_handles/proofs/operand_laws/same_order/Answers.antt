@@ -1,5 +1,0 @@
-use Rattle.module_handles.proofs.SameLemmas as same
-use Rattle.module_handles.proofs.operand_laws.same_order.Goals as goal
-
-pub returns : goal.returns
-returns c = same.same_order

@@ -1,0 +1,111 @@
+//! What each layer says of a module.
+
+use function_validator::laws::{
+    Leaf, accepted_is_laid, buffer_leaves, entry_depth_bound, made_for_accepted,
+};
+use function_validator::{RealLower, Validator};
+use module_validator::{ModuleInfo, ModuleValidator, Settings, validate_module_handles};
+use shader_ir::{Handle, Module, Refusal, key};
+use shader_typing::{
+    arities_match, callees_precede, filter_parents_precede, handles_in_range, operands_precede,
+};
+use std::alloc::{AllocError, Global};
+
+/// An answer, after what it was found of is freed.
+pub fn freeing<A, T: Drop>(answer: A, value: T) -> A {
+    drop(value);
+    answer
+}
+
+// Whether nothing is refused. The error is out of memory.
+fn is_accepted<T, E>(answer: &Result<T, Refusal<E>>) -> Result<bool, AllocError> {
+    match answer {
+        Ok(_) => Ok(true),
+        Err(Refusal::Fault(_)) => Ok(false),
+        Err(Refusal::Memory(_)) => Err(AllocError),
+    }
+}
+
+/// Whether the handles of the module and of each of its functions are in order.
+pub fn is_in_order(module: &Module) -> bool {
+    for (handle, function) in module.functions.iter() {
+        let is_there = handles_in_range(function, module);
+        let precede = operands_precede(function, module);
+        let follows = callees_precede(function, module, handle.index());
+        let matches = arities_match(function, module) && filter_parents_precede(function, module);
+        if !(is_there && precede && follows && matches) {
+            return false;
+        }
+    }
+    validate_module_handles(module).is_ok()
+}
+
+/// Whether the steps up to overrides accept the module. The error is out of memory.
+pub fn accepts_items(
+    alloc: Global,
+    settings: Settings,
+    module: &Module,
+) -> Result<bool, AllocError> {
+    let mut validator = ModuleValidator::new(alloc, settings.flags, settings.capabilities);
+    let answer = validator.validate(module);
+    freeing(freeing(is_accepted(&answer), answer), validator)
+}
+
+/// Whether they do, and the functions of the module are accepted over the layer that is made of what is kept of it. The error is
+/// out of memory.
+pub fn accepts_functions(
+    alloc: Global,
+    settings: Settings,
+    module: &Module,
+) -> Result<bool, AllocError> {
+    made_for_accepted();
+    let mut items = ModuleValidator::new(alloc, settings.flags, settings.capabilities);
+    match items.validate(module) {
+        Ok(info) => {
+            let lower = RealLower::new(info);
+            let mut validator = Validator::new(alloc, lower, settings.flags, settings.capabilities);
+            let answer = validator.validate_functions(module);
+            freeing(freeing(is_accepted(&answer), answer), validator)
+        }
+        Err(Refusal::Fault(_)) => Ok(false),
+        Err(Refusal::Memory(error)) => Err(error),
+    }
+}
+
+/// Whether all steps accept the module. The error is out of memory.
+pub fn accepts(alloc: Global, settings: Settings, module: &Module) -> Result<bool, AllocError> {
+    let lower = RealLower::new(ModuleInfo::new(alloc));
+    let mut validator = Validator::new(alloc, lower, settings.flags, settings.capabilities);
+    let answer = validator.validate(module);
+    freeing(freeing(is_accepted(&answer), answer), validator)
+}
+
+/// The leaves of a variable, where the steps up to overrides accept the module. The error is out of memory.
+pub fn leaves_of(
+    alloc: Global,
+    settings: Settings,
+    module: &Module,
+    global: Handle<key::GlobalVariable>,
+) -> Result<Option<Vec<Leaf>>, AllocError> {
+    accepted_is_laid();
+    let mut items = ModuleValidator::new(alloc, settings.flags, settings.capabilities);
+    match items.validate(module) {
+        Ok(info) => {
+            drop(info);
+            match module.global_variables.check_contains_handle(global) {
+                Ok(()) => match buffer_leaves(alloc, module, global) {
+                    Ok(leaves) => Ok(Some(leaves)),
+                    Err(error) => Err(error),
+                },
+                Err(_) => Ok(None),
+            }
+        }
+        Err(Refusal::Fault(_)) => Ok(None),
+        Err(Refusal::Memory(error)) => Err(error),
+    }
+}
+
+/// How deep calls nest in a run of an entry point of the module at most.
+pub fn depth_of(module: &Module) -> usize {
+    entry_depth_bound(module)
+}

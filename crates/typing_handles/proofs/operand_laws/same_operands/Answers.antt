@@ -1,0 +1,5 @@
+use Rattle.typing_handles.proofs.SameLemmas as same
+use Rattle.typing_handles.proofs.operand_laws.same_operands.Goals as goal
+
+pub returns : goal.returns
+returns c = same.same_operands

@@ -1,0 +1,133 @@
+//! Whether calls pass as many arguments as their functions have.
+
+ghost use Rattle.std.specs.Prelude.{◌≡◌, ◌↔◌, IsTrue, MatchOption, option_map, slice_get};
+ghost use Rattle.ir_items.specs.found.View.{function_view, module_view};
+ghost use Rattle.typing_references.specs.First.{first_in};
+ghost use Rattle.spec_expressions.specs.judged.CallArities.{AritiesMatch};
+ghost use Rattle.typing_handles.specs.Tests.{arity_fault_of, count_of, wrong_count, PassesWrongCount};
+
+use ir_arena::handle::Handle;
+use ir_blocks::plain_operation;
+use ir_items::{Function, Module, Statement, key};
+use typing_references::{StatementLook, first_in};
+
+/// A call that passes another number of arguments than its function has.
+#[derive(Clone, Copy, PartialEq, Eq, Debug)]
+pub struct ArityFault {
+    /// The function that is called.
+    pub function: Handle<key::Function>,
+    /// How many it has, or `None` where it is not there.
+    pub required: Option<usize>,
+    /// How many are passed.
+    pub seen: usize,
+}
+
+// The function at a handle, if it is there.
+#[tactic(auto, using(typing_references::proofs::Entries::entries))]
+fn function_at(module: &Module, handle: Handle<key::Function>) -> Option<&Function>
+    ensures { option_map (λ f. function_view f.now) result ≡ slice_get (module_view «module».now).functions handle }
+{
+    match module.functions.try_get(handle) {
+        Ok(function) => Some(function),
+        Err(_) => None,
+    }
+}
+
+// How many arguments the function at a handle has, if it is there.
+fn count_of(module: &Module, handle: Handle<key::Function>) -> Option<usize>
+    ensures { result ≡ count_of (slice_get (module_view «module».now).functions handle) }
+{
+    match function_at(module, handle) {
+        Some(function) => Some(function.arguments.len()),
+        None => None,
+    }
+}
+
+// A fault, where another number is passed than the function has, or it is not there.
+fn wrong_count(
+    function: Handle<key::Function>,
+    seen: usize,
+    required: Option<usize>,
+) -> Option<ArityFault>
+    ensures { result ≡ wrong_count function seen required }
+{
+    match required {
+        Some(count) => if count == seen {
+            None
+        } else {
+            Some(ArityFault {
+                function,
+                required: Some(count),
+                seen,
+            })
+        },
+        None => Some(ArityFault {
+            function,
+            required: None,
+            seen,
+        }),
+    }
+}
+
+// Calls that don't pass as many arguments as their functions have.
+#[derive(Drop)]
+struct Arity<'a> {
+    module: &'a Module,
+}
+
+impl StatementLook<ArityFault> for Arity<'_> {
+    ghost use Rattle.ir_items.specs.found.View.{module_view};
+    ghost use Rattle.typing_handles.specs.Tests.{arity_fault_of};
+
+    ghost look = { λ t s. arity_fault_of (module_view t.«module».now) s };
+
+    fn look(&self, statement: &Statement) -> Option<ArityFault> {
+        match statement {
+            Statement::Call {
+                function,
+                arguments,
+                ..
+            } => wrong_count(*function, arguments.len(), count_of(self.module, *function)),
+            Statement::Emit(_)
+            | Statement::Block(_)
+            | Statement::If { .. }
+            | Statement::Switch { .. }
+            | Statement::Loop { .. }
+            | Statement::Break
+            | Statement::Continue
+            | Statement::Return { .. }
+            | Statement::Kill
+            | plain_operation!() => None,
+        }
+    }
+}
+
+fn first_fault(function: &Function, module: &Module) -> Option<ArityFault>
+    ensures { result ≡ first_in (arity_fault_of (module_view «module».now)) (function_view function.now).body }
+{
+    let arity = Arity { module };
+    first_in(&arity, &function.body)
+}
+
+/// A call of a function that passes another number of arguments than the function that it names has, or names none that is
+/// there (the first in the order of the text, which no clause says); `None` where there is no such call.
+pub fn arity_fault(function: &Function, module: &Module) -> Option<ArityFault>
+    ensures { MatchOption result
+        (AritiesMatch (module_view «module».now) (function_view function.now))
+        (PassesWrongCount (module_view «module».now) (function_view function.now)) }
+{
+    match first_fault(function, module) {
+        Some(fault) => Some(fault),
+        None => None,
+    }
+}
+
+/// Whether each function that a call of the function names is there and has as many arguments as are passed.
+pub fn arities_match(function: &Function, module: &Module) -> bool
+    ensures { IsTrue result ↔ AritiesMatch (module_view «module».now) (function_view function.now) }
+{
+    match arity_fault(function, module) {
+        Some(_) => false,
+        None => true,
+    }
+}
