@@ -1,5 +1,5 @@
 -- The global variables of an entry point's report have bindings that differ.
-use Rattle.std.proofs.Common.{◌≡◌, ◌<◌, inl, inr, ℕ, List, Option, Some, None, IsSome, IsTrue, length, slice_get, option_and_then, refl, subst, sym, ap, ◌∙◌, true≢false, tt}
+use Rattle.std.proofs.Common.{◌≡◌, ◌<◌, inl, inr, ℕ, List, Option, Some, None, IsSome, IsTrue, length, slice_get, option_and_then, refl, subst, sym, ap, ◌∙◌, true≢false}
 use Rattle.std.specs.Int.{bit_at}
 use Rattle.std.proofs.lemmas.Option.{slice_get_within}
 use Rattle.ir_items.specs.judged.GlobalPlain.{PlainGlobal}
@@ -32,7 +32,7 @@ uses_payload _ may = absurd (true≢false (sym may))
 module _ (m : PlainModule) (number : ℕ) (e : PlainEntry) (lines : List ℕ) (r : IsEntryReport m number e lines) (g : ℕ) (b : ResourceBinding) (payload : PayloadOK m e) (bound : binding_at m g ≡ Some b) where
   pub told_is_used : IsReported m number e lines r g → IsUsed (EntryUses e (HasUse m e.function)) g
   told_is_used (as_payload own) =
-      let way = uses_payload e.stage (payload.stages (subst IsSome (sym own) tt)) in
+      let way = uses_payload e.stage (payload.stages (subst IsSome (sym own) refl)) in
       (way.0, inr (inl (own, way.1)))
   told_is_used (as_output own) = (0, inr (inr (own, refl)))
   told_is_used (as_other other used) =
