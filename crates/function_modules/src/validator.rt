@@ -79,7 +79,9 @@ impl<L: Lower> Validator<L> {
 
     /// A validator that makes the checks of these settings.
     pub fn with_settings(alloc: Global, lower: L, settings: Settings) -> Self
-        ensures { result ≡ record { alloc = alloc; lower = lower; settings = settings; held = None } }
+        ensures lower { result.lower ≡ lower }
+        ensures settings { result.settings ≡ settings }
+        ensures held { result.held ≡ None }
     {
         Validator {
             alloc,

@@ -4,8 +4,11 @@ use function_validator::laws::{
     Leaf, accepted_is_laid, buffer_leaves, entry_depth_bound, made_for_accepted,
 };
 use function_validator::{RealLower, Validator};
-use module_validator::{ModuleInfo, ModuleValidator, Settings, validate_module_handles};
-use shader_ir::{Handle, Module, Refusal, key};
+use module_validator::{
+    ImmediateSlots, ModuleInfo, ModuleValidator, Settings, validate_compose,
+    validate_module_handles,
+};
+use shader_ir::{Handle, Literal, Module, Refusal, Scalar, key};
 use shader_typing::{
     arities_match, callees_precede, filter_parents_precede, handles_in_range, operands_precede,
 };
@@ -103,6 +106,24 @@ pub fn leaves_of(
         Err(Refusal::Fault(_)) => Ok(None),
         Err(Refusal::Memory(error)) => Err(error),
     }
+}
+
+/// Whether scalars of a width without its capability, a literal, and a value composed of nothing for each type of the module may
+/// be used; and how many bytes of immediate data the module takes.
+pub fn smaller_answers(
+    alloc: Global,
+    settings: Settings,
+    module: &Module,
+) -> (bool, bool, bool, u64) {
+    let validator = ModuleValidator::new(alloc, settings.flags, settings.capabilities);
+    let half = validator.check_width(Scalar::F16).is_ok();
+    let literal = validator.validate_literal(Literal::U32(1)).is_ok();
+    let mut composed = false;
+    for (ty, _) in module.types.iter() {
+        composed = composed || validate_compose(ty, module.to_ctx(), &[]).is_ok();
+    }
+    let bytes = ImmediateSlots::size_for_module(module);
+    freeing((half, literal, composed, bytes), validator)
 }
 
 /// How deep calls nest in a run of an entry point of the module at most.

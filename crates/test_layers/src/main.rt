@@ -10,6 +10,7 @@ use anyhow::Result;
 use built::build;
 use judged::{
     accepts, accepts_functions, accepts_items, depth_of, freeing, is_in_order, leaves_of,
+    smaller_answers,
 };
 use module_validator::Settings;
 use shader_ir::{
@@ -28,6 +29,7 @@ struct Said {
     depth: usize,
     leaves: usize,
     bytes: u64,
+    smaller: (bool, bool, bool, u64),
 }
 
 // How many leaves a variable has, and how many bytes they take.
@@ -66,6 +68,7 @@ fn ask(alloc: Global, module: &mut Module, space: AddressSpace) -> Result<Said, 
         depth: depth_of(module),
         leaves,
         bytes,
+        smaller: smaller_answers(alloc, settings, module),
     })
 }
 
@@ -83,6 +86,8 @@ fn print(rt: &HostRuntime, space: AddressSpace) -> Result<()> {
         "depth {}, leaves {}, bytes {}",
         said.depth, said.leaves, said.bytes
     )?;
+    let (half, literal, composed, immediate) = said.smaller;
+    println!(rt; "f16 {half}, literal {literal}, composed {composed}, immediate data {immediate}")?;
     Ok(())
 }
 
