@@ -14,5 +14,5 @@ pub use builder::{
 };
 pub use composites::{composite, packed_line, parts_from, plain_line, plain_matrix, relaid_matrix};
 pub use functions::{call, math};
-pub use operators::{arithmetic, conversion, resized};
+pub use operators::{arithmetic, resized};
 pub use words::Words;

@@ -1,6 +1,5 @@
 //! Expressions of SPIR-V in the IR of which there are many: samples, texels and questions of images; what ray queries find;
-//! conversions between scalars of two widths, those of selectors among them; functions of three numbers; whatever function they
-//! are built in. And the structs that some expressions give.
+//! conversions, those of selectors among them; the least and the greatest of numbers; whatever function they are built in. And the structs that some expressions give.
 #![tactic(auto)]
 
 mod extremes;
@@ -12,11 +11,11 @@ mod rays;
 mod selectors;
 mod widths;
 
-pub use extremes::trinary;
+pub use extremes::{of_numbers, trinary};
 pub use images::image_operation;
 pub use masks::{ImageOperands, image_operands};
 pub use pairs::{Pair, pair_of};
 pub use places::{Coordinates, count_resources, read_coordinates, widened};
 pub use rays::{RayTypes, found};
 pub use selectors::selector_of;
-pub use widths::{cast, wide};
+pub use widths::{cast, conversion, wide};
