@@ -1,10 +1,9 @@
 // Arithmetic, bits, relations and logic (sections 3.52.13 to 3.52.16).
 
 use crate::builder::{
-    Builder, Value, as_kind, binary, compose_pair, convert, operand, operand_scalar, operand_shape,
-    refuse, result_scalar, select, signed, splat,
+    Builder, Value, as_kind, binary, call, compose_pair, convert, operand, operand_scalar,
+    operand_shape, refuse, result_scalar, select, signed, splat,
 };
-use crate::functions::call;
 use ir_kinds::{
     BinaryOperator, DerivativeAxis, DerivativeControl, Literal, MathFunction, RelationalFunction,
     Scalar, ScalarKind, UnaryOperator,

@@ -1,9 +1,9 @@
 // Instructions of extended sets.
 
 use ir_flags::Capabilities;
-use spirv_expressions::{Value, math, need};
+use spirv_expressions::{Value, need};
 use spirv_flow::is_debug;
-use spirv_images::{cast, of_numbers, trinary};
+use spirv_images::{cast, math, trinary};
 use spirv_operations::{FunctionBuilder, split};
 use spirv_words::{Feature, Instruction, starts_text};
 
@@ -46,9 +46,6 @@ fn function<L: FunctionBuilder>(
         // the words are put together as one number
         lowering.require(Capabilities::SHADER_INT64);
         return Some(cast(lowering, operation, 2));
-    }
-    if let Some(value) = of_numbers(lowering, operation, number) {
-        return Some(value);
     }
     match split(lowering, operation, number) {
         Some(value) => Some(value),

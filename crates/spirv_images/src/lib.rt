@@ -1,8 +1,10 @@
 //! Expressions of SPIR-V in the IR of which there are many: samples, texels and questions of images; what ray queries find;
-//! conversions, those of selectors among them; the least and the greatest of numbers; whatever function they are built in. And the structs that some expressions give.
+//! conversions, those of selectors among them; functions of extended sets; whatever function they are built in. And the structs
+//! that some expressions give.
 #![tactic(auto)]
 
 mod extremes;
+mod functions;
 mod images;
 mod masks;
 mod pairs;
@@ -11,7 +13,8 @@ mod rays;
 mod selectors;
 mod widths;
 
-pub use extremes::{of_numbers, trinary};
+pub use extremes::trinary;
+pub use functions::math;
 pub use images::image_operation;
 pub use masks::{ImageOperands, image_operands};
 pub use pairs::{Pair, pair_of};

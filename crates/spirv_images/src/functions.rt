@@ -1,10 +1,10 @@
 // The functions of the extended set GLSL.std.450.
 
-use crate::builder::{
-    Builder, Value, as_kind, convert, operand, operand_shape, refuse, result_scalar,
-};
+use crate::extremes::of_numbers;
 use ir_kinds::{MathFunction, ScalarKind};
-use ir_types::Expression;
+use spirv_expressions::{
+    Builder, Value, as_kind, call, convert, operand, operand_shape, refuse, result_scalar,
+};
 use spirv_words::{Instruction, Unsupported};
 
 // The functions by their numbers, with the sign that their arguments get.
@@ -79,27 +79,6 @@ static FUNCTIONS: [(u32, MathFunction, Option<ScalarKind>); 68] = [
     (75, MathFunction::FirstLeadingBit, Some(ScalarKind::Uint)),
 ];
 
-/// A call of a math function.
-pub fn call<B: Builder>(
-    builder: &mut B,
-    operation: &Instruction,
-    fun: MathFunction,
-    arg: Value,
-    rest: [Option<Value>; 3],
-) -> Value {
-    let [arg1, arg2, arg3] = rest;
-    builder.emit(
-        Expression::Math {
-            fun,
-            arg,
-            arg1,
-            arg2,
-            arg3,
-        },
-        operation,
-    )
-}
-
 // The function with this number, and the sign that its arguments get.
 fn function(number: u32) -> Option<(MathFunction, Option<ScalarKind>)> {
     for row in &FUNCTIONS {
@@ -159,6 +138,9 @@ fn are_integers(left: ScalarKind, right: ScalarKind) -> bool {
 
 /// The call of the function with this number; the operands begin with the set and the number.
 pub fn math<B: Builder>(builder: &mut B, operation: &Instruction, number: u32) -> Value {
+    if let Some(value) = of_numbers(builder, operation, number) {
+        return value;
+    }
     let Some((fun, sign)) = function(number) else {
         let what = Unsupported::MathFunction(number);
         return refuse(builder, operation.unsupported_as(what));
