@@ -152,7 +152,7 @@ fn level_of<B: Builder>(
     if let Some(level) = options.level {
         if compares(operation.opcode) {
             if !builder.is_constant(level) || builder.constant(level) != Some(0) {
-                builder.fail(operation.unsupported_by(Feature::ComparisonLevel));
+                builder.fail(operation.unsupported());
             }
             return SampleLevel::Zero;
         }

@@ -163,12 +163,10 @@ pub enum Feature {
     EmitInCallee,
     /// OpTraceRayKHR with an offset, a stride or a miss index that is not the constant 0.
     ShaderBindingTable,
-    /// A comparison with a level that is not the constant 0.
-    ComparisonLevel,
 }
 
 // What they are in words, in the order of the variants.
-static TEXTS: [&str; 79] = [
+static TEXTS: [&str; 78] = [
     "more expressions, types, members, atomic parts or names than so many words may make",
     "composites of specialization constants more than 32 deep",
     "a value out of its scope",
@@ -247,7 +245,6 @@ static TEXTS: [&str; 79] = [
     "a whole output of a mesh stage",
     "OpEmitMeshTasksEXT in a function that is called",
     "OpTraceRayKHR with an offset, a stride or a miss index that is not the constant 0",
-    "a comparison with a level that is not the constant 0",
 ];
 
 impl Feature {
