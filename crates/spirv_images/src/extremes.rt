@@ -44,10 +44,9 @@ fn either<B: Builder>(
     y: Value,
 ) -> Value {
     let beyond = binary(builder, operation, op, y, x);
-    let is_none = binary(builder, operation, BinaryOperator::NotEqual, x, x);
-    let op = BinaryOperator::InclusiveOr;
-    let takes = binary(builder, operation, op, beyond, is_none);
-    select(builder, operation, takes, y, x)
+    let chosen = select(builder, operation, beyond, y, x);
+    let is_number = binary(builder, operation, BinaryOperator::Equal, x, x);
+    select(builder, operation, is_number, chosen, y)
 }
 
 /// The least, the greatest or the middle one of three numbers, by the number of an instruction of the set

@@ -7,9 +7,8 @@ const SIGNED: Option<ScalarKind> = Some(ScalarKind::Sint);
 
 const UNSIGNED: Option<ScalarKind> = Some(ScalarKind::Uint);
 
-/// Operations of floats whose operands are taken as they are. A comparison with what is no number doesn't hold, but for
-/// `NotEqual`, which does.
-pub static PLAIN: [(u16, BinaryOperator); 16] = [
+/// Operations of floats whose operands are taken as they are. No comparison among them holds with what is no number.
+pub static PLAIN: [(u16, BinaryOperator); 15] = [
     (ops::F_ADD, BinaryOperator::Add),
     (ops::F_SUB, BinaryOperator::Subtract),
     (ops::F_MUL, BinaryOperator::Multiply),
@@ -21,7 +20,6 @@ pub static PLAIN: [(u16, BinaryOperator); 16] = [
     (ops::MATRIX_TIMES_VECTOR, BinaryOperator::Multiply),
     (ops::MATRIX_TIMES_MATRIX, BinaryOperator::Multiply),
     (ops::F_ORD_EQUAL, BinaryOperator::Equal),
-    (ops::F_UNORD_NOT_EQUAL, BinaryOperator::NotEqual),
     (ops::F_ORD_LESS_THAN, BinaryOperator::Less),
     (ops::F_ORD_GREATER_THAN, BinaryOperator::Greater),
     (ops::F_ORD_LESS_THAN_EQUAL, BinaryOperator::LessEqual),
@@ -29,7 +27,8 @@ pub static PLAIN: [(u16, BinaryOperator); 16] = [
 ];
 
 /// Comparisons of floats that hold with what is no number, each with the one that holds where it doesn't.
-pub static UNORDERED: [(u16, BinaryOperator); 4] = [
+pub static UNORDERED: [(u16, BinaryOperator); 5] = [
+    (ops::F_UNORD_NOT_EQUAL, BinaryOperator::Equal),
     (ops::F_UNORD_LESS_THAN, BinaryOperator::GreaterEqual),
     (ops::F_UNORD_GREATER_THAN, BinaryOperator::LessEqual),
     (ops::F_UNORD_LESS_THAN_EQUAL, BinaryOperator::Greater),
