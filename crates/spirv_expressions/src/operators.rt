@@ -168,7 +168,7 @@ fn inverse<B: Builder>(builder: &mut B, operation: &Instruction, expr: Value) ->
     builder.emit(Expression::Unary { op, expr }, operation)
 }
 
-// Whether one float is less or greater than another: that neither is a number holds for none.
+// Whether one float is less or greater than another; where one of them is no number, it is neither.
 fn are_apart<B: Builder>(builder: &mut B, operation: &Instruction) -> Value {
     let less = plain(builder, operation, BinaryOperator::Less);
     let greater = plain(builder, operation, BinaryOperator::Greater);
