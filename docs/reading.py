@@ -13,8 +13,11 @@ TOP = Path(__file__).resolve().parent.parent
 CRATES = TOP / "crates"
 PAGE = TOP / "docs/READING.md"
 PROSE = TOP / "docs/JUDGEMENT.md"
-# where a reader begins: what the program writes for any bytes, and what is promised of a document that is accepted
-ROOTS = [("What is written", "IsExpected"), ("What is promised of what is accepted", "SoundText")]
+# where a reader begins: the definitions that the contract of `check_document` cites
+ROOTS = [("What is written", "IsExpected"), ("What is promised of what is accepted", "SoundText"),
+         ("What a verdict says of the bytes that were read and written", "Answers"), ("The same in calls", "AnswersInCalls"),
+         ("What a failed write leaves", "BreaksOff"), ("The same in calls", "BreaksOffInCalls"),
+         ("A failed read, in calls", "check_ports.Source.ReadingFails"), ("Status and message", "status_of"), ("The message", "message_of")]
 FIRST = ("shader_check", "judged.Theorem")
 HEAD = re.compile(r"^(\s*)(?:(?:abbrev|unfoldable|opaque)\s+)*(?:pub\s+)?(record|data)\s+([^\s({:]+)"
                   r"|^(\s*)(?:(?:abbrev|unfoldable|opaque)\s+)*pub\s+([^\s({:]+)[^:=]*:"
@@ -96,7 +99,9 @@ def load():
 
 def reached(files, root):
     """The definitions that one rests on, itself first, and the types of the code that they cite."""
-    order, types, todo = [], [], [(*FIRST, root)]
+    crate, _, inside = root.partition(".")
+    first = (crate, *inside.rsplit(".", 1)) if inside else (*FIRST, root)
+    order, types, todo = [], [], [first]
     seen = set()
     while todo:
         crate, module, name = todo.pop()

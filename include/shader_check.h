@@ -9,6 +9,12 @@
 extern "C" {
 #endif
 
+/* The version of this header and of the library beside it. */
+#define SHADER_CHECK_VERSION "0.1.0"
+#define SHADER_CHECK_VERSION_MAJOR 0
+#define SHADER_CHECK_VERSION_MINOR 1
+#define SHADER_CHECK_VERSION_PATCH 0
+
 enum {
     SHADER_CHECK_ACCEPTED = 0,
     SHADER_CHECK_REFUSED = 1,
@@ -22,7 +28,8 @@ enum {
  *
  * Answers SHADER_CHECK_ACCEPTED, SHADER_CHECK_REFUSED, or SHADER_CHECK_NO_MEMORY where memory was refused: then `text` is as it was
  * and `*needed` is 0. No pointer may be null, also where the length is 0, and the bytes of `document`, `text` and `needed` are apart.
- * It keeps nothing between calls, and may be called from several threads at a time, but from no signal handler. */
+ * It keeps nothing between calls, and may be called from several threads at a time, but from no signal handler. Its memory comes from the
+ * three functions of shader_check_heap.h. */
 uint32_t shader_check(const uint8_t *document, size_t length, uint8_t *text, size_t capacity, size_t *needed);
 
 /* The same, but that the text is one JSON object, as docs/answer.schema.json says: the verdict, of a refused document the step, the

@@ -6,7 +6,7 @@ use Rattle.std.specs.IoError.{error_kind}
 use Rattle.std.specs.declared.io.Error.{Error}
 use Rattle.std.specs.declared.io.ErrorKind.TheVariants.{Interrupted}
 use Rattle.check_ports.specs.Calls.{Call, passed, Made, Each, PassesSome}
-use Rattle.check_ports.specs.Source.{GoesOn, RequiresFor, Reading, ReadsAll, ReadingFails, ReadingStops}
+use Rattle.check_ports.specs.Source.{GoesOn, RequiresFor, AreReads, ReadsAll, ReadingFails, ReadingStops}
 use Rattle.check_ports.specs.Sink.{TakesNothing, Offers, WritesAll, WritingFails}
 
 -- So many calls of a reader were made, and gave these bytes. Another may follow.
@@ -26,7 +26,7 @@ reads_none reads r most = record { calls = []; made = refl; count_is = refl; ask
 pub reads_call : {R : Type 0} (reads : R → R → Call → Type 0) (old mid new : R) (most limit count : ℕ) (taken : List ℕ) (answer : Result ℕ Error) (buf : List ℕ)
     → (run : ReadsOn reads old mid most count taken) → count < limit → 0 < length buf → length taken + length buf ≤ most
     → reads mid new (record { answer = answer; buffer = buf })
-    → Reading reads old new most limit (record { answer = answer; buffer = buf } ∷ run.calls)
+    → AreReads reads old new most limit (record { answer = answer; buffer = buf } ∷ run.calls)
 reads_call reads old mid new most limit count taken answer buf run few some room call = record {
   made = (mid, run.made, call);
   few = let n = run.count_is in omega arith;

@@ -34,8 +34,8 @@ abbrev pub GoesOn : Call → Type 0
 GoesOn c = MatchResult c.answer (λ n. 0 < n) (λ e. error_kind e ≡ Interrupted)
 
 -- the call gave nothing, without an error
-abbrev pub Ends : Call → Type 0
-Ends c = c.answer ≡ Ok 0
+abbrev pub FoundEnd : Call → Type 0
+FoundEnd c = c.answer ≡ Ok 0
 
 -- the call failed, and was not merely interrupted
 abbrev pub Fails : Call → Type 0
@@ -48,7 +48,7 @@ RequiresFor most (c ∷ before) = RequiresFor most before × (0 < length c.buffe
 
 -- Calls of a reader that require no more than `most` bytes in all, made one after the other, and no more than `limit`.
 -- `reads` says what one call makes of the reader.
-pub record Reading {R : Type 0} (reads : R → R → Call → Type 0) (old new : R) (most limit : ℕ) (calls : List Call) : Type 0 where
+pub record AreReads {R : Type 0} (reads : R → R → Call → Type 0) (old new : R) (most limit : ℕ) (calls : List Call) : Type 0 where
   pub made : Made reads old new calls
   pub few : length calls ≤ limit
   pub asked : RequiresFor most calls
@@ -57,19 +57,19 @@ pub record Reading {R : Type 0} (reads : R → R → Call → Type 0) (old new :
 -- bytes or was interrupted.
 pub record ReadsAll {R : Type 0} (reads : R → R → Call → Type 0) (old new : R) (most limit : ℕ) (given : List ℕ) : Type 0 where
   pub calls : List Call
-  pub reading : Reading reads old new most limit calls
+  pub reading : AreReads reads old new most limit calls
   pub given_is : given ≡ passed calls
-  pub stopped : StopsAt Ends GoesOn calls ⊎ (Each GoesOn calls × (length given ≡ most))
+  pub stopped : StopsAt FoundEnd GoesOn calls ⊎ (Each GoesOn calls × (length given ≡ most))
 
 -- The last call failed and was not merely interrupted, or as many as `limit` were made. Each before gave bytes or was
 -- interrupted.
 pub record ReadingFails {R : Type 0} (reads : R → R → Call → Type 0) (old new : R) (most limit : ℕ) : Type 0 where
   pub calls : List Call
-  pub reading : Reading reads old new most limit calls
+  pub reading : AreReads reads old new most limit calls
   pub stopped : StopsAt Fails GoesOn calls ⊎ (Each GoesOn calls × (length calls ≡ limit))
 
 -- The last call gave bytes, and each before gave bytes or was interrupted.
 pub record ReadingStops {R : Type 0} (reads : R → R → Call → Type 0) (old new : R) (most limit : ℕ) : Type 0 where
   pub calls : List Call
-  pub reading : Reading reads old new most limit calls
+  pub reading : AreReads reads old new most limit calls
   pub stopped : StopsAt PassesSome GoesOn calls

@@ -10,7 +10,7 @@ use thiserror::Error;
 use typing_errors::FunctionError;
 
 /// Why an entry point is refused (naga's `EntryPointError`).
-#[derive(Debug, Drop, Error)]
+#[derive(PartialEq, Debug, Drop, Error)]
 pub enum EntryPointError {
     /// An earlier entry point of the same stage has the same name.
     #[error("an earlier entry point of the same stage has the same name")]

@@ -9,7 +9,7 @@ use thiserror::Error;
 use typing_errors::FunctionError;
 
 /// A function that is refused (naga's `ValidationError::Function`).
-#[derive(Debug, Drop, Error)]
+#[derive(PartialEq, Debug, Drop, Error)]
 #[error("function {function:?} is invalid: {error}")]
 pub struct InvalidFunction {
     /// The function.
@@ -19,7 +19,7 @@ pub struct InvalidFunction {
 }
 
 /// An entry point that is refused (naga's `ValidationError::EntryPoint`).
-#[derive(Debug, Drop, Error)]
+#[derive(PartialEq, Debug, Drop, Error)]
 #[error("entry point {index} is invalid: {error}")]
 pub struct InvalidEntryPoint {
     /// Its index among the module's entry points.
@@ -29,7 +29,7 @@ pub struct InvalidEntryPoint {
 }
 
 /// Why a module is refused (naga's `ValidationError`): the first step that fails, at the first item that fails it, and why.
-#[derive(Debug, Drop, Error)]
+#[derive(PartialEq, Debug, Drop, Error)]
 pub enum ValidationError {
     /// Handles are out of order, or a step up to overrides fails.
     #[error("{0}")]

@@ -2,6 +2,8 @@
 
 pub use function_entries::laws::one_implied;
 pub use function_modules::laws::{entry_depth_bound, made_for_accepted};
-pub use judgement_laws::accepted_laws::{answered_by_one, bindings_differ, calls_fall};
+pub use judgement_laws::accepted_laws::{
+    answered_by_one, answered_by_one_in_entries, bindings_differ, calls_fall,
+};
 pub use judgement_report::laws::accepted_is_laid;
 pub use judgement_report::{Leaf, buffer_leaves};

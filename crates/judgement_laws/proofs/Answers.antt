@@ -1,5 +1,5 @@
 -- What denotes an answer is the result of one statement of its kind.
-use Rattle.std.proofs.Common.{◌≡◌, ◌∙◌, ℕ, [], Option, Some, None, option_and_then, slice_get, sym, ap, subst}
+use Rattle.std.proofs.Common.{◌≡◌, ◌∙◌, ℕ, [], Bool, Option, Some, None, is_some, option_and_then, slice_get, sym, ap, subst}
 use Rattle.std.proofs.lemmas.Option.{slice_get_within}
 use Rattle.std.specs.Prelude.{IsSomeAnd}
 use Rattle.ir_blocks.specs.judged.Plain.{PlainOperation, control_barrier, memory_barrier, store, image_store, atomic, image_atomic, uniform_load, ray_query, ballot, collective, gather, cooperative_store, ray_pipeline, PlainStatement, emit, block, if_, switch, loop, break, continue, return, kill, operation, call}
@@ -8,7 +8,8 @@ use Rattle.ir_types.specs.declared.expressions.Expression.TheVariants as x
 use Rattle.ir_flags.specs.Sets.{Has}
 use Rattle.ir_flags.specs.declared.settings.TheConstants.ValidationFlags.{EXPRESSIONS}
 use Rattle.ir_flags.specs.declared.settings.Settings.{Settings}
-use Rattle.judgement_laws.specs.found.AcceptedLaws.{IsCallOf, IsOperationOf, EachAnswered, AnsweredByOne}
+use Rattle.ir_items.specs.judged.Plain.{PlainEntry}
+use Rattle.judgement_laws.specs.found.AcceptedLaws.{IsCallOf, IsAtomicOf, EachAnswered, AnsweredByOne, AnsweredByOneInEntries}
 use Rattle.ir_kinds.specs.declared.scalars.Scalar.{Scalar}
 use Rattle.spec_expressions.specs.judged.Kinds.{operation_row}
 use Rattle.spec_expressions.specs.judged.Operands.{comparand}
@@ -28,6 +29,11 @@ some_and P (Some a) h = (a, h)
 -- the result of a call is none of an atomic operation
 undeclared : (P : AtomicAnswer → Type 0) (o : Option PlainExpression) (function : ℕ) → o ≡ Some (plain (x.CallResult function)) → ¬ IsSomeAnd (option_and_then declared_answer o) P
 undeclared P o function at h = subst (λ z. IsSomeAnd (option_and_then declared_answer z) P) at h
+
+-- what an operation answers says whether it compares
+compared : (c : BlockContext) (s : Scalar) (o : Option ℕ) (a : AtomicAnswer) → AtomicAnswerOK c s o a → is_some o ≡ a.comparison
+compared c s None a h = sym h.1
+compared c s (Some compare) a h = sym h.2
 
 module _ (c : BlockContext) (e : ℕ) where
   module _ (function : ℕ) (at : slice_get c.f.expressions e ≡ Some (plain (x.CallResult function))) where
@@ -67,34 +73,38 @@ module _ (c : BlockContext) (e : ℕ) where
         let callee : g ≡ function = cc (named) in
         (arguments, λ i. call (callee i) arguments (Some (same i)))
 
-  is_operation : (type : ℕ) (comparison : _) → slice_get c.f.expressions e ≡ Some (plain (x.AtomicResult type comparison)) → (s : PlainStatement) → StatementOK c s → answer_of s ≡ Some e → IsOperationOf e s
-  is_operation type comparison at (emit first end) ok is = cc (is)
-  is_operation type comparison at (block b) ok is = cc (is)
-  is_operation type comparison at (if_ condition accept reject) ok is = cc (is)
-  is_operation type comparison at (switch selector cases) ok is = cc (is)
-  is_operation type comparison at (loop body continuing break_if) ok is = cc (is)
-  is_operation type comparison at break ok is = cc (is)
-  is_operation type comparison at continue ok is = cc (is)
-  is_operation type comparison at (return value) ok is = cc (is)
-  is_operation type comparison at kill ok is = cc (is)
-  is_operation type comparison at (operation a) ok is = is
-  is_operation type comparison at (call g arguments None) ok is = cc (is)
-  is_operation type comparison at (call g arguments (Some result)) ok is =
+  is_atomic : (type : ℕ) (comparison : Bool) → slice_get c.f.expressions e ≡ Some (plain (x.AtomicResult type comparison)) → (s : PlainStatement) → StatementOK c s → answer_of s ≡ Some e → IsAtomicOf comparison e s
+  is_atomic type comparison at (emit first end) ok is = cc (is)
+  is_atomic type comparison at (block b) ok is = cc (is)
+  is_atomic type comparison at (if_ condition accept reject) ok is = cc (is)
+  is_atomic type comparison at (switch selector cases) ok is = cc (is)
+  is_atomic type comparison at (loop body continuing break_if) ok is = cc (is)
+  is_atomic type comparison at break ok is = cc (is)
+  is_atomic type comparison at continue ok is = cc (is)
+  is_atomic type comparison at (return value) ok is = cc (is)
+  is_atomic type comparison at kill ok is = cc (is)
+  is_atomic type comparison at (operation (control_barrier barrier)) ok is = cc (is)
+  is_atomic type comparison at (operation (memory_barrier barrier)) ok is = cc (is)
+  is_atomic type comparison at (operation (store pointer value)) ok is = cc (is)
+  is_atomic type comparison at (operation (image_store image coordinate array_index value)) ok is = cc (is)
+  is_atomic type comparison at (operation (atomic pointer done value None)) ok is = cc (is)
+  is_atomic type comparison at (operation (atomic pointer done value (Some result))) ok is =
+      let same : result ≡ e = some_is is in
+      let changed : (s : Scalar) × AtomicChangeOK c pointer done value (Some result) s = some_and (AtomicChangeOK c pointer done value (Some result)) (changed_scalar c.m.types (form_at c pointer)) ok in
+      let answered = subst (λ o. IsSomeAnd (option_and_then declared_answer o) (AtomicAnswerOK c changed.0 (comparand done))) (ap (slice_get c.f.expressions) same ∙ at) changed.1.answered in
+      (pointer, done, value, (λ i. operation (atomic pointer done value (Some (same i)))), compared c changed.0 (comparand done) (record { ty = type; comparison = comparison }) answered)
+  is_atomic type comparison at (operation (image_atomic image coordinate array_index done value)) ok is = cc (is)
+  is_atomic type comparison at (operation (uniform_load pointer result)) ok is = cc (is)
+  is_atomic type comparison at (operation (ray_query query done)) ok is = cc (is)
+  is_atomic type comparison at (operation (ballot result predicate)) ok is = cc (is)
+  is_atomic type comparison at (operation (collective op collective_op argument result)) ok is = cc (is)
+  is_atomic type comparison at (operation (gather mode argument result)) ok is = cc (is)
+  is_atomic type comparison at (operation (cooperative_store target place)) ok is = cc (is)
+  is_atomic type comparison at (operation (ray_pipeline done)) ok is = cc (is)
+  is_atomic type comparison at (call g arguments None) ok is = cc (is)
+  is_atomic type comparison at (call g arguments (Some result)) ok is =
       let named = sym ok.answered.1 ∙ (ap (slice_get c.f.expressions) (some_is is) ∙ at) in
       cc (named)
-
-answers_operation : (e : ℕ) (s : PlainStatement) → IsOperationOf e s → answer_of s ≡ Some e
-answers_operation e (operation a) is = is
-answers_operation e (emit first end) is = absurd is
-answers_operation e (block b) is = absurd is
-answers_operation e (if_ condition accept reject) is = absurd is
-answers_operation e (switch selector cases) is = absurd is
-answers_operation e (loop body continuing break_if) is = absurd is
-answers_operation e break is = absurd is
-answers_operation e continue is = absurd is
-answers_operation e (return value) is = absurd is
-answers_operation e kill is = absurd is
-answers_operation e (call function arguments result) is = absurd is
 
 module _ (s : Settings) (held : Option ℕ) (c : BlockContext) (body : BodyOK s held c) (expressions : Has s.flags.0 EXPRESSIONS.0) where
   each_answered : EachAnswered c.f
@@ -114,8 +124,8 @@ module _ (s : Settings) (held : Option ℕ) (c : BlockContext) (body : BodyOK s 
           place = found.0;
           statement = found.1.0;
           stands = found.1.1;
-          is = is_operation c e type comparison at found.1.0 (body.statements found.0 found.1.0 found.1.1) found.1.2;
-          alone = λ other t stands is. body.answered.once other found.0 e (t, stands, answers_operation e t is) found.1;
+          is = is_atomic c e type comparison at found.1.0 (body.statements found.0 found.1.0 found.1.1) found.1.2;
+          alone = λ other t stands is. body.answered.once other found.0 e (t, stands, ap answer_of is.3) found.1;
         };
   }
 
@@ -124,3 +134,9 @@ answered_by_one s m ok blocks expressions index f at =
     let here = ok index (slice_get_within m.functions index f at) in
     let same : here.function ≡ f = some_is (sym here.at ∙ at) in
     subst EachAnswered same (each_answered _ _ _ ((here.ok []).body blocks) expressions)
+
+pub answered_in_entries : AnsweredByOneInEntries
+answered_in_entries s m ok blocks expressions number e at =
+    let here = ok number (slice_get_within m.entries number e at) in
+    let same : here.entry ≡ e = some_is (sym here.at ∙ at) in
+    subst (λ (found : PlainEntry). EachAnswered found.function) same (each_answered _ _ _ (here.ok.function.body blocks) expressions)

@@ -3,7 +3,7 @@
 use thiserror::Error;
 
 /// Why a constant is refused (naga's `ConstantError`).
-#[derive(Clone, Copy, Debug, Error)]
+#[derive(Clone, Copy, PartialEq, Debug, Error)]
 pub enum ConstantError {
     /// The value of its initialiser is not known as the module is written.
     #[error("the initializer must be a const-expression")]

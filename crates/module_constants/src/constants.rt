@@ -17,7 +17,7 @@ use thiserror::Error;
 use typing_layout::ExpressionKind;
 
 /// A constant that is refused (naga's `ValidationError::Constant`).
-#[derive(Clone, Copy, Debug, Error)]
+#[derive(Clone, Copy, PartialEq, Debug, Error)]
 #[error("constant {constant:?} is invalid: {error}")]
 pub struct InvalidConstant {
     /// The constant.

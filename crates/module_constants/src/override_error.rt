@@ -3,7 +3,7 @@
 use thiserror::Error;
 
 /// Why an override is refused (naga's `OverrideError`).
-#[derive(Clone, Copy, Debug, Error)]
+#[derive(Clone, Copy, PartialEq, Debug, Error)]
 pub enum OverrideError {
     /// It has neither a name nor an id, so no pipeline can give it a value.
     #[error("the override must have a name or an id")]

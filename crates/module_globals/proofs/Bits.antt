@@ -1,10 +1,12 @@
 -- Sets of slots, slot by slot.
-use Rattle.std.proofs.Common.{w64, ◌≡◌, ◌↔◌, ◌<◌, ◌≤◌, ◌+◌, ◌-◌, ◌/◌, ◌^◌, inl, inr, ℕ, min, sym, ap, ◌∙◌, arith}
+use Rattle.std.proofs.Common.{w64, ◌≡◌, ◌↔◌, ◌<◌, ◌≤◌, ◌+◌, ◌-◌, ◌/◌, ◌^◌, ◌⊎◌, inl, inr, ℕ, min, sym, ap, ◌∙◌, arith, subst}
 use Rattle.std.proofs.lemmas.Bool.{cases_lt}
-use Rattle.std.proofs.lemmas.Nat.Bits.{bit_at_and, bit_at_not, bit_at_or, bit_at_ones, bit_at_ones_above, bit_at-lt, same_from_bits}
+use Rattle.std.proofs.lemmas.Nat.Bits.{bit_at_above, bit_at_and, bit_at_not, bit_at_or, bit_at_ones, bit_at_ones_above, bit_at-lt, bit_at-zero, same_from_bits}
+use Rattle.std.proofs.lemmas.Nat.{or_comm}
 use Rattle.std.specs.Int.{bit_at}
-use Rattle.std.specs.Int.RustNames.{bit_and}
-use Rattle.module_globals.specs.Slots.{IsIn, Meets, ContainsBySlots, UnionBySlots, SlotsAreAll}
+use Rattle.std.specs.Int.Bits.{or_self}
+use Rattle.std.specs.Int.RustNames.{bit_and, bit_or}
+use Rattle.module_globals.specs.Slots.{IsIn, Meets, ContainsByDifference, ContainsBySlots, UnionBySlots, UnionsAgree, SlotsAreAll}
 
 ones : (n k : ℕ) → IsIn (2 ^ n - 1) k ↔ (k < n)
 ones n k = (
@@ -58,6 +60,36 @@ union_by_slots a b k =
       (λ h. elim h [ inl x ↦ omega (arith, either, x, lb) | inr y ↦ omega (arith, either, y, la) ]),
     )
 
+-- a slot of either of two unions is in one of the three sets
+in_left : (a b c k : ℕ) → IsIn (bit_or (bit_or a b) c) k ↔ ((IsIn a k ⊎ IsIn b k) ⊎ IsIn c k)
+in_left a b c k = (
+  (λ h. elim ((union_by_slots (bit_or a b) c k).0 h) [ inl x ↦ inl ((union_by_slots a b k).0 x) | inr y ↦ inr y ]),
+  (λ h. (union_by_slots (bit_or a b) c k).1 (elim h [ inl x ↦ inl ((union_by_slots a b k).1 x) | inr y ↦ inr y ])),
+)
+
+in_right : (a b c k : ℕ) → IsIn (bit_or a (bit_or b c)) k ↔ (IsIn a k ⊎ (IsIn b k ⊎ IsIn c k))
+in_right a b c k = (
+  (λ h. elim ((union_by_slots a (bit_or b c) k).0 h) [ inl x ↦ inl x | inr y ↦ inr ((union_by_slots b c k).0 y) ]),
+  (λ h. (union_by_slots a (bit_or b c) k).1 (elim h [ inl x ↦ inl x | inr y ↦ inr ((union_by_slots b c k).1 y) ])),
+)
+
+turned : {A B C : Type 0} → ((A ⊎ B) ⊎ C) → (A ⊎ (B ⊎ C))
+turned (inl (inl a)) = inl a
+turned (inl (inr b)) = inr (inl b)
+turned (inr c) = inr (inr c)
+
+back : {A B C : Type 0} → (A ⊎ (B ⊎ C)) → ((A ⊎ B) ⊎ C)
+back (inl a) = inl (inl a)
+back (inr (inl b)) = inl (inr b)
+back (inr (inr c)) = inr c
+
+pub unions_agree : UnionsAgree
+unions_agree = record {
+  associative = λ a b c. slots_are_all _ _ (λ k. ((λ h. (in_right a b c k).1 (turned ((in_left a b c k).0 h))), (λ h. (in_left a b c k).1 (back ((in_right a b c k).0 h)))));
+  commutative = or_comm;
+  idempotent = or_self;
+}
+
 pub contains_by_slots : ContainsBySlots
 contains_by_slots a b = (
   (λ e k has. let f : min (bit_at a k) (bit_at b k) ≡ bit_at b k = sym (bit_at_and a b k) ∙ ap (λ s. bit_at s k) e in let la = bit_at-lt a k in omega (arith, f, la, has)),
@@ -81,3 +113,22 @@ in_range offset size behind ahead k some fits lt last first =
       (λ e. let h = both.0 e in range.0 (last.0 h.0, (λ less. h.1 (first.1 less)))),
       (λ m. let h = range.1 m in both.1 (last.1 h.0, (λ has. h.1 (first.0 has)))),
     )
+
+-- ---- what is left of a set without another
+
+pub contains_by_difference : ContainsByDifference
+contains_by_difference a b rest fits rest_fits is = (
+  (λ whole. slots_are_all rest 0
+      (λ k. ((λ has. elim (cases_lt k 64) [
+        | inl lt ↦ absurd (((is k lt).0 has).1 ((contains_by_slots a b).0 whole k ((is k lt).0 has).0))
+        | inr ge ↦ absurd (let z : bit_at rest k ≡ 0 = bit_at_above rest 64 k rest_fits ge in let h = has in omega (arith, z, h))
+      ]), (λ none. absurd (let z : bit_at 0 k ≡ 0 = bit_at-zero k in let h = none in omega (arith, z, h)))))),
+  (λ empty. (contains_by_slots a b).1
+      (λ k has. elim (cases_lt k 64) [
+        | inl lt ↦ elim (cases_lt (bit_at a k) 1) [
+          | inl zero ↦ absurd (let left : IsIn 0 k = subst (λ n. IsIn n k) empty ((is k lt).1 (has, (λ one. let h = one in omega (arith, zero, h)))) in let z : bit_at 0 k ≡ 0 = bit_at-zero k in omega (arith, z, left))
+          | inr one ↦ let la = bit_at-lt a k in omega (arith, one, la)
+        ]
+        | inr ge ↦ absurd (let z : bit_at b k ≡ 0 = bit_at_above b 64 k fits ge in let h = has in omega (arith, z, h))
+      ])),
+)

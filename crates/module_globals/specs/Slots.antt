@@ -1,5 +1,5 @@
 -- Slots of immediate data.
-use Rattle.std.specs.Prelude.{◌≡◌, ◌↔◌, ◌<◌, ◌+◌, ◌*◌, ◌⊎◌, ℕ}
+use Rattle.std.specs.Prelude.{◌≡◌, ◌↔◌, ◌<◌, ◌+◌, ◌*◌, ◌^◌, ◌⊎◌, ℕ}
 use Rattle.std.specs.Int.{bit_at}
 use Rattle.std.specs.Int.RustNames.{bit_and, bit_or}
 
@@ -18,6 +18,17 @@ ContainsBySlots = (a b : ℕ) → (bit_and a b ≡ b) ↔ ((slot : ℕ) → IsIn
 
 abbrev pub UnionBySlots : Type 0
 UnionBySlots = (a b slot : ℕ) → IsIn (bit_or a b) slot ↔ (IsIn a slot ⊎ IsIn b slot)
+
+-- A union doesn't depend on the order in which it is put together, nor on how often a set is in it.
+pub record UnionsAgree : Type 0 where
+  pub associative : (a b c : ℕ) → bit_or (bit_or a b) c ≡ bit_or a (bit_or b c)
+  pub commutative : (a b : ℕ) → bit_or a b ≡ bit_or b a
+  pub idempotent : (a : ℕ) → bit_or a a ≡ a
+
+-- where the slots of some number are those of b that are none of a, a contains b exactly where that number is 0
+abbrev pub ContainsByDifference : Type 0
+ContainsByDifference =
+    (a b rest : ℕ) → b < 2 ^ 64 → rest < 2 ^ 64 → ((slot : ℕ) → slot < 64 → IsIn rest slot ↔ (IsIn b slot × ¬ IsIn a slot)) → (bit_and a b ≡ b) ↔ (rest ≡ 0)
 
 abbrev pub SlotsAreAll : Type 0
 SlotsAreAll = (a b : ℕ) → ((slot : ℕ) → IsIn a slot ↔ IsIn b slot) → a ≡ b

@@ -8,7 +8,7 @@ use thiserror::Error;
 use typing_layout::{Disalignment, ImmediateError, TypeFlags};
 
 /// Why a global variable is refused (naga's `GlobalVariableError`).
-#[derive(Clone, Copy, Debug, Error)]
+#[derive(Clone, Copy, PartialEq, Debug, Error)]
 pub enum GlobalVariableError {
     /// No such variable lies in the space.
     #[error("this use of a global variable is incompatible with address space {0:?}")]

@@ -2,7 +2,7 @@
 
 ghost use Rattle.std.specs.Prelude.{◌≡◌, ◌↔◌, ◌⊎◌};
 ghost use Rattle.std.specs.Int.RustNames.{bit_or};
-ghost use Rattle.module_globals.specs.Slots.{IsIn, ContainsBySlots, UnionBySlots, SlotsAreAll};
+ghost use Rattle.module_globals.specs.Slots.{IsIn, ContainsByDifference, ContainsBySlots, UnionBySlots, UnionsAgree, SlotsAreAll};
 
 /// A set contains another exactly where each slot of the other is one of its own.
 pub fn contains_by_slots()
@@ -14,7 +14,18 @@ pub fn union_by_slots()
     ensures { UnionBySlots }
 {}
 
-/// Two sets are the same where they have the same slots; so unions don't depend on how they are put together.
+/// Two sets are the same where they have the same slots.
 pub fn slots_are_all()
     ensures { SlotsAreAll }
+{}
+
+/// A union of sets does not depend on the order in which it is put together, nor on how often a set is in it.
+pub fn unions_agree()
+    ensures { UnionsAgree }
+{}
+
+/// A set contains another exactly where the [`ImmediateSlots::difference`](crate::ImmediateSlots::difference) of the other and it is
+/// empty.
+pub fn contains_by_difference()
+    ensures { ContainsByDifference }
 {}

@@ -24,7 +24,7 @@ use typing_forms::TypeResolution;
 use typing_layout::{ExpressionKindTracker, TypeInfo};
 
 /// A global variable that is refused (naga's `ValidationError::GlobalVariable`).
-#[derive(Clone, Copy, Debug, Error)]
+#[derive(Clone, Copy, PartialEq, Debug, Error)]
 #[error("global variable {global:?} is invalid: {error}")]
 pub struct InvalidGlobalVariable {
     /// The variable.

@@ -15,7 +15,7 @@ use std::alloc::Global;
 use thiserror::Error;
 
 /// An override that is refused (naga's `ValidationError::Override`).
-#[derive(Clone, Copy, Debug, Error)]
+#[derive(Clone, Copy, PartialEq, Debug, Error)]
 #[error("override {id:?} is invalid: {error}")]
 pub struct InvalidOverride {
     /// The override.

@@ -21,7 +21,7 @@ use thiserror::Error;
 use typing_layout::{Layouter, TypeError, TypeInfo};
 
 /// A type that is refused (naga's `ValidationError::Type`).
-#[derive(Clone, Copy, Debug, Error)]
+#[derive(Clone, Copy, PartialEq, Debug, Error)]
 #[error("type {ty:?} is invalid: {error}")]
 pub struct InvalidType {
     /// The type.

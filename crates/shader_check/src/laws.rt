@@ -8,7 +8,9 @@ pub use document_reader::laws::{distinct_types, one_document};
 pub use function_modules::laws::{entry_depth_bound, made_for_accepted};
 pub use judgement::module_laws::more_capabilities;
 pub use judgement::report_laws::{named_are_reported, one_report, some_report};
-pub use judgement_laws::accepted_laws::{answered_by_one, bindings_differ, calls_fall};
+pub use judgement_laws::accepted_laws::{
+    answered_by_one, answered_by_one_in_entries, bindings_differ, calls_fall,
+};
 pub use judgement_report::laws::accepted_is_laid;
 pub use judgement_report::{Leaf, buffer_leaves};
 

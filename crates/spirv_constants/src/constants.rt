@@ -10,6 +10,7 @@ use spirv_tables::{Decorated, literal, value_of};
 use spirv_types::{Reading, Shape, TypeHandle, TypeTable, span_of};
 use spirv_words::{Failure, Instruction, Listing, Malformed, SpirvError, Unsupported};
 use std::alloc::Global;
+use std::collections::BTreeMap;
 
 /// Where the constants of a module are built, and the expressions that they are made of.
 pub trait Constants {
@@ -47,6 +48,8 @@ pub struct ConstantTable<C: Constants> {
     pub built: C,
     /// What each id is.
     pub known: KnownConstants,
+    // the first specialization constant with each number
+    numbered: BTreeMap<u16, u32>,
     // what was wrong first
     pub(crate) failed: Failure,
 }
@@ -65,6 +68,7 @@ impl<C: Constants> ConstantTable<C> {
         ConstantTable {
             built,
             known: KnownConstants::new(alloc, bound, failed),
+            numbered: BTreeMap::new(alloc),
             failed: Failure::NONE,
         }
     }
@@ -74,6 +78,7 @@ impl<C: Constants> ConstantTable<C> {
         let ConstantTable {
             built,
             known,
+            numbered: _,
             failed: _,
         } = self;
         (known, built)
@@ -161,11 +166,35 @@ impl<C: Constants> ConstantTable<C> {
         let kind = self
             .failed
             .take(kind_of(&reading.listing, instruction), Kind::Constant);
+        if let Kind::Override(Some(number)) = kind {
+            if let Some(first) = self.numbered.get(&number).copied() {
+                return self.put_again(instruction, number, first, known.value);
+            }
+            if self.numbered.insert(number, instruction.id).is_err() {
+                self.failed.fail(SpirvError::Memory);
+            }
+        }
         let name = reading.listing.name(reading.alloc, instruction.id, None);
         let name = self.failed.take(name, None);
         let mut known = known;
         known.made = self.make(kind, name, ty, init, span_of(instruction));
         self.known.set(instruction.id, known);
+    }
+
+    // A specialization constant with the number of one before: that one, where both are of one type and begin as one value.
+    fn put_again(
+        &mut self,
+        instruction: &Instruction,
+        number: u16,
+        first: u32,
+        value: Option<i64>,
+    ) {
+        let before = self.known.at(first);
+        if before.ty != instruction.ty || before.value != value || value.is_none() {
+            let what = Unsupported::SpecId(u32::from(number));
+            self.failed.fail(instruction.unsupported_as(what));
+        }
+        self.known.set_same(instruction.id, first);
     }
 
     /// A constant as it is declared, but for those that an operation computes.

@@ -35,7 +35,7 @@ pub struct Known {
     pub made: Made,
     /// Its type.
     pub ty: u32,
-    /// Its value, of a whole number or a truth value; of a specialization constant its default.
+    /// Its value, of a whole number, a truth value or a float that is 0; of a specialization constant its default.
     pub value: Option<i64>,
     // the expression of the module that it is
     pub(crate) expression: Option<ExpressionHandle>,

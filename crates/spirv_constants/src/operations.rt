@@ -5,7 +5,7 @@ use ir_arena::handle::Handle;
 use ir_kinds::{BinaryOperator, Literal, MathFunction, Scalar, ScalarKind, UnaryOperator};
 use ir_types::Expression;
 use spirv_numbers::ops;
-use spirv_tables::operators::{COMPARISONS, INTEGER, PLAIN, SHIFTS, find_operator, find_signed};
+use spirv_tables::operators::{COMPARISONS, INTEGER, LOGIC, SHIFTS, find_operator, find_signed};
 use spirv_tables::{folded, literal};
 use spirv_types::{Reading, Shape, TypeTable, numbered};
 use spirv_words::{Failure, Instruction, Malformed, SpirvError, Unsupported};
@@ -34,8 +34,8 @@ pub(crate) enum Step {
     Literal(Literal),
     Unary(UnaryOperator, usize),
     Quantized(usize),
-    // as this kind; bit for bit where there is no width
-    As(usize, ScalarKind, Option<u8>),
+    // as a scalar of this kind and this width; bit for bit where only the sign differs
+    As(usize, Scalar),
     Binary(BinaryOperator, usize, usize),
     Select([usize; 3]),
 }
@@ -58,12 +58,13 @@ impl Steps {
     }
 }
 
-// An operation of two operands: the kinds that these are taken as, and that of what it gives.
+// An operation of two operands: the kind that these are taken as, whether the second is a count of bits, and the kind of what it
+// gives.
 #[derive(Clone, Copy)]
 pub(crate) struct Binary {
     pub op: BinaryOperator,
-    pub left: ScalarKind,
-    pub right: ScalarKind,
+    pub kind: ScalarKind,
+    pub shifts: bool,
     pub gives: ScalarKind,
 }
 
@@ -72,8 +73,8 @@ impl Binary {
     pub(crate) fn of(op: BinaryOperator, kind: ScalarKind, gives: ScalarKind) -> Binary {
         Binary {
             op,
-            left: kind,
-            right: kind,
+            kind,
+            shifts: false,
             gives,
         }
     }
@@ -209,8 +210,12 @@ impl Operation {
             (None, ops::SELECT) => self.add_choice(&mut steps),
             (None, _) => match binary_of(types, known, self, &mut steps.failed) {
                 Some(binary) => {
-                    let left = self.add_operand(types, known, 0, binary.left, &mut steps);
-                    let right = self.add_operand(types, known, 1, binary.right, &mut steps);
+                    let left = self.add_operand(types, known, 0, binary.kind, &mut steps);
+                    let right = if binary.shifts {
+                        self.add_count(types, known, &mut steps)
+                    } else {
+                        self.add_operand(types, known, 1, binary.kind, &mut steps)
+                    };
                     let made = steps.add(Step::Binary(binary.op, left, right));
                     self.add_cast(made, binary.gives, &mut steps);
                 }
@@ -220,7 +225,25 @@ impl Operation {
         steps
     }
 
-    // The operand at this place as one of this kind: a constant as a literal of it.
+    // The scalar of the operand at this place.
+    fn scalar_at(
+        &self,
+        types: &TypeTable,
+        known: &KnownConstants,
+        place: usize,
+        failed: &mut Failure,
+    ) -> Scalar {
+        let id = self.operand(place, failed);
+        match scalar_of(types, known, id) {
+            Some(scalar) => scalar,
+            None => {
+                failed.fail(self.instruction.malformed(Malformed::NoConstant));
+                Scalar::U32
+            }
+        }
+    }
+
+    // The operand at this place as one of this kind.
     fn add_operand(
         &self,
         types: &TypeTable,
@@ -229,32 +252,45 @@ impl Operation {
         kind: ScalarKind,
         steps: &mut Steps,
     ) -> usize {
-        let id = self.operand(place, &mut steps.failed);
-        let Some(scalar) = scalar_of(types, known, id) else {
-            let error = self.instruction.malformed(Malformed::NoConstant);
-            steps.failed.fail(error);
-            return 0;
-        };
-        let wanted = Scalar {
+        let from = self.scalar_at(types, known, place, &mut steps.failed);
+        let to = Scalar {
             kind,
-            width: scalar.width,
+            width: from.width,
         };
+        self.add_operand_as(known, place, from, to, steps)
+    }
+
+    // The second operand as a word without a sign, which a count of bits is.
+    fn add_count(&self, types: &TypeTable, known: &KnownConstants, steps: &mut Steps) -> usize {
+        let from = self.scalar_at(types, known, 1, &mut steps.failed);
+        self.add_operand_as(known, 1, from, Scalar::U32, steps)
+    }
+
+    // The operand at this place, of one scalar, as one of another: a constant as a literal of it.
+    fn add_operand_as(
+        &self,
+        known: &KnownConstants,
+        place: usize,
+        from: Scalar,
+        to: Scalar,
+        steps: &mut Steps,
+    ) -> usize {
+        let id = self.operand(place, &mut steps.failed);
         let value = known.at(id).value.unwrap_or(0);
-        match literal(wanted, value.cast_unsigned()) {
-            _ if scalar.kind == kind => steps.add(Step::Constant(id)),
+        match literal(to, value.cast_unsigned()) {
+            _ if from == to => steps.add(Step::Constant(id)),
             Some(literal) if known.is_constant(id) => steps.add(Step::Literal(literal)),
             _ => {
                 let operand = steps.add(Step::Constant(id));
-                steps.add(Step::As(operand, kind, None))
+                steps.add(Step::As(operand, to))
             }
         }
     }
 
     // What has this kind, as the result's, bit for bit.
     fn add_cast(&self, made: usize, from: ScalarKind, steps: &mut Steps) {
-        let kind = self.scalar.kind;
-        if from != kind {
-            steps.add(Step::As(made, kind, None));
+        if from != self.scalar.kind {
+            steps.add(Step::As(made, self.scalar));
         }
     }
 
@@ -314,10 +350,7 @@ impl Operation {
         let made = match operator {
             Some(operator) => steps.add(Step::Unary(operator, operand)),
             None if self.opcode == ops::QUANTIZE_TO_F16 => steps.add(Step::Quantized(operand)),
-            None => {
-                let (to, width) = (self.scalar.kind, self.scalar.width);
-                steps.add(Step::As(operand, to, Some(width)))
-            }
+            None => steps.add(Step::As(operand, self.scalar)),
         };
         if self.opcode == ops::S_NEGATE {
             self.add_cast(made, kind, steps);
@@ -338,12 +371,8 @@ fn binary_of(
     failed: &mut Failure,
 ) -> Option<Binary> {
     let (opcode, gives) = (operation.opcode, operation.scalar.kind);
-    if let Some(op) = find_operator(&INTEGER, opcode) {
-        let kind = match opcode {
-            ops::U_DIV | ops::U_MOD => ScalarKind::Uint,
-            ops::S_DIV | ops::S_REM => ScalarKind::Sint,
-            _ => gives,
-        };
+    if let Some((op, sign)) = find_signed(&INTEGER, opcode) {
+        let kind = sign.unwrap_or(gives);
         return Some(Binary::of(op, kind, kind));
     }
     if let Some((op, sign)) = find_signed(&COMPARISONS, opcode) {
@@ -359,15 +388,15 @@ fn binary_of(
         return Some(Binary::of(op, kind, gives));
     }
     if let Some((op, sign)) = find_signed(&SHIFTS, opcode) {
-        let left = sign.unwrap_or(gives);
+        let kind = sign.unwrap_or(gives);
         return Some(Binary {
             op,
-            left,
-            right: ScalarKind::Uint,
-            gives: left,
+            kind,
+            shifts: true,
+            gives: kind,
         });
     }
-    match find_operator(&PLAIN, opcode) {
+    match find_operator(&LOGIC, opcode) {
         Some(op) if gives == ScalarKind::Bool => Some(Binary::of(op, gives, gives)),
         _ => None,
     }
@@ -389,10 +418,10 @@ pub(crate) fn expression_of(step: &Step, made: &[ExpressionHandle]) -> Option<Ex
             arg2: None,
             arg3: None,
         }),
-        Step::As(expr, kind, convert) => Some(Expression::As {
+        Step::As(expr, to) => Some(Expression::As {
             expr: made_at(made, expr),
-            kind,
-            convert,
+            kind: to.kind,
+            convert: Some(to.width),
         }),
         Step::Binary(op, left, right) => Some(Expression::Binary {
             op,

@@ -2,7 +2,7 @@
 
 use ir_arena::handle::Handle;
 use ir_arena::span::Span;
-use ir_kinds::{BinaryOperator, ImageClass, Literal, Scalar, ScalarKind, VectorSize};
+use ir_kinds::{BinaryOperator, ImageClass, Literal, MathFunction, Scalar, ScalarKind, VectorSize};
 use ir_types::{Expression, key};
 use spirv_types::{ImageShape, MatrixShape, MemberShape, Shape, Stored, TypeHandle};
 use spirv_words::{Instruction, Malformed, SpirvError};
@@ -73,7 +73,7 @@ pub trait Builder: Emits {
     /// Whether an id is of a constant, and not of a specialization constant.
     fn is_constant(&self, id: u32) -> bool;
 
-    /// The value of a constant whole number.
+    /// The value of a constant whole number, or of a float that is 0.
     fn constant(&self, id: u32) -> Option<i64>;
 
     /// The value of an id.
@@ -236,6 +236,27 @@ pub fn select<B: Builder>(
         reject,
     };
     builder.emit(select, operation)
+}
+
+/// A call of a math function.
+pub fn call<B: Builder>(
+    builder: &mut B,
+    operation: &Instruction,
+    fun: MathFunction,
+    arg: Value,
+    rest: [Option<Value>; 3],
+) -> Value {
+    let [arg1, arg2, arg3] = rest;
+    builder.emit(
+        Expression::Math {
+            fun,
+            arg,
+            arg1,
+            arg2,
+            arg3,
+        },
+        operation,
+    )
 }
 
 /// A conversion of a value.

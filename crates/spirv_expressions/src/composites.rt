@@ -1,7 +1,7 @@
 // Composites (section 3.52.12).
 
 use crate::builder::{
-    Builder, Value, binary, compose, compose_result, keep, need, operand, operand_scalar,
+    Builder, Value, binary, call, compose, compose_result, keep, need, operand, operand_scalar,
     operand_shape, part_of, refuse, select,
 };
 use ir_kinds::{
@@ -60,14 +60,14 @@ fn copy_logical<B: Builder>(
         let (Some(old), Some(new)) = (builder.part(from, index), builder.part(to, index)) else {
             return refuse(builder, operation.malformed(Malformed::WrongType));
         };
-        let part = part_of(builder, operation, value, index);
-        let copy = if old.stored.is_plain() && new.stored.is_plain() {
-            copy_logical(builder, operation, part, old.ty, new.ty, depth)
+        if old.stored.is_plain() && new.stored.is_plain() {
+            let part = part_of(builder, operation, value, old.index);
+            let copy = copy_logical(builder, operation, part, old.ty, new.ty, depth);
+            keep(builder, &mut components, copy);
         } else {
-            let plain = part_as(builder, operation, part, &old, Form::Plain);
-            part_as(builder, operation, plain, &new, Form::Stored)
-        };
-        keep(builder, &mut components, copy);
+            let plain = plain_member(builder, operation, value, &old);
+            keep_member(builder, operation, &mut components, plain, &new);
+        }
     }
     compose(builder, operation, ty, components)
 }
@@ -101,6 +101,44 @@ fn part_as<B: Builder>(
             builder,
             stored.unsupported(operation, Feature::RowMajorStruct),
         ),
+    }
+}
+
+// A member of a struct's value, as the IR has it.
+fn plain_member<B: Builder>(
+    builder: &mut B,
+    operation: &Instruction,
+    value: Value,
+    part: &MemberShape,
+) -> Value {
+    if part.split {
+        return split_matrix(builder, operation, value, part);
+    }
+    let member = part_of(builder, operation, value, part.index);
+    part_as(builder, operation, member, part, Form::Plain)
+}
+
+// One more member of a struct that is put together, as it is stored: of a matrix that is split each column or row.
+fn keep_member<B: Builder>(
+    builder: &mut B,
+    operation: &Instruction,
+    components: &mut Vec<Value>,
+    value: Value,
+    part: &MemberShape,
+) {
+    match MatrixShape::of(&builder.shape(part.ty)) {
+        Some(matrix) if part.split => {
+            let whole = relaid_matrix(builder, operation, value, &matrix, part.stored);
+            let (lines, _) = matrix.lines(part.stored.row_major);
+            for index in 0..u32::from(lines) {
+                let line = part_of(builder, operation, whole, index);
+                keep(builder, components, line);
+            }
+        }
+        _ => {
+            let member = part_as(builder, operation, value, part, Form::Stored);
+            keep(builder, components, member);
+        }
     }
 }
 
@@ -272,7 +310,7 @@ fn transposed<B: Builder>(
         return value;
     }
     let none = [None, None, None];
-    crate::functions::call(builder, operation, MathFunction::Transpose, value, none)
+    call(builder, operation, MathFunction::Transpose, value, none)
 }
 
 // A value of all its parts; a vector may be given as smaller ones.
@@ -282,11 +320,13 @@ fn construct<B: Builder>(builder: &mut B, operation: &Instruction) -> Value {
     let mut components = Vec::new(builder.alloc());
     let mut place = 0u32;
     for at in 0..builder.given_count(operation) {
-        let mut value = operand(builder, operation, at);
-        if let (true, Some(part)) = (is_struct, builder.part(ty, place)) {
-            value = part_as(builder, operation, value, &part, Form::Stored);
+        let value = operand(builder, operation, at);
+        match builder.part(ty, place) {
+            Some(part) if is_struct => {
+                keep_member(builder, operation, &mut components, value, &part);
+            }
+            _ => keep(builder, &mut components, value),
         }
-        keep(builder, &mut components, value);
         place = place.saturating_add(1);
     }
     compose_result(builder, operation, components)

@@ -3,16 +3,14 @@
 
 mod builder;
 mod composites;
-mod functions;
 mod operators;
 mod words;
 
 pub use builder::{
-    Builder, Emits, ImageValue, Value, as_kind, binary, component_count, compose, compose_pair,
-    compose_result, convert, keep, need, no_type, no_value, operand, operand_scalar, operand_shape,
-    part_of, refuse, result_scalar, scalar_of, select, signed, splat,
+    Builder, Emits, ImageValue, Value, as_kind, binary, call, component_count, compose,
+    compose_pair, compose_result, convert, keep, need, no_type, no_value, operand, operand_scalar,
+    operand_shape, part_of, refuse, result_scalar, scalar_of, select, signed, splat,
 };
 pub use composites::{composite, packed_line, parts_from, plain_line, plain_matrix, relaid_matrix};
-pub use functions::{call, math};
-pub use operators::{arithmetic, conversion, resized};
+pub use operators::{arithmetic, resized};
 pub use words::Words;

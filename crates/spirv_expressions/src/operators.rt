@@ -1,52 +1,20 @@
 // Arithmetic, bits, relations and logic (sections 3.52.13 to 3.52.16).
 
 use crate::builder::{
-    Builder, Value, as_kind, binary, compose_pair, convert, operand, operand_scalar, operand_shape,
-    refuse, result_scalar, select, signed, splat,
+    Builder, Value, as_kind, binary, call, compose_pair, convert, operand, operand_scalar,
+    operand_shape, refuse, result_scalar, select, signed, splat,
 };
-use crate::functions::call;
 use ir_kinds::{
     BinaryOperator, DerivativeAxis, DerivativeControl, Literal, MathFunction, RelationalFunction,
     Scalar, ScalarKind, UnaryOperator,
 };
 use ir_types::Expression;
 use spirv_numbers::ops;
-use spirv_tables::operators::{COMPARISONS, INTEGER, PLAIN, SHIFTS, find_operator, find_signed};
+use spirv_tables::operators::{
+    COMPARISONS, INTEGER, LOGIC, PLAIN, SHIFTS, UNORDERED, find_operator, find_signed,
+};
 use spirv_types::Shape;
-use spirv_words::Instruction;
-
-static DERIVATIVES: [(u16, (DerivativeAxis, DerivativeControl)); 9] = [
-    (ops::D_PDX, (DerivativeAxis::X, DerivativeControl::None)),
-    (ops::D_PDY, (DerivativeAxis::Y, DerivativeControl::None)),
-    (
-        ops::FWIDTH,
-        (DerivativeAxis::Width, DerivativeControl::None),
-    ),
-    (
-        ops::D_PDX_FINE,
-        (DerivativeAxis::X, DerivativeControl::Fine),
-    ),
-    (
-        ops::D_PDY_FINE,
-        (DerivativeAxis::Y, DerivativeControl::Fine),
-    ),
-    (
-        ops::FWIDTH_FINE,
-        (DerivativeAxis::Width, DerivativeControl::Fine),
-    ),
-    (
-        ops::D_PDX_COARSE,
-        (DerivativeAxis::X, DerivativeControl::Coarse),
-    ),
-    (
-        ops::D_PDY_COARSE,
-        (DerivativeAxis::Y, DerivativeControl::Coarse),
-    ),
-    (
-        ops::FWIDTH_COARSE,
-        (DerivativeAxis::Width, DerivativeControl::Coarse),
-    ),
-];
+use spirv_words::{Instruction, Malformed};
 
 static RELATIONS: [(u16, RelationalFunction); 4] = [
     (ops::ANY, RelationalFunction::Any),
@@ -55,14 +23,37 @@ static RELATIONS: [(u16, RelationalFunction); 4] = [
     (ops::IS_INF, RelationalFunction::IsInf),
 ];
 
+// Along what a derivative is taken, and how, if the opcode is one.
+fn derivative(opcode: u16) -> Option<(DerivativeAxis, DerivativeControl)> {
+    let axis = match opcode {
+        ops::D_PDX | ops::D_PDX_FINE | ops::D_PDX_COARSE => DerivativeAxis::X,
+        ops::D_PDY | ops::D_PDY_FINE | ops::D_PDY_COARSE => DerivativeAxis::Y,
+        ops::FWIDTH | ops::FWIDTH_FINE | ops::FWIDTH_COARSE => DerivativeAxis::Width,
+        _ => return None,
+    };
+    let ctrl = match opcode {
+        ops::D_PDX | ops::D_PDY | ops::FWIDTH => DerivativeControl::None,
+        ops::D_PDX_FINE | ops::D_PDY_FINE | ops::FWIDTH_FINE => DerivativeControl::Fine,
+        _ => DerivativeControl::Coarse,
+    };
+    Some((axis, ctrl))
+}
+
 /// What an operation of numbers or truth values is, if it is one.
 pub fn arithmetic<B: Builder>(builder: &mut B, operation: &Instruction) -> Option<Value> {
     let opcode = operation.opcode;
     if let Some(op) = find_operator(&PLAIN, opcode) {
         return Some(plain(builder, operation, op));
     }
-    if let Some(op) = find_operator(&INTEGER, opcode) {
-        return Some(integer(builder, operation, op));
+    if let Some(op) = find_operator(&LOGIC, opcode) {
+        return Some(logic(builder, operation, op));
+    }
+    if let Some(op) = find_operator(&UNORDERED, opcode) {
+        let holds = plain(builder, operation, op);
+        return Some(inverse(builder, operation, holds));
+    }
+    if let Some((op, sign)) = find_signed(&INTEGER, opcode) {
+        return Some(integer(builder, operation, op, sign));
     }
     if let Some((op, sign)) = find_signed(&COMPARISONS, opcode) {
         return Some(comparison(builder, operation, op, sign));
@@ -70,7 +61,7 @@ pub fn arithmetic<B: Builder>(builder: &mut B, operation: &Instruction) -> Optio
     if let Some((op, sign)) = find_signed(&SHIFTS, opcode) {
         return Some(shift(builder, operation, op, sign));
     }
-    if let Some((axis, ctrl)) = find_operator(&DERIVATIVES, opcode) {
+    if let Some((axis, ctrl)) = derivative(opcode) {
         let expr = operand(builder, operation, 0);
         let derivative = Expression::Derivative { axis, ctrl, expr };
         return Some(builder.emit(derivative, operation));
@@ -88,9 +79,8 @@ fn other<B: Builder>(builder: &mut B, operation: &Instruction) -> Option<Value> 
     let value = match operation.opcode {
         ops::S_NEGATE | ops::F_NEGATE => negate(builder, operation),
         ops::LOGICAL_NOT => {
-            let expr = operand(builder, operation, 0);
-            let op = UnaryOperator::LogicalNot;
-            builder.emit(Expression::Unary { op, expr }, operation)
+            let truth = operand(builder, operation, 0);
+            inverse(builder, operation, truth)
         }
         ops::NOT => {
             let kind = result_scalar(builder, operation).kind;
@@ -103,6 +93,11 @@ fn other<B: Builder>(builder: &mut B, operation: &Instruction) -> Option<Value> 
             let accept = operand(builder, operation, 1);
             let reject = operand(builder, operation, 2);
             select(builder, operation, condition, accept, reject)
+        }
+        ops::F_ORD_NOT_EQUAL => are_apart(builder, operation),
+        ops::F_UNORD_EQUAL => {
+            let apart = are_apart(builder, operation);
+            inverse(builder, operation, apart)
         }
         ops::F_MOD => float_modulo(builder, operation),
         ops::S_MOD => signed_modulo(builder, operation),
@@ -128,8 +123,8 @@ fn bits<B: Builder>(builder: &mut B, operation: &Instruction) -> Option<Value> {
             let kind = result_scalar(builder, operation).kind;
             let base = signed(builder, operation, 0, kind);
             let insert = signed(builder, operation, 1, kind);
-            let offset = signed(builder, operation, 2, ScalarKind::Uint);
-            let count = signed(builder, operation, 3, ScalarKind::Uint);
+            let offset = bit_count(builder, operation, 2);
+            let count = bit_count(builder, operation, 3);
             let rest = [Some(insert), Some(offset), Some(count)];
             call(builder, operation, MathFunction::InsertBits, base, rest)
         }
@@ -149,29 +144,51 @@ fn of_two<B: Builder>(builder: &mut B, operation: &Instruction, fun: MathFunctio
     call(builder, operation, fun, arg, [Some(second), None, None])
 }
 
-// An operator whose operands are taken as they are; logic of vectors is of their bits.
+// An operator whose operands are taken as they are.
 fn plain<B: Builder>(builder: &mut B, operation: &Instruction, op: BinaryOperator) -> Value {
+    let left = operand(builder, operation, 0);
+    let right = operand(builder, operation, 1);
+    binary(builder, operation, op, left, right)
+}
+
+// An operator of truth values; of vectors it is that of their bits.
+fn logic<B: Builder>(builder: &mut B, operation: &Instruction, op: BinaryOperator) -> Value {
     let is_vector = matches!(builder.shape(operation.ty), Shape::Vector { .. });
     let op = match op {
         BinaryOperator::LogicalOr if is_vector => BinaryOperator::InclusiveOr,
         BinaryOperator::LogicalAnd if is_vector => BinaryOperator::And,
         other => other,
     };
-    let left = operand(builder, operation, 0);
-    let right = operand(builder, operation, 1);
-    binary(builder, operation, op, left, right)
+    plain(builder, operation, op)
 }
 
-// An operator whose operands get the sign of the result.
-fn integer<B: Builder>(builder: &mut B, operation: &Instruction, op: BinaryOperator) -> Value {
-    let kind = result_scalar(builder, operation).kind;
-    let unsigned = matches!(operation.opcode, ops::U_DIV | ops::U_MOD);
-    if unsigned && kind != ScalarKind::Uint {
-        return refuse(builder, operation.unsupported());
-    }
+// Truth values, each the other one.
+fn inverse<B: Builder>(builder: &mut B, operation: &Instruction, expr: Value) -> Value {
+    let op = UnaryOperator::LogicalNot;
+    builder.emit(Expression::Unary { op, expr }, operation)
+}
+
+// Whether one float is less or greater than another; where one of them is no number, it is neither.
+fn are_apart<B: Builder>(builder: &mut B, operation: &Instruction) -> Value {
+    let less = plain(builder, operation, BinaryOperator::Less);
+    let greater = plain(builder, operation, BinaryOperator::Greater);
+    let op = BinaryOperator::InclusiveOr;
+    binary(builder, operation, op, less, greater)
+}
+
+// An operator whose operands get this sign, or that of the result.
+fn integer<B: Builder>(
+    builder: &mut B,
+    operation: &Instruction,
+    op: BinaryOperator,
+    sign: Option<ScalarKind>,
+) -> Value {
+    let to = result_scalar(builder, operation).kind;
+    let kind = sign.unwrap_or(to);
     let left = signed(builder, operation, 0, kind);
     let right = signed(builder, operation, 1, kind);
-    binary(builder, operation, op, left, right)
+    let value = binary(builder, operation, op, left, right);
+    as_kind(builder, operation, value, kind, to)
 }
 
 // A comparison whose operands get this sign, or that of the left one.
@@ -200,12 +217,16 @@ fn shift<B: Builder>(
     let scalar = result_scalar(builder, operation);
     let kind = sign.unwrap_or(scalar.kind);
     let left = signed(builder, operation, 0, kind);
-    let count = operand(builder, operation, 1);
-    let wide = operand_scalar(builder, operation, 1);
-    let width = if wide.width == 4 { None } else { Some(4) };
-    let right = convert(builder, operation, count, ScalarKind::Uint, width);
+    let right = bit_count(builder, operation, 1);
     let shifted = binary(builder, operation, op, left, right);
     as_kind(builder, operation, shifted, kind, scalar.kind)
+}
+
+// The operand at this place as a word without a sign, which a count of bits is.
+fn bit_count<B: Builder>(builder: &mut B, operation: &Instruction, place: usize) -> Value {
+    let value = operand(builder, operation, place);
+    let from = operand_scalar(builder, operation, place);
+    resized(builder, operation, value, from, Scalar::U32)
 }
 
 // The negative; of an unsigned value by way of the signed one.
@@ -232,40 +253,56 @@ fn float_modulo<B: Builder>(builder: &mut B, operation: &Instruction) -> Value {
     binary(builder, operation, BinaryOperator::Subtract, x, whole)
 }
 
-// The same of signed integers, whose quotient is rounded as a float.
-fn signed_modulo<B: Builder>(builder: &mut B, operation: &Instruction) -> Value {
-    let scalar = result_scalar(builder, operation);
-    if scalar.kind != ScalarKind::Sint {
-        return refuse(builder, operation.unsupported());
-    }
-    let width = scalar.width.max(4);
-    let x = signed(builder, operation, 0, ScalarKind::Sint);
-    let y = signed(builder, operation, 1, ScalarKind::Sint);
-    let left = convert(builder, operation, x, ScalarKind::Float, Some(width));
-    let right = convert(builder, operation, y, ScalarKind::Float, Some(width));
-    let quotient = binary(builder, operation, BinaryOperator::Divide, left, right);
-    let none = [None, None, None];
-    let floor = call(builder, operation, MathFunction::Floor, quotient, none);
-    let width = Some(scalar.width);
-    let rounded = convert(builder, operation, floor, ScalarKind::Sint, width);
-    let whole = binary(builder, operation, BinaryOperator::Multiply, rounded, y);
-    binary(builder, operation, BinaryOperator::Subtract, x, whole)
+// A number, in as many components as the operands have.
+fn in_each<B: Builder>(builder: &mut B, operation: &Instruction, number: Option<Literal>) -> Value {
+    let Some(literal) = number else {
+        return refuse(builder, operation.malformed(Malformed::WrongType));
+    };
+    let size = operand_shape(builder, operation, 0).size();
+    let value = builder.literal(literal, operation);
+    splat(builder, operation, size, value)
 }
 
-// A sum or a difference, and whether it went over, as a struct of both.
+// The remainder with the sign of the divisor: x % y, and y more where that has another sign and is not 0.
+fn signed_modulo<B: Builder>(builder: &mut B, operation: &Instruction) -> Value {
+    let to = result_scalar(builder, operation);
+    let kind = ScalarKind::Sint;
+    let number = Scalar {
+        kind,
+        width: to.width,
+    };
+    let x = signed(builder, operation, 0, kind);
+    let y = signed(builder, operation, 1, kind);
+    let zero = in_each(builder, operation, Literal::zero(number));
+    let rest = binary(builder, operation, BinaryOperator::Modulo, x, y);
+    let signs = binary(builder, operation, BinaryOperator::ExclusiveOr, rest, y);
+    let differ = binary(builder, operation, BinaryOperator::Less, signs, zero);
+    let is_some = binary(builder, operation, BinaryOperator::NotEqual, rest, zero);
+    let both = binary(builder, operation, BinaryOperator::And, differ, is_some);
+    let more = binary(builder, operation, BinaryOperator::Add, rest, y);
+    let value = select(builder, operation, both, more, rest);
+    as_kind(builder, operation, value, kind, to.kind)
+}
+
+// A sum or a difference without signs, and whether it went over, as a struct of both.
 fn with_carry<B: Builder>(builder: &mut B, operation: &Instruction, op: BinaryOperator) -> Value {
-    let x = operand(builder, operation, 0);
-    let y = operand(builder, operation, 1);
-    let size = operand_shape(builder, operation, 0).size();
-    let one = builder.literal(Literal::U32(1), operation);
-    let zero = builder.literal(Literal::U32(0), operation);
-    let accept = splat(builder, operation, size, one);
-    let reject = splat(builder, operation, size, zero);
+    let kind = ScalarKind::Uint;
+    let scalar = operand_scalar(builder, operation, 0);
+    let number = Scalar {
+        kind,
+        width: scalar.width,
+    };
+    let x = signed(builder, operation, 0, kind);
+    let y = signed(builder, operation, 1, kind);
+    let accept = in_each(builder, operation, Literal::one(number));
+    let reject = in_each(builder, operation, Literal::zero(number));
     let value = binary(builder, operation, op, x, y);
     let left = if op == BinaryOperator::Add { value } else { x };
     let right = if op == BinaryOperator::Add { x } else { y };
     let condition = binary(builder, operation, BinaryOperator::Less, left, right);
     let carried = select(builder, operation, condition, accept, reject);
+    let value = as_kind(builder, operation, value, kind, scalar.kind);
+    let carried = as_kind(builder, operation, carried, kind, scalar.kind);
     compose_pair(builder, operation, value, carried)
 }
 
@@ -296,27 +333,9 @@ pub fn resized<B: Builder>(
 fn extract_bits<B: Builder>(builder: &mut B, operation: &Instruction, kind: ScalarKind) -> Value {
     let to = result_scalar(builder, operation);
     let base = signed(builder, operation, 0, kind);
-    let offset = signed(builder, operation, 1, ScalarKind::Uint);
-    let count = signed(builder, operation, 2, ScalarKind::Uint);
+    let offset = bit_count(builder, operation, 1);
+    let count = bit_count(builder, operation, 2);
     let rest = [Some(offset), Some(count), None];
     let value = call(builder, operation, MathFunction::ExtractBits, base, rest);
     as_kind(builder, operation, value, kind, to.kind)
-}
-
-/// What a conversion is, if it is one.
-pub fn conversion<B: Builder>(builder: &mut B, operation: &Instruction) -> Option<Value> {
-    match operation.opcode {
-        ops::CONVERT_F_TO_U
-        | ops::CONVERT_F_TO_S
-        | ops::CONVERT_S_TO_F
-        | ops::CONVERT_U_TO_F
-        | ops::U_CONVERT
-        | ops::S_CONVERT
-        | ops::F_CONVERT => {
-            let to = result_scalar(builder, operation);
-            let value = operand(builder, operation, 0);
-            Some(convert(builder, operation, value, to.kind, Some(to.width)))
-        }
-        _ => None,
-    }
 }

@@ -1,9 +1,9 @@
 // Instructions of extended sets.
 
 use ir_flags::Capabilities;
-use spirv_expressions::{Value, math, need};
+use spirv_expressions::{Value, need};
 use spirv_flow::is_debug;
-use spirv_images::{cast, trinary};
+use spirv_images::{cast, math, trinary};
 use spirv_operations::{FunctionBuilder, split};
 use spirv_words::{Feature, Instruction, starts_text};
 

@@ -151,6 +151,9 @@ fn level_of<B: Builder>(
     }
     if let Some(level) = options.level {
         if compares(operation.opcode) {
+            if !builder.is_constant(level) || builder.constant(level) != Some(0) {
+                builder.fail(operation.unsupported());
+            }
             return SampleLevel::Zero;
         }
         let kind = builder.shape(builder.type_of(level)).kind();
@@ -181,8 +184,7 @@ fn fetch<B: Builder>(builder: &mut B, operation: &Instruction) -> Value {
     let sample = value_of(builder, operation, options.sample);
     let mut coordinate = at.coordinate;
     if let Some(offset) = options.offset {
-        let right = builder.value(offset, operation);
-        coordinate = binary(builder, operation, BinaryOperator::Add, coordinate, right);
+        coordinate = moved_by(builder, operation, coordinate, offset);
     }
     if image.shape.attachment {
         coordinate = at_fragment(builder, operation, coordinate);
@@ -203,6 +205,20 @@ fn fetch<B: Builder>(builder: &mut B, operation: &Instruction) -> Value {
     };
     let value = splat(builder, operation, size, value);
     narrowed(builder, operation, value)
+}
+
+// The coordinate with this offset, which gets its sign.
+fn moved_by<B: Builder>(
+    builder: &mut B,
+    operation: &Instruction,
+    coordinate: Value,
+    offset: u32,
+) -> Value {
+    let kind = operand_scalar(builder, operation, 1).kind;
+    let value = builder.value(offset, operation);
+    let from = builder.shape(builder.type_of(offset)).kind();
+    let right = as_kind(builder, operation, value, from.unwrap_or(kind), kind);
+    binary(builder, operation, BinaryOperator::Add, coordinate, right)
 }
 
 // The coordinate counted from the place of the fragment.

@@ -1,9 +1,9 @@
 // Where an image is sampled or a texel lies.
 
-use ir_kinds::{BinaryOperator, ImageDimension, Scalar, ScalarKind};
+use ir_kinds::{BinaryOperator, ImageDimension, MathFunction, Scalar, ScalarKind};
 use ir_types::ArraySize;
 use spirv_expressions::{
-    Builder, ImageValue, Value, binary, component_count, compose, convert, keep, operand,
+    Builder, ImageValue, Value, binary, call, component_count, compose, convert, keep, operand,
     operand_scalar, operand_shape, part_of, parts_from, refuse, scalar_of, splat,
 };
 use spirv_types::{Shape, vector_size};
@@ -75,7 +75,7 @@ pub fn read_coordinates<B: Builder>(
     }
 }
 
-// The layer, which is the component at this index, as a whole number.
+// The layer, which is the component at this index, as a whole number: the nearest one.
 fn layer_of<B: Builder>(
     builder: &mut B,
     operation: &Instruction,
@@ -85,7 +85,9 @@ fn layer_of<B: Builder>(
 ) -> Value {
     let layer = part_of(builder, operation, value, index);
     if is_float {
-        convert(builder, operation, layer, ScalarKind::Sint, Some(4))
+        let none = [None, None, None];
+        let nearest = call(builder, operation, MathFunction::Round, layer, none);
+        convert(builder, operation, nearest, ScalarKind::Sint, Some(4))
     } else {
         layer
     }

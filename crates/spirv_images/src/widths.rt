@@ -1,4 +1,4 @@
-// Conversions that keep the bits between scalars of two widths, and products of two words.
+// Conversions, those that keep the bits between scalars of two widths among them, and products of two words.
 
 use ir_kinds::{BinaryOperator, Literal, Scalar, ScalarKind, VectorSize};
 use spirv_expressions::{
@@ -24,6 +24,40 @@ pub fn wide<B: Builder>(builder: &mut B, operation: &Instruction) -> Option<Valu
         _ => return None,
     };
     Some(value)
+}
+
+// Conversions that keep the value, with the kind that their operand gets and that of what they give.
+static CONVERSIONS: [(u16, ScalarKind, ScalarKind); 7] = [
+    (ops::CONVERT_F_TO_U, ScalarKind::Float, ScalarKind::Uint),
+    (ops::CONVERT_F_TO_S, ScalarKind::Float, ScalarKind::Sint),
+    (ops::CONVERT_S_TO_F, ScalarKind::Sint, ScalarKind::Float),
+    (ops::CONVERT_U_TO_F, ScalarKind::Uint, ScalarKind::Float),
+    (ops::U_CONVERT, ScalarKind::Uint, ScalarKind::Uint),
+    (ops::S_CONVERT, ScalarKind::Sint, ScalarKind::Sint),
+    (ops::F_CONVERT, ScalarKind::Float, ScalarKind::Float),
+];
+
+/// What a conversion that keeps the value is, if it is one: the signs are those of the operation, whatever the types have.
+pub fn conversion<B: Builder>(builder: &mut B, operation: &Instruction) -> Option<Value> {
+    for row in &CONVERSIONS {
+        if row.0 == operation.opcode {
+            return Some(converted(builder, operation, row.1, row.2));
+        }
+    }
+    None
+}
+
+// The operand with this kind as a value of that one, which then gets the sign of the result.
+fn converted<B: Builder>(
+    builder: &mut B,
+    operation: &Instruction,
+    from: ScalarKind,
+    gives: ScalarKind,
+) -> Value {
+    let value = signed(builder, operation, 0, from);
+    let to = result_scalar(builder, operation);
+    let made = convert(builder, operation, value, gives, Some(to.width));
+    as_kind(builder, operation, made, gives, to.kind)
 }
 
 // A value shifted by so many bits.

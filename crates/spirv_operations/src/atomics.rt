@@ -3,34 +3,38 @@
 use crate::builder::{FunctionBuilder, Slot};
 use ir_blocks::{AtomicFunction, Statement};
 use ir_flags::Capabilities;
-use ir_kinds::{Literal, PredeclaredType, Scalar};
+use ir_kinds::{Literal, PredeclaredType, Scalar, ScalarKind};
 use ir_types::Expression;
-use spirv_expressions::{Value, as_kind, need, part_of, refuse, result_scalar, signed};
+use spirv_expressions::{Value, as_kind, need, part_of, result_scalar, signed};
 use spirv_images::{read_coordinates, widened};
 use spirv_numbers::ops;
 use spirv_types::Shape;
 use spirv_words::{Feature, Instruction, Malformed};
 
-// What the opcode does, if it is one that takes a value.
-fn function(opcode: u16) -> Option<AtomicFunction> {
-    match opcode {
-        ops::ATOMIC_I_ADD | ops::ATOMIC_F_ADD_EXT => Some(AtomicFunction::Add),
-        ops::ATOMIC_I_SUB => Some(AtomicFunction::Subtract),
-        ops::ATOMIC_AND => Some(AtomicFunction::And),
-        ops::ATOMIC_OR => Some(AtomicFunction::InclusiveOr),
-        ops::ATOMIC_XOR => Some(AtomicFunction::ExclusiveOr),
-        ops::ATOMIC_S_MIN | ops::ATOMIC_U_MIN => Some(AtomicFunction::Min),
-        ops::ATOMIC_S_MAX | ops::ATOMIC_U_MAX => Some(AtomicFunction::Max),
-        ops::ATOMIC_EXCHANGE => Some(AtomicFunction::Exchange { compare: None }),
-        _ => None,
-    }
+// What the opcode does to values of this kind, if it can be said: the least and the greatest of values go by the sign of their type.
+fn function(opcode: u16, kind: ScalarKind) -> Option<AtomicFunction> {
+    let is_signed = kind == ScalarKind::Sint;
+    let fun = match opcode {
+        ops::ATOMIC_I_ADD | ops::ATOMIC_F_ADD_EXT | ops::ATOMIC_I_INCREMENT => AtomicFunction::Add,
+        ops::ATOMIC_I_SUB | ops::ATOMIC_I_DECREMENT => AtomicFunction::Subtract,
+        ops::ATOMIC_AND => AtomicFunction::And,
+        ops::ATOMIC_OR => AtomicFunction::InclusiveOr,
+        ops::ATOMIC_XOR => AtomicFunction::ExclusiveOr,
+        ops::ATOMIC_S_MIN if is_signed => AtomicFunction::Min,
+        ops::ATOMIC_U_MIN if !is_signed => AtomicFunction::Min,
+        ops::ATOMIC_S_MAX if is_signed => AtomicFunction::Max,
+        ops::ATOMIC_U_MAX if !is_signed => AtomicFunction::Max,
+        ops::ATOMIC_EXCHANGE => AtomicFunction::Exchange { compare: None },
+        _ => return None,
+    };
+    Some(fun)
 }
 
 /// Does an atomic operation.
 pub fn atomic<L: FunctionBuilder>(lowering: &mut L, operation: &Instruction) {
     let id = need(lowering, operation, 0);
-    if let Slot::Texel { image, .. } = lowering.slot(id) {
-        return change_texel(lowering, operation, image);
+    if let Slot::Texel { image, coordinate } = lowering.slot(id) {
+        return change_texel(lowering, operation, image, coordinate);
     }
     let place = lowering.pointer(id, operation);
     let ty = lowering.pointer_at(place, operation).ty;
@@ -90,17 +94,10 @@ fn change<L: FunctionBuilder>(
     pointer: Value,
     scalar: Scalar,
 ) {
-    let (fun, value) = match operation.opcode {
-        ops::ATOMIC_I_INCREMENT => (AtomicFunction::Add, one(lowering, operation, scalar)),
-        ops::ATOMIC_I_DECREMENT => (AtomicFunction::Subtract, one(lowering, operation, scalar)),
-        opcode => match function(opcode) {
-            Some(fun) => (fun, signed(lowering, operation, 3, scalar.kind)),
-            None => {
-                lowering.fail(operation.unsupported());
-                return;
-            }
-        },
+    let Some(fun) = function(operation.opcode, scalar.kind) else {
+        return lowering.fail(operation.unsupported());
     };
+    let value = argument(lowering, operation, scalar);
     let ty = lowering.vector(None, scalar);
     let result = Expression::AtomicResult {
         ty,
@@ -119,33 +116,36 @@ fn change<L: FunctionBuilder>(
     lowering.define(operation, old)
 }
 
-// The number 1.
-fn one<L: FunctionBuilder>(lowering: &mut L, operation: &Instruction, scalar: Scalar) -> Value {
+// By what a value is changed: 1 where the instruction does not say it.
+fn argument<L: FunctionBuilder>(
+    lowering: &mut L,
+    operation: &Instruction,
+    scalar: Scalar,
+) -> Value {
+    let opcode = operation.opcode;
+    let is_one = matches!(opcode, ops::ATOMIC_I_INCREMENT | ops::ATOMIC_I_DECREMENT);
     match Literal::one(scalar) {
-        Some(literal) => lowering.literal(literal, operation),
-        None => refuse(lowering, operation.malformed(Malformed::WrongType)),
+        Some(literal) if is_one => lowering.literal(literal, operation),
+        _ => signed(lowering, operation, 3, scalar.kind),
     }
 }
 
-// Changes a texel. The IR gives no result for it.
-fn change_texel<L: FunctionBuilder>(lowering: &mut L, operation: &Instruction, id: u32) {
-    let opcode = operation.opcode;
-    let fun = match function(opcode) {
-        Some(fun) if opcode != ops::ATOMIC_EXCHANGE => fun,
-        _ => {
-            lowering.fail(operation.unsupported_by(Feature::ImageAtomic));
-            return;
-        }
-    };
-    let pointer = need(lowering, operation, 0);
-    let Slot::Texel { coordinate, .. } = lowering.slot(pointer) else {
-        lowering.fail(operation.malformed(Malformed::NoPointer));
-        return;
+// Changes a texel at a coordinate. The IR gives no result for it.
+fn change_texel<L: FunctionBuilder>(
+    lowering: &mut L,
+    operation: &Instruction,
+    id: u32,
+    coordinate: u32,
+) {
+    let image = lowering.image(id, operation);
+    let scalar = image.shape.scalar;
+    let fun = match function(operation.opcode, scalar.kind) {
+        Some(fun) if operation.opcode != ops::ATOMIC_EXCHANGE => fun,
+        _ => return lowering.fail(operation.unsupported_by(Feature::ImageAtomic)),
     };
     lowering.require(Capabilities::TEXTURE_ATOMIC);
-    let image = lowering.image(id, operation);
     let at = read_coordinates(lowering, operation, &image, coordinate, false);
-    let value = signed(lowering, operation, 3, image.shape.scalar.kind);
+    let value = argument(lowering, operation, scalar);
     let change = Statement::ImageAtomic {
         image: image.value,
         coordinate: at.coordinate,

@@ -20,7 +20,7 @@ pub fn literal(scalar: Scalar, bits: u64) -> Option<Literal> {
     }
 }
 
-/// The value of a literal that is a whole number or a truth value.
+/// The value of a literal that is a whole number or a truth value, or a float without any bit, which is 0.
 pub fn value_of(literal: Literal) -> Option<i64> {
     match literal {
         Literal::I16(value) => Some(i64::from(value)),
@@ -31,6 +31,7 @@ pub fn value_of(literal: Literal) -> Option<i64> {
         Literal::U32(value) => Some(i64::from(value)),
         Literal::U64(value) => i64::try_from(value).ok(),
         Literal::Bool(value) => Some(i64::from(value)),
+        Literal::F16(0) | Literal::F32(0) | Literal::F64(0) => Some(0),
         Literal::F16(_) | Literal::F32(_) | Literal::F64(_) | Literal::AbstractFloat(_) => None,
     }
 }

@@ -3,8 +3,12 @@
 use ir_kinds::{BinaryOperator, ScalarKind};
 use spirv_numbers::ops;
 
-/// Operations whose operands are taken as they are.
-pub static PLAIN: [(u16, BinaryOperator); 26] = [
+const SIGNED: Option<ScalarKind> = Some(ScalarKind::Sint);
+
+const UNSIGNED: Option<ScalarKind> = Some(ScalarKind::Uint);
+
+/// Operations of floats whose operands are taken as they are. No comparison among them holds with what is no number.
+pub static PLAIN: [(u16, BinaryOperator); 15] = [
     (ops::F_ADD, BinaryOperator::Add),
     (ops::F_SUB, BinaryOperator::Subtract),
     (ops::F_MUL, BinaryOperator::Multiply),
@@ -15,85 +19,64 @@ pub static PLAIN: [(u16, BinaryOperator); 26] = [
     (ops::VECTOR_TIMES_MATRIX, BinaryOperator::Multiply),
     (ops::MATRIX_TIMES_VECTOR, BinaryOperator::Multiply),
     (ops::MATRIX_TIMES_MATRIX, BinaryOperator::Multiply),
+    (ops::F_ORD_EQUAL, BinaryOperator::Equal),
+    (ops::F_ORD_LESS_THAN, BinaryOperator::Less),
+    (ops::F_ORD_GREATER_THAN, BinaryOperator::Greater),
+    (ops::F_ORD_LESS_THAN_EQUAL, BinaryOperator::LessEqual),
+    (ops::F_ORD_GREATER_THAN_EQUAL, BinaryOperator::GreaterEqual),
+];
+
+/// Comparisons of floats that hold with what is no number, each with the one that holds where it doesn't.
+pub static UNORDERED: [(u16, BinaryOperator); 5] = [
+    (ops::F_UNORD_NOT_EQUAL, BinaryOperator::Equal),
+    (ops::F_UNORD_LESS_THAN, BinaryOperator::GreaterEqual),
+    (ops::F_UNORD_GREATER_THAN, BinaryOperator::LessEqual),
+    (ops::F_UNORD_LESS_THAN_EQUAL, BinaryOperator::Greater),
+    (ops::F_UNORD_GREATER_THAN_EQUAL, BinaryOperator::Less),
+];
+
+/// Operations of truth values.
+pub static LOGIC: [(u16, BinaryOperator); 4] = [
     (ops::LOGICAL_EQUAL, BinaryOperator::Equal),
     (ops::LOGICAL_NOT_EQUAL, BinaryOperator::NotEqual),
-    (ops::F_ORD_EQUAL, BinaryOperator::Equal),
-    (ops::F_UNORD_EQUAL, BinaryOperator::Equal),
-    (ops::F_ORD_NOT_EQUAL, BinaryOperator::NotEqual),
-    (ops::F_UNORD_NOT_EQUAL, BinaryOperator::NotEqual),
-    (ops::F_ORD_LESS_THAN, BinaryOperator::Less),
-    (ops::F_UNORD_LESS_THAN, BinaryOperator::Less),
-    (ops::F_ORD_GREATER_THAN, BinaryOperator::Greater),
-    (ops::F_UNORD_GREATER_THAN, BinaryOperator::Greater),
-    (ops::F_ORD_LESS_THAN_EQUAL, BinaryOperator::LessEqual),
-    (ops::F_UNORD_LESS_THAN_EQUAL, BinaryOperator::LessEqual),
-    (ops::F_ORD_GREATER_THAN_EQUAL, BinaryOperator::GreaterEqual),
-    (
-        ops::F_UNORD_GREATER_THAN_EQUAL,
-        BinaryOperator::GreaterEqual,
-    ),
     (ops::LOGICAL_OR, BinaryOperator::LogicalOr),
     (ops::LOGICAL_AND, BinaryOperator::LogicalAnd),
 ];
 
-/// Operations of integers whose operands get the sign of the result.
-pub static INTEGER: [(u16, BinaryOperator); 10] = [
-    (ops::I_ADD, BinaryOperator::Add),
-    (ops::I_SUB, BinaryOperator::Subtract),
-    (ops::I_MUL, BinaryOperator::Multiply),
-    (ops::BITWISE_OR, BinaryOperator::InclusiveOr),
-    (ops::BITWISE_XOR, BinaryOperator::ExclusiveOr),
-    (ops::BITWISE_AND, BinaryOperator::And),
-    (ops::S_DIV, BinaryOperator::Divide),
-    (ops::U_DIV, BinaryOperator::Divide),
-    (ops::U_MOD, BinaryOperator::Modulo),
-    (ops::S_REM, BinaryOperator::Modulo),
+/// Operations of integers, with the sign that the operands get, or that of the result.
+pub static INTEGER: [(u16, BinaryOperator, Option<ScalarKind>); 10] = [
+    (ops::I_ADD, BinaryOperator::Add, None),
+    (ops::I_SUB, BinaryOperator::Subtract, None),
+    (ops::I_MUL, BinaryOperator::Multiply, None),
+    (ops::BITWISE_OR, BinaryOperator::InclusiveOr, None),
+    (ops::BITWISE_XOR, BinaryOperator::ExclusiveOr, None),
+    (ops::BITWISE_AND, BinaryOperator::And, None),
+    (ops::S_DIV, BinaryOperator::Divide, SIGNED),
+    (ops::U_DIV, BinaryOperator::Divide, UNSIGNED),
+    (ops::U_MOD, BinaryOperator::Modulo, UNSIGNED),
+    (ops::S_REM, BinaryOperator::Modulo, SIGNED),
 ];
 
 /// Comparisons of integers, with the sign that the operands get, or that of the left one.
 pub static COMPARISONS: [(u16, BinaryOperator, Option<ScalarKind>); 10] = [
     (ops::I_EQUAL, BinaryOperator::Equal, None),
     (ops::I_NOT_EQUAL, BinaryOperator::NotEqual, None),
-    (
-        ops::U_GREATER_THAN,
-        BinaryOperator::Greater,
-        Some(ScalarKind::Uint),
-    ),
-    (
-        ops::S_GREATER_THAN,
-        BinaryOperator::Greater,
-        Some(ScalarKind::Sint),
-    ),
+    (ops::U_GREATER_THAN, BinaryOperator::Greater, UNSIGNED),
+    (ops::S_GREATER_THAN, BinaryOperator::Greater, SIGNED),
     (
         ops::U_GREATER_THAN_EQUAL,
         BinaryOperator::GreaterEqual,
-        Some(ScalarKind::Uint),
+        UNSIGNED,
     ),
     (
         ops::S_GREATER_THAN_EQUAL,
         BinaryOperator::GreaterEqual,
-        Some(ScalarKind::Sint),
+        SIGNED,
     ),
-    (
-        ops::U_LESS_THAN,
-        BinaryOperator::Less,
-        Some(ScalarKind::Uint),
-    ),
-    (
-        ops::S_LESS_THAN,
-        BinaryOperator::Less,
-        Some(ScalarKind::Sint),
-    ),
-    (
-        ops::U_LESS_THAN_EQUAL,
-        BinaryOperator::LessEqual,
-        Some(ScalarKind::Uint),
-    ),
-    (
-        ops::S_LESS_THAN_EQUAL,
-        BinaryOperator::LessEqual,
-        Some(ScalarKind::Sint),
-    ),
+    (ops::U_LESS_THAN, BinaryOperator::Less, UNSIGNED),
+    (ops::S_LESS_THAN, BinaryOperator::Less, SIGNED),
+    (ops::U_LESS_THAN_EQUAL, BinaryOperator::LessEqual, UNSIGNED),
+    (ops::S_LESS_THAN_EQUAL, BinaryOperator::LessEqual, SIGNED),
 ];
 
 /// Shifts, with the sign that what is shifted gets.
@@ -101,12 +84,12 @@ pub static SHIFTS: [(u16, BinaryOperator, Option<ScalarKind>); 3] = [
     (
         ops::SHIFT_RIGHT_LOGICAL,
         BinaryOperator::ShiftRight,
-        Some(ScalarKind::Uint),
+        UNSIGNED,
     ),
     (
         ops::SHIFT_RIGHT_ARITHMETIC,
         BinaryOperator::ShiftRight,
-        Some(ScalarKind::Sint),
+        SIGNED,
     ),
     (ops::SHIFT_LEFT_LOGICAL, BinaryOperator::ShiftLeft, None),
 ];

@@ -8,7 +8,7 @@ use ir_types::key;
 use thiserror::Error;
 
 /// Why an atomic operation is refused (naga's `AtomicError`).
-#[derive(Clone, Copy, Debug, Error)]
+#[derive(Clone, Copy, PartialEq, Debug, Error)]
 pub enum AtomicError {
     /// It is no pointer to an atomic.
     #[error("pointer {0:?} does not point to an atomic")]

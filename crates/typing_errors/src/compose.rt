@@ -5,7 +5,7 @@ use ir_types::key;
 use thiserror::Error;
 
 /// Why values don't make a composed one (naga's `ComposeError`).
-#[derive(Clone, Copy, Debug, Error)]
+#[derive(Clone, Copy, PartialEq, Debug, Error)]
 pub enum ComposeError {
     /// Nothing of this type is composed (naga's `Type`).
     #[error("type {0:?} cannot be composed")]

@@ -5,7 +5,7 @@ use ir_types::key;
 use thiserror::Error;
 
 /// What makes control flow differ between invocations (naga's `UniformityDisruptor`).
-#[derive(Clone, Copy, Debug, Error)]
+#[derive(Clone, Copy, PartialEq, Debug, Error)]
 pub enum UniformityDisruptor {
     /// A choice by a value that comes from this expression.
     #[error("a branch on the non-uniform expression {0:?}")]

@@ -13,7 +13,7 @@ use thiserror::Error;
 
 /// Why a function is refused (naga's `FunctionError`). Its text is for people: what is wrong, with the expression at
 /// fault where there is one, and the error inside it.
-#[derive(Debug, Drop, Error)]
+#[derive(PartialEq, Debug, Drop, Error)]
 pub enum FunctionError {
     /// An expression is refused.
     #[error("expression {handle:?} is invalid: {source}")]

@@ -5,7 +5,7 @@ use ir_types::key;
 use thiserror::Error;
 
 /// Why a variable of a function is refused (naga's `LocalVariableError`).
-#[derive(Clone, Copy, Debug, Error)]
+#[derive(Clone, Copy, PartialEq, Debug, Error)]
 pub enum LocalVariableError {
     /// No variable is of this type.
     #[error("type {0:?} cannot be the type of a local variable")]

@@ -6,7 +6,7 @@ use ir_types::key;
 use thiserror::Error;
 
 /// Why an operation of a subgroup is refused (naga's `SubgroupError`).
-#[derive(Clone, Copy, Debug, Error)]
+#[derive(Clone, Copy, PartialEq, Debug, Error)]
 pub enum SubgroupError {
     /// The operand is of another type.
     #[error("operand {0:?} has the wrong type")]

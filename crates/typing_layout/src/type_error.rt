@@ -8,7 +8,7 @@ use ir_types::key;
 use thiserror::Error;
 
 /// Why there is no scalar of a kind and a width (naga's `WidthError`).
-#[derive(Clone, Copy, Debug, Error)]
+#[derive(Clone, Copy, PartialEq, Debug, Error)]
 pub enum WidthError {
     /// No scalar of this kind takes so many bytes.
     #[error("a scalar of kind {0:?} cannot have a width of {1} bytes")]
@@ -22,7 +22,7 @@ pub enum WidthError {
 }
 
 /// Why there is no such literal (naga's `LiteralError`, of values that are reported by their bits).
-#[derive(Clone, Copy, Debug, Error)]
+#[derive(Clone, Copy, PartialEq, Debug, Error)]
 pub enum LiteralError {
     /// Its scalar is none that there is.
     #[error("the scalar type of the literal is invalid: {0}")]
@@ -30,7 +30,7 @@ pub enum LiteralError {
 }
 
 /// Why immediate data can't be of a type (naga's `ImmediateError`).
-#[derive(Clone, Copy, Debug, Error)]
+#[derive(Clone, Copy, PartialEq, Debug, Error)]
 pub enum ImmediateError {
     /// This scalar is inside, which takes two bytes.
     #[error("immediate data cannot contain the scalar type {0:?}")]
@@ -38,7 +38,7 @@ pub enum ImmediateError {
 }
 
 /// What keeps a host from laying out a type (naga's `Disalignment`).
-#[derive(Clone, Copy, Debug, Error)]
+#[derive(Clone, Copy, PartialEq, Debug, Error)]
 pub enum Disalignment {
     /// The stride of an array is no multiple of what is required of it.
     #[error("the array stride {stride} is not a multiple of the required alignment {alignment}")]
@@ -82,7 +82,7 @@ pub enum Disalignment {
 }
 
 /// Why members can't be sources of a blend: what naga's `VaryingError` says of a type.
-#[derive(Clone, Copy, Debug, Error)]
+#[derive(Clone, Copy, PartialEq, Debug, Error)]
 pub enum VaryingError {
     /// Values of the type don't go from one stage to the next.
     #[error("type {0:?} cannot be passed between stages: only numeric scalars and vectors can")]
@@ -124,7 +124,7 @@ pub enum VaryingError {
 }
 
 /// Why a type is refused (naga's `TypeError`; [`TypeError::Other`] is this project's own).
-#[derive(Clone, Copy, Debug, Error)]
+#[derive(Clone, Copy, PartialEq, Debug, Error)]
 pub enum TypeError {
     /// There is no such scalar.
     #[error("{0}")]

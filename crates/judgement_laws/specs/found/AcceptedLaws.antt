@@ -1,7 +1,8 @@
 -- What is known of every module that is accepted.
-use Rattle.std.specs.Prelude.{◌≡◌, ◌<◌, ◌++◌, ℕ, [], ◌∷◌, false, IsTrue, List, Option, Some, length, slice_get, slice_index_or}
+use Rattle.std.specs.Prelude.{◌≡◌, ◌<◌, ◌++◌, ℕ, [], ◌∷◌, Bool, false, IsTrue, List, Option, Some, is_some, length, slice_get, slice_index_or}
 use Rattle.ir_blocks.specs.judged.Places.{Place, OccursAt}
-use Rattle.ir_blocks.specs.judged.Plain.{PlainBlock, PlainStatement, call, operation}
+use Rattle.ir_blocks.specs.judged.Plain.{PlainBlock, PlainStatement, atomic, call, operation}
+use Rattle.ir_blocks.specs.declared.operations.AtomicFunction.{AtomicFunction}
 use Rattle.ir_types.specs.judged.ExpressionPlain.{plain}
 use Rattle.ir_types.specs.declared.expressions.Expression.TheVariants as x
 use Rattle.ir_flags.specs.Sets.{Has}
@@ -14,11 +15,12 @@ use Rattle.spec_expressions.specs.judged.Effects.{runs, effects_of}
 use Rattle.spec_expressions.specs.judged.Summaries.{no_use}
 use Rattle.spec_interface.specs.judged.Modules.{EntriesOK}
 use Rattle.spec_interface.specs.judged.Payloads.{binding_at}
+use Rattle.spec_interface.specs.judged.Uses.{mesh_output}
 use Rattle.spec_statements.specs.judged.ModuleFunctions.{FunctionsOK}
 use Rattle.spec_expressions.specs.judged.ModuleHandles.{HandlesOK}
 use Rattle.judgement.specs.judged.Lines.{is_own, is_used}
 use Rattle.judgement.specs.judged.Reports.{IsEntryReport}
-use Rattle.spec_statements.specs.judged.Results.{answer_of}
+use Rattle.spec_expressions.specs.judged.Operands.{comparand}
 
 -- ---- chains of calls
 
@@ -51,10 +53,11 @@ CallsFall = (m : PlainModule) → HandlesOK m → (f : PlainFunction) (index : �
 
 -- ---- bindings
 
--- the report of the entry point has a line of the variable, which is neither its payload nor its mesh output
-pub record IsReported (m : PlainModule) (number : ℕ) (e : PlainEntry) (lines : List ℕ) (r : IsEntryReport m number e lines) (g : ℕ) : Type 0 where
-  pub other : is_own e g ≡ false
-  pub used : IsTrue (is_used (slice_index_or r.uses g no_use))
+-- the report of the entry point has a line of the variable, which is its payload, its mesh output or another one
+pub data IsReported (m : PlainModule) (number : ℕ) (e : PlainEntry) (lines : List ℕ) (r : IsEntryReport m number e lines) (g : ℕ) : Type 0 where
+  as_payload : e.payload ≡ Some g → IsReported m number e lines r g
+  as_output : mesh_output e ≡ Some g → IsReported m number e lines r g
+  as_other : is_own e g ≡ false → IsTrue (is_used (slice_index_or r.uses g no_use)) → IsReported m number e lines r g
 
 abbrev pub BindingsDiffer : Type 0
 BindingsDiffer =
@@ -67,10 +70,10 @@ BindingsDiffer =
 abbrev pub IsCallOf : (function : ℕ) → (e : ℕ) → PlainStatement → Type 0
 IsCallOf function e s = (arguments : List ℕ) × (s ≡ call function arguments (Some e))
 
--- it is an operation that does
-abbrev pub IsOperationOf : (e : ℕ) → PlainStatement → Type 0
-IsOperationOf e (operation a) = answer_of (operation a) ≡ Some e
-IsOperationOf e _ = ⊥
+-- it is an atomic operation that does, which compares what was there or does not
+abbrev pub IsAtomicOf : (comparison : Bool) → (e : ℕ) → PlainStatement → Type 0
+IsAtomicOf comparison e s =
+    (pointer : ℕ) × (done : AtomicFunction) × (value : ℕ) × (s ≡ operation (atomic pointer done value (Some e))) × (is_some (comparand done) ≡ comparison)
 
 -- such a statement stands at one place of the body
 pub record OccursOnce (body : PlainBlock) (IsOne : PlainStatement → Type 0) : Type 0 where
@@ -82,8 +85,13 @@ pub record OccursOnce (body : PlainBlock) (IsOne : PlainStatement → Type 0) : 
 
 pub record EachAnswered (f : PlainFunction) : Type 0 where
   pub calls : (e function : ℕ) → slice_get f.expressions e ≡ Some (plain (x.CallResult function)) → OccursOnce f.body (IsCallOf function e)
-  pub atomics : (e type : ℕ) (comparison : _) → slice_get f.expressions e ≡ Some (plain (x.AtomicResult type comparison)) → OccursOnce f.body (IsOperationOf e)
+  pub atomics : (e type : ℕ) (comparison : Bool) → slice_get f.expressions e ≡ Some (plain (x.AtomicResult type comparison)) → OccursOnce f.body (IsAtomicOf comparison e)
 
 abbrev pub AnsweredByOne : Type 0
 AnsweredByOne =
     (s : Settings) (m : PlainModule) → FunctionsOK s m → Has s.flags.0 BLOCKS.0 → Has s.flags.0 EXPRESSIONS.0 → (index : ℕ) (f : PlainFunction) → slice_get m.functions index ≡ Some f → EachAnswered f
+
+-- and in the functions of entry points
+abbrev pub AnsweredByOneInEntries : Type 0
+AnsweredByOneInEntries =
+    (s : Settings) (m : PlainModule) → EntriesOK s m → Has s.flags.0 BLOCKS.0 → Has s.flags.0 EXPRESSIONS.0 → (number : ℕ) (e : PlainEntry) → slice_get m.entries number ≡ Some e → EachAnswered e.function

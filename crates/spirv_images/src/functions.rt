@@ -1,14 +1,14 @@
 // The functions of the extended set GLSL.std.450.
 
-use crate::builder::{
-    Builder, Value, as_kind, convert, operand, operand_shape, refuse, result_scalar,
-};
+use crate::extremes::of_numbers;
 use ir_kinds::{MathFunction, ScalarKind};
-use ir_types::Expression;
+use spirv_expressions::{
+    Builder, Value, as_kind, call, convert, operand, operand_shape, refuse, result_scalar,
+};
 use spirv_words::{Instruction, Unsupported};
 
 // The functions by their numbers, with the sign that their arguments get.
-static FUNCTIONS: [(u32, MathFunction, Option<ScalarKind>); 69] = [
+static FUNCTIONS: [(u32, MathFunction, Option<ScalarKind>); 68] = [
     (1, MathFunction::Round, None),
     (2, MathFunction::Round, None),
     (3, MathFunction::Trunc, None),
@@ -62,11 +62,11 @@ static FUNCTIONS: [(u32, MathFunction, Option<ScalarKind>); 69] = [
     (56, MathFunction::Pack2x16snorm, None),
     (57, MathFunction::Pack2x16unorm, None),
     (58, MathFunction::Pack2x16float, None),
-    (60, MathFunction::Unpack2x16snorm, None),
-    (61, MathFunction::Unpack2x16unorm, None),
-    (62, MathFunction::Unpack2x16float, None),
-    (63, MathFunction::Unpack4x8snorm, None),
-    (64, MathFunction::Unpack4x8unorm, None),
+    (60, MathFunction::Unpack2x16snorm, Some(ScalarKind::Uint)),
+    (61, MathFunction::Unpack2x16unorm, Some(ScalarKind::Uint)),
+    (62, MathFunction::Unpack2x16float, Some(ScalarKind::Uint)),
+    (63, MathFunction::Unpack4x8snorm, Some(ScalarKind::Uint)),
+    (64, MathFunction::Unpack4x8unorm, Some(ScalarKind::Uint)),
     (66, MathFunction::Length, None),
     (67, MathFunction::Distance, None),
     (68, MathFunction::Cross, None),
@@ -77,37 +77,10 @@ static FUNCTIONS: [(u32, MathFunction, Option<ScalarKind>); 69] = [
     (73, MathFunction::FirstTrailingBit, None),
     (74, MathFunction::FirstLeadingBit, Some(ScalarKind::Sint)),
     (75, MathFunction::FirstLeadingBit, Some(ScalarKind::Uint)),
-    (79, MathFunction::Min, None),
 ];
-
-/// A call of a math function.
-pub fn call<B: Builder>(
-    builder: &mut B,
-    operation: &Instruction,
-    fun: MathFunction,
-    arg: Value,
-    rest: [Option<Value>; 3],
-) -> Value {
-    let [arg1, arg2, arg3] = rest;
-    builder.emit(
-        Expression::Math {
-            fun,
-            arg,
-            arg1,
-            arg2,
-            arg3,
-        },
-        operation,
-    )
-}
 
 // The function with this number, and the sign that its arguments get.
 fn function(number: u32) -> Option<(MathFunction, Option<ScalarKind>)> {
-    match number {
-        80 => return Some((MathFunction::Max, None)),
-        81 => return Some((MathFunction::Clamp, None)),
-        _ => {}
-    }
     for row in &FUNCTIONS {
         if row.0 == number {
             return Some((row.1, row.2));
@@ -151,6 +124,11 @@ fn exponent<B: Builder>(
     }
 }
 
+// Whether the function puts floats into a word.
+fn packs(number: u32) -> bool {
+    54 <= number && number <= 58
+}
+
 // Whether both are integers.
 fn are_integers(left: ScalarKind, right: ScalarKind) -> bool {
     let left = matches!(left, ScalarKind::Sint | ScalarKind::Uint);
@@ -160,6 +138,9 @@ fn are_integers(left: ScalarKind, right: ScalarKind) -> bool {
 
 /// The call of the function with this number; the operands begin with the set and the number.
 pub fn math<B: Builder>(builder: &mut B, operation: &Instruction, number: u32) -> Value {
+    if let Some(value) = of_numbers(builder, operation, number) {
+        return value;
+    }
     let Some((fun, sign)) = function(number) else {
         let what = Unsupported::MathFunction(number);
         return refuse(builder, operation.unsupported_as(what));
@@ -177,10 +158,14 @@ pub fn math<B: Builder>(builder: &mut B, operation: &Instruction, number: u32) -
     }
     let third = argument(builder, operation, 4, sign);
     let value = call(builder, operation, fun, arg, [second, third, None]);
-    let packs = 54 <= number && number <= 65;
+    let gives = if packs(number) {
+        ScalarKind::Uint
+    } else {
+        kind
+    };
     let to = result_scalar(builder, operation).kind;
-    if !packs && are_integers(kind, to) {
-        as_kind(builder, operation, value, kind, to)
+    if are_integers(gives, to) {
+        as_kind(builder, operation, value, gives, to)
     } else {
         value
     }

@@ -1,0 +1,86 @@
+"""The check of shader modules, in process, over the shared library by ctypes.
+
+    import shader_check
+    answer = shader_check.check(document)          # bytes, or a text
+    answer = shader_check.check_spirv(module)      # bytes
+    if not answer.accepted:
+        print(answer.text, shader_check.check_json(document).data["text"])
+
+The library is the file that the variable SHADER_CHECK_LIBRARY names, else the one that the system finds as `shader_check`. Calls may be
+made from several threads; each frees Python's lock while it runs.
+"""
+import ctypes
+import ctypes.util
+import json
+import os
+from dataclasses import dataclass
+
+__all__ = ["Answer", "Status", "check", "check_json", "check_spirv"]
+__version__ = "0.1.0"
+
+
+class Status:
+    """What a module was found to be."""
+
+    ACCEPTED = 0
+    REFUSED = 1
+    UNREAD = 3
+
+
+@dataclass(frozen=True)
+class Answer:
+    """The status, and the text that `shader-check` writes: the verdict's line, and of an accepted module the report."""
+
+    status: int
+    text: str
+
+    @property
+    def accepted(self):
+        """Whether the module was accepted."""
+        return self.status == Status.ACCEPTED
+
+    @property
+    def data(self):
+        """The object of an answer of `check_json`."""
+        return json.loads(self.text)
+
+
+def _load():
+    name = os.environ.get("SHADER_CHECK_LIBRARY") or ctypes.util.find_library("shader_check")
+    if not name:
+        raise OSError("the library shader_check is not found; SHADER_CHECK_LIBRARY names its file")
+    library = ctypes.CDLL(name)
+    for call in (library.shader_check, library.shader_check_json, library.shader_check_spirv):
+        call.argtypes = [ctypes.c_char_p, ctypes.c_size_t, ctypes.c_char_p, ctypes.c_size_t, ctypes.POINTER(ctypes.c_size_t)]
+        call.restype = ctypes.c_uint32
+    return library
+
+
+_library = _load()
+
+
+def _answer(call, module):
+    given = module.encode() if isinstance(module, str) else bytes(module)
+    room, needed = ctypes.create_string_buffer(4096), ctypes.c_size_t()
+    status = call(given, len(given), room, len(room), ctypes.byref(needed))
+    if needed.value > len(room):
+        room = ctypes.create_string_buffer(needed.value)
+        status = call(given, len(given), room, len(room), ctypes.byref(needed))
+    if status == 2:
+        raise MemoryError("the check of a shader module was refused memory")
+    return Answer(status, room.raw[: needed.value].decode("utf-8", "replace"))
+
+
+def check(document):
+    """Judges a document, as `shader-check` does."""
+    return _answer(_library.shader_check, document)
+
+
+def check_json(document):
+    """Judges a document; the text is the object of `shader-check --json`, and `data` what it says."""
+    return _answer(_library.shader_check_json, document)
+
+
+def check_spirv(module):
+    """Judges a module of SPIR-V, as `shader-check --spirv` does."""
+    return _answer(_library.shader_check_spirv, module)
