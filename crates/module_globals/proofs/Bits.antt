@@ -119,10 +119,13 @@ in_range offset size behind ahead k some fits lt last first =
 pub contains_by_difference : ContainsByDifference
 contains_by_difference a b rest fits rest_fits is = (
   (λ whole. slots_are_all rest 0
-      (λ k. ((λ has. elim (cases_lt k 64) [
-        | inl lt ↦ absurd (((is k lt).0 has).1 ((contains_by_slots a b).0 whole k ((is k lt).0 has).0))
-        | inr ge ↦ absurd (let z : bit_at rest k ≡ 0 = bit_at_above rest 64 k rest_fits ge in let h = has in omega (arith, z, h))
-      ]), (λ none. absurd (let z : bit_at 0 k ≡ 0 = bit_at-zero k in let h = none in omega (arith, z, h)))))),
+      (λ k. (
+        (λ has. elim (cases_lt k 64) [
+          | inl lt ↦ absurd (((is k lt).0 has).1 ((contains_by_slots a b).0 whole k ((is k lt).0 has).0))
+          | inr ge ↦ absurd (let z : bit_at rest k ≡ 0 = bit_at_above rest 64 k rest_fits ge in let h = has in omega (arith, z, h))
+        ]),
+        (λ none. absurd (let z : bit_at 0 k ≡ 0 = bit_at-zero k in let h = none in omega (arith, z, h))),
+      ))),
   (λ empty. (contains_by_slots a b).1
       (λ k has. elim (cases_lt k 64) [
         | inl lt ↦ elim (cases_lt (bit_at a k) 1) [
