@@ -11,6 +11,7 @@ ghost use Rattle.function_statements.specs.Faults.{IsBodyRefusal};
 use crate::error::StatementError;
 use crate::rules::Rules;
 use function_statement_checks::StatementContext;
+use ir_places::Trail;
 use ir_types::refusal::Refusal;
 use ir_types::with_span::WithSpan;
 use std::alloc::Global;
@@ -38,7 +39,8 @@ pub fn validate_statements<C: StatementContext>(
         (IsBodyRefusal (C.seen context.now)) }
 {
     let rules = Rules { alloc, context };
-    match check_each(&rules, context.body()) {
+    let mut trail = Trail::new(alloc);
+    match check_each(&mut trail, &rules, context.body()) {
         Ok(()) => Ok(()),
         Err(StatementError::Memory(error)) => Err(Refusal::Memory(error)),
         Err(StatementError::Fault(error)) => Err(Refusal::Fault(WithSpan::new(alloc, error))),

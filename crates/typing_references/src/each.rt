@@ -4,10 +4,13 @@ ghost use Rattle.std.specs.Prelude.{MatchResult, map};
 ghost use Rattle.ir_blocks.specs.judged.Places.{Place, OccursAt};
 ghost use Rattle.ir_blocks.specs.judged.Plain.{PlainStatement};
 ghost use Rattle.ir_blocks.specs.found.View.{statement_view, block_view, case_view, cases_of};
-ghost use Rattle.typing_references.specs.Each.{AllAre, AllWithin, AllInCases, OneIs, OneWithin, OneInCases};
+ghost use Rattle.ir_places.specs.Paths.{IsPlaced, part_view};
+ghost use Rattle.ir_places.specs.Stands.{StandsAt, StandsFrom, StandsInCase, StandsInPart};
+ghost use Rattle.typing_references.specs.Each.{AllAre, AllWithin, AllInCases};
 
 use ir_blocks::plain_operation;
 use ir_items::{Block, Statement, SwitchCase};
+use ir_places::{Part, Step, Trail};
 
 /// A rule of statements, which is required of a statement without what stands inside it.
 pub trait StatementRule<E> {
@@ -26,56 +29,75 @@ pub trait StatementRule<E> {
         ensures { MatchResult result (λ _. meets self.now (statement_view statement.now)) (λ e. wrong self.now e (statement_view statement.now)) };
 }
 
-/// Whether each statement of a block, at any depth, meets a rule, or why one is refused.
-pub fn check_each<E, T: StatementRule<E>>(rule: &T, block: &Block) -> Result<(), E>
+/// Whether each statement of a block, at any depth, meets a rule, or why one is refused, and where that one stands. Memory is
+/// taken for the place alone.
+pub fn check_each<E, T: StatementRule<E>>(
+    trail: &mut Trail,
+    rule: &T,
+    block: &Block,
+) -> Result<(), E>
     requires { T.fits rule.now }
     ensures { MatchResult result
         (λ _. (p : Place) (s : PlainStatement) → OccursAt (block_view block.now) p s → T.meets rule.now s)
-        (λ e. (p : Place) × (s : PlainStatement) × OccursAt (block_view block.now) p s × T.wrong rule.now e s) }
+        (λ e. IsPlaced trail.new (λ p. (s : PlainStatement) × OccursAt (block_view block.now) p s × T.wrong rule.now e s)) }
 {
-    match check_block(rule, block) {
+    match check_block(trail, rule, block) {
         Ok(()) => Ok(()),
         Err(error) => Err(error),
     }
 }
 
-// The same, reported along the block.
+// The same, along the block.
 #[cycle(each)]
-fn check_block<E, T: StatementRule<E>>(rule: &T, block: &Block) -> Result<(), E>
+fn check_block<E, T: StatementRule<E>>(trail: &mut Trail, rule: &T, block: &Block) -> Result<(), E>
     requires { T.fits rule.now }
     ensures { MatchResult result
         (λ _. AllAre (T.meets rule.now) (block_view block.now))
-        (λ e. OneIs (T.wrong rule.now e) (block_view block.now)) }
+        (λ e. IsPlaced trail.new (StandsAt (T.wrong rule.now e) (block_view block.now))) }
 {
-    for statement in block.as_slice() {
-        rule.check(statement)?;
-        check_within(rule, statement)?;
+    for (index, statement) in block.as_slice().iter().enumerate() {
+        match check_statement(trail, rule, index, statement) {
+            Ok(()) => {}
+            Err(error) => return Err(error),
+        }
     }
     Ok(())
 }
 
-// The same of the statements inside one.
+// The same of the statement of a block at an index, and of those inside it. The place is seen from the block.
 #[cycle(each)]
-fn check_within<E, T: StatementRule<E>>(rule: &T, statement: &Statement) -> Result<(), E>
+fn check_statement<E, T: StatementRule<E>>(
+    trail: &mut Trail,
+    rule: &T,
+    index: usize,
+    statement: &Statement,
+) -> Result<(), E>
     requires { T.fits rule.now }
     ensures { MatchResult result
-        (λ _. AllWithin (T.meets rule.now) (statement_view statement.now))
-        (λ e. OneWithin (T.wrong rule.now e) (statement_view statement.now)) }
+        (λ _. T.meets rule.now (statement_view statement.now) × AllWithin (T.meets rule.now) (statement_view statement.now))
+        (λ e. IsPlaced trail.new (StandsFrom (T.wrong rule.now e) index (statement_view statement.now))) }
 {
-    match statement {
-        Statement::Block(block) => check_block(rule, block),
-        Statement::If { accept, reject, .. } => {
-            check_block(rule, accept)?;
-            check_block(rule, reject)
+    match rule.check(statement) {
+        Ok(()) => {}
+        Err(error) => {
+            trail.stand(index);
+            return Err(error);
         }
-        Statement::Switch { cases, .. } => check_cases(rule, cases),
+    }
+    match statement {
+        Statement::Block(block) => check_part(trail, rule, index, Part::Inner, block),
+        Statement::If { accept, reject, .. } => {
+            check_part(trail, rule, index, Part::Accepting, accept)?;
+            check_part(trail, rule, index, Part::Rejecting, reject)
+        }
+        Statement::Switch { cases, .. } => check_cases(trail, rule, index, cases),
         Statement::Loop {
             body,
             continuing,
             ..
         } => {
-            check_block(rule, body)?;
-            check_block(rule, continuing)
+            check_part(trail, rule, index, Part::LoopBody, body)?;
+            check_part(trail, rule, index, Part::LoopContinuing, continuing)
         }
         Statement::Emit(_)
         | Statement::Break
@@ -87,16 +109,47 @@ fn check_within<E, T: StatementRule<E>>(rule: &T, statement: &Statement) -> Resu
     }
 }
 
-// The same of the cases of a switch.
+// The same of a block in a part of a statement. The place is seen from the block that has the statement.
 #[cycle(each)]
-fn check_cases<E, T: StatementRule<E>>(rule: &T, cases: &[SwitchCase]) -> Result<(), E>
+fn check_part<E, T: StatementRule<E>>(
+    trail: &mut Trail,
+    rule: &T,
+    index: usize,
+    part: Part,
+    block: &Block,
+) -> Result<(), E>
+    requires { T.fits rule.now }
+    ensures { MatchResult result
+        (λ _. AllAre (T.meets rule.now) (block_view block.now))
+        (λ e. IsPlaced trail.new (StandsInPart (T.wrong rule.now e) index (part_view part) (block_view block.now))) }
+{
+    match check_block(trail, rule, block) {
+        Ok(()) => Ok(()),
+        Err(error) => {
+            trail.inside(Step { index, part });
+            Err(error)
+        }
+    }
+}
+
+// The same of the cases of a switch. The place is seen from the block that has the switch.
+#[cycle(each)]
+fn check_cases<E, T: StatementRule<E>>(
+    trail: &mut Trail,
+    rule: &T,
+    index: usize,
+    cases: &[SwitchCase],
+) -> Result<(), E>
     requires { T.fits rule.now }
     ensures { MatchResult result
         (λ _. AllInCases (T.meets rule.now) (cases_of (map case_view cases.now)))
-        (λ e. OneInCases (T.wrong rule.now e) (cases_of (map case_view cases.now))) }
+        (λ e. IsPlaced trail.new (StandsInCase (T.wrong rule.now e) index (cases_of (map case_view cases.now)))) }
 {
-    for case in cases {
-        check_block(rule, &case.body)?;
+    for (number, case) in cases.iter().enumerate() {
+        match check_part(trail, rule, index, Part::Case(number), &case.body) {
+            Ok(()) => {}
+            Err(error) => return Err(error),
+        }
     }
     Ok(())
 }

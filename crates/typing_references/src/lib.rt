@@ -11,6 +11,7 @@ mod forward;
 mod functions;
 mod lists;
 mod operands;
+mod placed;
 mod statements;
 mod walk;
 
@@ -22,5 +23,6 @@ pub use forward::{forward_callee, forward_operand, forward_parent};
 pub use functions::{expression_missing, missing_in_function};
 pub use lists::{operand_past, statement_operand_past};
 pub use operands::{OperandUser, with_operands, with_statement_operands};
+pub use placed::placed_in;
 pub use statements::{callee_of, range_of, result_of};
 pub use walk::{StatementLook, first_in};

@@ -1,0 +1,3 @@
+pub mod TrailLaws
+pub mod StandLaws
+pub mod IndexLaws
