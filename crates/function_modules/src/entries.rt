@@ -21,6 +21,7 @@ use function_interface::Lower;
 use function_whole::{SeenNames, Validated, validate_entry_point_with};
 use ir_arena::handle::Handle;
 use ir_items::{EntryPoint, Module};
+use ir_places::Trail;
 use ir_types::key;
 use ir_types::refusal::Refusal;
 use ir_types::with_span::WithSpan;
@@ -102,9 +103,11 @@ fn judge_next<L: Lower>(
         (IsEntryRefusal (L.reading validator.now.lower) (L.faults validator.now.lower) validator.now.settings (module_view «module».now) summaries stages) }
 {
     let alloc = validator.alloc;
+    let mut trail = Trail::new(alloc);
     match validate_entry_point_with(
         &validator.lower,
         alloc,
+        &mut trail,
         validator.settings,
         held,
         module,

@@ -12,6 +12,7 @@ use function_interface::Lower;
 use function_whole::{Validated, validate_function_with};
 use ir_arena::handle::Handle;
 use ir_items::Module;
+use ir_places::Trail;
 use ir_types::key;
 use ir_types::refusal::Refusal;
 use ir_types::with_span::WithSpan;
@@ -66,9 +67,11 @@ fn judge_next<L: Lower>(
         (IsRefusal (L.reading validator.now.lower) (L.faults validator.now.lower) s (module_view «module».now)) }
 {
     let alloc = validator.alloc;
+    let mut trail = Trail::new(alloc);
     match validate_function_with(
         &validator.lower,
         alloc,
+        &mut trail,
         validator.settings,
         false,
         held,
