@@ -26,7 +26,7 @@ PAGES = [
      [("A caller", "test_layers/src/judged.rt", "pub fn accepts_items(")],
      ["module_handles", "module_type_checks", "module_constants", "module_globals", "module_steps", "typing_infos", "judgement"]),
     ("function_validator", "The check of functions, entry points and whole modules, over any layer beneath or over that of this repository.",
-     [("A caller", "test_layers/src/judged.rt", "pub fn accepts_functions(")],
+     [("A caller", "test_layers/src/judged.rt", "pub fn accepts(")],
      ["function_interface", "function_real_lower", "function_whole", "function_modules", "function_entries", "judgement_laws", "judgement_report"]),
     ("document_reader", "From bytes to a document.",
      [("A caller", "test_items/src/modules.rt", "pub fn document_of(")], ["document_forms", "document_reader"]),

@@ -1,14 +1,12 @@
 //! What each layer says of a module.
 
-use function_validator::laws::{
-    Leaf, accepted_is_laid, buffer_leaves, entry_depth_bound, made_for_accepted,
-};
+use function_validator::laws::entry_depth_bound;
 use function_validator::{RealLower, Validator};
 use module_validator::{
     ImmediateSlots, ModuleInfo, ModuleValidator, Settings, validate_compose,
     validate_module_handles,
 };
-use shader_ir::{Handle, Literal, Module, Refusal, Scalar, key};
+use shader_ir::{Literal, Module, Refusal, Scalar};
 use shader_typing::{
     arities_match, callees_precede, filter_parents_precede, handles_in_range, operands_precede,
 };
@@ -54,58 +52,12 @@ pub fn accepts_items(
     freeing(freeing(is_accepted(&answer), answer), validator)
 }
 
-/// Whether they do, and the functions of the module are accepted over the layer that is made of what is kept of it. The error is
-/// out of memory.
-pub fn accepts_functions(
-    alloc: Global,
-    settings: Settings,
-    module: &Module,
-) -> Result<bool, AllocError> {
-    made_for_accepted();
-    let mut items = ModuleValidator::new(alloc, settings.flags, settings.capabilities);
-    match items.validate(module) {
-        Ok(info) => {
-            let lower = RealLower::new(info);
-            let mut validator = Validator::new(alloc, lower, settings.flags, settings.capabilities);
-            let answer = validator.validate_functions(module);
-            freeing(freeing(is_accepted(&answer), answer), validator)
-        }
-        Err(Refusal::Fault(_)) => Ok(false),
-        Err(Refusal::Memory(error)) => Err(error),
-    }
-}
-
 /// Whether all steps accept the module. The error is out of memory.
 pub fn accepts(alloc: Global, settings: Settings, module: &Module) -> Result<bool, AllocError> {
     let lower = RealLower::new(ModuleInfo::new(alloc));
     let mut validator = Validator::new(alloc, lower, settings.flags, settings.capabilities);
     let answer = validator.validate(module);
     freeing(freeing(is_accepted(&answer), answer), validator)
-}
-
-/// The leaves of a variable, where the steps up to overrides accept the module. The error is out of memory.
-pub fn leaves_of(
-    alloc: Global,
-    settings: Settings,
-    module: &Module,
-    global: Handle<key::GlobalVariable>,
-) -> Result<Option<Vec<Leaf>>, AllocError> {
-    accepted_is_laid();
-    let mut items = ModuleValidator::new(alloc, settings.flags, settings.capabilities);
-    match items.validate(module) {
-        Ok(info) => {
-            drop(info);
-            match module.global_variables.check_contains_handle(global) {
-                Ok(()) => match buffer_leaves(alloc, module, global) {
-                    Ok(leaves) => Ok(Some(leaves)),
-                    Err(error) => Err(error),
-                },
-                Err(_) => Ok(None),
-            }
-        }
-        Err(Refusal::Fault(_)) => Ok(None),
-        Err(Refusal::Memory(error)) => Err(error),
-    }
 }
 
 /// Whether scalars of a width without its capability, a literal, and a value composed of nothing for each type of the module may
