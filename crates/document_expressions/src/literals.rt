@@ -1,4 +1,4 @@
-// Literals: a scalar and a number or a truth value.
+// Literals: a scalar type and a value.
 ghost use Rattle.std.specs.Prelude.{◌≡◌, option_map};
 ghost use Rattle.serde_json.specs.View.{items_view};
 ghost use Rattle.ir_kinds.specs.declared.values.Literal.{Literal};

@@ -24,10 +24,10 @@ use Rattle.ir_kinds.specs.declared.images.StorageFormat.{StorageFormat}
 use Rattle.ir_kinds.specs.declared.scalars.VectorSize.TheVariants.{Quad}
 use Rattle.ir_types.specs.judged.Plain.{PlainType}
 use Rattle.ir_items.specs.judged.Bases.{base_of, global_of}
-use Rattle.spec_statements.specs.judged.Shapes.{ExactlyIf, picture_of}
-use Rattle.spec_statements.specs.declared.shapes.Picture.{Picture}
+use Rattle.spec_statements.specs.judged.Shapes.{ExactlyIf, image_type_of}
+use Rattle.spec_statements.specs.declared.shapes.ImageType.{ImageType}
 use Rattle.spec_statements.specs.judged.BlockContext.{BlockContext, form_at}
-use Rattle.spec_statements.specs.judged.StorageImages.{resource_of, written_image, picture_in, changed_image, IsTexelOf, IsWritten, ImageStoreOK, IsMinOrMax, IsDoneAtTexels, FormatAllows, wide, unsigned, signed, IsChangedBy, IsChanged, ImageAtomicOK}
+use Rattle.spec_statements.specs.judged.StorageImages.{resource_of, written_image, image_type_in, changed_image, IsTexelOf, IsWritten, ImageStoreOK, IsMinOrMax, IsDoneAtTexels, FormatAllows, wide, unsigned, signed, IsChangedBy, IsChanged, ImageAtomicOK}
 use Rattle.spec_statements.specs.judged.Variables.{variable_at, accessed_at}
 use Rattle.typing_forms.specs.judged.Forms.{form_of_type}
 use Rattle.typing_forms.specs.declared.form.Form.{Form}
@@ -49,7 +49,7 @@ one_variable m f image =
     ]
 
 -- the image of a variable that is one, or else of an element
-module _ (P Q : PlainGlobal → Option Picture) where
+module _ (P Q : PlainGlobal → Option ImageType) where
   neither : (v a : Option PlainGlobal) → v ≡ None → a ≡ None → option_or (option_and_then P v) (option_and_then Q a) ≡ None
   neither None None v a = refl
   neither None (Some g) v a = absurd (let e = a in cc)
@@ -70,24 +70,24 @@ none_written : (c : BlockContext) (image : ℕ) (e : ExpressionError) → IsWrit
 none_written c image fault.ExpectedGlobalVariable (inl wrong) = neither _ _ (variable_at c.m c.f image) (accessed_at c.m c.f image) wrong.0 wrong.1
 none_written c image (fault.ExpectedImageType e) (inl wrong) = no_variable _ _ (variable_at c.m c.f image) (accessed_at c.m c.f image) (none (variable_at c.m c.f image) wrong) (one_variable c.m c.f image)
   where
-    none : (o : Option PlainGlobal) → IsSomeAnd o (λ g. (e ≡ g.ty) × (picture_of (form_of_type c.m.types g.ty) ≡ None)) → IsSomeAnd o (λ g. picture_of (form_of_type c.m.types g.ty) ≡ None)
+    none : (o : Option PlainGlobal) → IsSomeAnd o (λ g. (e ≡ g.ty) × (image_type_of (form_of_type c.m.types g.ty) ≡ None)) → IsSomeAnd o (λ g. image_type_of (form_of_type c.m.types g.ty) ≡ None)
     none None h = h
     none (Some g) h = h.1
 none_written c image _ (inl wrong) = absurd wrong
 none_written c image e (inr wrong) = no_element _ _ (variable_at c.m c.f image) (accessed_at c.m c.f image) (each c.m.types e (accessed_at c.m c.f image) wrong) (one_variable c.m c.f image)
   where
-    no_picture : (types : List PlainType) (o : Option ℕ) → IsSomeAnd o (λ r. picture_of (form_of_type types r) ≡ None) → option_and_then (λ r. picture_of (form_of_type types r)) o ≡ None
-    no_picture types None h = refl
-    no_picture types (Some r) h = h
+    no_image_type : (types : List PlainType) (o : Option ℕ) → IsSomeAnd o (λ r. image_type_of (form_of_type types r) ≡ None) → option_and_then (λ r. image_type_of (form_of_type types r)) o ≡ None
+    no_image_type types None h = refl
+    no_image_type types (Some r) h = h
 
     element : (types : List PlainType) (e : ExpressionError) (type : ℕ) → IsElementFault types type e
-        → option_and_then (λ r. picture_of (form_of_type types r)) (resource_of (form_of_type types type)) ≡ None
-    element types (fault.ExpectedBindingArrayType x) type h = ap (option_and_then (λ r. picture_of (form_of_type types r))) h.1
-    element types (fault.ExpectedImageType x) type h = no_picture types (resource_of (form_of_type types type)) h.1
+        → option_and_then (λ r. image_type_of (form_of_type types r)) (resource_of (form_of_type types type)) ≡ None
+    element types (fault.ExpectedBindingArrayType x) type h = ap (option_and_then (λ r. image_type_of (form_of_type types r))) h.1
+    element types (fault.ExpectedImageType x) type h = no_image_type types (resource_of (form_of_type types type)) h.1
     element types _ type h = absurd h
 
     each : (types : List PlainType) (e : ExpressionError) (o : Option PlainGlobal) → IsSomeAnd o (λ g. IsElementFault types g.ty e)
-        → IsSomeAnd o (λ g. option_and_then (λ r. picture_of (form_of_type types r)) (resource_of (form_of_type types g.ty)) ≡ None)
+        → IsSomeAnd o (λ g. option_and_then (λ r. image_type_of (form_of_type types r)) (resource_of (form_of_type types g.ty)) ≡ None)
     each types e None h = h
     each types e (Some g) h = element types e g.ty h
 
@@ -105,12 +105,12 @@ what_is_there wanted None x P is h = absurd (let e = is in cc)
 what_is_there true (Some y) x P is h = let same : y ≡ x = (let e = is in cc) in subst P same h
 what_is_there false (Some y) x P is h = absurd h
 
-texel_refuted : (c : BlockContext) (picture : Picture) (coordinate : ℕ) (array_index : Option ℕ) (e : ExpressionError)
-    → IsTexelFault c picture coordinate array_index e → IsTexelOf c picture coordinate array_index → ⊥
-texel_refuted c picture coordinate array_index (fault.InvalidImageCoordinateType dim x) wrong ok = wrong.2 ok.flat
-texel_refuted c picture coordinate array_index fault.InvalidImageArrayIndex wrong ok = wrong (is_there picture.arrayed array_index _ ok.layer)
-texel_refuted c picture coordinate array_index (fault.InvalidImageArrayIndexType x) wrong ok = wrong.1 (what_is_there picture.arrayed array_index x _ wrong.0 ok.layer)
-texel_refuted c picture coordinate array_index _ wrong ok = wrong
+texel_refuted : (c : BlockContext) (image_type : ImageType) (coordinate : ℕ) (array_index : Option ℕ) (e : ExpressionError)
+    → IsTexelFault c image_type coordinate array_index e → IsTexelOf c image_type coordinate array_index → ⊥
+texel_refuted c image_type coordinate array_index (fault.InvalidImageCoordinateType dim x) wrong ok = wrong.2 ok.flat
+texel_refuted c image_type coordinate array_index fault.InvalidImageArrayIndex wrong ok = wrong (is_there image_type.arrayed array_index _ ok.layer)
+texel_refuted c image_type coordinate array_index (fault.InvalidImageArrayIndexType x) wrong ok = wrong.1 (what_is_there image_type.arrayed array_index x _ wrong.0 ok.layer)
+texel_refuted c image_type coordinate array_index _ wrong ok = wrong
 
 -- ---- what is written
 
@@ -126,10 +126,10 @@ place_refuted : (c : BlockContext) (image coordinate : ℕ) (array_index : Optio
 place_refuted c image coordinate array_index value e (inl wrong) ok = missing (written_image c.m c.f image) _ (none_written c image e wrong) ok
 place_refuted c image coordinate array_index value e (inr wrong) ok = both (written_image c.m c.f image) _ _ by wrong ok
   where
-    by : (picture : Picture) → IsClassFault picture.class e ⊎ IsTexelFault c picture coordinate array_index e
-        → IsTexelOf c picture coordinate array_index × IsWritten picture.class (form_at c value) → ⊥
-    by picture (inl wrong) ok = class_refuted picture.class (form_at c value) e wrong ok.1
-    by picture (inr wrong) ok = texel_refuted c picture coordinate array_index e wrong ok.0
+    by : (image_type : ImageType) → IsClassFault image_type.class e ⊎ IsTexelFault c image_type coordinate array_index e
+        → IsTexelOf c image_type coordinate array_index × IsWritten image_type.class (form_at c value) → ⊥
+    by image_type (inl wrong) ok = class_refuted image_type.class (form_at c value) e wrong ok.1
+    by image_type (inr wrong) ok = texel_refuted c image_type coordinate array_index e wrong ok.0
 
 -- what is written is a texel of the image's format
 of_format : (own : ImageClass) (format : StorageFormat) (value : Form) → format_of own ≡ Some format → IsWritten own value → value ≡ form.Vector Quad (format_scalar format)
@@ -142,7 +142,7 @@ of_format (class.Storage own access) format value is ok =
 misfit_refuted : (c : BlockContext) (image coordinate : ℕ) (array_index : Option ℕ) (value : ℕ) (format : StorageFormat)
     → IsMisfit c image value format → ImageStoreOK c image coordinate array_index value → ⊥
 misfit_refuted c image coordinate array_index value format wrong ok =
-    both (written_image c.m c.f image) _ _ (λ picture is fits. wrong.1 (of_format picture.class format (form_at c value) is fits.1)) wrong.0 ok
+    both (written_image c.m c.f image) _ _ (λ image_type is fits. wrong.1 (of_format image_type.class format (form_at c value) is fits.1)) wrong.0 ok
 
 pub store_refuted : (c : BlockContext) (image coordinate : ℕ) (array_index : Option ℕ) (value : ℕ) (e : FunctionError)
     → IsImageStoreFault c image coordinate array_index value e → ImageStoreOK c image coordinate array_index value → ⊥
@@ -193,24 +193,24 @@ changed_refuted c (class.Storage format access) done value e wrong ok = storage_
 -- it leads to no image that could be changed
 none_changed : (c : BlockContext) (image : ℕ) (e : ExpressionError) → IsChangedImageFault c image e → changed_image c.m c.f image ≡ None
 none_changed c image fault.ExpectedGlobalVariable wrong = rw wrong refl
-none_changed c image (fault.ExpectedImageType x) wrong = no_picture c.m.types (option_or (variable_at c.m c.f image) (accessed_at c.m c.f image)) wrong
+none_changed c image (fault.ExpectedImageType x) wrong = no_image_type c.m.types (option_or (variable_at c.m c.f image) (accessed_at c.m c.f image)) wrong
   where
-    no_picture : (types : List PlainType) (o : Option PlainGlobal)
-        → IsSomeAnd o (λ g. (x ≡ g.ty) × (picture_in types (form_of_type types g.ty) (resource_of (form_of_type types g.ty)) ≡ None))
-        → option_and_then (λ g. picture_in types (form_of_type types g.ty) (resource_of (form_of_type types g.ty))) o ≡ None
-    no_picture types None h = refl
-    no_picture types (Some g) h = h.1
+    no_image_type : (types : List PlainType) (o : Option PlainGlobal)
+        → IsSomeAnd o (λ g. (x ≡ g.ty) × (image_type_in types (form_of_type types g.ty) (resource_of (form_of_type types g.ty)) ≡ None))
+        → option_and_then (λ g. image_type_in types (form_of_type types g.ty) (resource_of (form_of_type types g.ty))) o ≡ None
+    no_image_type types None h = refl
+    no_image_type types (Some g) h = h.1
 none_changed c image _ wrong = absurd wrong
 
 wrong_refuted : (c : BlockContext) (image coordinate : ℕ) (array_index : Option ℕ) (done : AtomicFunction) (value : ℕ) (e : FunctionError)
     → IsWrongTexel c image coordinate array_index e → ImageAtomicOK c image coordinate array_index done value → ⊥
 wrong_refuted c image coordinate array_index done value (error.InvalidImageAtomic e) (inl wrong) ok = missing (changed_image c.m c.f image) _ (none_changed c image e wrong) ok
 wrong_refuted c image coordinate array_index done value (error.InvalidImageAtomic e) (inr wrong) ok =
-    both (changed_image c.m c.f image) _ _ (λ picture at fits. texel_refuted c picture coordinate array_index e at fits.0) wrong ok
+    both (changed_image c.m c.f image) _ _ (λ image_type at fits. texel_refuted c image_type coordinate array_index e at fits.0) wrong ok
 wrong_refuted c image coordinate array_index done value _ wrong ok = wrong
 
 pub change_refuted : (c : BlockContext) (image coordinate : ℕ) (array_index : Option ℕ) (done : AtomicFunction) (value : ℕ) (e : FunctionError)
     → IsImageAtomicFault c image coordinate array_index done value e → ImageAtomicOK c image coordinate array_index done value → ⊥
 change_refuted c image coordinate array_index done value e (inl wrong) ok = wrong_refuted c image coordinate array_index done value e wrong ok
 change_refuted c image coordinate array_index done value e (inr wrong) ok =
-    both (changed_image c.m c.f image) _ _ (λ picture at fits. changed_refuted c picture.class done value e at fits.1) wrong ok
+    both (changed_image c.m c.f image) _ _ (λ image_type at fits. changed_refuted c image_type.class done value e at fits.1) wrong ok

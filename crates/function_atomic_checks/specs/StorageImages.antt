@@ -23,10 +23,10 @@ use Rattle.ir_kinds.specs.declared.scalars.VectorSize.TheVariants.{Quad}
 use Rattle.ir_types.specs.judged.Plain.{PlainInner, plain, PlainType, inner_view}
 use Rattle.ir_types.specs.declared.types.TypeInner.TheVariants as inner
 use Rattle.spec_statements.specs.judged.ImageLoads.{IsTexelCoordinate}
-use Rattle.spec_statements.specs.judged.Shapes.{ExactlyIf, IsIntegerScalar, picture_of}
-use Rattle.spec_statements.specs.declared.shapes.Picture.{Picture}
+use Rattle.spec_statements.specs.judged.Shapes.{ExactlyIf, IsIntegerScalar, image_type_of}
+use Rattle.spec_statements.specs.declared.shapes.ImageType.{ImageType}
 use Rattle.spec_statements.specs.judged.BlockContext.{BlockContext, form_at}
-use Rattle.spec_statements.specs.judged.StorageImages.{resource_of, written_image, picture_in, changed_image, IsMinOrMax, IsDoneAtTexels}
+use Rattle.spec_statements.specs.judged.StorageImages.{resource_of, written_image, image_type_in, changed_image, IsMinOrMax, IsDoneAtTexels}
 use Rattle.spec_statements.specs.judged.Variables.{variable_at, accessed_at}
 use Rattle.typing_forms.specs.judged.Forms.{form_of_type}
 use Rattle.typing_forms.specs.judged.Resolutions.{inner_at}
@@ -39,14 +39,14 @@ use Rattle.typing_forms.specs.declared.form.Form.TheVariants as form
 abbrev pub IsElementFault : List PlainType → (type : ℕ) → ExpressionError → Type 0
 IsElementFault types type (fault.ExpectedBindingArrayType e) = (e ≡ type) × (resource_of (form_of_type types type) ≡ None)
 IsElementFault types type (fault.ExpectedImageType e) =
-    (e ≡ type) × IsSomeAnd (resource_of (form_of_type types type)) (λ r. picture_of (form_of_type types r) ≡ None)
+    (e ≡ type) × IsSomeAnd (resource_of (form_of_type types type)) (λ r. image_type_of (form_of_type types r) ≡ None)
 IsElementFault types type _ = ⊥
 
 -- no global variable, or one that is no image
 abbrev pub IsNamedFault : BlockContext → (image : ℕ) → ExpressionError → Type 0
 IsNamedFault c image fault.ExpectedGlobalVariable = (variable_at c.m c.f image ≡ None) × (accessed_at c.m c.f image ≡ None)
 IsNamedFault c image (fault.ExpectedImageType e) =
-    IsSomeAnd (variable_at c.m c.f image) (λ g. (e ≡ g.ty) × (picture_of (form_of_type c.m.types g.ty) ≡ None))
+    IsSomeAnd (variable_at c.m c.f image) (λ g. (e ≡ g.ty) × (image_type_of (form_of_type c.m.types g.ty) ≡ None))
 IsNamedFault c image _ = ⊥
 
 abbrev pub IsWrittenImageFault : BlockContext → (image : ℕ) → ExpressionError → Type 0
@@ -56,17 +56,17 @@ IsWrittenImageFault c image e = IsNamedFault c image e ⊎ IsSomeAnd (accessed_a
 abbrev pub IsChangedImageFault : BlockContext → (image : ℕ) → ExpressionError → Type 0
 IsChangedImageFault c image fault.ExpectedGlobalVariable = option_or (variable_at c.m c.f image) (accessed_at c.m c.f image) ≡ None
 IsChangedImageFault c image (fault.ExpectedImageType e) = IsSomeAnd (option_or (variable_at c.m c.f image) (accessed_at c.m c.f image))
-    (λ g. (e ≡ g.ty) × (picture_in c.m.types (form_of_type c.m.types g.ty) (resource_of (form_of_type c.m.types g.ty)) ≡ None))
+    (λ g. (e ≡ g.ty) × (image_type_in c.m.types (form_of_type c.m.types g.ty) (resource_of (form_of_type c.m.types g.ty)) ≡ None))
 IsChangedImageFault c image _ = ⊥
 
 -- ---- the texel
 
-abbrev pub IsTexelFault : BlockContext → Picture → (coordinate : ℕ) → (array_index : Option ℕ) → ExpressionError → Type 0
-IsTexelFault c picture coordinate array_index (fault.InvalidImageCoordinateType dim e) =
-    (dim ≡ picture.dim) × (e ≡ coordinate) × ¬ IsTexelCoordinate picture.dim (form_at c coordinate)
-IsTexelFault c picture coordinate array_index fault.InvalidImageArrayIndex = ¬ ExactlyIf picture.arrayed array_index (λ layer. Unit {0})
-IsTexelFault c picture coordinate array_index (fault.InvalidImageArrayIndexType e) = (array_index ≡ Some e) × ¬ IsIntegerScalar (form_at c e)
-IsTexelFault c picture coordinate array_index _ = ⊥
+abbrev pub IsTexelFault : BlockContext → ImageType → (coordinate : ℕ) → (array_index : Option ℕ) → ExpressionError → Type 0
+IsTexelFault c image_type coordinate array_index (fault.InvalidImageCoordinateType dim e) =
+    (dim ≡ image_type.dim) × (e ≡ coordinate) × ¬ IsTexelCoordinate image_type.dim (form_at c coordinate)
+IsTexelFault c image_type coordinate array_index fault.InvalidImageArrayIndex = ¬ ExactlyIf image_type.arrayed array_index (λ layer. Unit {0})
+IsTexelFault c image_type coordinate array_index (fault.InvalidImageArrayIndexType e) = (array_index ≡ Some e) × ¬ IsIntegerScalar (form_at c e)
+IsTexelFault c image_type coordinate array_index _ = ⊥
 
 -- ---- what is written
 
@@ -83,12 +83,12 @@ IsClassFault own _ = ⊥
 
 abbrev pub IsPlaceFault : BlockContext → (image coordinate : ℕ) → (array_index : Option ℕ) → ExpressionError → Type 0
 IsPlaceFault c image coordinate array_index e = IsWrittenImageFault c image e
-    ⊎ IsSomeAnd (written_image c.m c.f image) (λ picture. IsClassFault picture.class e ⊎ IsTexelFault c picture coordinate array_index e)
+    ⊎ IsSomeAnd (written_image c.m c.f image) (λ image_type. IsClassFault image_type.class e ⊎ IsTexelFault c image_type coordinate array_index e)
 
 -- the image is of the format, and the value is no texel of it
 abbrev pub IsMisfit : BlockContext → (image value : ℕ) → StorageFormat → Type 0
 IsMisfit c image value format =
-    IsSomeAnd (written_image c.m c.f image) (λ picture. format_of picture.class ≡ Some format) × ¬ (form_at c value ≡ form.Vector Quad (format_scalar format))
+    IsSomeAnd (written_image c.m c.f image) (λ image_type. format_of image_type.class ≡ Some format) × ¬ (form_at c value ≡ form.Vector Quad (format_scalar format))
 
 -- ---- types of values, as they are reported
 
@@ -193,9 +193,9 @@ IsChangeFault c class.External done value e = IsOtherClass class.External e
 
 abbrev pub IsWrongTexel : BlockContext → (image coordinate : ℕ) → (array_index : Option ℕ) → FunctionError → Type 0
 IsWrongTexel c image coordinate array_index (error.InvalidImageAtomic e) = IsChangedImageFault c image e
-    ⊎ IsSomeAnd (changed_image c.m c.f image) (λ picture. IsTexelFault c picture coordinate array_index e)
+    ⊎ IsSomeAnd (changed_image c.m c.f image) (λ image_type. IsTexelFault c image_type coordinate array_index e)
 IsWrongTexel c image coordinate array_index _ = ⊥
 
 abbrev pub IsImageAtomicFault : BlockContext → (image coordinate : ℕ) → (array_index : Option ℕ) → AtomicFunction → (value : ℕ) → FunctionError → Type 0
 IsImageAtomicFault c image coordinate array_index done value e = IsWrongTexel c image coordinate array_index e
-    ⊎ IsSomeAnd (changed_image c.m c.f image) (λ picture. IsChangeFault c picture.class done value e)
+    ⊎ IsSomeAnd (changed_image c.m c.f image) (λ image_type. IsChangeFault c image_type.class done value e)

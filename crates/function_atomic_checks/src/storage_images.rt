@@ -6,9 +6,9 @@ ghost use Rattle.ir_types.specs.judged.Plain.{inner_view, plain};
 ghost use Rattle.ir_types.specs.declared.types.TypeInner.TheVariants.{Image, ValuePointer};
 ghost use Rattle.function_atomic_checks.specs.StorageImages.{IsElementFault, IsWrittenImageFault, IsChangedImageFault, IsTexelFault, format_of, IsPlaceFault, IsMisfit, matrix_inner, inner_of_form, IsValueFault, IsImageStoreRefusal, IsFormatFault, IsStorageFault, IsChangeFault, IsImageAtomicFault};
 ghost use Rattle.spec_statements.specs.judged.ImageLoads.{IsTexelCoordinate};
-ghost use Rattle.spec_statements.specs.judged.Shapes.{picture_of};
+ghost use Rattle.spec_statements.specs.judged.Shapes.{image_type_of};
 ghost use Rattle.spec_statements.specs.judged.BlockContext.{form_at};
-ghost use Rattle.spec_statements.specs.judged.StorageImages.{resource_of, written_image, picture_in, changed_image, IsTexelOf, ImageStoreOK, IsDoneAtTexels, FormatAllows, IsChangedBy, IsChanged, ImageAtomicOK};
+ghost use Rattle.spec_statements.specs.judged.StorageImages.{resource_of, written_image, image_type_in, changed_image, IsTexelOf, ImageStoreOK, IsDoneAtTexels, FormatAllows, IsChangedBy, IsChanged, ImageAtomicOK};
 ghost use Rattle.typing_forms.specs.judged.Forms.{form_of_type};
 ghost use Rattle.typing_forms.specs.judged.Resolutions.{inner_at};
 
@@ -22,9 +22,9 @@ use ir_kinds::{AddressSpace, ImageClass, ImageDimension, Scalar, StorageFormat, 
 use ir_types::refusal::Refusal;
 use ir_types::with_span::WithSpan;
 use ir_types::{TypeInner, key};
-use module_context::{are_same, is_integer_scalar, picture_of};
+use module_context::{are_same, image_type_of, is_integer_scalar};
 use module_expressions::is_texel;
-use spec_statements::Picture;
+use spec_statements::ImageType;
 use std::alloc::{AllocError, Global};
 use typing_errors::{ExpressionError, FunctionError};
 use typing_forms::Form;
@@ -58,15 +58,15 @@ const fn resource_of(of: Form) -> Option<Handle<key::IrType>>
 fn written_element<C: StatementContext>(
     context: &C,
     ty: Handle<key::IrType>,
-) -> Result<Picture, ExpressionError>
+) -> Result<ImageType, ExpressionError>
     ensures { MatchResult result
-        (λ picture. option_and_then (λ r. picture_of (form_of_type (C.seen context.now).m.types r)) (resource_of (form_of_type (C.seen context.now).m.types ty)) ≡ Some picture)
+        (λ image_type. option_and_then (λ r. image_type_of (form_of_type (C.seen context.now).m.types r)) (resource_of (form_of_type (C.seen context.now).m.types ty)) ≡ Some image_type)
         (IsElementFault (C.seen context.now).m.types ty) }
 {
     match resource_of(context.form_of(ty)) {
         None => Err(ExpressionError::ExpectedBindingArrayType(ty)),
-        Some(resource) => match picture_of(context.form_of(resource)) {
-            Some(picture) => Ok(picture),
+        Some(resource) => match image_type_of(context.form_of(resource)) {
+            Some(image_type) => Ok(image_type),
             None => Err(ExpressionError::ExpectedImageType(ty)),
         },
     }
@@ -76,19 +76,19 @@ fn written_element<C: StatementContext>(
 fn written_image<C: StatementContext>(
     context: &C,
     image: Handle<key::Expression>,
-) -> Result<Picture, ExpressionError>
+) -> Result<ImageType, ExpressionError>
     ensures { MatchResult result
-        (λ picture. written_image (C.seen context.now).m (C.seen context.now).f image ≡ Some picture)
+        (λ image_type. written_image (C.seen context.now).m (C.seen context.now).f image ≡ Some image_type)
         (IsWrittenImageFault (C.seen context.now) image) }
 {
     match variable_at(context, image) {
-        Some(variable) => match picture_of(context.form_of(variable.ty)) {
-            Some(picture) => Ok(picture),
+        Some(variable) => match image_type_of(context.form_of(variable.ty)) {
+            Some(image_type) => Ok(image_type),
             None => Err(ExpressionError::ExpectedImageType(variable.ty)),
         },
         None => match accessed_at(context, image) {
             Some(variable) => match written_element(context, variable.ty) {
-                Ok(picture) => Ok(picture),
+                Ok(image_type) => Ok(image_type),
                 Err(error) => Err(error),
             },
             None => Err(ExpressionError::ExpectedGlobalVariable),
@@ -97,12 +97,12 @@ fn written_image<C: StatementContext>(
 }
 
 // The image that a type is, or an array of such.
-fn picture_in<C: StatementContext>(context: &C, ty: Handle<key::IrType>) -> Option<Picture>
-    ensures { result ≡ picture_in (C.seen context.now).m.types (form_of_type (C.seen context.now).m.types ty) (resource_of (form_of_type (C.seen context.now).m.types ty)) }
+fn image_type_in<C: StatementContext>(context: &C, ty: Handle<key::IrType>) -> Option<ImageType>
+    ensures { result ≡ image_type_in (C.seen context.now).m.types (form_of_type (C.seen context.now).m.types ty) (resource_of (form_of_type (C.seen context.now).m.types ty)) }
 {
     match resource_of(context.form_of(ty)) {
-        Some(resource) => picture_of(context.form_of(resource)),
-        None => picture_of(context.form_of(ty)),
+        Some(resource) => image_type_of(context.form_of(resource)),
+        None => image_type_of(context.form_of(ty)),
     }
 }
 
@@ -110,14 +110,14 @@ fn picture_in<C: StatementContext>(context: &C, ty: Handle<key::IrType>) -> Opti
 fn changed_image<C: StatementContext>(
     context: &C,
     image: Handle<key::Expression>,
-) -> Result<Picture, ExpressionError>
+) -> Result<ImageType, ExpressionError>
     ensures { MatchResult result
-        (λ picture. changed_image (C.seen context.now).m (C.seen context.now).f image ≡ Some picture)
+        (λ image_type. changed_image (C.seen context.now).m (C.seen context.now).f image ≡ Some image_type)
         (IsChangedImageFault (C.seen context.now) image) }
 {
     match named_at(context, image) {
-        Some(variable) => match picture_in(context, variable.ty) {
-            Some(picture) => Ok(picture),
+        Some(variable) => match image_type_in(context, variable.ty) {
+            Some(image_type) => Ok(image_type),
             None => Err(ExpressionError::ExpectedImageType(variable.ty)),
         },
         None => Err(ExpressionError::ExpectedGlobalVariable),
@@ -129,18 +129,18 @@ fn changed_image<C: StatementContext>(
 // Whether a texel with a number each way has a layer exactly where the image has several.
 fn check_layer<C: StatementContext>(
     context: &C,
-    picture: &Picture,
+    image_type: &ImageType,
     coordinate: Handle<key::Expression>,
     array_index: &Option<Handle<key::Expression>>,
 ) -> Result<(), ExpressionError>
-    requires { IsTexelCoordinate picture.now.dim (form_at (C.seen context.now) coordinate) }
+    requires { IsTexelCoordinate image_type.now.dim (form_at (C.seen context.now) coordinate) }
     ensures { MatchResult result
-        (λ _. IsTexelOf (C.seen context.now) picture.now coordinate array_index.now)
-        (IsTexelFault (C.seen context.now) picture.now coordinate array_index.now) }
+        (λ _. IsTexelOf (C.seen context.now) image_type.now coordinate array_index.now)
+        (IsTexelFault (C.seen context.now) image_type.now coordinate array_index.now) }
 {
     match *array_index {
         Some(layer) => {
-            if !picture.arrayed {
+            if !image_type.arrayed {
                 return Err(ExpressionError::InvalidImageArrayIndex);
             }
             if !is_integer_scalar(context.form_at(layer)) {
@@ -149,7 +149,7 @@ fn check_layer<C: StatementContext>(
             Ok(())
         }
         None => {
-            if picture.arrayed {
+            if image_type.arrayed {
                 return Err(ExpressionError::InvalidImageArrayIndex);
             }
             Ok(())
@@ -160,19 +160,19 @@ fn check_layer<C: StatementContext>(
 // Whether an image has a texel there.
 fn check_texel<C: StatementContext>(
     context: &C,
-    picture: &Picture,
+    image_type: &ImageType,
     coordinate: Handle<key::Expression>,
     array_index: &Option<Handle<key::Expression>>,
 ) -> Result<(), ExpressionError>
     ensures { MatchResult result
-        (λ _. IsTexelOf (C.seen context.now) picture.now coordinate array_index.now)
-        (IsTexelFault (C.seen context.now) picture.now coordinate array_index.now) }
+        (λ _. IsTexelOf (C.seen context.now) image_type.now coordinate array_index.now)
+        (IsTexelFault (C.seen context.now) image_type.now coordinate array_index.now) }
 {
     let place = context.form_at(coordinate);
-    if !is_texel(picture.dim, &place) {
-        return Err(ExpressionError::InvalidImageCoordinateType(picture.dim, coordinate));
+    if !is_texel(image_type.dim, &place) {
+        return Err(ExpressionError::InvalidImageCoordinateType(image_type.dim, coordinate));
     }
-    check_layer(context, picture, coordinate, array_index)
+    check_layer(context, image_type, coordinate, array_index)
 }
 
 // ---- what is written
@@ -202,9 +202,9 @@ fn check_written<C: StatementContext>(
 {
     match written_image(context, image) {
         Err(error) => Err(error),
-        Ok(picture) => match format_of(picture.class) {
-            None => Err(ExpressionError::InvalidImageClass(picture.class)),
-            Some(format) => match check_texel(context, &picture, coordinate, array_index) {
+        Ok(image_type) => match format_of(image_type.class) {
+            None => Err(ExpressionError::InvalidImageClass(image_type.class)),
+            Some(format) => match check_texel(context, &image_type, coordinate, array_index) {
                 Err(error) => Err(error),
                 Ok(()) => {
                     let texel = Form::Vector {
@@ -578,9 +578,9 @@ pub fn check_image_atomic<C: StatementContext>(
 {
     match changed_image(context, image) {
         Err(error) => Err(FunctionError::InvalidImageAtomic(error)),
-        Ok(picture) => match check_texel(context, &picture, coordinate, &array_index) {
+        Ok(image_type) => match check_texel(context, &image_type, coordinate, &array_index) {
             Err(error) => Err(FunctionError::InvalidImageAtomic(error)),
-            Ok(()) => match check_changed(context, picture.class, &fun, value) {
+            Ok(()) => match check_changed(context, image_type.class, &fun, value) {
                 Ok(()) => Ok(()),
                 Err(error) => Err(error),
             },

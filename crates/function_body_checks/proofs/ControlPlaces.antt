@@ -1,14 +1,25 @@
 -- What a walk carries to a place is what stands around it.
-use Rattle.std.proofs.Common.{◌≡◌, zero, suc, ℕ, inl, inr, false, List, [], ◌∷◌, Some, None, IsTrue, refl, sym, ap, ◌∙◌, subst}
-use Rattle.typing_errors.specs.declared.error.FunctionError.{FunctionError}
-use Rattle.typing_errors.specs.declared.error.FunctionError.TheVariants as error
+use Rattle.std.proofs.Common.{◌≡◌, zero, suc, ℕ, ◌+◌, ◌<◌, ◌≤◌, length, drop, get_or, arith, Option, slice_get, map, false, List, [], ◌∷◌, Some, None, IsTrue, refl, sym, ap, ◌∙◌, subst}
+use Rattle.std.proofs.Math.Seq.{drop-cons}
+use Rattle.std.proofs.lemmas.List.{drop_all}
+use Rattle.ir_blocks.specs.declared.statements.Block.{Block}
+use Rattle.ir_blocks.specs.declared.statements.Statement.{Statement}
+use Rattle.ir_blocks.specs.declared.statements.SwitchCase.{SwitchCase}
+use Rattle.ir_blocks.specs.found.View.{statement_view, block_view, case_view, statements_of, statements_view, cases_of}
 use Rattle.ir_blocks.specs.judged.Control.{breaks_in, continues_in, returns_in, may_leave, parts_around, ControlOK}
 use Rattle.ir_blocks.specs.judged.Places.{Place, here, later, condition, OccursAt, statement}
 use Rattle.ir_blocks.specs.judged.Places as at
 use Rattle.ir_blocks.specs.judged.Plain.{PlainStatement, emit, block, if_, switch, loop, break, continue, return, kill, operation, call, PlainBlock, stop, next, PlainCases, no_case, case}
 use Rattle.ir_blocks.specs.judged.Shapes.{Exit, breaks, continues, returns, kills, exit_of, shape_of, Part, inner, accepting, rejecting, case_at, loop_body, loop_continuing, case_body, part_of}
-use Rattle.function_body_checks.specs.Allowed.{MayLeave, in_body, inside, at_place, allows, AllLeave, LeavesWithin, CasesLeave, IsExitError, LeavesIn, LeftBy, LeavesInCases}
-use Rattle.function_body_checks.specs.ControlFaults.{IsLeftWrongly, IsControlFault}
+use Rattle.ir_places.proofs.StandLaws.{further, in_case, none_in_stop}
+use Rattle.ir_places.proofs.TrailLaws.{block_is, body_is, leads, placed_then}
+use Rattle.ir_places.specs.Paths.{IsPlaced, later_by, place_of}
+use Rattle.ir_places.specs.Stands.{StandsAt}
+use Rattle.ir_places.specs.declared.trail.Trail.{Trail}
+use Rattle.function_body_checks.specs.Allowed.{MayLeave, in_body, inside, at_place, allows, AllLeave, LeavesWithin, CasesLeave, error_of, IsExitError, LeavesBadly, LeftAt, LeftFrom, LeftInPart, LeftInCase}
+use Rattle.function_body_checks.specs.ControlFaults.{IsLeftWrongly, IsControlFaultAt}
+use Rattle.function_body_checks.specs.declared.allowed.Wrong.{Wrong}
+use Rattle.function_body_checks.specs.declared.allowed.Wrong.TheVariants as wrong
 
 -- ---- what is carried, and what stands around
 
@@ -88,12 +99,6 @@ part_leaves m kill part h = tt
 part_leaves m (operation a) part h = tt
 part_leaves m (call function arguments answer) part h = tt
 
-none_in_stop : {A : Type 0} (p : Place) (s : PlainStatement) → OccursAt stop p s → A
-none_in_stop here s e = let x = e in absurd (cc)
-none_in_stop (later p) s e = let x = e in absurd (cc)
-none_in_stop (at.inside part p) s e = let x = e in absurd (cc)
-none_in_stop condition s e = let x = e in absurd (cc)
-
 leaves_at : (p : Place) (m : MayLeave) (b : PlainBlock) → AllLeave m b → (s : PlainStatement) (exit : Exit) → OccursAt b p s → exit_of (shape_of s) ≡ Some exit → IsTrue (allows (at_place m p) exit)
 leaves_at p m stop h s exit stands is = none_in_stop p s stands
 leaves_at here m (next u rest) h s exit stands is =
@@ -107,53 +112,67 @@ control_fine b h p s exit stands is = subst IsTrue (same_at exit p) (leaves_at p
 
 -- ---- one leaves as it may not
 
-pub record LeftAt (e : FunctionError) (m : MayLeave) (b : PlainBlock) : Type 0 where
-  pub place : Place
-  pub by : PlainStatement
-  pub exit : Exit
-  pub stands : OccursAt b place by
-  pub leaves : exit_of (shape_of by) ≡ Some exit
-  pub told : IsExitError exit e
-  pub refused : allows (at_place m place) exit ≡ false
+place_later : (k : ℕ) (m : MayLeave) (p : Place) → at_place m (later_by k p) ≡ at_place m p
+place_later zero m p = refl
+place_later (suc k) m p = place_later k m p
 
-in_part : (e : FunctionError) (m : MayLeave) (s : PlainStatement) (rest : PlainBlock) (part : Part) → LeftAt e (inside part m) (part_of (shape_of s) part) → LeftAt e m (next s rest)
-in_part e m s rest part found = record { place = at.inside part found.place; by = found.by; exit = found.exit; stands = found.stands; leaves = found.leaves; told = found.told; refused = found.refused }
+-- of a statement, of the block that has it
+pub left_in_block : (t : Trail) (e : Wrong) (m : MayLeave) (b : Block) (items : List Statement) → items ≡ statements_of b → (k : ℕ) (s : Statement) → slice_get items k ≡ Some s
+    → IsPlaced t (LeftFrom e m k (statement_view s)) → IsPlaced t (LeftAt e m (block_view b))
+left_in_block t e m b items of_b k s is =
+    placed_then t (LeftFrom e m k (statement_view s)) (LeftAt e m (block_view b))
+    (λ p h.
+    let P = LeavesBadly e (at_place m h.0) in
+    let there : StandsAt P (block_view b) (later_by k h.0) = subst (λ x. StandsAt P x (later_by k h.0)) (block_is b items of_b) (further P items k s is h.0 h.2) in
+    subst (LeftAt e m (block_view b)) (sym h.1)
+    (subst (λ x. StandsAt (LeavesBadly e x) (block_view b) (later_by k h.0)) (sym (place_later k m h.0)) there))
 
-mutual
-  left_in : (e : FunctionError) (m : MayLeave) (b : PlainBlock) → LeavesIn e m b → LeftAt e m b
-  left_in e m stop h = absurd h
-  left_in e m (next s rest) (inl own) = left_by e m s rest own
-  left_in e m (next s rest) (inr more) =
-      let found = left_in e m rest more in
-      record { place = later found.place; by = found.by; exit = found.exit; stands = found.stands; leaves = found.leaves; told = found.told; refused = found.refused }
+-- of a case, of the switch
+pub left_in_case : (t : Trail) (e : Wrong) (m : MayLeave) (k : ℕ) (items : List SwitchCase) (n : ℕ) (c : SwitchCase) → slice_get items n ≡ Some c
+    → IsPlaced t (LeftInPart e m k (case_at n) (block_view c.body)) → IsPlaced t (LeftInCase e m k (cases_of (map case_view items)))
+left_in_case t e m k items n c is =
+    placed_then t (LeftInPart e m k (case_at n) (block_view c.body)) (LeftInCase e m k (cases_of (map case_view items)))
+    (λ p h. (n, (h.0, h.1, in_case (LeavesBadly e (at_place m h.0)) items n c is h.0 (subst (λ b. LeftAt e m b h.0) (body_is c) h.2))))
 
-  left_by : (e : FunctionError) (m : MayLeave) (s : PlainStatement) (rest : PlainBlock) → LeftBy e m s → LeftAt e m (next s rest)
-  left_by e m (emit first end) rest h = absurd h
-  left_by e m (block b) rest h = in_part e m (block b) rest inner (left_in e m b h)
-  left_by e m (if_ test accept reject) rest (inl h) = in_part e m (if_ test accept reject) rest accepting (left_in e m accept h)
-  left_by e m (if_ test accept reject) rest (inr h) = in_part e m (if_ test accept reject) rest rejecting (left_in e m reject h)
-  left_by e m (switch selector cases) rest h = let found = left_in_cases e (inside (case_at 0) m) cases h in in_part e m (switch selector cases) rest (case_at found.0) found.1
-  left_by e m (loop body continuing break_if) rest (inl h) = in_part e m (loop body continuing break_if) rest loop_body (left_in e (inside loop_body m) body h)
-  left_by e m (loop body continuing break_if) rest (inr h) = in_part e m (loop body continuing break_if) rest loop_continuing (left_in e (inside loop_continuing m) continuing h)
-  left_by e m break rest h = record { place = here; by = break; exit = breaks; stands = refl; leaves = refl; told = h.0; refused = h.1 }
-  left_by e m continue rest h = record { place = here; by = continue; exit = continues; stands = refl; leaves = refl; told = h.0; refused = h.1 }
-  left_by e m (return value) rest h = record { place = here; by = return value; exit = returns; stands = refl; leaves = refl; told = h.0; refused = h.1 }
-  left_by e m kill rest h = absurd h
-  left_by e m (operation a) rest h = absurd h
-  left_by e m (call function arguments answer) rest h = absurd h
+-- of a part, of the statement
+pub left_in_part : (t : Trail) (e : Wrong) (m : MayLeave) (k : ℕ) (part : Part) (s : PlainStatement) (b : PlainBlock) → b ≡ part_of (shape_of s) part
+    → IsPlaced t (LeftInPart e (inside part m) k part b) → IsPlaced t (LeftFrom e m k s)
+left_in_part t e m k part s b is =
+    placed_then t (LeftInPart e (inside part m) k part b) (LeftFrom e m k s) (λ p h. (at.inside part h.0, h.1, subst (λ x. LeftAt e (inside part m) x h.0) is h.2))
 
-  left_in_cases : (e : FunctionError) (m : MayLeave) (cs : PlainCases) → LeavesInCases e m cs → (k : ℕ) × LeftAt e m (case_body cs k)
-  left_in_cases e m no_case h = absurd h
-  left_in_cases e m (case value body falls rest) (inl h) = (zero, left_in e m body h)
-  left_in_cases e m (case value body falls rest) (inr h) = let found = left_in_cases e m rest h in (suc found.0, found.1)
+-- the statement itself
+pub left_here : (t : Trail) (e : Wrong) (m : MayLeave) (k : ℕ) (s : PlainStatement) → place_of t ≡ later_by k here → LeavesBadly e m s → IsPlaced t (LeftFrom e m k s)
+left_here t e m k s is bad = (later_by k here, leads t (later_by k here) is, (here, refl, (s, refl, bad)))
 
-told_as : (b : PlainBlock) (exit : Exit) (e : FunctionError) → IsExitError exit e → IsLeftWrongly b exit → IsControlFault b e
-told_as b breaks error.BreakOutsideOfLoopOrSwitch told wrong = wrong
-told_as b continues error.ContinueOutsideOfLoop told wrong = wrong
-told_as b returns error.InvalidReturnSpot told wrong = wrong
-told_as b _ _ told wrong = absurd told
+pub bad_break : (m : MayLeave) (s : PlainStatement) → s ≡ break → m.by_break ≡ false → LeavesBadly wrong.Break m s
+bad_break m s is refused = subst (LeavesBadly wrong.Break m) (sym is) (record { exit = breaks; leaves = refl; told = tt; refused = refused })
 
-pub control_wrong : (b : PlainBlock) (e : FunctionError) → LeavesIn e in_body b → IsControlFault b e
-control_wrong b e h =
-    let found = left_in e in_body b h in
-    told_as b found.exit e found.told (record { place = found.place; statement = found.by; stands = found.stands; leaves = found.leaves; refused = sym (same_at found.exit found.place) ∙ found.refused })
+pub bad_continue : (m : MayLeave) (s : PlainStatement) → s ≡ continue → m.by_continue ≡ false → LeavesBadly wrong.Continue m s
+bad_continue m s is refused = subst (LeavesBadly wrong.Continue m) (sym is) (record { exit = continues; leaves = refl; told = tt; refused = refused })
+
+pub bad_return : (m : MayLeave) (s : PlainStatement) (value : Option ℕ) → s ≡ return value → m.by_return ≡ false → LeavesBadly wrong.Return m s
+bad_return m s value is refused = subst (LeavesBadly wrong.Return m) (sym is) (record { exit = returns; leaves = refl; told = tt; refused = refused })
+
+-- ---- a list gone through by an index
+
+pub none_left : (m : MayLeave) (items : List Statement) (i : ℕ) → length items ≤ i → (AllLeave m (statements_view (drop i items)) → AllLeave m (statements_view items)) → AllLeave m (statements_view items)
+none_left m items i past leads = leads (subst (λ x. AllLeave m (statements_view x)) (sym (drop_all i items past)) tt)
+
+pub case_more : (m : MayLeave) (items : List SwitchCase) (i : ℕ) (c : SwitchCase) → i < length items → c ≡ get_or items i c → AllLeave m (block_view c.body)
+    → CasesLeave m (cases_of (map case_view (drop (i + 1) items))) → CasesLeave m (cases_of (map case_view (drop i items)))
+case_more m items i c within is own rest =
+    subst (λ x. CasesLeave m (cases_of (map case_view x))) (sym (drop-cons items i c within))
+    (subst (λ x. AllLeave m (case_view x).body) is (subst (AllLeave m) (body_is c) own), subst (λ k. CasesLeave m (cases_of (map case_view (drop k items)))) (let e : i + 1 ≡ suc i = omega arith in e) rest)
+
+-- ---- as errors of functions
+
+told_as : (b : PlainBlock) (p : Place) (exit : Exit) (e : Wrong) → IsExitError exit e → IsLeftWrongly b p exit → IsControlFaultAt b (error_of e) p
+told_as b p breaks wrong.Break told bad = bad
+told_as b p continues wrong.Continue told bad = bad
+told_as b p returns wrong.Return told bad = bad
+told_as b p _ _ told bad = absurd told
+
+pub control_wrong : (t : Trail) (b : PlainBlock) (e : Wrong) → IsPlaced t (LeftAt e in_body b) → IsPlaced t (IsControlFaultAt b (error_of e))
+control_wrong t b e =
+    placed_then t (LeftAt e in_body b) (IsControlFaultAt b (error_of e))
+    (λ p found. told_as b p found.2.exit e found.2.told (record { statement = found.0; stands = found.1; leaves = found.2.leaves; refused = sym (same_at found.2.exit p) ∙ found.2.refused }))

@@ -2,7 +2,6 @@
 use Rattle.std.proofs.Common.{◌≡◌, ℕ, zero, suc, inl, inr, Bool, List, [], ◌++◌, All, Some, None, Contains, refl, sym, ◌∙◌, subst, arith}
 use Rattle.std.proofs.lemmas.List.{append-nil, append_assoc}
 use Rattle.std.proofs.lemmas.List.Elements.{All-nil}
-use Rattle.typing_errors.specs.declared.error.FunctionError.{FunctionError}
 use Rattle.ir_blocks.specs.judged.Places.{Place, here, later, inside, condition, Spot, nothing, statement, loop_condition, condition_of, spot_at}
 use Rattle.ir_blocks.specs.judged.Plain.{PlainStatement, emit, block, if_, switch, loop, break, continue, return, kill, operation, call, PlainBlock, stop, next, PlainCases, no_case, case}
 use Rattle.ir_blocks.specs.judged.Shapes.{Part, inner, accepting, rejecting, case_at, loop_body, loop_continuing, shape_of, part_of, case_body}
@@ -12,7 +11,7 @@ use Rattle.spec_statements.specs.found.Answered.{answered_in, answered_at, answe
 use Rattle.spec_statements.specs.judged.Results.{AnswersBy}
 use Rattle.spec_statements.specs.judged.Tables.{checked_at, introduced, introduced_at}
 use Rattle.spec_statements.specs.judged.Visible.{top_level, entering, at_condition, visible}
-use Rattle.function_body_checks.specs.Carried.{Fine, Known, AllFine, FineWithin, FineInCases, FaultIn, FaultWithin, FaultInCases, IsFaultHere, answer_at}
+use Rattle.function_body_checks.specs.Carried.{Fine, Known, AllFine, FineWithin, FineInCases, answer_at}
 
 module _ (f : PlainFunction) (asked : Bool) where
   -- ---- fine along a body, so fine at each place
@@ -100,59 +99,6 @@ module _ (f : PlainFunction) (asked : Bool) where
       fine_at p (entering scope s part) (answered ++ answered_before_part s part) (part_of (shape_of s) part) (part_fine scope answered s part h.0)
   fine_at condition scope answered stop h = nothing_fine scope answered
   fine_at condition scope answered (next s rest) h = condition_fine scope answered s h.0
-
-  -- ---- wrong along a body, so wrong at a place
-
-  pub record FaultAt (e : FunctionError) (scope answered : List ℕ) (b : PlainBlock) : Type 0 where
-    pub place : Place
-    pub wrong : IsFaultHere f asked (spot_at place b) (visible scope place b) (answered_before answered place b) e
-
-  in_part : (e : FunctionError) (scope answered : List ℕ) (s : PlainStatement) (rest : PlainBlock) (part : Part) → FaultAt e (entering scope s part) (answered ++ answered_before_part s part) (part_of (shape_of s) part)
-      → FaultAt e scope answered (next s rest)
-  in_part e scope answered s rest part found = record { place = inside part found.place; wrong = found.wrong }
-
-  no_answers : (e : FunctionError) (scope answered : List ℕ) (b : PlainBlock) → FaultIn f asked e scope answered b → FaultIn f asked e scope (answered ++ []) b
-  no_answers e scope answered b h = subst (λ xs. FaultIn f asked e scope xs b) (sym (append-nil answered)) h
-
-  mutual
-    pub fault_in : (e : FunctionError) (scope answered : List ℕ) (b : PlainBlock) → FaultIn f asked e scope answered b → FaultAt e scope answered b
-    fault_in e scope answered stop h = absurd h
-    fault_in e scope answered (next s rest) (inl own) = fault_within e scope answered s rest own
-    fault_in e scope answered (next s rest) (inr more) =
-        let found = fault_in e (scope ++ introduced s) (answered ++ answered_at s) rest more in record { place = later found.place; wrong = found.wrong }
-
-    fault_within : (e : FunctionError) (scope answered : List ℕ) (s : PlainStatement) (rest : PlainBlock) → FaultWithin f asked e scope answered s → FaultAt e scope answered (next s rest)
-    fault_within e scope answered (emit first end) rest h = record { place = here; wrong = h }
-    fault_within e scope answered (block b) rest h = in_part e scope answered (block b) rest inner (fault_in e scope (answered ++ []) b (no_answers e scope answered b h))
-    fault_within e scope answered (if_ test accept reject) rest (inl own) = record { place = here; wrong = own }
-    fault_within e scope answered (if_ test accept reject) rest (inr (inl first)) =
-        in_part e scope answered (if_ test accept reject) rest accepting (fault_in e scope (answered ++ []) accept (no_answers e scope answered accept first))
-    fault_within e scope answered (if_ test accept reject) rest (inr (inr second)) =
-        in_part e scope answered (if_ test accept reject) rest rejecting (fault_in e scope (answered ++ answered_in accept) reject second)
-    fault_within e scope answered (switch selector cases) rest (inl own) = record { place = here; wrong = own }
-    fault_within e scope answered (switch selector cases) rest (inr h) =
-        let found = fault_case e scope answered cases h in in_part e scope answered (switch selector cases) rest (case_at found.0) found.1
-    fault_within e scope answered (loop body continuing break_if) rest (inl first) =
-        in_part e scope answered (loop body continuing break_if) rest loop_body (fault_in e scope (answered ++ []) body (no_answers e scope answered body first))
-    fault_within e scope answered (loop body continuing break_if) rest (inr (inl second)) =
-        in_part e scope answered (loop body continuing break_if) rest loop_continuing (fault_in e (scope ++ top_level body) (answered ++ answered_in body) continuing second)
-    fault_within e scope answered (loop body continuing break_if) rest (inr (inr third)) = record {
-      place = condition;
-      wrong = subst (λ xs. IsFaultHere f asked (loop_condition break_if) ((scope ++ top_level body) ++ top_level continuing) xs e) (append_assoc answered (answered_in body) (answered_in continuing)) third;
-    }
-    fault_within e scope answered break rest h = record { place = here; wrong = h }
-    fault_within e scope answered continue rest h = record { place = here; wrong = h }
-    fault_within e scope answered (return value) rest h = record { place = here; wrong = h }
-    fault_within e scope answered kill rest h = record { place = here; wrong = h }
-    fault_within e scope answered (operation a) rest h = record { place = here; wrong = h }
-    fault_within e scope answered (call function arguments answer) rest h = record { place = here; wrong = h }
-
-    fault_case : (e : FunctionError) (scope answered : List ℕ) (cs : PlainCases) → FaultInCases f asked e scope answered cs → (k : ℕ) × FaultAt e scope (answered ++ answered_before_case cs k) (case_body cs k)
-    fault_case e scope answered no_case h = absurd h
-    fault_case e scope answered (case value body falls rest) (inl first) = (zero, fault_in e scope (answered ++ []) body (no_answers e scope answered body first))
-    fault_case e scope answered (case value body falls rest) (inr more) =
-        let found = fault_case e scope (answered ++ answered_in body) rest more in
-        (suc found.0, subst (λ xs. FaultAt e scope xs (case_body rest found.0)) (append_assoc answered (answered_in body) (answered_before_case rest found.0)) found.1)
 
 -- ---- by what a body answers
 

@@ -20,11 +20,14 @@ use Rattle.spec_statements.specs.judged.Results.{answer_of, AnswersBy}
 use Rattle.spec_statements.specs.judged.Scope.{InScope, ScopeOK}
 use Rattle.spec_statements.specs.judged.Tables.{checked_at, introduced_at}
 use Rattle.spec_statements.specs.judged.Visible.{visible}
-use Rattle.function_body_checks.proofs.Conversions.{fine_at, fault_in, answering}
-use Rattle.function_body_checks.specs.Carried.{Fine, Known, AllFine, FaultIn, IfFault, IsFaultHere, IsCallError, IsAtomicError, IsAgain, IsArgumentError, answer_at, callee_at}
+use Rattle.function_body_checks.proofs.Conversions.{fine_at, answering}
+use Rattle.function_body_checks.specs.Carried.{Fine, Known, AllFine, FaultAt, IfFault, IsFaultHere, IsCallError, IsAtomicError, IsAgain, IsArgumentError, answer_at, callee_at}
+use Rattle.ir_places.proofs.TrailLaws.{placed_then}
+use Rattle.ir_places.specs.Paths.{IsPlaced}
+use Rattle.ir_places.specs.declared.trail.Trail.{Trail}
 use Rattle.function_body_checks.specs.declared.error.ScopeError.{ScopeError}
 use Rattle.function_body_checks.specs.declared.error.ScopeError.TheVariants as scope_error
-use Rattle.function_body_checks.specs.Faults.{IsScopeFault, IsCallErrorAt, IsAtomicErrorIn, IsPopulated}
+use Rattle.function_body_checks.specs.Faults.{IsScopeFaultAt, IsCallErrorAt, IsAtomicErrorIn, IsPopulated}
 
 -- ---- what stands at a place
 
@@ -63,6 +66,17 @@ pub given_one : (o : Option ℕ) (e : ℕ) → Contains (option_to_list o) e →
 given_one None e held = absurd (omega (arith, held.1))
 given_one (Some x) e held = All-contains (λ y. Some x ≡ Some y) (x ∷ []) e (All-cons (λ y. Some x ≡ Some y) x [] refl (All-nil (λ y. Some x ≡ Some y))) held
 
+-- ---- from one fault to another
+
+pub if_fault_then : (r : ScopeError) (P Q : FunctionError → Type 0) → ((e : FunctionError) → P e → Q e) → IfFault r P → IfFault r Q
+if_fault_then (scope_error.Memory e) P Q then h = h
+if_fault_then (scope_error.Unknown e) P Q then h = then _ h
+if_fault_then (scope_error.UnknownArgument function index) P Q then h = then _ h
+if_fault_then (scope_error.Known e) P Q then h = then _ h
+if_fault_then (scope_error.KnownResult function answer) P Q then h = then _ h
+if_fault_then (scope_error.Answered function answer) P Q then h = then _ h
+if_fault_then (scope_error.AnsweredAtomic answer) P Q then h = then _ h
+
 -- ---- faults
 
 module _ (flags : ValidationFlags) (f : PlainFunction) (asked : Bool) (unasked : asked ≡ false → Has flags.0 EXPRESSIONS.0 → ⊥) where
@@ -88,24 +102,26 @@ module _ (flags : ValidationFlags) (f : PlainFunction) (asked : Bool) (unasked :
   call_error_at p g found (call_error.ResultAlreadyPopulated e) h = (sym (ap answer_at found.is) ∙ h.0, populated p e h.1)
   call_error_at p g found _ h = absurd h
 
-  atomic_error_at : (p : Place) (e : AtomicError) → callee_at (spot_at p f.body) ≡ None → IsAtomicError asked (spot_at p f.body) (answered_before [] p f.body) e → IsAtomicErrorIn flags f e
+  atomic_error_at : (p : Place) (e : AtomicError) → callee_at (spot_at p f.body) ≡ None → IsAtomicError asked (spot_at p f.body) (answered_before [] p f.body) e → IsAtomicErrorIn flags f p e
   atomic_error_at p (atomic_error.ResultAlreadyPopulated e) other h =
-      let by = answers_at (spot_at p f.body) e h.0 in record { place = p; other = other; answers = (by.0, by.1, by.2); again = populated p e h.1 }
+      let by = answers_at (spot_at p f.body) e h.0 in record { other = other; answers = (by.0, by.1, by.2); again = populated p e h.1 }
   atomic_error_at p _ other h = absurd h
 
-  fault_reported : (p : Place) (e : FunctionError) → IsFaultHere f asked (spot_at p f.body) (visible [] p f.body) (answered_before [] p f.body) e → IsScopeFault flags f e
-  fault_reported p (error.Expression e source) h = (h.1, record { place = p; other = h.0; used = h.2.0; unknown = not_in_scope p e h.2.1 })
-  fault_reported p (error.ExpressionAlreadyInScope e) h = record { place = p; other = h.0; brought = h.1; known = in_scope p e h.2 }
+  fault_reported : (p : Place) (e : FunctionError) → IsFaultHere f asked (spot_at p f.body) (visible [] p f.body) (answered_before [] p f.body) e → IsScopeFaultAt flags f e p
+  fault_reported p (error.Expression e source) h = (h.1, record { other = h.0; used = h.2.0; unknown = not_in_scope p e h.2.1 })
+  fault_reported p (error.ExpressionAlreadyInScope e) h = record { other = h.0; brought = h.1; known = in_scope p e h.2 }
   fault_reported p (error.InvalidCall g e) h =
       let found = call_at (spot_at p f.body) g h.0 in
-      record { place = p; arguments = found.arguments; answer = found.answer; stands = found.is; wrong = call_error_at p g found e h.1 }
+      record { arguments = found.arguments; answer = found.answer; stands = found.is; wrong = call_error_at p g found e h.1 }
   fault_reported p (error.InvalidAtomic e) h = atomic_error_at p e h.0 h.1
   fault_reported p _ h = absurd h
 
-  pub reported_in_body : (e : FunctionError) (scope answered : List ℕ) → scope ≡ [] → answered ≡ [] → FaultIn f asked e scope answered f.body → IsScopeFault flags f e
-  reported_in_body e scope answered none silent wrong =
-      let start : FaultIn f asked e [] [] f.body = subst (λ xs. FaultIn f asked e xs [] f.body) none (subst (λ xs. FaultIn f asked e scope xs f.body) silent wrong) in
-      let found = fault_in f asked e [] [] f.body start in fault_reported found.place e found.wrong
+  pub reported_in_body : (t : Trail) (e : ScopeError) (scope answered : List ℕ) → scope ≡ [] → answered ≡ [] → IsPlaced t (FaultAt f asked scope answered f.body e)
+      → IsPlaced t (λ p. IfFault e (λ x. IsScopeFaultAt flags f x p))
+  reported_in_body t e scope answered none silent wrong =
+      placed_then t (FaultAt f asked scope answered f.body e) (λ p. IfFault e (λ x. IsScopeFaultAt flags f x p))
+      (λ p there. if_fault_then e (IsFaultHere f asked (spot_at p f.body) (visible [] p f.body) (answered_before [] p f.body)) (λ x. IsScopeFaultAt flags f x p) (fault_reported p)
+      (subst (λ xs. FaultAt f asked xs [] f.body e p) none (subst (λ xs. FaultAt f asked scope xs f.body e p) silent there))) wrong
 
 -- ---- fine bodies
 
@@ -139,14 +155,3 @@ pub argument_fault : (f : PlainFunction) (asked : Bool) (s : PlainStatement) (sc
 argument_fault f asked s scope answered function arguments (error.InvalidCall called (call_error.Argument place source)) callee is h =
     (callee ∙ ap Some (sym h.0), (h.1, (h.2.0, subst (λ xs. slice_get xs place ≡ Some h.2.0) is h.2.1, h.2.2)))
 argument_fault f asked s scope answered function arguments _ callee is h = absurd h
-
--- ---- from one fault to another
-
-pub if_fault_then : (r : ScopeError) (P Q : FunctionError → Type 0) → ((e : FunctionError) → P e → Q e) → IfFault r P → IfFault r Q
-if_fault_then (scope_error.Memory e) P Q then h = h
-if_fault_then (scope_error.Unknown e) P Q then h = then _ h
-if_fault_then (scope_error.UnknownArgument function index) P Q then h = then _ h
-if_fault_then (scope_error.Known e) P Q then h = then _ h
-if_fault_then (scope_error.KnownResult function answer) P Q then h = then _ h
-if_fault_then (scope_error.Answered function answer) P Q then h = then _ h
-if_fault_then (scope_error.AnsweredAtomic answer) P Q then h = then _ h

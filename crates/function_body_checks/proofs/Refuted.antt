@@ -13,7 +13,7 @@ use Rattle.ir_flags.specs.declared.settings.ValidationFlags.{ValidationFlags}
 use Rattle.ir_flags.specs.declared.settings.TheConstants.ValidationFlags.{EXPRESSIONS}
 use Rattle.ir_items.specs.judged.Plain.{PlainFunction}
 use Rattle.function_body_checks.proofs.Lists.{contains_at}
-use Rattle.function_body_checks.specs.Faults.{IsPopulated, IsCallErrorAt, IsAtomicErrorIn, IsScopeFault}
+use Rattle.function_body_checks.specs.Faults.{IsPopulated, IsCallErrorAt, IsAtomicErrorIn, IsScopeFaultAt}
 use Rattle.function_body_checks.specs.Laws.{FaultsRefute}
 use Rattle.spec_statements.specs.found.Answered.{EachOnce}
 use Rattle.spec_statements.specs.judged.Results.{AnswersBy}
@@ -33,16 +33,16 @@ module _ (flags : ValidationFlags) (f : PlainFunction) (scope : ScopeOK f) (once
   in_call (call_error.ResultAlreadyPopulated x) p function arguments answer stands h = again p x (call function arguments answer, stands, h.0) h.1
   in_call _ p function arguments answer stands h = absurd h
 
-  in_atomic : (e : AtomicError) → IsAtomicErrorIn flags f e → ⊥
-  in_atomic (atomic_error.ResultAlreadyPopulated x) h = again h.place x h.answers h.again
-  in_atomic _ h = absurd h
+  in_atomic : (e : AtomicError) (p : Place) → IsAtomicErrorIn flags f p e → ⊥
+  in_atomic (atomic_error.ResultAlreadyPopulated x) p h = again p x h.answers h.again
+  in_atomic _ p h = absurd h
 
-  refuted : (e : FunctionError) → IsScopeFault flags f e → ⊥
-  refuted (error.Expression x source) h = h.1.unknown (scope.in_scope h.1.place x h.1.used)
-  refuted (error.ExpressionAlreadyInScope x) h = scope.fresh h.place x h.brought h.known
-  refuted (error.InvalidCall function e) h = in_call e h.place function h.arguments h.answer h.stands h.wrong
-  refuted (error.InvalidAtomic e) h = in_atomic e h
-  refuted _ h = absurd h
+  refuted : (e : FunctionError) (p : Place) → IsScopeFaultAt flags f e p → ⊥
+  refuted (error.Expression x source) p h = h.1.unknown (scope.in_scope p x h.1.used)
+  refuted (error.ExpressionAlreadyInScope x) p h = scope.fresh p x h.brought h.known
+  refuted (error.InvalidCall function e) p h = in_call e p function h.arguments h.answer h.stands h.wrong
+  refuted (error.InvalidAtomic e) p h = in_atomic e p h
+  refuted _ p h = absurd h
 
 pub faults_refute_lem : FaultsRefute
-faults_refute_lem flags f e wrong scope once asked = refuted flags f scope once asked e wrong
+faults_refute_lem flags f e wrong scope once asked = refuted flags f scope once asked e wrong.0 wrong.1

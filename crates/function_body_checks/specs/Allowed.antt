@@ -1,11 +1,13 @@
 -- How statements may leave their block, carried along a body.
-use Rattle.std.specs.Prelude.{◌≡◌, ◌⊎◌, Bool, true, false, IsTrue}
+use Rattle.std.specs.Prelude.{◌≡◌, ℕ, Bool, true, false, IsTrue, Some}
 use Rattle.typing_errors.specs.declared.error.FunctionError.{FunctionError}
 use Rattle.typing_errors.specs.declared.error.FunctionError.TheVariants as error
 use Rattle.ir_blocks.specs.judged.Places.{Place, here, later, condition}
 use Rattle.ir_blocks.specs.judged.Places as at
 use Rattle.ir_blocks.specs.judged.Plain.{PlainStatement, emit, block, if_, switch, loop, break, continue, return, kill, operation, call, PlainBlock, stop, next, PlainCases, no_case, case}
-use Rattle.ir_blocks.specs.judged.Shapes.{Exit, breaks, continues, returns, kills, Part, inner, accepting, rejecting, case_at, loop_body, loop_continuing}
+use Rattle.ir_blocks.specs.judged.Shapes.{Exit, breaks, continues, returns, kills, Part, inner, accepting, rejecting, case_at, loop_body, loop_continuing, exit_of, shape_of, case_body}
+use Rattle.ir_places.specs.Paths.{later_by}
+use Rattle.ir_places.specs.Stands.{StandsAt}
 use Rattle.function_body_checks.specs.declared.allowed.Allowed.{Allowed}
 use Rattle.function_body_checks.specs.declared.allowed.Wrong.{Wrong}
 use Rattle.function_body_checks.specs.declared.allowed.Wrong.TheVariants as wrong
@@ -75,31 +77,31 @@ error_of wrong.Break = error.BreakOutsideOfLoopOrSwitch
 error_of wrong.Continue = error.ContinueOutsideOfLoop
 error_of wrong.Return = error.InvalidReturnSpot
 
--- the exit that an error is of
-abbrev pub IsExitError : Exit → FunctionError → Type 0
-IsExitError breaks error.BreakOutsideOfLoopOrSwitch = Unit {0}
-IsExitError continues error.ContinueOutsideOfLoop = Unit {0}
-IsExitError returns error.InvalidReturnSpot = Unit {0}
+-- what the error says of an exit
+abbrev pub IsExitError : Exit → Wrong → Type 0
+IsExitError breaks wrong.Break = Unit {0}
+IsExitError continues wrong.Continue = Unit {0}
+IsExitError returns wrong.Return = Unit {0}
 IsExitError _ _ = ⊥
 
-abbrev mutual
-  pub LeavesIn : FunctionError → MayLeave → PlainBlock → Type 0
-  LeavesIn e m stop = ⊥
-  LeavesIn e m (next s rest) = LeftBy e m s ⊎ LeavesIn e m rest
+-- a statement leaves its block so where it may not
+pub record LeavesBadly (e : Wrong) (m : MayLeave) (s : PlainStatement) : Type 0 where
+  pub exit : Exit
+  pub leaves : exit_of (shape_of s) ≡ Some exit
+  pub told : IsExitError exit e
+  pub refused : allows m exit ≡ false
 
-  pub LeftBy : FunctionError → MayLeave → PlainStatement → Type 0
-  LeftBy e m (emit first end) = ⊥
-  LeftBy e m (block b) = LeavesIn e m b
-  LeftBy e m (if_ test accept reject) = LeavesIn e m accept ⊎ LeavesIn e m reject
-  LeftBy e m (switch selector cases) = LeavesInCases e (inside (case_at 0) m) cases
-  LeftBy e m (loop body continuing break_if) = LeavesIn e (inside loop_body m) body ⊎ LeavesIn e (inside loop_continuing m) continuing
-  LeftBy e m break = IsExitError breaks e × (m.by_break ≡ false)
-  LeftBy e m continue = IsExitError continues e × (m.by_continue ≡ false)
-  LeftBy e m (return value) = IsExitError returns e × (m.by_return ≡ false)
-  LeftBy e m kill = ⊥
-  LeftBy e m (operation a) = ⊥
-  LeftBy e m (call function arguments answer) = ⊥
+-- one does at a place of a body around which it may leave so
+abbrev pub LeftAt : Wrong → MayLeave → PlainBlock → Place → Type 0
+LeftAt e m b p = StandsAt (LeavesBadly e (at_place m p)) b p
 
-  pub LeavesInCases : FunctionError → MayLeave → PlainCases → Type 0
-  LeavesInCases e m no_case = ⊥
-  LeavesInCases e m (case value body falls rest) = LeavesIn e m body ⊎ LeavesInCases e m rest
+-- seen from a block that has the statement at an index
+abbrev pub LeftFrom : Wrong → MayLeave → (index : ℕ) → PlainStatement → Place → Type 0
+LeftFrom e m k s p = (q : Place) × (p ≡ later_by k q) × LeftAt e m (next s stop) q
+
+-- of a block in a part of that statement
+abbrev pub LeftInPart : Wrong → MayLeave → (index : ℕ) → Part → PlainBlock → Place → Type 0
+LeftInPart e m k part b p = (q : Place) × (p ≡ later_by k (at.inside part q)) × LeftAt e m b q
+
+abbrev pub LeftInCase : Wrong → MayLeave → (index : ℕ) → PlainCases → Place → Type 0
+LeftInCase e m k cases p = (c : ℕ) × LeftInPart e m k (case_at c) (case_body cases c) p

@@ -10,16 +10,19 @@ use Rattle.typing_errors.specs.declared.atomics.AtomicError.{AtomicError}
 use Rattle.typing_errors.specs.declared.atomics.AtomicError.TheVariants as atomic_error
 use Rattle.typing_errors.specs.declared.calls.CallError.{CallError}
 use Rattle.typing_errors.specs.declared.calls.CallError.TheVariants as call_error
-use Rattle.ir_blocks.specs.judged.Places.{Spot, nothing, statement, loop_condition}
+use Rattle.ir_blocks.specs.judged.Places.{Place, condition, Spot, nothing, statement, loop_condition, spot_at}
+use Rattle.ir_blocks.specs.judged.Places as at
+use Rattle.ir_blocks.specs.judged.Shapes.{Part, case_at, case_body}
 use Rattle.ir_blocks.specs.judged.Plain.{PlainStatement, emit, block, if_, switch, loop, break, continue, return, kill, operation, call, PlainBlock, stop, next, PlainCases, no_case, case}
 use Rattle.ir_types.specs.judged.ExpressionPlain.{PlainExpression}
 use Rattle.ir_items.specs.judged.Plain.{PlainFunction}
+use Rattle.ir_places.specs.Paths.{later_by}
 use Rattle.spec_expressions.specs.judged.StatementNames.{statement_callee}
-use Rattle.spec_statements.specs.found.Answered.{answered_in, answered_at}
+use Rattle.spec_statements.specs.found.Answered.{answered_in, answered_at, answered_before, answered_before_case}
 use Rattle.spec_statements.specs.judged.Results.{answer_of}
 use Rattle.spec_statements.specs.judged.Scope.{PreEmitted, is_pre_emitted}
 use Rattle.spec_statements.specs.judged.Tables.{checked_at, introduced, introduced_at}
-use Rattle.spec_statements.specs.judged.Visible.{top_level}
+use Rattle.spec_statements.specs.judged.Visible.{top_level, visible}
 
 -- what an error speaks of, which is nothing where there is no memory
 abbrev pub IfFault : ScopeError → (FunctionError → Type 0) → Type 0
@@ -155,28 +158,22 @@ module _ (f : PlainFunction) (asked : Bool) where
     FineInCases scope answered no_case = Unit {0}
     FineInCases scope answered (case value body falls rest) = AllFine scope answered body × FineInCases scope (answered ++ answered_in body) rest
 
-  abbrev mutual
-    pub FaultIn : FunctionError → (scope answered : List ℕ) → PlainBlock → Type 0
-    FaultIn e scope answered stop = ⊥
-    FaultIn e scope answered (next s rest) = FaultWithin e scope answered s ⊎ FaultIn e (scope ++ introduced s) (answered ++ answered_at s) rest
+  -- what an error speaks of is wrong at a place of a body, where so much is in scope, and has been answered by, as the body begins
+  abbrev pub FaultAt : (scope answered : List ℕ) → PlainBlock → ScopeError → Place → Type 0
+  FaultAt scope answered b e p = IfFault e (IsFaultHere f asked (spot_at p b) (visible scope p b) (answered_before answered p b))
 
-    pub FaultWithin : FunctionError → (scope answered : List ℕ) → PlainStatement → Type 0
-    FaultWithin e scope answered (emit first end) = IsFaultHere f asked (statement (emit first end)) scope answered e
-    FaultWithin e scope answered (block b) = FaultIn e scope answered b
-    FaultWithin e scope answered (if_ test accept reject) =
-        IsFaultHere f asked (statement (if_ test accept reject)) scope answered e ⊎ (FaultIn e scope answered accept ⊎ FaultIn e scope (answered ++ answered_in accept) reject)
-    FaultWithin e scope answered (switch selector cases) = IsFaultHere f asked (statement (switch selector cases)) scope answered e ⊎ FaultInCases e scope answered cases
-    FaultWithin e scope answered (loop body continuing break_if) =
-        FaultIn e scope answered body
-        ⊎ (FaultIn e (scope ++ top_level body) (answered ++ answered_in body) continuing
-        ⊎ IsFaultHere f asked (loop_condition break_if) ((scope ++ top_level body) ++ top_level continuing) ((answered ++ answered_in body) ++ answered_in continuing) e)
-    FaultWithin e scope answered break = IsFaultHere f asked (statement break) scope answered e
-    FaultWithin e scope answered continue = IsFaultHere f asked (statement continue) scope answered e
-    FaultWithin e scope answered (return value) = IsFaultHere f asked (statement (return value)) scope answered e
-    FaultWithin e scope answered kill = IsFaultHere f asked (statement kill) scope answered e
-    FaultWithin e scope answered (operation a) = IsFaultHere f asked (statement (operation a)) scope answered e
-    FaultWithin e scope answered (call function arguments answer) = IsFaultHere f asked (statement (call function arguments answer)) scope answered e
+  -- the same of a statement, seen from a block that has it at an index, whatever follows
+  abbrev pub FaultFrom : (scope answered : List ℕ) → (index : ℕ) → PlainStatement → ScopeError → Place → Type 0
+  FaultFrom scope answered k s e p = (q : Place) × (p ≡ later_by k q) × ((rest : PlainBlock) → FaultAt scope answered (next s rest) e q)
 
-    pub FaultInCases : FunctionError → (scope answered : List ℕ) → PlainCases → Type 0
-    FaultInCases e scope answered no_case = ⊥
-    FaultInCases e scope answered (case value body falls rest) = FaultIn e scope answered body ⊎ FaultInCases e scope (answered ++ answered_in body) rest
+  -- of a block in a part of that statement
+  abbrev pub FaultInPart : (scope answered : List ℕ) → (index : ℕ) → Part → PlainBlock → ScopeError → Place → Type 0
+  FaultInPart scope answered k part b e p = (q : Place) × (p ≡ later_by k (at.inside part q)) × FaultAt scope answered b e q
+
+  -- of a case of that statement
+  abbrev pub FaultInCase : (scope answered : List ℕ) → (index : ℕ) → PlainCases → ScopeError → Place → Type 0
+  FaultInCase scope answered k cases e p = (c : ℕ) × FaultInPart scope (answered ++ answered_before_case cases c) k (case_at c) (case_body cases c) e p
+
+  -- of its condition
+  abbrev pub FaultAtCondition : (scope answered : List ℕ) → (index : ℕ) → Option ℕ → ScopeError → Place → Type 0
+  FaultAtCondition scope answered k break_if e p = (p ≡ later_by k condition) × IfFault e (IsFaultHere f asked (loop_condition break_if) scope answered)

@@ -7,16 +7,19 @@ use Rattle.ir_blocks.specs.judged.Places.{Place, OccursAt}
 use Rattle.ir_blocks.specs.judged.Plain.{PlainStatement, PlainBlock}
 use Rattle.ir_blocks.specs.judged.Shapes.{Exit, breaks, continues, returns, exit_of, shape_of}
 
--- a statement leaves its block so where it may not
-pub record IsLeftWrongly (b : PlainBlock) (exit : Exit) : Type 0 where
-  pub place : Place
+-- the statement at the place leaves its block so, which it may not there
+pub record IsLeftWrongly (b : PlainBlock) (place : Place) (exit : Exit) : Type 0 where
   pub statement : PlainStatement
   pub stands : OccursAt b place statement
   pub leaves : exit_of (shape_of statement) ≡ Some exit
   pub refused : may_leave exit (parts_around [] place) ≡ false
 
+abbrev pub IsControlFaultAt : PlainBlock → FunctionError → Place → Type 0
+IsControlFaultAt b error.BreakOutsideOfLoopOrSwitch p = IsLeftWrongly b p breaks
+IsControlFaultAt b error.ContinueOutsideOfLoop p = IsLeftWrongly b p continues
+IsControlFaultAt b error.InvalidReturnSpot p = IsLeftWrongly b p returns
+IsControlFaultAt b _ p = ⊥
+
+-- at some place
 abbrev pub IsControlFault : PlainBlock → FunctionError → Type 0
-IsControlFault b error.BreakOutsideOfLoopOrSwitch = IsLeftWrongly b breaks
-IsControlFault b error.ContinueOutsideOfLoop = IsLeftWrongly b continues
-IsControlFault b error.InvalidReturnSpot = IsLeftWrongly b returns
-IsControlFault b _ = ⊥
+IsControlFault b e = (p : Place) × IsControlFaultAt b e p

@@ -25,15 +25,13 @@ abbrev pub NoCallAt : PlainFunction → Place → Type 0
 NoCallAt f p = callee_at (spot_at p f.body) ≡ None
 
 -- an expression is used where it is not in scope, by another statement than a call
-pub record IsUsedEarly (f : PlainFunction) (e : ℕ) : Type 0 where
-  pub place : Place
+pub record IsUsedEarly (f : PlainFunction) (place : Place) (e : ℕ) : Type 0 where
   pub other : NoCallAt f place
   pub used : Checks f.body place e
   pub unknown : ¬ InScope f place e
 
 -- an expression is brought into scope that is there, by another statement than a call
-pub record IsBroughtAgain (f : PlainFunction) (e : ℕ) : Type 0 where
-  pub place : Place
+pub record IsBroughtAgain (f : PlainFunction) (place : Place) (e : ℕ) : Type 0 where
   pub other : NoCallAt f place
   pub brought : Introduces f.body place e
   pub known : InScope f place e
@@ -49,32 +47,35 @@ IsCallErrorAt flags f p arguments answer (call_error.ResultAlreadyInScope e) = (
 IsCallErrorAt flags f p arguments answer (call_error.ResultAlreadyPopulated e) = (answer ≡ Some e) × IsPopulated flags f p e
 IsCallErrorAt flags f p arguments answer _ = ⊥
 
-pub record IsBadCall (flags : ValidationFlags) (f : PlainFunction) (function : ℕ) (e : CallError) : Type 0 where
-  pub place : Place
+pub record IsBadCall (flags : ValidationFlags) (f : PlainFunction) (place : Place) (function : ℕ) (e : CallError) : Type 0 where
   pub arguments : List ℕ
   pub answer : Option ℕ
   pub stands : OccursAt f.body place (call function arguments answer)
   pub wrong : IsCallErrorAt flags f place arguments answer e
 
 -- an atomic operation answers by what is answered by already
-pub record IsBadAtomic (flags : ValidationFlags) (f : PlainFunction) (e : ℕ) : Type 0 where
-  pub place : Place
+pub record IsBadAtomic (flags : ValidationFlags) (f : PlainFunction) (place : Place) (e : ℕ) : Type 0 where
   pub other : NoCallAt f place
   pub answers : AnswersBy f.body place e
   pub again : IsPopulated flags f place e
 
-abbrev pub IsAtomicErrorIn : ValidationFlags → PlainFunction → AtomicError → Type 0
-IsAtomicErrorIn flags f (atomic_error.ResultAlreadyPopulated e) = IsBadAtomic flags f e
-IsAtomicErrorIn flags f _ = ⊥
+abbrev pub IsAtomicErrorIn : ValidationFlags → PlainFunction → Place → AtomicError → Type 0
+IsAtomicErrorIn flags f p (atomic_error.ResultAlreadyPopulated e) = IsBadAtomic flags f p e
+IsAtomicErrorIn flags f p _ = ⊥
 
+-- what the error says is so at this place
+abbrev pub IsScopeFaultAt : ValidationFlags → PlainFunction → FunctionError → Place → Type 0
+IsScopeFaultAt flags f (error.Expression e source) p = (source ≡ NotInScope) × IsUsedEarly f p e
+IsScopeFaultAt flags f (error.ExpressionAlreadyInScope e) p = IsBroughtAgain f p e
+IsScopeFaultAt flags f (error.InvalidCall function e) p = IsBadCall flags f p function e
+IsScopeFaultAt flags f (error.InvalidAtomic e) p = IsAtomicErrorIn flags f p e
+IsScopeFaultAt flags f _ p = ⊥
+
+-- at some place
 abbrev pub IsScopeFault : ValidationFlags → PlainFunction → FunctionError → Type 0
-IsScopeFault flags f (error.Expression e source) = (source ≡ NotInScope) × IsUsedEarly f e
-IsScopeFault flags f (error.ExpressionAlreadyInScope e) = IsBroughtAgain f e
-IsScopeFault flags f (error.InvalidCall function e) = IsBadCall flags f function e
-IsScopeFault flags f (error.InvalidAtomic e) = IsAtomicErrorIn flags f e
-IsScopeFault flags f _ = ⊥
+IsScopeFault flags f e = (p : Place) × IsScopeFaultAt flags f e p
 
--- a refusal tells such a fault, or that there is no memory
-abbrev pub IsScopeRefusal : ValidationFlags → PlainFunction → Refusal FunctionError → Type 0
-IsScopeRefusal flags f (refusal.Memory e) = Unit {0}
-IsScopeRefusal flags f (refusal.Fault e) = IsScopeFault flags f (error_of e) × (spans_of e ≡ [])
+-- a refusal tells such a fault of the place, or that there is no memory
+abbrev pub IsScopeRefusalAt : ValidationFlags → PlainFunction → Refusal FunctionError → Place → Type 0
+IsScopeRefusalAt flags f (refusal.Memory e) p = Unit {0}
+IsScopeRefusalAt flags f (refusal.Fault e) p = IsScopeFaultAt flags f (error_of e) p × (spans_of e ≡ [])

@@ -44,6 +44,8 @@ pub(crate) fn next_always(alloc: Global, function: &Function) -> Result<Vec<u32>
 pub struct Outline<'a> {
     /// The function.
     pub function: &'a Function,
+    /// Whether statements may answer by expressions.
+    pub asked: bool,
     /// For each of its expressions the first from it on that is in scope everywhere.
     pub always: &'a [u32],
     ghost found: { AreAlways (function_view function.now) always.now },

@@ -1,54 +1,150 @@
 //! The walk over a body: in the order of the text, block by block.
 
-ghost use Rattle.std.specs.Prelude.{◌≡◌, ◌++◌, IfErr, OnOk, map};
+ghost use Rattle.std.specs.Prelude.{◌≡◌, ◌++◌, All, IfErr, OnOk, map, option_to_list};
 ghost use Rattle.ir_blocks.specs.found.View.{statement_view, block_view, case_view, cases_of};
+ghost use Rattle.ir_blocks.specs.judged.Places.{statement as spot, loop_condition};
 ghost use Rattle.ir_items.specs.found.View.{function_view};
-ghost use Rattle.function_body_checks.specs.Carried.{IfFault, AllFine, FineWithin, FineInCases, FaultIn, FaultWithin, FaultInCases};
+ghost use Rattle.ir_places.specs.Paths.{IsPlaced, part_view};
+ghost use Rattle.function_body_checks.specs.Carried.{Fine, Known, AllFine, FineWithin, FineInCases, FaultAt, FaultFrom, FaultInPart, FaultInCase, FaultAtCondition};
 ghost use Rattle.spec_statements.specs.found.Answered.{answered_in, answered_at, answered_in_cases};
-ghost use Rattle.spec_statements.specs.judged.Tables.{introduced};
+ghost use Rattle.spec_statements.specs.judged.Results.{answer_of};
+ghost use Rattle.spec_statements.specs.judged.Tables.{checked_at, introduced, statement_checked};
 ghost use Rattle.spec_statements.specs.judged.Visible.{top_level};
 
 use crate::always::Outline;
 use crate::error::ScopeError;
-use crate::statement::{Carried, check_condition, check_own, check_used};
+use crate::statement::Carried;
+use ir_arena::handle::Handle;
 use ir_blocks::plain_operation;
-use ir_items::{Block, Statement, SwitchCase};
+use ir_items::{Block, Statement, SwitchCase, key};
+use ir_places::{Part, Step, Trail};
+
+// What the statement at an index uses, what stands inside it aside.
+#[tactic(auto, using(crate::proofs::Walks::here_wrong))]
+fn check_used(
+    outline: &Outline<'_>,
+    carried: &Carried,
+    trail: &mut Trail,
+    index: usize,
+    statement: &Statement,
+) -> Result<(), ScopeError>
+    ensures used { OnOk result (All (Known (function_view outline.now.function.now) carried.now.scope) (statement_checked (statement_view statement.now))) }
+    ensures fault { IfErr result (λ e. IsPlaced trail.new (FaultFrom (function_view outline.now.function.now) outline.now.asked carried.now.scope carried.now.answered index (statement_view statement.now) e)) }
+{
+    match crate::statement::check_used(outline.function, outline.asked, carried, statement) {
+        Ok(()) => Ok(()),
+        Err(error) => {
+            trail.stand(index);
+            Err(error)
+        }
+    }
+}
+
+// The condition of the loop at an index.
+#[tactic(auto, using(crate::proofs::Walks::condition_wrong))]
+fn check_condition(
+    outline: &Outline<'_>,
+    carried: &Carried,
+    trail: &mut Trail,
+    index: usize,
+    break_if: Option<Handle<key::Expression>>,
+) -> Result<(), ScopeError>
+    ensures used { OnOk result (All (Known (function_view outline.now.function.now) carried.now.scope) (checked_at (loop_condition break_if))) }
+    ensures fault { IfErr result (λ e. IsPlaced trail.new (FaultAtCondition (function_view outline.now.function.now) outline.now.asked carried.now.scope carried.now.answered index break_if e)) }
+{
+    match crate::statement::check_condition(outline.function, outline.asked, carried, break_if) {
+        Ok(()) => Ok(()),
+        Err(error) => {
+            trail.stand_at_condition(index);
+            Err(error)
+        }
+    }
+}
+
+// The statement at an index, which holds no others.
+#[tactic(auto, using(crate::proofs::Walks::here_wrong))]
+fn check_own(
+    outline: &Outline<'_>,
+    carried: &mut Carried,
+    trail: &mut Trail,
+    index: usize,
+    statement: &Statement,
+) -> Result<(), ScopeError>
+    ensures fine { OnOk result (Fine (function_view outline.now.function.now) outline.now.asked (spot (statement_view statement.now)) carried.old.scope carried.old.answered) }
+    ensures scope { OnOk result (carried.new.scope ≡ carried.old.scope ++ introduced (statement_view statement.now)) }
+    ensures answered { OnOk result (carried.new.answered ≡ carried.old.answered ++ option_to_list (answer_of (statement_view statement.now))) }
+    ensures fault { IfErr result (λ e. IsPlaced trail.new (FaultFrom (function_view outline.now.function.now) outline.now.asked carried.old.scope carried.old.answered index (statement_view statement.now) e)) }
+{
+    match crate::statement::check_own(outline, outline.asked, carried, statement) {
+        Ok(()) => Ok(()),
+        Err(error) => {
+            trail.stand(index);
+            Err(error)
+        }
+    }
+}
 
 /// Whether the statements of a block, and those inside them, use what is in scope, bring what is not, and answer once. What the
 /// block's own statements bring stays in scope.
 #[cycle(walk)]
 pub fn check_block(
     outline: &Outline<'_>,
-    asked: bool,
     carried: &mut Carried,
+    trail: &mut Trail,
     block: &Block,
 ) -> Result<(), ScopeError>
-    ensures fine { OnOk result (AllFine (function_view outline.now.function.now) asked carried.old.scope carried.old.answered (block_view block.now)) }
+    ensures fine { OnOk result (AllFine (function_view outline.now.function.now) outline.now.asked carried.old.scope carried.old.answered (block_view block.now)) }
     ensures scope { OnOk result (carried.new.scope ≡ carried.old.scope ++ top_level (block_view block.now)) }
     ensures answered { OnOk result (carried.new.answered ≡ carried.old.answered ++ answered_in (block_view block.now)) }
-    ensures fault { IfErr result (λ r. IfFault r (λ e. FaultIn (function_view outline.now.function.now) asked e carried.old.scope carried.old.answered (block_view block.now))) }
+    ensures fault { IfErr result (λ e. IsPlaced trail.new (FaultAt (function_view outline.now.function.now) outline.now.asked carried.old.scope carried.old.answered (block_view block.now) e)) }
 {
-    for statement in block.as_slice() {
-        check_statement(outline, asked, carried, statement)?;
+    for (index, statement) in block.as_slice().iter().enumerate() {
+        check_statement(outline, carried, trail, index, statement)?;
     }
     Ok(())
+}
+
+// The same of a block in a part of a statement. The place is seen from the block that has the statement.
+#[cycle(walk)]
+fn check_part(
+    outline: &Outline<'_>,
+    carried: &mut Carried,
+    trail: &mut Trail,
+    index: usize,
+    part: Part,
+    block: &Block,
+) -> Result<(), ScopeError>
+    ensures fine { OnOk result (AllFine (function_view outline.now.function.now) outline.now.asked carried.old.scope carried.old.answered (block_view block.now)) }
+    ensures scope { OnOk result (carried.new.scope ≡ carried.old.scope ++ top_level (block_view block.now)) }
+    ensures answered { OnOk result (carried.new.answered ≡ carried.old.answered ++ answered_in (block_view block.now)) }
+    ensures fault { IfErr result (λ e. IsPlaced trail.new (FaultInPart (function_view outline.now.function.now) outline.now.asked carried.old.scope carried.old.answered index (part_view part) (block_view block.now) e)) }
+{
+    match check_block(outline, carried, trail, block) {
+        Ok(()) => Ok(()),
+        Err(error) => {
+            trail.inside(Step { index, part });
+            Err(error)
+        }
+    }
 }
 
 // The same of a block after whose end nothing of it is in scope.
 #[cycle(walk)]
 fn check_inner(
     outline: &Outline<'_>,
-    asked: bool,
     carried: &mut Carried,
+    trail: &mut Trail,
+    index: usize,
+    part: Part,
     block: &Block,
 ) -> Result<(), ScopeError>
-    ensures fine { OnOk result (AllFine (function_view outline.now.function.now) asked carried.old.scope carried.old.answered (block_view block.now)) }
+    ensures fine { OnOk result (AllFine (function_view outline.now.function.now) outline.now.asked carried.old.scope carried.old.answered (block_view block.now)) }
     ensures scope { OnOk result (carried.new.scope ≡ carried.old.scope) }
     ensures answered { OnOk result (carried.new.answered ≡ carried.old.answered ++ answered_in (block_view block.now)) }
-    ensures fault { IfErr result (λ r. IfFault r (λ e. FaultIn (function_view outline.now.function.now) asked e carried.old.scope carried.old.answered (block_view block.now))) }
+    ensures fault { IfErr result (λ e. IsPlaced trail.new (FaultInPart (function_view outline.now.function.now) outline.now.asked carried.old.scope carried.old.answered index (part_view part) (block_view block.now) e)) }
 {
     let count = carried.scope.len();
-    check_block(outline, asked, carried, block)?;
+    check_part(outline, carried, trail, index, part, block)?;
     carried.scope.cut(count);
     Ok(())
 }
@@ -57,17 +153,19 @@ fn check_inner(
 #[cycle(walk)]
 fn check_cases(
     outline: &Outline<'_>,
-    asked: bool,
     carried: &mut Carried,
+    trail: &mut Trail,
+    index: usize,
     cases: &[SwitchCase],
 ) -> Result<(), ScopeError>
-    ensures fine { OnOk result (FineInCases (function_view outline.now.function.now) asked carried.old.scope carried.old.answered (cases_of (map case_view cases.now))) }
+    ensures fine { OnOk result (FineInCases (function_view outline.now.function.now) outline.now.asked carried.old.scope carried.old.answered (cases_of (map case_view cases.now))) }
     ensures scope { OnOk result (carried.new.scope ≡ carried.old.scope) }
     ensures answered { OnOk result (carried.new.answered ≡ carried.old.answered ++ answered_in_cases (cases_of (map case_view cases.now))) }
-    ensures fault { IfErr result (λ r. IfFault r (λ e. FaultInCases (function_view outline.now.function.now) asked e carried.old.scope carried.old.answered (cases_of (map case_view cases.now)))) }
+    ensures fault { IfErr result (λ e. IsPlaced trail.new (FaultInCase (function_view outline.now.function.now) outline.now.asked carried.old.scope carried.old.answered index (cases_of (map case_view cases.now)) e)) }
 {
-    for case in cases {
-        check_inner(outline, asked, carried, &case.body)?;
+    for (number, case) in cases.iter().enumerate() {
+        let part = Part::Case(number);
+        check_inner(outline, carried, trail, index, part, &case.body)?;
     }
     Ok(())
 }
@@ -76,25 +174,26 @@ fn check_cases(
 #[cycle(walk)]
 fn check_statement(
     outline: &Outline<'_>,
-    asked: bool,
     carried: &mut Carried,
+    trail: &mut Trail,
+    index: usize,
     statement: &Statement,
 ) -> Result<(), ScopeError>
-    ensures fine { OnOk result (FineWithin (function_view outline.now.function.now) asked carried.old.scope carried.old.answered (statement_view statement.now)) }
+    ensures fine { OnOk result (FineWithin (function_view outline.now.function.now) outline.now.asked carried.old.scope carried.old.answered (statement_view statement.now)) }
     ensures scope { OnOk result (carried.new.scope ≡ carried.old.scope ++ introduced (statement_view statement.now)) }
     ensures answered { OnOk result (carried.new.answered ≡ carried.old.answered ++ answered_at (statement_view statement.now)) }
-    ensures fault { IfErr result (λ r. IfFault r (λ e. FaultWithin (function_view outline.now.function.now) asked e carried.old.scope carried.old.answered (statement_view statement.now))) }
+    ensures fault { IfErr result (λ e. IsPlaced trail.new (FaultFrom (function_view outline.now.function.now) outline.now.asked carried.old.scope carried.old.answered index (statement_view statement.now) e)) }
 {
     match statement {
-        Statement::Block(block) => check_inner(outline, asked, carried, block),
+        Statement::Block(block) => check_inner(outline, carried, trail, index, Part::Inner, block),
         Statement::If { accept, reject, .. } => {
-            check_used(outline.function, asked, carried, statement)?;
-            check_inner(outline, asked, carried, accept)?;
-            check_inner(outline, asked, carried, reject)
+            check_used(outline, carried, trail, index, statement)?;
+            check_inner(outline, carried, trail, index, Part::Accepting, accept)?;
+            check_inner(outline, carried, trail, index, Part::Rejecting, reject)
         }
         Statement::Switch { cases, .. } => {
-            check_used(outline.function, asked, carried, statement)?;
-            check_cases(outline, asked, carried, cases)
+            check_used(outline, carried, trail, index, statement)?;
+            check_cases(outline, carried, trail, index, cases)
         }
         Statement::Loop {
             body,
@@ -102,9 +201,10 @@ fn check_statement(
             break_if,
         } => {
             let count = carried.scope.len();
-            check_block(outline, asked, carried, body)?;
-            check_block(outline, asked, carried, continuing)?;
-            check_condition(outline.function, asked, carried, *break_if)?;
+            check_part(outline, carried, trail, index, Part::LoopBody, body)?;
+            let after = Part::LoopContinuing;
+            check_part(outline, carried, trail, index, after, continuing)?;
+            check_condition(outline, carried, trail, index, *break_if)?;
             carried.scope.cut(count);
             Ok(())
         }
@@ -114,6 +214,6 @@ fn check_statement(
         | Statement::Return { .. }
         | Statement::Kill
         | Statement::Call { .. }
-        | plain_operation!() => { check_own(outline, asked, carried, statement) }
+        | plain_operation!() => { check_own(outline, carried, trail, index, statement) }
     }
 }

@@ -7,9 +7,10 @@ ghost use Rattle.ir_flags.specs.declared.settings.TheConstants.ValidationFlags.{
 ghost use Rattle.ir_flags.specs.declared.settings.ValidationFlags.{ValidationFlags};
 ghost use Rattle.ir_items.specs.judged.Plain.{PlainFunction};
 ghost use Rattle.ir_items.specs.found.View.{function_view};
+ghost use Rattle.ir_places.specs.Paths.{IsPlaced};
 ghost use Rattle.typing_errors.specs.declared.error.FunctionError.TheVariants.{InvalidCall};
 ghost use Rattle.function_body_checks.specs.Carried.{IfFault};
-ghost use Rattle.function_body_checks.specs.Faults.{IsScopeFault, IsScopeRefusal};
+ghost use Rattle.function_body_checks.specs.Faults.{IsScopeFaultAt, IsScopeRefusalAt};
 ghost use Rattle.spec_statements.specs.found.Answered.{EachOnce};
 ghost use Rattle.spec_statements.specs.judged.Results.{AnswersBy};
 ghost use Rattle.spec_statements.specs.judged.Scope.{ScopeOK};
@@ -23,6 +24,7 @@ use bitflags::Flags;
 use ir_arena::handle::Handle;
 use ir_flags::ValidationFlags;
 use ir_items::{Function, key};
+use ir_places::Trail;
 use ir_types::refusal::Refusal;
 use ir_types::with_span::WithSpan;
 use std::alloc::{AllocError, Global};
@@ -46,7 +48,7 @@ fn refused_call(
     function: Handle<key::Function>,
     error: CallError,
 ) -> Refusal<FunctionError>
-    ensures { (flags : ValidationFlags) (f : PlainFunction) → IsScopeFault flags f (InvalidCall function error) → IsScopeRefusal flags f result }
+    ensures { (flags : ValidationFlags) (f : PlainFunction) (p : Place) → IsScopeFaultAt flags f (InvalidCall function error) p → IsScopeRefusalAt flags f result p }
 {
     let error = FunctionError::InvalidCall { function, error };
     Refusal::Fault(WithSpan::new(alloc, error))
@@ -54,7 +56,7 @@ fn refused_call(
 
 // The refusal that tells an error.
 fn refused(alloc: Global, error: ScopeError) -> Refusal<FunctionError>
-    ensures { (flags : ValidationFlags) (f : PlainFunction) → IfFault error (IsScopeFault flags f) → IsScopeRefusal flags f result }
+    ensures { (flags : ValidationFlags) (f : PlainFunction) (p : Place) → IfFault error (λ e. IsScopeFaultAt flags f e p) → IsScopeRefusalAt flags f result p }
 {
     match error {
         ScopeError::Memory(error) => Refusal::Memory(error),
@@ -96,12 +98,13 @@ fn requires_results(flags: ValidationFlags) -> bool
 ///
 /// # Errors
 ///
-/// A fault of a statement that has one (the first in the order of the text, which no clause says): [`FunctionError::Expression`] with `NotInScope` for
+/// A fault of a statement that has one, where the trail leads (the first in the order of the text, which no clause says): [`FunctionError::Expression`] with `NotInScope` for
 /// an operand, or [`FunctionError::InvalidCall`] with `Argument` for what is passed to a function;
 /// [`FunctionError::ExpressionAlreadyInScope`], or `ResultAlreadyInScope` of a call; `ResultAlreadyPopulated` of a call or of an
 /// atomic operation. [`Refusal::Memory`] where there is no memory.
 pub fn check_scope(
     alloc: Global,
+    trail: &mut Trail,
     flags: ValidationFlags,
     function: &Function,
 ) -> Result<ExpressionList, Refusal<FunctionError>>
@@ -109,16 +112,17 @@ pub fn check_scope(
     ensures once { OnOk result (EachOnce (function_view function.now).body) }
     ensures asked { OnOk result ((p : Place) (e : ℕ) → AnswersBy (function_view function.now).body p e → Has flags.0 EXPRESSIONS.0) }
     ensures answered { IfOk result (λ answered. (e : ℕ) → Contains answered e ↔ ((p : Place) × AnswersBy (function_view function.now).body p e)) }
-    ensures fault { IfErr result (IsScopeRefusal flags (function_view function.now)) }
+    ensures fault { IfErr result (λ r. IsPlaced trail.new (IsScopeRefusalAt flags (function_view function.now) r)) }
 {
     let asked = requires_results(flags);
     let always = next_always(alloc, function)?;
     let outline = Outline {
         function,
+        asked,
         always: &always,
     };
     let mut carried = beginning(alloc, function.expressions.len())?;
-    match check_block(&outline, asked, &mut carried, &function.body) {
+    match check_block(&outline, &mut carried, trail, &function.body) {
         Ok(()) => {
             let Carried { answered, scope: _ } = carried;
             Ok(answered)

@@ -10,7 +10,7 @@ use thiserror::Error;
 use typing_errors::FunctionError;
 
 /// Why an entry point is refused (naga's `EntryPointError`).
-#[derive(PartialEq, Debug, Drop, Error)]
+#[derive(Clone, PartialEq, Debug, Drop, Error)]
 pub enum EntryPointError {
     /// An earlier entry point of the same stage has the same name.
     #[error("an earlier entry point of the same stage has the same name")]
@@ -44,10 +44,10 @@ pub enum EntryPointError {
     Argument(u32, VaryingError),
     /// The result is refused, or what a mesh shader gives.
     #[error("{0}")]
-    Result(VaryingError),
+    Result(#[from] VaryingError),
     /// The function is refused.
     #[error("{0}")]
-    Function(FunctionError),
+    Function(#[from] FunctionError),
     /// A capability is missing.
     #[error("capability {0:?} is not supported")]
     UnsupportedCapability(Capabilities),

@@ -2,6 +2,7 @@
 
 use function_entry_checks::EntryPointError;
 use ir_arena::handle::Handle;
+use ir_places::Trail;
 use ir_types::key;
 use module_steps::{InvalidGlobalVariable, ModuleError};
 use std::fmt::{self, Display};
@@ -9,27 +10,31 @@ use thiserror::Error;
 use typing_errors::FunctionError;
 
 /// A function that is refused (naga's `ValidationError::Function`).
-#[derive(PartialEq, Debug, Drop, Error)]
+#[derive(Clone, PartialEq, Debug, Drop, Error)]
 #[error("function {function:?} is invalid: {error}")]
 pub struct InvalidFunction {
     /// The function.
     pub function: Handle<key::Function>,
     /// What is wrong with it.
     pub error: FunctionError,
+    /// Where in its body, if the error is of a statement; lost if it is not, or if memory ran out for a step.
+    pub trail: Trail,
 }
 
 /// An entry point that is refused (naga's `ValidationError::EntryPoint`).
-#[derive(PartialEq, Debug, Drop, Error)]
+#[derive(Clone, PartialEq, Debug, Drop, Error)]
 #[error("entry point {index} is invalid: {error}")]
 pub struct InvalidEntryPoint {
     /// Its index among the module's entry points.
     pub index: usize,
     /// What is wrong with it.
     pub error: EntryPointError,
+    /// Where in the body of its function, if the error is of a statement; lost if it is not, or if memory ran out for a step.
+    pub trail: Trail,
 }
 
 /// Why a module is refused (naga's `ValidationError`): the first step that fails, at the first item that fails it, and why.
-#[derive(PartialEq, Debug, Drop, Error)]
+#[derive(Clone, PartialEq, Debug, Drop, Error)]
 pub enum ValidationError {
     /// Handles are out of order, or a step up to overrides fails.
     #[error("{0}")]

@@ -16,9 +16,12 @@ use Rattle.typing_forms.specs.judged.Resolutions.{resolution_view}
 use Rattle.typing_forms.specs.declared.form.Form.{Form}
 use Rattle.typing_forms.specs.declared.resolution.TypeResolution.{TypeResolution}
 use Rattle.typing_errors.specs.Answers.{form_given}
-use Rattle.function_interface.specs.Arities.{IsArityFault}
+use Rattle.function_interface.specs.Arities.{IsArityFaultAt}
 use Rattle.function_interface.specs.Question.{Question}
+use Rattle.ir_blocks.specs.judged.Places.{Place}
 use Rattle.ir_items.specs.judged.Plain.{PlainFunction, PlainModule}
+use Rattle.ir_places.specs.Paths.{IsPlaced}
+use Rattle.ir_places.specs.declared.trail.Trail.{Trail}
 use Rattle.spec_expressions.specs.judged.CallArities.{AritiesMatch}
 
 -- What a lower layer says is wrong with a function: which faults its analysis finds, and which it finds at an expression.
@@ -43,7 +46,13 @@ abbrev pub IsRefusedFor : (FunctionError → Type 0) → Refusal FunctionError �
 IsRefusedFor IsFault (refusal.Memory e) = Unit {0}
 IsRefusedFor IsFault (refusal.Fault e) = IsFault (error_of e) × (spans_of e ≡ [])
 
--- what is wrong with a function before its other parts are checked: with the arity of a call, or where that is right its analysis
-pub data IsFaultBefore (faults : Faults) (flags : ValidationFlags) (m : PlainModule) (f : PlainFunction) (e : FunctionError) : Type 0 where
-  in_arity : IsArityFault m f e → IsFaultBefore faults flags m f e
-  in_analysis : AritiesMatch m f → faults.IsAnalysisFault flags e → IsFaultBefore faults flags m f e
+-- the same, where the fault is one at a place, to which the trail leads
+abbrev pub IsRefusedAt : Trail → (FunctionError → Place → Type 0) → Refusal FunctionError → Type 0
+IsRefusedAt t IsFault (refusal.Memory e) = Unit {0}
+IsRefusedAt t IsFault (refusal.Fault e) = IsPlaced t (IsFault (error_of e)) × (spans_of e ≡ [])
+
+-- what is wrong with a function before its other parts are checked: with the arity of the call at the place, or where all are right
+-- with its analysis, which speaks of no place
+pub data IsFaultBefore (faults : Faults) (flags : ValidationFlags) (m : PlainModule) (f : PlainFunction) (e : FunctionError) (p : Place) : Type 0 where
+  in_arity : IsArityFaultAt m f e p → IsFaultBefore faults flags m f e p
+  in_analysis : AritiesMatch m f → faults.IsAnalysisFault flags e → IsFaultBefore faults flags m f e p

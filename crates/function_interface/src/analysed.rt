@@ -1,7 +1,7 @@
 //! The analysis of a function whose calls pass as many arguments as the functions called have.
 
 ghost use Rattle.std.specs.Prelude.{IfErr, IfOk, OnOk, map};
-ghost use Rattle.function_interface.specs.Analysis.{IsFaultBefore, IsKept, IsRefusedFor};
+ghost use Rattle.function_interface.specs.Analysis.{IsFaultBefore, IsKept, IsRefusedAt};
 ghost use Rattle.function_interface.specs.Question.{question};
 ghost use Rattle.ir_items.specs.found.View.{function_view, module_view};
 ghost use Rattle.ir_items.specs.found.Filters.{ParentsPrecede};
@@ -12,6 +12,7 @@ use crate::arities::check_arities;
 use crate::lower::Lower;
 use ir_flags::ValidationFlags;
 use ir_items::{Function, Module};
+use ir_places::Trail;
 use ir_types::refusal::Refusal;
 use ir_types::with_span::WithSpan;
 use std::alloc::Global;
@@ -23,11 +24,12 @@ use typing_errors::FunctionError;
 ///
 /// # Errors
 ///
-/// [`Refusal::Fault`] with [`FunctionError::InvalidCall`] for a call that passes another number of arguments, and where there is
-/// none with a fault of the analysis. [`Refusal::Memory`] where memory ran out.
+/// [`Refusal::Fault`] with [`FunctionError::InvalidCall`] for a call that passes another number of arguments, where the trail leads,
+/// and where there is none with a fault of the analysis. [`Refusal::Memory`] where memory ran out.
 pub fn analyse_function<L: Lower>(
     lower: &L,
     alloc: Global,
+    trail: &mut Trail,
     module: &Module,
     function: &Function,
     callees: &[L::Info],
@@ -41,10 +43,10 @@ pub fn analyse_function<L: Lower>(
     ensures kept { let q = question (module_view «module».now) (function_view function.now) (map (L.summary lower.now) callees.now) (map (L.noted lower.now) callees.now) in
         IfOk result (λ info. IsKept (L.reading lower.now q) flags q (L.types lower.now info) (L.summary lower.now info) (L.noted lower.now info) (L.blending lower.now info)) }
     ensures fault { let q = question (module_view «module».now) (function_view function.now) (map (L.summary lower.now) callees.now) (map (L.noted lower.now) callees.now) in
-        IfErr result (IsRefusedFor (IsFaultBefore (L.faults lower.now q) flags q.m q.f)) }
+        IfErr result (IsRefusedAt trail.new (IsFaultBefore (L.faults lower.now q) flags q.m q.f)) }
     ensures own { IfOk result (L.own lower.now (module_view «module».now) (function_view function.now)) }
 {
-    match check_arities(module, function) {
+    match check_arities(trail, module, function) {
         Ok(()) => {}
         Err(error) => return Err(Refusal::Fault(WithSpan::new(alloc, error))),
     }

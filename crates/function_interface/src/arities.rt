@@ -1,12 +1,14 @@
 //! Whether calls pass as many arguments as their functions have.
 
 ghost use Rattle.std.specs.Prelude.{MatchResult};
-ghost use Rattle.function_interface.specs.Arities.{IsArityFault};
+ghost use Rattle.function_interface.specs.Arities.{IsArityFaultAt};
 ghost use Rattle.ir_items.specs.found.View.{function_view, module_view};
+ghost use Rattle.ir_places.specs.Paths.{IsPlaced};
 ghost use Rattle.spec_expressions.specs.judged.FunctionHandles.{HandlesInRange};
 ghost use Rattle.spec_expressions.specs.judged.CallArities.{AritiesMatch};
 
 use ir_items::{Function, Module};
+use ir_places::Trail;
 use typing_errors::{CallError, FunctionError};
 use typing_handles::arity_fault;
 
@@ -15,15 +17,19 @@ use typing_handles::arity_fault;
 ///
 /// # Errors
 ///
-/// [`FunctionError::InvalidCall`] with [`CallError::ArgumentCount`] for a call that doesn't (the first in the order of the text, which no clause
-/// says).
-pub fn check_arities(module: &Module, function: &Function) -> Result<(), FunctionError>
+/// [`FunctionError::InvalidCall`] with [`CallError::ArgumentCount`] for a call that doesn't, where the trail leads (the first in
+/// the order of the text, which no clause says).
+pub fn check_arities(
+    trail: &mut Trail,
+    module: &Module,
+    function: &Function,
+) -> Result<(), FunctionError>
     requires { HandlesInRange (module_view «module».now) (function_view function.now) }
     ensures { MatchResult result
         (λ _. AritiesMatch (module_view «module».now) (function_view function.now))
-        (IsArityFault (module_view «module».now) (function_view function.now)) }
+        (λ e. IsPlaced trail.new (IsArityFaultAt (module_view «module».now) (function_view function.now) e)) }
 {
-    match arity_fault(function, module) {
+    match arity_fault(trail, function, module) {
         None => Ok(()),
         Some(fault) => match fault.required {
             Some(required) => {

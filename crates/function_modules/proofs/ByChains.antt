@@ -12,6 +12,7 @@ use Rattle.ir_flags.specs.declared.settings.ValidationFlags.{ValidationFlags}
 use Rattle.ir_flags.specs.declared.stages.ShaderStages.{ShaderStages}
 use Rattle.ir_flags.specs.declared.settings.Settings.{Settings}
 use Rattle.ir_items.specs.judged.Plain.{PlainFunction, PlainModule}
+use Rattle.ir_places.specs.declared.trail.Trail.{Trail}
 use Rattle.function_real_lower.specs.Readings.{reading_of, faults_of}
 use Rattle.spec_expressions.specs.judged.Summaries.{Summary, CalleesKnown}
 use Rattle.spec_expressions.proofs.Members.{get-within}
@@ -77,8 +78,8 @@ module _ (s : Settings) (m : PlainModule) (index : ℕ) where
     ok = λ callees. ok_by_chains m a.function a.given.summaries a.given.stages callees a.given.known s false a.given.held a.ok;
   }
 
-  pub refused_at : (e : FunctionError) → IsRefusedAt reading_of faults_of s m index e → FunctionAtOK s m index → ⊥
-  refused_at e r ok =
+  pub refused_at : (t : Trail) (e : FunctionError) → IsRefusedAt reading_of faults_of s m index t e → FunctionAtOK s m index → ⊥
+  refused_at t e r ok =
       let same : ok.function ≡ r.function = some_is (sym ok.at ∙ r.at) in
       let held : ok.held ≡ r.given.held = one_payload s.flags m index ok.held r.given.held ok.before r.given.before in
       r.refused

@@ -3,8 +3,8 @@ use Rattle.std.proofs.Common.{◌≡◌, ◌↔◌, ◌⊎◌, inl, inr, ℕ, fa
 use Rattle.std.proofs.lemmas.Bool.{cases_eq}
 use Rattle.std.proofs.lemmas.Option.{slice_get_within}
 use Rattle.typing_errors.specs.declared.error.FunctionError.{FunctionError}
-use Rattle.function_whole.specs.Faults.{IsFunctionFault}
-use Rattle.function_interface.specs.Analysis.{Faults, IsRefusedFor}
+use Rattle.function_whole.specs.Faults.{IsFunctionFaultAt}
+use Rattle.function_interface.specs.Analysis.{Faults, IsRefusedFor, IsRefusedAt as IsAnalysisRefusedAt}
 use Rattle.function_interface.specs.Question.{Question, question}
 use Rattle.function_modules.specs.Judged.{Preceding, IsAcceptedAt, IsRefusedAt, IsNotedAt, AreNoted, AreJudged, AreJudgedWith, AreOwn, IsFirstRefused, IsReportedAt, IsRefusal}
 use Rattle.function_errors.specs.declared.error.InvalidFunction.{InvalidFunction}
@@ -15,6 +15,8 @@ use Rattle.ir_flags.specs.Sets.{Has}
 use Rattle.ir_flags.specs.declared.stages.ShaderStages.{ShaderStages}
 use Rattle.ir_flags.specs.declared.settings.Settings.{Settings}
 use Rattle.ir_items.specs.judged.Plain.{PlainFunction, PlainModule}
+use Rattle.ir_places.specs.Paths.{IsPlaced}
+use Rattle.ir_places.specs.declared.trail.Trail.{Trail}
 use Rattle.typing_handles.proofs.Ordered.{order_gives_conditions}
 use Rattle.typing_handles.specs.Conditions.{FunctionConditions}
 use Rattle.spec_expressions.proofs.SummaryLaws.{callees_known}
@@ -143,21 +145,22 @@ module _ (m : PlainModule) (handles : HandlesOK m) where
     }
 
     pub refused_here : (faults : Question → Faults) (e : InvalidFunction) → e.function ≡ n → (FunctionOK (reading (question m f summaries stages)) s false held m f → ⊥)
-        → IsFunctionFault (reading (question m f summaries stages)) (faults (question m f summaries stages)) s false held m f e.error → IsFirstRefused reading faults s m e
+        → IsPlaced e.trail (IsFunctionFaultAt (reading (question m f summaries stages)) (faults (question m f summaries stages)) s false held m f e.error) → IsFirstRefused reading faults s m e
     refused_here faults e same refused fault = record {
       before = λ i lt. judged.accepted i (omega (arith, lt, same));
-      here = subst (λ k. IsRefusedAt reading faults s m k e.error) (sym same) (record { function = f; at = at; given = given_here; refused = refused; fault = fault });
+      here = subst (λ k. IsRefusedAt reading faults s m k e.trail e.error) (sym same) (record { function = f; at = at; given = given_here; refused = refused; fault = fault });
     }
 
-    pub reported_refusal : (faults : Question → Faults) (o : Refusal FunctionError) (r : Refusal InvalidFunction) → IsReportedAt n o r
+    pub reported_refusal : (faults : Question → Faults) (t : Trail) (o : Refusal FunctionError) (r : Refusal InvalidFunction) → IsReportedAt n t o r
         → IsRefusedFor (λ _. FunctionOK (reading (question m f summaries stages)) s false held m f → ⊥) o
-        → IsRefusedFor (IsFunctionFault (reading (question m f summaries stages)) (faults (question m f summaries stages)) s false held m f) o
+        → IsAnalysisRefusedAt t (IsFunctionFaultAt (reading (question m f summaries stages)) (faults (question m f summaries stages)) s false held m f) o
         → IsRefusal reading faults s m r
-    reported_refusal faults (refusal.Memory d) (refusal.Memory e) told refused fault = tt
-    reported_refusal faults (refusal.Memory d) (refusal.Fault e) told refused fault = absurd told
-    reported_refusal faults (refusal.Fault d) (refusal.Memory e) told refused fault = absurd told
-    reported_refusal faults (refusal.Fault d) (refusal.Fault e) told refused fault = (
+    reported_refusal faults t (refusal.Memory d) (refusal.Memory e) told refused fault = tt
+    reported_refusal faults t (refusal.Memory d) (refusal.Fault e) told refused fault = absurd told
+    reported_refusal faults t (refusal.Fault d) (refusal.Memory e) told refused fault = absurd told
+    reported_refusal faults t (refusal.Fault d) (refusal.Fault e) told refused fault = (
       refused_here faults (error_of e) told.0 refused.0
-          (subst (IsFunctionFault (reading (question m f summaries stages)) (faults (question m f summaries stages)) s false held m f) (sym told.1) fault.0),
-      told.2,
+          (subst (λ u. IsPlaced u (IsFunctionFaultAt (reading (question m f summaries stages)) (faults (question m f summaries stages)) s false held m f (error_of e).error)) (sym told.2)
+          (subst (λ x. IsPlaced t (IsFunctionFaultAt (reading (question m f summaries stages)) (faults (question m f summaries stages)) s false held m f x)) (sym told.1) fault.0)),
+      told.3,
     )

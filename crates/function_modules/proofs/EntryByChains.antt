@@ -14,6 +14,7 @@ use Rattle.function_errors.specs.declared.error.InvalidEntryPoint.{InvalidEntryP
 use Rattle.ir_flags.specs.declared.stages.ShaderStages.{ShaderStages}
 use Rattle.ir_flags.specs.declared.settings.Settings.{Settings}
 use Rattle.ir_items.specs.judged.Plain.{PlainEntry, PlainFunction, PlainModule}
+use Rattle.ir_places.specs.declared.trail.Trail.{Trail}
 use Rattle.typing_handles.proofs.Ordered.{order_gives_conditions}
 use Rattle.function_real_lower.specs.Readings.{reading_of, faults_of}
 use Rattle.spec_expressions.specs.judged.CallChains.{HasUse}
@@ -118,20 +119,20 @@ module _ (s : Settings) (m : PlainModule) (handles : HandlesOK m) (summaries : L
       (subst (λ (g : PlainEntry). EntryOK (reading_of (question m g.function summaries stages)) stages (HasUse m g.function) s ok.held m g) same
       (entry_by_summaries m ok.entry summaries stages (entry_known m handles index ok.entry ok.at summaries many known) s ok.held (HasUse m ok.entry.function) moved))
 
-  wrong_refutes : (index : ℕ) (ok : EntryAtOK s m index) (e : PlainEntry) → slice_get m.entries index ≡ Some e → (held : Option ℕ) → ok.held ≡ held → (x : EntryPointError)
-      → IsWrong reading_of faults_of s m summaries stages index e held x → ⊥
-  wrong_refutes index ok e at held same_held _ (conflicting c) = ok.apart (subst (λ (g : PlainEntry). IsConflict m index g) (some_is (sym at ∙ ok.at)) c)
-  wrong_refutes index ok e at held same_held _ (unaccepted refused) = refused.refused (same_ok index ok e at held same_held)
+  wrong_refutes : (index : ℕ) (ok : EntryAtOK s m index) (e : PlainEntry) → slice_get m.entries index ≡ Some e → (held : Option ℕ) → ok.held ≡ held → (t : Trail) (x : EntryPointError)
+      → IsWrong reading_of faults_of s m summaries stages index e held t x → ⊥
+  wrong_refutes index ok e at held same_held t _ (conflicting c) = ok.apart (subst (λ (g : PlainEntry). IsConflict m index g) (some_is (sym at ∙ ok.at)) c)
+  wrong_refutes index ok e at held same_held t _ (unaccepted refused placed) = refused (same_ok index ok e at held same_held)
 
-  pub refused_at : (index : ℕ) (x : EntryPointError) → IsEntryRefusedAt reading_of faults_of s m summaries stages index x → ¬ EntryAtOK s m index
-  refused_at index x r ok = wrong_refutes index ok r.entry r.at r.held (one_entry_held s.flags m index ok.held r.held ok.before r.before) x r.wrong
+  pub refused_at : (index : ℕ) (t : Trail) (x : EntryPointError) → IsEntryRefusedAt reading_of faults_of s m summaries stages index t x → ¬ EntryAtOK s m index
+  refused_at index t x r ok = wrong_refutes index ok r.entry r.at r.held (one_entry_held s.flags m index ok.held r.held ok.before r.before) t x r.wrong
 
   pub entry_fault : (x : InvalidEntryPoint) → IsFirstEntryRefused reading_of faults_of s m summaries stages x → IsEntryFault s m x
   entry_fault x r = record {
     first = record {
       within = slice_get_within m.entries x.index r.here.entry r.here.at;
       before = λ i lt. accepted_at i (r.before i lt);
-      fails = refused_at x.index x.error r.here;
+      fails = refused_at x.index x.trail x.error r.here;
     };
     summaries = summaries;
     many = many;

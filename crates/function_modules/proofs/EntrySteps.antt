@@ -5,7 +5,7 @@ use Rattle.std.proofs.lemmas.Option.{slice_get_cases}
 use Rattle.std.specs.Prelude.{Contains, IfSome, None, option_to_list}
 use Rattle.function_entry_checks.specs.Faults.{IsRefusedFor}
 use Rattle.function_entry_checks.specs.declared.error.EntryPointError.{EntryPointError}
-use Rattle.function_whole.specs.EntryFaults.{IsRefusedAs}
+use Rattle.function_whole.specs.EntryFaults.{IsEntryPointFaultAt, IsRefusedAs, IsRefusedAt as IsEntryPointRefusedAt}
 use Rattle.function_whole.specs.Validated.{IsEntryNoted, IsEntrySummary, IsEntryValidated}
 use Rattle.function_interface.specs.Analysis.{Faults}
 use Rattle.function_interface.specs.Question.{Question, question}
@@ -20,12 +20,15 @@ use Rattle.ir_flags.specs.declared.stages.ShaderStages.{ShaderStages}
 use Rattle.ir_flags.specs.declared.settings.Settings.{Settings}
 use Rattle.ir_items.specs.judged.Plain.{PlainEntry, PlainModule}
 use Rattle.ir_items.specs.declared.entries.MeshStageInfo.{MeshStageInfo}
+use Rattle.ir_places.specs.Paths.{IsPlaced}
+use Rattle.ir_places.specs.declared.trail.Trail.{Trail}
 use Rattle.typing_handles.proofs.Ordered.{order_gives_conditions}
 use Rattle.typing_handles.specs.Conditions.{FunctionConditions}
 use Rattle.spec_expressions.proofs.SummaryLaws.{callees_known}
 use Rattle.spec_expressions.specs.judged.CallChains.{HasUse}
 use Rattle.spec_expressions.specs.judged.Summaries.{Summary, AreSummaries, CalleesKnown, CallsBelow}
 use Rattle.spec_interface.specs.judged.EarlierPayloads.{IsPayloadBeforeEntry}
+use Rattle.spec_interface.specs.judged.Entries.{EntryOK}
 use Rattle.spec_interface.specs.judged.EntryNames.{IsConflict}
 use Rattle.spec_statements.proofs.CallLaws.{calls_precede}
 use Rattle.spec_expressions.specs.judged.ModuleHandles.{HandlesOK}
@@ -131,23 +134,26 @@ module _ (m : PlainModule) (handles : HandlesOK m) (n : ℕ) (e : PlainEntry) (a
 
     -- ---- refused
 
-    refused_here : (x : InvalidEntryPoint) → x.index ≡ n → IsRefusedAs (reading_at reading m summaries stages e) (faults (question m e.function summaries stages)) stages (HasUse m e.function) s held m e x.error
+    refused_here : (x : InvalidEntryPoint) → x.index ≡ n → ¬ EntryOK (reading_at reading m summaries stages e) stages (HasUse m e.function) s held m e
+        → IsPlaced x.trail (λ p. IsEntryPointFaultAt (reading_at reading m summaries stages e) (faults (question m e.function summaries stages)) stages (HasUse m e.function) s held m e p x.error)
         → IsFirstEntryRefused reading faults s m summaries stages x
-    refused_here x same refused = record {
+    refused_here x same refused placed = record {
       before = λ i lt. judged.accepted i (omega (arith, lt, same));
-      here = subst (λ k. IsEntryRefusedAt reading faults s m summaries stages k x.error) (sym same) (record { entry = e; at = at; held = held; before = judged.payloads; wrong = unaccepted refused });
+      here = subst (λ k. IsEntryRefusedAt reading faults s m summaries stages k x.trail x.error) (sym same) (record { entry = e; at = at; held = held; before = judged.payloads; wrong = unaccepted refused placed });
     }
 
-    pub reported_entry : (o : Refusal EntryPointError) (r : Refusal InvalidEntryPoint) → IsEntryReportedAt n o r
+    pub reported_entry : (t : Trail) (o : Refusal EntryPointError) (r : Refusal InvalidEntryPoint) → IsEntryReportedAt n t o r
         → IsRefusedFor (IsRefusedAs (reading_at reading m summaries stages e) (faults (question m e.function summaries stages)) stages (HasUse m e.function) s held m e) o
+        → IsEntryPointRefusedAt t (IsEntryPointFaultAt (reading_at reading m summaries stages e) (faults (question m e.function summaries stages)) stages (HasUse m e.function) s held m e) o
         → IsEntryRefusal reading faults s m summaries stages r
-    reported_entry (refusal.Memory d) (refusal.Memory x) told refused = tt
-    reported_entry (refusal.Memory d) (refusal.Fault x) told refused = absurd told
-    reported_entry (refusal.Fault d) (refusal.Memory x) told refused = absurd told
-    reported_entry (refusal.Fault d) (refusal.Fault x) told refused = (
-      refused_here (error_of x) told.0
-          (subst (IsRefusedAs (reading_at reading m summaries stages e) (faults (question m e.function summaries stages)) stages (HasUse m e.function) s held m e) (sym told.1) refused.0),
-      told.2,
+    reported_entry t (refusal.Memory d) (refusal.Memory x) told refused placed = tt
+    reported_entry t (refusal.Memory d) (refusal.Fault x) told refused placed = absurd told
+    reported_entry t (refusal.Fault d) (refusal.Memory x) told refused placed = absurd told
+    reported_entry t (refusal.Fault d) (refusal.Fault x) told refused placed = (
+      refused_here (error_of x) told.0 refused.0.refused
+          (subst (λ u. IsPlaced u (λ p. IsEntryPointFaultAt (reading_at reading m summaries stages e) (faults (question m e.function summaries stages)) stages (HasUse m e.function) s held m e p (error_of x).error)) (sym told.2)
+          (subst (λ y. IsPlaced t (λ p. IsEntryPointFaultAt (reading_at reading m summaries stages e) (faults (question m e.function summaries stages)) stages (HasUse m e.function) s held m e p y)) (sym told.1) placed)),
+      told.3,
     )
 
     -- an earlier one has its name
@@ -157,7 +163,7 @@ module _ (m : PlainModule) (handles : HandlesOK m) (n : ℕ) (e : PlainEntry) (a
         let same : (error_of x).index ≡ n = told.1 in (
           record {
             before = λ i lt. judged.accepted i (omega (arith, lt, same));
-            here = subst (λ k. IsEntryRefusedAt reading faults s m summaries stages k (error_of x).error) (sym same) (subst (IsEntryRefusedAt reading faults s m summaries stages n) (sym told.2)
+            here = subst (λ k. IsEntryRefusedAt reading faults s m summaries stages k (error_of x).trail (error_of x).error) (sym same) (subst (IsEntryRefusedAt reading faults s m summaries stages n (error_of x).trail) (sym told.2)
                 (record { entry = e; at = at; held = held; before = judged.payloads; wrong = conflicting (told.0 e at) }));
           },
           told.3,

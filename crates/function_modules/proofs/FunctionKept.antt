@@ -23,7 +23,7 @@ module _ (s : Settings) (m : PlainModule) where
     first = record {
       within = slice_get_within m.functions e.function r.here.function r.here.at;
       before = λ i lt. accepted_at s m i (r.before i lt);
-      fails = refused_at s m e.function e.error r.here;
+      fails = refused_at s m e.function e.trail e.error r.here;
     };
     fault = r.here;
   }

@@ -18,4 +18,4 @@ pub record AreKept (s : Settings) (m : PlainModule) (summaries : List Summary) :
 -- It is the first function that is not accepted, and this is wrong with it.
 pub record IsFunctionFault (s : Settings) (m : PlainModule) (e : InvalidFunction) : Type 0 where
   pub first : FailsFirst (length m.functions) (FunctionAtOK s m) e.function
-  pub fault : IsRefusedAt reading_of faults_of s m e.function e.error
+  pub fault : IsRefusedAt reading_of faults_of s m e.function e.trail e.error

@@ -1,7 +1,7 @@
 -- What is said of the functions of a module that are judged one after the other.
 use Rattle.std.specs.Prelude.{◌≡◌, ◌<◌, ◌↔◌, ℕ, Bool, false, [], List, length, Option, Some, slice_get}
 use Rattle.typing_errors.specs.declared.error.FunctionError.{FunctionError}
-use Rattle.function_whole.specs.Faults.{IsFunctionFault}
+use Rattle.function_whole.specs.Faults.{IsFunctionFaultAt}
 use Rattle.function_interface.specs.Analysis.{Faults}
 use Rattle.function_interface.specs.Question.{Question, question}
 use Rattle.function_errors.specs.declared.error.InvalidFunction.{InvalidFunction}
@@ -13,6 +13,8 @@ use Rattle.ir_flags.specs.declared.settings.ValidationFlags.{ValidationFlags}
 use Rattle.ir_flags.specs.declared.stages.ShaderStages.{ShaderStages}
 use Rattle.ir_flags.specs.declared.settings.Settings.{Settings}
 use Rattle.ir_items.specs.judged.Plain.{PlainFunction, PlainModule}
+use Rattle.ir_places.specs.Paths.{IsPlaced}
+use Rattle.ir_places.specs.declared.trail.Trail.{Trail}
 use Rattle.spec_expressions.specs.judged.Summaries.{Summary, CalleesKnown, AreSummaries}
 use Rattle.spec_statements.specs.judged.ExpressionStages.{all_stages}
 use Rattle.spec_statements.specs.judged.EarlierPayloads.{IsPayloadBefore}
@@ -34,13 +36,13 @@ pub record IsAcceptedAt (reading : Question → Reading) (s : Settings) (m : Pla
   pub given : Preceding s.flags m index function
   pub ok : FunctionOK (reading (question m function given.summaries given.stages)) s false given.held m function
 
--- It does not, and this is wrong with it.
-pub record IsRefusedAt (reading : Question → Reading) (faults : Question → Faults) (s : Settings) (m : PlainModule) (index : ℕ) (e : FunctionError) : Type 0 where
+-- It does not, and this is wrong with it at the place to which the trail leads.
+pub record IsRefusedAt (reading : Question → Reading) (faults : Question → Faults) (s : Settings) (m : PlainModule) (index : ℕ) (t : Trail) (e : FunctionError) : Type 0 where
   pub function : PlainFunction
   pub at : slice_get m.functions index ≡ Some function
   pub given : Preceding s.flags m index function
   pub refused : FunctionOK (reading (question m function given.summaries given.stages)) s false given.held m function → ⊥
-  pub fault : IsFunctionFault (reading (question m function given.summaries given.stages)) (faults (question m function given.summaries given.stages)) s false given.held m function e
+  pub fault : IsPlaced t (IsFunctionFaultAt (reading (question m function given.summaries given.stages)) (faults (question m function given.summaries given.stages)) s false given.held m function e)
 
 -- These stages may run the function at an index, with what is known there; those of the functions before it are the first of
 -- a list.
@@ -84,14 +86,14 @@ pub record AreJudgedWith {Info : Type 0} (reading : Question → Reading) (s : S
 -- The function is refused for this, and each before it is accepted.
 pub record IsFirstRefused (reading : Question → Reading) (faults : Question → Faults) (s : Settings) (m : PlainModule) (e : InvalidFunction) : Type 0 where
   pub before : (index : ℕ) → index < e.function → IsAcceptedAt reading s m index
-  pub here : IsRefusedAt reading faults s m e.function e.error
+  pub here : IsRefusedAt reading faults s m e.function e.trail e.error
 
--- a refusal tells the same as that of the function at a handle
-abbrev pub IsReportedAt : (handle : ℕ) → Refusal FunctionError → Refusal InvalidFunction → Type 0
-IsReportedAt handle (refusal.Memory e) (refusal.Memory d) = Unit {0}
-IsReportedAt handle (refusal.Memory e) (refusal.Fault g) = ⊥
-IsReportedAt handle (refusal.Fault f) (refusal.Memory d) = ⊥
-IsReportedAt handle (refusal.Fault f) (refusal.Fault g) = ((error_of g).function ≡ handle) × ((error_of g).error ≡ error_of f) × (spans_of g ≡ [])
+-- a refusal tells the same as that of the function at a handle, with where it stands
+abbrev pub IsReportedAt : (handle : ℕ) → Trail → Refusal FunctionError → Refusal InvalidFunction → Type 0
+IsReportedAt handle t (refusal.Memory e) (refusal.Memory d) = Unit {0}
+IsReportedAt handle t (refusal.Memory e) (refusal.Fault g) = ⊥
+IsReportedAt handle t (refusal.Fault f) (refusal.Memory d) = ⊥
+IsReportedAt handle t (refusal.Fault f) (refusal.Fault g) = ((error_of g).function ≡ handle) × ((error_of g).error ≡ error_of f) × ((error_of g).trail ≡ t) × (spans_of g ≡ [])
 
 -- memory ran out, or the first function that is refused is reported
 abbrev pub IsRefusal : (Question → Reading) → (Question → Faults) → Settings → PlainModule → Refusal InvalidFunction → Type 0

@@ -5,7 +5,7 @@ use Rattle.function_entry_checks.specs.declared.error.EntryPointError.TheVariant
 use Rattle.function_interface.specs.Analysis.{Faults}
 use Rattle.function_interface.specs.Question.{Question, question}
 use Rattle.function_modules.specs.Judged.{AreOwn}
-use Rattle.function_whole.specs.EntryFaults.{IsRefusedAs}
+use Rattle.function_whole.specs.EntryFaults.{IsEntryPointFaultAt}
 use Rattle.function_whole.specs.Validated.{IsEntryNoted, IsEntrySummary}
 use Rattle.function_errors.specs.declared.error.InvalidEntryPoint.{InvalidEntryPoint}
 use Rattle.ir_types.specs.found.Faults.{error_of, spans_of}
@@ -14,6 +14,8 @@ use Rattle.ir_types.specs.declared.refusal.Refusal.TheVariants as refusal
 use Rattle.ir_flags.specs.declared.stages.ShaderStages.{ShaderStages}
 use Rattle.ir_flags.specs.declared.settings.Settings.{Settings}
 use Rattle.ir_items.specs.judged.Plain.{PlainEntry, PlainFunction, PlainModule}
+use Rattle.ir_places.specs.Paths.{IsPlaced}
+use Rattle.ir_places.specs.declared.trail.Trail.{Trail}
 use Rattle.spec_expressions.specs.judged.CallChains.{HasUse}
 use Rattle.spec_expressions.specs.judged.Summaries.{Summary}
 use Rattle.spec_interface.specs.judged.Entries.{EntryOK}
@@ -34,18 +36,20 @@ pub record IsEntryAcceptedAt (reading : Question → Reading) (s : Settings) (m 
   pub apart : ¬ IsConflict m index entry
   pub ok : EntryOK (reading_at reading m summaries stages entry) stages (HasUse m entry.function) s held m entry
 
--- An earlier one has its stage and its name, or it does not meet the rules: this is wrong with it.
-pub data IsWrong (reading : Question → Reading) (faults : Question → Faults) (s : Settings) (m : PlainModule) (summaries : List Summary) (stages : List ShaderStages) (index : ℕ) (e : PlainEntry) (held : Option ℕ) : EntryPointError → Type 0 where
-  conflicting : IsConflict m index e → IsWrong reading faults s m summaries stages index e held Conflict
-  unaccepted : {x : EntryPointError} → IsRefusedAs (reading_at reading m summaries stages e) (faults (question m e.function summaries stages)) stages (HasUse m e.function) s held m e x
-      → IsWrong reading faults s m summaries stages index e held x
+-- An earlier one has its stage and its name, or it does not meet the rules: this is wrong with it, at the place in its function to
+-- which the trail leads where it stands there.
+pub data IsWrong (reading : Question → Reading) (faults : Question → Faults) (s : Settings) (m : PlainModule) (summaries : List Summary) (stages : List ShaderStages) (index : ℕ) (e : PlainEntry) (held : Option ℕ) (t : Trail) : EntryPointError → Type 0 where
+  conflicting : IsConflict m index e → IsWrong reading faults s m summaries stages index e held t Conflict
+  unaccepted : {x : EntryPointError} → ¬ EntryOK (reading_at reading m summaries stages e) stages (HasUse m e.function) s held m e
+      → IsPlaced t (λ p. IsEntryPointFaultAt (reading_at reading m summaries stages e) (faults (question m e.function summaries stages)) stages (HasUse m e.function) s held m e p x)
+      → IsWrong reading faults s m summaries stages index e held t x
 
-pub record IsEntryRefusedAt (reading : Question → Reading) (faults : Question → Faults) (s : Settings) (m : PlainModule) (summaries : List Summary) (stages : List ShaderStages) (index : ℕ) (x : EntryPointError) : Type 0 where
+pub record IsEntryRefusedAt (reading : Question → Reading) (faults : Question → Faults) (s : Settings) (m : PlainModule) (summaries : List Summary) (stages : List ShaderStages) (index : ℕ) (t : Trail) (x : EntryPointError) : Type 0 where
   pub entry : PlainEntry
   pub at : slice_get m.entries index ≡ Some entry
   pub held : Option ℕ
   pub before : IsPayloadBeforeEntry s.flags m index held
-  pub wrong : IsWrong reading faults s m summaries stages index entry held x
+  pub wrong : IsWrong reading faults s m summaries stages index entry held t x
 
 -- these are the summaries of the first entry points
 abbrev pub AreEntrySummaries : PlainModule → List Summary → Type 0
@@ -85,14 +89,14 @@ pub record AreEntriesJudgedWith {Info : Type 0} (reading : Question → Reading)
 -- The entry point is refused for this, and each before it is accepted.
 pub record IsFirstEntryRefused (reading : Question → Reading) (faults : Question → Faults) (s : Settings) (m : PlainModule) (summaries : List Summary) (stages : List ShaderStages) (e : InvalidEntryPoint) : Type 0 where
   pub before : (index : ℕ) → index < e.index → IsEntryAcceptedAt reading s m summaries stages index
-  pub here : IsEntryRefusedAt reading faults s m summaries stages e.index e.error
+  pub here : IsEntryRefusedAt reading faults s m summaries stages e.index e.trail e.error
 
--- a refusal tells the same as that of the entry point at an index
-abbrev pub IsEntryReportedAt : (index : ℕ) → Refusal EntryPointError → Refusal InvalidEntryPoint → Type 0
-IsEntryReportedAt index (refusal.Memory e) (refusal.Memory d) = Unit {0}
-IsEntryReportedAt index (refusal.Memory e) (refusal.Fault g) = ⊥
-IsEntryReportedAt index (refusal.Fault f) (refusal.Memory d) = ⊥
-IsEntryReportedAt index (refusal.Fault f) (refusal.Fault g) = ((error_of g).index ≡ index) × ((error_of g).error ≡ error_of f) × (spans_of g ≡ [])
+-- a refusal tells the same as that of the entry point at an index, with where it stands
+abbrev pub IsEntryReportedAt : (index : ℕ) → Trail → Refusal EntryPointError → Refusal InvalidEntryPoint → Type 0
+IsEntryReportedAt index t (refusal.Memory e) (refusal.Memory d) = Unit {0}
+IsEntryReportedAt index t (refusal.Memory e) (refusal.Fault g) = ⊥
+IsEntryReportedAt index t (refusal.Fault f) (refusal.Memory d) = ⊥
+IsEntryReportedAt index t (refusal.Fault f) (refusal.Fault g) = ((error_of g).index ≡ index) × ((error_of g).error ≡ error_of f) × ((error_of g).trail ≡ t) × (spans_of g ≡ [])
 
 -- memory ran out, or it says that the entry point at an index has the name of an earlier one
 abbrev pub IsConflictReported : (index : ℕ) → (conflict : Type 0) → Refusal InvalidEntryPoint → Type 0

@@ -75,7 +75,7 @@ pub record IsEntryFault (s : Settings) (m : PlainModule) (e : InvalidEntryPoint)
   pub known : AreSummaries m summaries
   pub stages : List ShaderStages
   pub run : AreStages s m stages
-  pub fault : IsEntryRefusedAt reading_of faults_of s m summaries stages e.index e.error
+  pub fault : IsEntryRefusedAt reading_of faults_of s m summaries stages e.index e.trail e.error
 
 -- Each error stands where its step is the first that fails, at the first item that fails it, which has the fault that the
 -- error tells.

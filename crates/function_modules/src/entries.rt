@@ -21,18 +21,20 @@ use function_interface::Lower;
 use function_whole::{SeenNames, Validated, validate_entry_point_with};
 use ir_arena::handle::Handle;
 use ir_items::{EntryPoint, Module};
+use ir_places::Trail;
 use ir_types::key;
 use ir_types::refusal::Refusal;
 use ir_types::with_span::WithSpan;
 use std::alloc::Global;
 
-// The refusal of the entry point at an index, as one of all entry points.
+// The refusal of the entry point at an index, as one of all entry points, with where it stands.
 fn refusal_at(
     alloc: Global,
     index: usize,
+    trail: Trail,
     refusal: Refusal<EntryPointError>,
 ) -> Refusal<InvalidEntryPoint>
-    ensures { IsEntryReportedAt index refusal result }
+    ensures { IsEntryReportedAt index trail refusal result }
 {
     match refusal {
         Refusal::Memory(error) => Refusal::Memory(error),
@@ -41,6 +43,7 @@ fn refusal_at(
             InvalidEntryPoint {
                 index,
                 error: fault.into_inner(),
+                trail,
             },
         )),
     }
@@ -67,6 +70,7 @@ fn check_name(
             InvalidEntryPoint {
                 index,
                 error: EntryPointError::Conflict,
+                trail: Trail::new(alloc),
             },
         ))),
         Err(error) => Err(Refusal::Memory(error)),
@@ -102,9 +106,11 @@ fn judge_next<L: Lower>(
         (IsEntryRefusal (L.reading validator.now.lower) (L.faults validator.now.lower) validator.now.settings (module_view «module».now) summaries stages) }
 {
     let alloc = validator.alloc;
+    let mut trail = Trail::new(alloc);
     match validate_entry_point_with(
         &validator.lower,
         alloc,
+        &mut trail,
         validator.settings,
         held,
         module,
@@ -114,7 +120,7 @@ fn judge_next<L: Lower>(
         known,
     ) {
         Ok(validated) => Ok(validated),
-        Err(refusal) => Err(refusal_at(alloc, index, refusal)),
+        Err(refusal) => Err(refusal_at(alloc, index, trail, refusal)),
     }
 }
 

@@ -12,6 +12,7 @@ use function_interface::Lower;
 use function_whole::{Validated, validate_function_with};
 use ir_arena::handle::Handle;
 use ir_items::Module;
+use ir_places::Trail;
 use ir_types::key;
 use ir_types::refusal::Refusal;
 use ir_types::with_span::WithSpan;
@@ -25,13 +26,14 @@ pub(crate) struct Judged<I> {
     pub(crate) held: Option<Handle<key::IrType>>,
 }
 
-// The refusal of the function at a handle, as one of all functions.
+// The refusal of the function at a handle, as one of all functions, with where it stands.
 fn refusal_at(
     alloc: Global,
     handle: Handle<key::Function>,
+    trail: Trail,
     refusal: Refusal<FunctionError>,
 ) -> Refusal<InvalidFunction>
-    ensures { IsReportedAt handle refusal result }
+    ensures { IsReportedAt handle trail refusal result }
 {
     match refusal {
         Refusal::Memory(error) => Refusal::Memory(error),
@@ -40,6 +42,7 @@ fn refusal_at(
             InvalidFunction {
                 function: handle,
                 error: fault.into_inner(),
+                trail,
             },
         )),
     }
@@ -66,9 +69,11 @@ fn judge_next<L: Lower>(
         (IsRefusal (L.reading validator.now.lower) (L.faults validator.now.lower) s (module_view «module».now)) }
 {
     let alloc = validator.alloc;
+    let mut trail = Trail::new(alloc);
     match validate_function_with(
         &validator.lower,
         alloc,
+        &mut trail,
         validator.settings,
         false,
         held,
@@ -78,7 +83,7 @@ fn judge_next<L: Lower>(
         descriptors,
     ) {
         Ok(validated) => Ok(validated),
-        Err(refusal) => Err(refusal_at(alloc, handle, refusal)),
+        Err(refusal) => Err(refusal_at(alloc, handle, trail, refusal)),
     }
 }
 

@@ -2,11 +2,11 @@
 
 ghost use Rattle.std.specs.Prelude.{◌≡◌, ◌<◌, ◌↔◌, ℕ, IfErr, IfOk, IfSome, MatchResult, None, OnErr, OnOk, false, length, map};
 ghost use Rattle.function_entry_checks.specs.Faults.{IsRefusedFor as IsRefusalFor};
-ghost use Rattle.function_whole.specs.EntryFaults.{IsRefusedAs};
+ghost use Rattle.function_whole.specs.EntryFaults.{IsEntryPointFaultAt, IsRefusedAs, IsRefusedAt as IsEntryRefusedAt};
 ghost use Rattle.function_whole.specs.Globals.{IsRefusedFor as IsVariableRefused, IsVariableOf};
 ghost use Rattle.function_whole.specs.Validated.{IsEntryValidated};
-ghost use Rattle.function_whole.specs.Faults.{IsFunctionFault};
-ghost use Rattle.function_interface.specs.Analysis.{IsRefusedFor};
+ghost use Rattle.function_whole.specs.Faults.{IsFunctionFault, IsFunctionFaultAt};
+ghost use Rattle.function_interface.specs.Analysis.{IsRefusedAt, IsRefusedFor};
 ghost use Rattle.function_interface.specs.Question.{question};
 ghost use Rattle.function_modules.specs.Judged.{AreJudgedWith, FunctionKeeps, IsRefusal};
 ghost use Rattle.function_modules.specs.Settings.{KeepsSettings};
@@ -35,6 +35,7 @@ use function_whole::{validate_entry_point, validate_function, validate_global_va
 use ir_arena::handle::Handle;
 use ir_flags::{Capabilities, Settings, ShaderStages, SubgroupOperationSet, ValidationFlags};
 use ir_items::{EntryPoint, Function, GlobalVariable, Module};
+use ir_places::Trail;
 use ir_types::key;
 use ir_types::refusal::Refusal;
 use module_globals::GlobalVariableError;
@@ -150,9 +151,53 @@ impl<L: Lower> Validator<L> {
         ensures unchanged { OnErr result (self.new ≡ self.old) }
         ensures settings { KeepsSettings self.old self.new }
     {
+        let mut trail = Trail::new(self.alloc);
+        match self.validate_function_placed(&mut trail, fun, module, mod_info, entry_point) {
+            Ok(info) => Ok(info),
+            Err(refusal) => Err(refusal),
+        }
+    }
+
+    /// The same, where the trail leads to the call or to the statement at fault, if the fault is one of these and the trail is not lost.
+    ///
+    /// # Errors
+    ///
+    /// What [`validate_function`] answers.
+    pub fn validate_function_placed(
+        &mut self,
+        trail: &mut Trail,
+        fun: &Function,
+        module: &Module,
+        mod_info: &[L::Info],
+        entry_point: bool,
+    ) -> Result<L::Info, Refusal<FunctionError>>
+        requires made { L.is_for self.old.lower (module_view «module».now) }
+        requires handles { HandlesInRange (module_view «module».now) (function_view fun.now) }
+        requires precede { OperandsPrecede (function_view fun.now).expressions }
+        requires parents { ParentsPrecede (module_view «module».now).filters }
+        ensures accepted { let q = question (module_view «module».now) (function_view fun.now) (map (L.summary self.old.lower) mod_info.now) (map (L.noted self.old.lower) mod_info.now) in
+            OnOk result (FunctionOK (L.reading self.old.lower q) self.old.settings entry_point self.old.held q.m q.f) }
+        ensures refused { let q = question (module_view «module».now) (function_view fun.now) (map (L.summary self.old.lower) mod_info.now) (map (L.noted self.old.lower) mod_info.now) in
+            IfErr result (IsRefusedFor (λ _. FunctionOK (L.reading self.old.lower q) self.old.settings entry_point self.old.held q.m q.f → ⊥)) }
+        ensures fault { let q = question (module_view «module».now) (function_view fun.now) (map (L.summary self.old.lower) mod_info.now) (map (L.noted self.old.lower) mod_info.now) in
+            IfErr result (IsRefusedFor (IsFunctionFault (L.reading self.old.lower q) (L.faults self.old.lower q) self.old.settings entry_point self.old.held q.m q.f)) }
+        ensures placed { let q = question (module_view «module».now) (function_view fun.now) (map (L.summary self.old.lower) mod_info.now) (map (L.noted self.old.lower) mod_info.now) in
+            IfErr result (IsRefusedAt trail.new (IsFunctionFaultAt (L.reading self.old.lower q) (L.faults self.old.lower q) self.old.settings entry_point self.old.held q.m q.f)) }
+        ensures noted { let q = question (module_view «module».now) (function_view fun.now) (map (L.summary self.old.lower) mod_info.now) (map (L.noted self.old.lower) mod_info.now) in
+            IfOk result (λ info. (stage : ℕ) → Has (L.noted self.old.lower info).0 stage ↔ (Has all_stages.0 stage × AllowsStage (L.reading self.old.lower q) self.old.settings q.stages q.f stage)) }
+        ensures joined { IfOk result (λ info. IsJoined (length (module_view «module».now).globals) (function_view fun.now) (map (L.summary self.old.lower) mod_info.now) (L.summary self.old.lower info)) }
+        ensures chains { CalleesKnown (module_view «module».now) (function_view fun.now) (map (L.summary self.old.lower) mod_info.now)
+            → IfOk result (λ info. IsSummary (module_view «module».now) (function_view fun.now) (L.summary self.old.lower info)) }
+        ensures held { OnOk result (IsPayloadAfter self.old.settings.flags (module_view «module».now) (function_view fun.now) self.old.held self.new.held) }
+        ensures own { IfOk result (L.own self.old.lower (module_view «module».now) (function_view fun.now)) }
+        ensures unblended { IfOk result (λ info. L.blending self.old.lower info ≡ false) }
+        ensures unchanged { OnErr result (self.new ≡ self.old) }
+        ensures settings { KeepsSettings self.old self.new }
+    {
         match validate_function(
             &self.lower,
             self.alloc,
+            trail,
             self.settings,
             entry_point,
             self.held,
@@ -201,9 +246,51 @@ impl<L: Lower> Validator<L> {
         ensures unchanged { OnErr result (self.new ≡ self.old) }
         ensures settings { KeepsSettings self.old self.new }
     {
+        let mut trail = Trail::new(self.alloc);
+        match self.validate_entry_point_placed(&mut trail, ep, module, mod_info) {
+            Ok(info) => Ok(info),
+            Err(refusal) => Err(refusal),
+        }
+    }
+
+    /// The same, where the trail leads to the call or to the statement at fault in its function, if the fault is one of these and the
+    /// trail is not lost.
+    ///
+    /// # Errors
+    ///
+    /// What [`validate_entry_point`] answers.
+    pub fn validate_entry_point_placed(
+        &mut self,
+        trail: &mut Trail,
+        ep: &EntryPoint,
+        module: &Module,
+        mod_info: &[L::Info],
+    ) -> Result<L::Info, Refusal<EntryPointError>>
+        requires made { L.is_for self.old.lower (module_view «module».now) }
+        requires handles { HandlesInRange (module_view «module».now) (entry_view ep.now).function }
+        requires precede { OperandsPrecede (entry_view ep.now).function.expressions }
+        requires parents { ParentsPrecede (module_view «module».now).filters }
+        requires payload { IfSome ep.now.task_payload (λ g. g < length (module_view «module».now).globals) }
+        requires output { IfSome ep.now.mesh_info (λ (i : MeshStageInfo). i.output_variable < length (module_view «module».now).globals) }
+        requires known { CalleesKnown (module_view «module».now) (entry_view ep.now).function (map (L.summary self.old.lower) mod_info.now) }
+        ensures judged { let m = module_view «module».now in
+            let e = entry_view ep.now in
+            let q = question m e.function (map (L.summary self.old.lower) mod_info.now) (map (L.noted self.old.lower) mod_info.now) in
+            MatchResult result
+            (λ info. IsEntryValidated (L.reading self.old.lower q) q.stages self.old.settings self.old.held m e (L.summary self.old.lower info) (L.noted self.old.lower info) (L.blending self.old.lower info) self.new.held)
+            (IsRefusalFor (IsRefusedAs (L.reading self.old.lower q) (L.faults self.old.lower q) q.stages (HasUse m e.function) self.old.settings self.old.held m e)) }
+        ensures placed { let m = module_view «module».now in
+            let e = entry_view ep.now in
+            let q = question m e.function (map (L.summary self.old.lower) mod_info.now) (map (L.noted self.old.lower) mod_info.now) in
+            IfErr result (IsEntryRefusedAt trail.new (IsEntryPointFaultAt (L.reading self.old.lower q) (L.faults self.old.lower q) q.stages (HasUse m e.function) self.old.settings self.old.held m e)) }
+        ensures own { IfOk result (L.own self.old.lower (module_view «module».now) (entry_view ep.now).function) }
+        ensures unchanged { OnErr result (self.new ≡ self.old) }
+        ensures settings { KeepsSettings self.old self.new }
+    {
         match validate_entry_point(
             &self.lower,
             self.alloc,
+            trail,
             self.settings,
             self.held,
             module,

@@ -127,7 +127,7 @@ fn judge_variables(
     )
 }
 
-// One that judges as another does, over what is kept of a module and the severities at the nodes of its diagnostic filters. The
+// A validator with the settings of another one, over what is kept of a module and the severities at the nodes of its diagnostic filters. The
 // error is out of memory.
 fn over(
     validator: &Validator<RealLower>,

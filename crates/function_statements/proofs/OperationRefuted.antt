@@ -7,9 +7,11 @@ use Rattle.ir_blocks.specs.declared.operations.RayPipelineFunction.{RayPipelineF
 use Rattle.ir_blocks.specs.declared.operations.RayPipelineFunction.TheVariants as pipeline
 use Rattle.ir_blocks.specs.declared.operations.RayQueryFunction.{RayQueryFunction}
 use Rattle.ir_blocks.specs.declared.operations.RayQueryFunction.TheVariants as ray
+use Rattle.function_statements.proofs.PayloadLemmas.{traced_has}
 use Rattle.function_statements.specs.OperationLaws.{FaultsRefute}
+use Rattle.ir_blocks.specs.judged.Places.{Place}
 use Rattle.ir_items.specs.judged.Plain.{PlainFunction, PlainModule}
-use Rattle.function_statements.specs.Payloads.{IsPayloadsFault}
+use Rattle.function_statements.specs.Payloads.{IsPayloadsFaultAt}
 use Rattle.spec_statements.specs.judged.Payloads.{HasPayload, PayloadsOK}
 use Rattle.function_statements.specs.RayPipelines.{IsPayloadFault, IsRayFault, IsTraceFault, IsRayPipelineFault}
 use Rattle.function_statements.specs.RayQueries.{IsStartFault, IsDistanceFault, IsStepFault, IsVariableFault, IsRayQueryFault}
@@ -103,13 +105,13 @@ earlier_refuted : (m : PlainModule) (f : PlainFunction) (held : Option ℕ) (typ
 earlier_refuted m f held type before traced differs ok (inl is) = differs (ok.as_before type before traced is)
 earlier_refuted m f held type before traced differs ok (inr own) = differs (ok.one type before traced own.1)
 
-payloads_refuted : (m : PlainModule) (f : PlainFunction) (held : Option ℕ) (e : FunctionError) → IsPayloadsFault m f held e → PayloadsOK m f held → ⊥
-payloads_refuted m f held (error.MismatchedPayloadType type before) wrong ok = earlier_refuted m f held type before wrong.traced wrong.differs ok wrong.earlier
-payloads_refuted m f held _ wrong ok = wrong
+payloads_refuted : (m : PlainModule) (f : PlainFunction) (held : Option ℕ) (e : FunctionError) (p : Place) → IsPayloadsFaultAt m f held e p → PayloadsOK m f held → ⊥
+payloads_refuted m f held (error.MismatchedPayloadType type before) p wrong ok = earlier_refuted m f held type before (traced_has m f p type wrong.traced) wrong.differs ok wrong.earlier
+payloads_refuted m f held _ p wrong ok = absurd wrong
 
 pub faults_refute_lem : FaultsRefute
 faults_refute_lem c e = record {
   query = λ query fun. query_refuted c query fun e;
   pipeline = λ fun. pipeline_refuted c fun e;
-  payloads = λ held. payloads_refuted c.m c.f held e;
+  payloads = λ held wrong. payloads_refuted c.m c.f held e wrong.0 wrong.1;
 }

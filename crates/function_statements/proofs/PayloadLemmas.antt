@@ -4,14 +4,17 @@ use Rattle.std.specs.Prelude.{option_map}
 use Rattle.std.specs.Option.{MatchOption}
 use Rattle.std.proofs.lemmas.Bool.{eq-eqb, eqb-true}
 use Rattle.typing_errors.specs.declared.error.FunctionError.TheVariants as error
-use Rattle.ir_blocks.specs.judged.Places.{OccursAt}
-use Rattle.ir_blocks.specs.judged.Plain.{PlainStatement, operation, ray_pipeline}
+use Rattle.ir_blocks.specs.judged.Places.{Place, OccursAt}
+use Rattle.ir_blocks.specs.judged.Plain.{PlainStatement, PlainBlock, operation, ray_pipeline}
 use Rattle.ir_blocks.specs.declared.operations.RayPipelineFunction.TheVariants.{TraceRay}
 use Rattle.ir_flags.specs.declared.settings.ValidationFlags.{ValidationFlags}
 use Rattle.ir_items.specs.judged.Plain.{PlainFunction, PlainModule}
+use Rattle.ir_places.proofs.TrailLaws.{placed_then}
+use Rattle.ir_places.specs.Paths.{IsPlaced}
+use Rattle.ir_places.specs.declared.trail.Trail.{Trail}
 use Rattle.typing_references.specs.First.{first_in}
 use Rattle.typing_references.proofs.FirstLaws.{none_at, place_found}
-use Rattle.function_statements.specs.Payloads.{payload_type, unlike, AreOfOneType}
+use Rattle.function_statements.specs.Payloads.{payload_type, unlike, AreOfOneType, IsPayloadsFaultAt, TracesAt}
 use Rattle.spec_statements.specs.judged.BlockContext.{BlockContext}
 use Rattle.spec_statements.specs.judged.Payloads.{HasPayload}
 use Rattle.spec_statements.specs.judged.Variables.{variable_at}
@@ -67,24 +70,28 @@ first_found c type e =
 pub none_found : (c : BlockContext) → first_in (payload_type c) c.f.body ≡ None → (type : ℕ) → HasPayload c.m c.f type → ⊥
 none_found c e type h = let none = none_at (payload_type c) h.place c.f.body e _ h.stands in let some = h.declared in cc
 
-pub other_found : (c : BlockContext) (held type : ℕ) → first_in (λ s. unlike held (payload_type c s)) c.f.body ≡ Some type → HasPayload c.m c.f type × (type ≢ held)
-other_found c held type e =
-    let found = place_found (λ s. unlike held (payload_type c s)) c.f.body type e in
-    let one = other_one held (payload_type c found.1) type found.3 in
-    let ray = traces c found.1 type one.0 in (
+pub traced_has : (m : PlainModule) (f : PlainFunction) (p : Place) (type : ℕ) → TracesAt m f p type → HasPayload m f type
+traced_has m f p type t = record { place = p; acceleration_structure = t.acceleration_structure; descriptor = t.descriptor; payload = t.payload; stands = t.stands; declared = t.declared }
+
+-- one of another type, where it stands
+other_at : (c : BlockContext) (held type : ℕ) (b : PlainBlock) → b ≡ c.f.body → (p : Place) → (s : PlainStatement) × OccursAt b p s × (unlike held (payload_type c s) ≡ Some type) → TracesAt c.m c.f p type × (type ≢ held)
+other_at c held type b is p found =
+    let one = other_one held (payload_type c found.0) type found.2 in
+    let ray = traces c found.0 type one.0 in (
       record {
-        place = found.0;
         acceleration_structure = ray.structure;
         descriptor = ray.descriptor;
         payload = ray.payload;
-        stands = subst (OccursAt c.f.body found.0) ray.is found.2;
+        stands = subst (λ x. OccursAt x p (operation (ray_pipeline (TraceRay ray.structure ray.descriptor ray.payload)))) is (subst (OccursAt b p) ray.is found.1);
         declared = ray.declared;
       },
       one.1,
     )
 
-pub no_other_found : (c : BlockContext) (held : ℕ) → first_in (λ s. unlike held (payload_type c s)) c.f.body ≡ None → (type : ℕ) → HasPayload c.m c.f type → type ≡ held
-no_other_found c held e type h = same_one held _ type (none_at (λ s. unlike held (payload_type c s)) h.place c.f.body e _ h.stands) h.declared
+no_other_found : (c : BlockContext) (held : ℕ) (b : PlainBlock) → b ≡ c.f.body → ((p : Place) (s : PlainStatement) → OccursAt b p s → unlike held (payload_type c s) ≡ None) → (type : ℕ) → HasPayload c.m c.f type → type ≡ held
+no_other_found c held b is none type h =
+    let s : PlainStatement = operation (ray_pipeline (TraceRay h.acceleration_structure h.descriptor h.payload)) in
+    same_one held (payload_type c s) type (none h.place s (subst (λ x. OccursAt x h.place s) (sym is) h.stands)) h.declared
 
 -- ---- what is kept
 
@@ -140,10 +147,18 @@ pub first_reported : (c : BlockContext) (found : Option ℕ) → found ≡ first
 first_reported c None e = none_found c (sym e)
 first_reported c (Some type) e = first_found c type (sym e)
 
-pub other_told : (c : BlockContext) (held : ℕ) (found : Option ℕ) → found ≡ first_in (λ s. unlike held (payload_type c s)) c.f.body
-    → MatchOption found ((type : ℕ) → HasPayload c.m c.f type → type ≡ held) (λ type. HasPayload c.m c.f type × (type ≢ held))
-other_told c held None e = no_other_found c held (sym e)
-other_told c held (Some type) e = other_found c held type (sym e)
+pub other_told : (t : Trail) (c : BlockContext) (held : ℕ) (b : PlainBlock) (found : Option ℕ) → b ≡ c.f.body
+    → MatchOption found ((p : Place) (s : PlainStatement) → OccursAt b p s → unlike held (payload_type c s) ≡ None)
+    (λ type. IsPlaced t (λ p. (s : PlainStatement) × OccursAt b p s × (unlike held (payload_type c s) ≡ Some type)))
+    → MatchOption found ((type : ℕ) → HasPayload c.m c.f type → type ≡ held) (λ type. IsPlaced t (λ p. TracesAt c.m c.f p type × (type ≢ held)))
+other_told t c held b None is none = no_other_found c held b is none
+other_told t c held b (Some type) is found =
+    placed_then t (λ p. (s : PlainStatement) × OccursAt b p s × (unlike held (payload_type c s) ≡ Some type)) (λ p. TracesAt c.m c.f p type × (type ≢ held)) (other_at c held type b is) found
+
+pub other_refused : (t : Trail) (m : PlainModule) (f : PlainFunction) (held : Option ℕ) (type before : ℕ) → (held ≡ Some before) ⊎ ((held ≡ None) × HasPayload m f before)
+    → IsPlaced t (λ p. TracesAt m f p type × (type ≢ before)) → IsPlaced t (IsPayloadsFaultAt m f held (error.MismatchedPayloadType type before))
+other_refused t m f held type before earlier =
+    placed_then t (λ p. TracesAt m f p type × (type ≢ before)) (IsPayloadsFaultAt m f held (error.MismatchedPayloadType type before)) (λ p found. record { traced = found.0; earlier = earlier; differs = found.1 })
 
 pub none_told : (m : PlainModule) (f : PlainFunction) (held : Option ℕ) → held ≡ None → ((type : ℕ) → HasPayload m f type → ⊥) → AreOfOneType m f held None
 none_told m f held is never = subst (λ h. AreOfOneType m f h None) (sym is) (none_held m f never)

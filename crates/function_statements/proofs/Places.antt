@@ -9,7 +9,7 @@ use Rattle.spec_expressions.specs.judged.CallArities.{AritiesMatch}
 use Rattle.spec_statements.specs.judged.BlockContext.{BlockContext}
 use Rattle.spec_statements.specs.judged.Statements.{StatementOK}
 use Rattle.function_statements.specs.Bodies.{HasCallee, Meets, IsWrong}
-use Rattle.function_statements.specs.Faults.{IsBodyFault}
+use Rattle.function_statements.specs.Faults.{IsBodyFaultAt}
 use Rattle.function_statements.specs.declared.error.StatementError.TheVariants.{Fault}
 
 callee_there : (m : PlainModule) (f : PlainFunction) → AritiesMatch m f → (p : Place) (u : PlainStatement) → OccursAt f.body p u → HasCallee m u
@@ -30,5 +30,5 @@ pub all_fine : (c : BlockContext) → AritiesMatch c.m c.f → (b : PlainBlock) 
     → (p : Place) (u : PlainStatement) → OccursAt c.f.body p u → StatementOK c u
 all_fine c ok b is h p u stands = h p u (subst (λ x. OccursAt x p u) (sym is) stands) (callee_there c.m c.f ok p u stands)
 
-pub one_wrong : (c : BlockContext) (e : FunctionError) (b : PlainBlock) → b ≡ c.f.body → (p : Place) × (u : PlainStatement) × OccursAt b p u × IsWrong c (Fault e) u → IsBodyFault c e
-one_wrong c e b is h = record { place = h.0; statement = h.1; stands = subst (λ x. OccursAt x h.0 h.1) is h.2; wrong = h.3 }
+pub one_wrong : (c : BlockContext) (e : FunctionError) (b : PlainBlock) → b ≡ c.f.body → (p : Place) → (u : PlainStatement) × OccursAt b p u × IsWrong c (Fault e) u → IsBodyFaultAt c e p
+one_wrong c e b is p h = record { statement = h.0; stands = subst (λ x. OccursAt x p h.0) is h.1; wrong = h.2 }

@@ -44,5 +44,5 @@ statement_refuted c (call function arguments answer) e w ok = (by_statement c e)
 pub faults_refute_lem : FaultsRefute
 faults_refute_lem c e = record {
   statement = λ u w ok. statement_refuted c u e w ok;
-  body = λ w ok. statement_refuted c w.statement e w.wrong (ok w.place w.statement w.stands);
+  body = λ w ok. statement_refuted c w.1.statement e w.1.wrong (ok w.0 w.1.statement w.1.stands);
 }

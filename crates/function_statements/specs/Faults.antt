@@ -54,18 +54,22 @@ IsStatementFault c (call function arguments answer) e = IsCallFault c function a
 
 -- ---- where it occurs
 
--- A statement of the body has this fault.
-pub record IsBodyFault (c : BlockContext) (e : FunctionError) : Type 0 where
-  pub place : Place
+-- The statement at the place has this fault.
+pub record IsBodyFaultAt (c : BlockContext) (e : FunctionError) (place : Place) : Type 0 where
   pub statement : PlainStatement
   pub stands : OccursAt c.f.body place statement
   pub wrong : IsStatementFault c statement e
+
+-- A statement of the body has this fault.
+abbrev pub IsBodyFault : BlockContext → FunctionError → Type 0
+IsBodyFault c e = (p : Place) × IsBodyFaultAt c e p
 
 -- memory ran out, or this is so of the fault that is reported
 abbrev pub IfFault : StatementError → (FunctionError → Type 0) → Type 0
 IfFault (Memory e) P = Unit {0}
 IfFault (Fault e) P = P e
 
-abbrev pub IsBodyRefusal : BlockContext → Refusal FunctionError → Type 0
-IsBodyRefusal c (refusal.Memory e) = Unit {0}
-IsBodyRefusal c (refusal.Fault e) = IsBodyFault c (error_of e) × (spans_of e ≡ [])
+-- a refusal tells such a fault of the place, or that there is no memory
+abbrev pub IsBodyRefusalAt : BlockContext → Refusal FunctionError → Place → Type 0
+IsBodyRefusalAt c (refusal.Memory e) p = Unit {0}
+IsBodyRefusalAt c (refusal.Fault e) p = IsBodyFaultAt c (error_of e) p × (spans_of e ≡ [])

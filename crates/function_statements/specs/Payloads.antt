@@ -2,6 +2,7 @@
 use Rattle.std.specs.Prelude.{◌≡◌, ◌≢◌, ◌⊎◌, ℕ, ◌==◌, Option, Some, None, if◌then◌else◌, option_map}
 use Rattle.typing_errors.specs.declared.error.FunctionError.{FunctionError}
 use Rattle.typing_errors.specs.declared.error.FunctionError.TheVariants as error
+use Rattle.ir_blocks.specs.judged.Places.{Place, OccursAt}
 use Rattle.ir_blocks.specs.judged.Plain.{PlainStatement, operation, ray_pipeline}
 use Rattle.ir_blocks.specs.declared.operations.RayPipelineFunction.TheVariants.{TraceRay}
 use Rattle.ir_flags.specs.Sets.{Has}
@@ -26,15 +27,27 @@ unlike held (Some type) = if type == held then None else Some type
 
 -- ---- all of them
 
--- A payload is of another type than the one kept from before, or than another payload where none is kept.
-pub record IsOtherPayload (m : PlainModule) (f : PlainFunction) (held : Option ℕ) (type before : ℕ) : Type 0 where
-  pub traced : HasPayload m f type
+-- The statement at the place traces a ray with a payload of this type.
+pub record TracesAt (m : PlainModule) (f : PlainFunction) (place : Place) (type : ℕ) : Type 0 where
+  pub acceleration_structure : ℕ
+  pub descriptor : ℕ
+  pub payload : ℕ
+  pub stands : OccursAt f.body place (operation (ray_pipeline (TraceRay acceleration_structure descriptor payload)))
+  pub declared : option_map (λ g. g.ty) (variable_at m f payload) ≡ Some type
+
+-- The payload at the place is of another type than the one kept from before, or than another payload where none is kept.
+pub record IsOtherPayload (m : PlainModule) (f : PlainFunction) (held : Option ℕ) (place : Place) (type before : ℕ) : Type 0 where
+  pub traced : TracesAt m f place type
   pub earlier : (held ≡ Some before) ⊎ ((held ≡ None) × HasPayload m f before)
   pub differs : type ≢ before
 
+abbrev pub IsPayloadsFaultAt : PlainModule → PlainFunction → (held : Option ℕ) → FunctionError → Place → Type 0
+IsPayloadsFaultAt m f held (error.MismatchedPayloadType type before) p = IsOtherPayload m f held p type before
+IsPayloadsFaultAt m f held _ p = ⊥
+
+-- at some place
 abbrev pub IsPayloadsFault : PlainModule → PlainFunction → (held : Option ℕ) → FunctionError → Type 0
-IsPayloadsFault m f held (error.MismatchedPayloadType type before) = IsOtherPayload m f held type before
-IsPayloadsFault m f held _ = ⊥
+IsPayloadsFault m f held e = (p : Place) × IsPayloadsFaultAt m f held e p
 
 -- The payloads are of one type, and this is kept after them under BLOCKS.
 pub record AreOfOneType (m : PlainModule) (f : PlainFunction) (held after : Option ℕ) : Type 0 where

@@ -4,19 +4,19 @@ ghost use Rattle.std.specs.Prelude.{MatchResult};
 ghost use Rattle.ir_blocks.specs.judged.Places.{Place, OccursAt};
 ghost use Rattle.ir_blocks.specs.judged.Plain.{PlainStatement};
 ghost use Rattle.ir_items.specs.judged.Bases.{BasesPrecede};
+ghost use Rattle.ir_places.specs.Paths.{IsPlaced};
 ghost use Rattle.spec_expressions.specs.judged.CallArities.{AritiesMatch};
 ghost use Rattle.spec_statements.specs.judged.Statements.{StatementOK};
-ghost use Rattle.function_statements.specs.Faults.{IsBodyRefusal};
+ghost use Rattle.function_statements.specs.Faults.{IsBodyRefusalAt};
 
 use crate::error::StatementError;
 use crate::rules::Rules;
 use function_statement_checks::StatementContext;
-use ir_places::Trail;
+use ir_places::{Trail, check_each};
 use ir_types::refusal::Refusal;
 use ir_types::with_span::WithSpan;
 use std::alloc::Global;
 use typing_errors::FunctionError;
-use typing_references::check_each;
 
 /// Whether each statement of the context's function, at any depth, meets the rule of its kind (a part of naga's
 /// `validate_block_impl`). Scope, and how statements leave their blocks, are no part of it. Requires that the base of each access
@@ -24,11 +24,12 @@ use typing_references::check_each;
 ///
 /// # Errors
 ///
-/// [`Refusal::Fault`] with a fault of a statement that has one, as its check answers it: the first in the order of the text,
-/// which no clause says.
+/// [`Refusal::Fault`] with a fault of a statement that has one, where the trail leads, as its check answers it: the first in the
+/// order of the text, which no clause says.
 /// [`Refusal::Memory`] where memory ran out.
 pub fn validate_statements<C: StatementContext>(
     alloc: Global,
+    trail: &mut Trail,
     context: &C,
 ) -> Result<(), Refusal<FunctionError>>
     requires known { C.known context.now }
@@ -36,11 +37,10 @@ pub fn validate_statements<C: StatementContext>(
     requires arities { AritiesMatch (C.seen context.now).m (C.seen context.now).f }
     ensures { MatchResult result
         (λ _. (p : Place) (u : PlainStatement) → OccursAt (C.seen context.now).f.body p u → StatementOK (C.seen context.now) u)
-        (IsBodyRefusal (C.seen context.now)) }
+        (λ r. IsPlaced trail.new (IsBodyRefusalAt (C.seen context.now) r)) }
 {
     let rules = Rules { alloc, context };
-    let mut trail = Trail::new(alloc);
-    match check_each(&mut trail, &rules, context.body()) {
+    match check_each(trail, &rules, context.body()) {
         Ok(()) => Ok(()),
         Err(StatementError::Memory(error)) => Err(Refusal::Memory(error)),
         Err(StatementError::Fault(error)) => Err(Refusal::Fault(WithSpan::new(alloc, error))),

@@ -4,16 +4,18 @@ ghost use Rattle.std.specs.Prelude.{◌≡◌, ◌≢◌, ℕ, Option as Maybe, 
 ghost use Rattle.std.specs.Option.{MatchOption};
 ghost use Rattle.ir_blocks.specs.judged.Plain.{operation, ray_pipeline};
 ghost use Rattle.ir_blocks.specs.found.View.{statement_view};
-ghost use Rattle.function_statements.specs.Payloads.{payload_type, unlike, IsPayloadsFault, AreOfOneType};
+ghost use Rattle.ir_places.specs.Paths.{IsPlaced};
+ghost use Rattle.function_statements.specs.Payloads.{payload_type, unlike, AreOfOneType, IsPayloadsFaultAt, TracesAt};
 ghost use Rattle.spec_statements.specs.judged.Payloads.{HasPayload};
 ghost use Rattle.spec_statements.specs.judged.Variables.{variable_at};
 
 use function_statement_checks::{StatementContext, variable_at};
 use ir_arena::handle::Handle;
 use ir_blocks::{RayPipelineFunction, Statement};
+use ir_places::Trail;
 use ir_types::key;
 use typing_errors::FunctionError;
-use typing_references::{StatementLook, first_in};
+use typing_references::{StatementLook, first_in, placed_in};
 
 // ---- one payload
 
@@ -131,17 +133,18 @@ fn first_payload<C: StatementContext>(context: &C) -> Option<Handle<key::IrType>
     first_in(&any, context.body())
 }
 
-// Another type of a payload of the function, if it has one.
+// Another type of a payload of the function, if it has one, and where that one stands.
 fn other_payload<C: StatementContext>(
+    trail: &mut Trail,
     context: &C,
     held: Handle<key::IrType>,
 ) -> Option<Handle<key::IrType>>
     ensures { MatchOption result
         ((type : ℕ) → HasPayload (C.seen context.now).m (C.seen context.now).f type → type ≡ held)
-        (λ type. HasPayload (C.seen context.now).m (C.seen context.now).f type × (type ≢ held)) }
+        (λ type. IsPlaced trail.new (λ p. TracesAt (C.seen context.now).m (C.seen context.now).f p type × (type ≢ held))) }
 {
     let other = OtherPayload { context, held };
-    first_in(&other, context.body())
+    placed_in(trail, &other, context.body())
 }
 
 /// The type of the payloads of all functions so far, if there is one: that of those before, which is given, or else that of the
@@ -150,23 +153,24 @@ fn other_payload<C: StatementContext>(
 /// # Errors
 ///
 /// [`FunctionError::MismatchedPayloadType`] where a payload is of another type than that of those before, or than an earlier one
-/// of the function.
+/// of the function: that of the ray where the trail leads.
 #[tactic(auto, using(crate::proofs::PayloadLemmas::before_held, crate::proofs::PayloadLemmas::found_held))]
 pub fn payload_of<C: StatementContext>(
+    trail: &mut Trail,
     context: &C,
     held: Option<Handle<key::IrType>>,
 ) -> Result<Option<Handle<key::IrType>>, FunctionError>
     ensures { MatchResult result
         (AreOfOneType (C.seen context.now).m (C.seen context.now).f held)
-        (IsPayloadsFault (C.seen context.now).m (C.seen context.now).f held) }
+        (λ e. IsPlaced trail.new (IsPayloadsFaultAt (C.seen context.now).m (C.seen context.now).f held e)) }
 {
     match held {
-        Some(before) => match other_payload(context, before) {
+        Some(before) => match other_payload(trail, context, before) {
             Some(ty) => Err(FunctionError::MismatchedPayloadType(ty, before)),
             None => Ok(held),
         },
         None => match first_payload(context) {
-            Some(before) => match other_payload(context, before) {
+            Some(before) => match other_payload(trail, context, before) {
                 Some(ty) => Err(FunctionError::MismatchedPayloadType(ty, before)),
                 None => Ok(Some(before)),
             },

@@ -4,8 +4,8 @@ use crate::error::StatementError;
 use crate::statement::check_own;
 use function_statement_checks::StatementContext;
 use ir_blocks::Statement;
+use ir_places::StatementRule;
 use std::alloc::Global;
-use typing_references::StatementRule;
 
 /// The rule of each kind of statement, in a context.
 #[derive(Drop)]

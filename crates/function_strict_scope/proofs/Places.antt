@@ -10,6 +10,9 @@ use Rattle.ir_blocks.specs.judged.Plain.{ray_query, ballot, PlainStatement, emit
 use Rattle.ir_blocks.specs.judged.Shapes.{Part, inner, accepting, rejecting, case_at, loop_body, loop_continuing, shape_of, part_of, case_body}
 use Rattle.ir_blocks.specs.declared.operations.RayQueryFunction.TheVariants as ray
 use Rattle.ir_items.specs.judged.Plain.{PlainFunction}
+use Rattle.ir_places.proofs.TrailLaws.{placed_then}
+use Rattle.ir_places.specs.Paths.{IsPlaced}
+use Rattle.ir_places.specs.declared.trail.Trail.{Trail}
 use Rattle.spec_expressions.specs.judged.Kinds.{operation_row}
 use Rattle.spec_statements.proofs.StrictLaws.{strict_by_walk_lem}
 use Rattle.spec_statements.specs.judged.Scope.{InScope, ScopeOK}
@@ -18,10 +21,12 @@ use Rattle.spec_statements.specs.found.SureLevel.{entering_by, at_condition_by, 
 use Rattle.spec_statements.specs.judged.Tables.{introduced, introduced_at}
 use Rattle.function_body_checks.proofs.FaultLaws.{call_at}
 use Rattle.function_body_checks.specs.Carried.{Known}
+use Rattle.function_strict_scope.proofs.Errors.{if_fault_then}
 use Rattle.function_strict_scope.proofs.Ranges.{operand_known, early_at, again_in_range, again_in_result}
-use Rattle.function_strict_scope.specs.Faults.{IsStrictFault, IsStrictCallError, IsOperandOfEmitted, IsOfOtherKind, of_proceed, of_ballot}
+use Rattle.function_strict_scope.specs.Faults.{IsStrictFaultAt, IsStrictCallError, IsOperandOfEmitted, IsOfOtherKind, of_proceed, of_ballot}
 use Rattle.function_strict_scope.specs.Tables.{proceeds_by, ballots_by}
-use Rattle.function_strict_scope.specs.Walked.{AnswerKindOK, EachKnown, IsAgainIn, IsEarlyOperand, IsOtherAnswer, Meets, AllMeet, MeetWithin, MeetInCases, FaultIn, FaultWithin, FaultInCases, IsFaultHere, emitted_by, emitted_at}
+use Rattle.function_strict_scope.specs.Walked.{AnswerKindOK, EachKnown, IsAgainIn, IsEarlyOperand, IsOtherAnswer, Meets, AllMeet, MeetWithin, MeetInCases, FaultAt, IfFault, IsFaultHere, emitted_by, emitted_at}
+use Rattle.function_strict_scope.specs.declared.error.StrictError.{StrictError}
 
 module _ (f : PlainFunction) where
   -- ---- met along a body, so met at each place
@@ -129,45 +134,6 @@ module _ (f : PlainFunction) where
     ballots = λ p result predicate stands. ((meets_at p [] f.body met).kind (operation (ballot result predicate)) stands).ballots result refl;
   }
 
-  -- ---- wrong along a body, so wrong at a place
-
-  pub record FaultAt (e : FunctionError) (sure : List ℕ) (b : PlainBlock) : Type 0 where
-    pub place : Place
-    pub wrong : IsFaultHere f (spot_at place b) (visible_by sure_level sure place b) e
-
-  in_part : (e : FunctionError) (sure : List ℕ) (s : PlainStatement) (rest : PlainBlock) (part : Part) → FaultAt e (entering_by sure_level sure s part) (part_of (shape_of s) part) → FaultAt e sure (next s rest)
-  in_part e sure s rest part found = record { place = inside part found.place; wrong = found.wrong }
-
-  mutual
-    fault_in : (e : FunctionError) (sure : List ℕ) (b : PlainBlock) → FaultIn f e sure b → FaultAt e sure b
-    fault_in e sure stop h = absurd h
-    fault_in e sure (next s rest) (inl own) = fault_within e sure s rest own
-    fault_in e sure (next s rest) (inr more) = let found = fault_in e (sure ++ introduced s) rest more in record { place = later found.place; wrong = found.wrong }
-
-    fault_within : (e : FunctionError) (sure : List ℕ) (s : PlainStatement) (rest : PlainBlock) → FaultWithin f e sure s → FaultAt e sure (next s rest)
-    fault_within e sure (emit first end) rest h = record { place = here; wrong = h }
-    fault_within e sure (block b) rest h = in_part e sure (block b) rest inner (fault_in e sure b h)
-    fault_within e sure (if_ test accept reject) rest (inl own) = record { place = here; wrong = own }
-    fault_within e sure (if_ test accept reject) rest (inr (inl first)) = in_part e sure (if_ test accept reject) rest accepting (fault_in e sure accept first)
-    fault_within e sure (if_ test accept reject) rest (inr (inr second)) = in_part e sure (if_ test accept reject) rest rejecting (fault_in e sure reject second)
-    fault_within e sure (switch selector cases) rest (inl own) = record { place = here; wrong = own }
-    fault_within e sure (switch selector cases) rest (inr h) = let found = fault_case e sure cases h in in_part e sure (switch selector cases) rest (case_at found.0) found.1
-    fault_within e sure (loop body continuing break_if) rest (inl first) = in_part e sure (loop body continuing break_if) rest loop_body (fault_in e sure body first)
-    fault_within e sure (loop body continuing break_if) rest (inr (inl second)) =
-        in_part e sure (loop body continuing break_if) rest loop_continuing (fault_in e (sure ++ sure_level body) continuing second)
-    fault_within e sure (loop body continuing break_if) rest (inr (inr third)) = record { place = condition; wrong = third }
-    fault_within e sure break rest h = record { place = here; wrong = h }
-    fault_within e sure continue rest h = record { place = here; wrong = h }
-    fault_within e sure (return value) rest h = record { place = here; wrong = h }
-    fault_within e sure kill rest h = record { place = here; wrong = h }
-    fault_within e sure (operation a) rest h = record { place = here; wrong = h }
-    fault_within e sure (call function arguments answer) rest h = record { place = here; wrong = h }
-
-    fault_case : (e : FunctionError) (sure : List ℕ) (cs : PlainCases) → FaultInCases f e sure cs → (k : ℕ) × FaultAt e sure (case_body cs k)
-    fault_case e sure no_case h = absurd h
-    fault_case e sure (case value body falls rest) (inl first) = (zero, fault_in e sure body first)
-    fault_case e sure (case value body falls rest) (inr more) = let found = fault_case e sure rest more in (suc found.0, found.1)
-
   -- ---- faults
 
   proceeds_at : (s : PlainStatement) (e : ℕ) → proceeds_by s ≡ Some e → (query : ℕ) × (s ≡ operation (ray_query query (ray.Proceed e)))
@@ -209,11 +175,10 @@ module _ (f : PlainFunction) where
     range_end : (first end e : ℕ) → first ≤ e → e < first + (end - first) → e < end
     range_end first end e ge lt = omega (arith, ge, lt)
 
-    early_reported : (p : Place) (o : ℕ) (spot : Spot) → spot_at p f.body ≡ spot → IsEarlyOperand f (carried p) (emitted_at spot) o → IsOperandOfEmitted f o
+    early_reported : (p : Place) (o : ℕ) (spot : Spot) → spot_at p f.body ≡ spot → IsEarlyOperand f (carried p) (emitted_at spot) o → IsOperandOfEmitted f p o
     early_reported p o (statement (emit first end)) is h =
         let found = early_at f (end - first) first (carried p) o h in
         record {
-          place = p;
           first = first;
           end = end;
           stands = is;
@@ -230,18 +195,17 @@ module _ (f : PlainFunction) where
     early_reported p o (loop_condition break_if) is h = absurd h
     early_reported p o (statement _) is h = absurd h
 
-    other_told : (p : Place) (e : ℕ) (spot : Spot) → spot_at p f.body ≡ spot → IsOtherAnswer f spot e → IsOfOtherKind f e
+    other_told : (p : Place) (e : ℕ) (spot : Spot) → spot_at p f.body ≡ spot → IsOtherAnswer f spot e → IsOfOtherKind f p e
     other_told p e nothing is h = absurd h
     other_told p e (loop_condition break_if) is h = absurd h
-    other_told p e (statement s) is (inl proceed) = let at = proceeds_at s e proceed.0 in of_proceed p at.0 (is ∙ ap statement at.1) proceed.1
-    other_told p e (statement s) is (inr ballot_) = let at = ballots_at s e ballot_.0 in of_ballot p at.0 (is ∙ ap statement at.1) ballot_.1
+    other_told p e (statement s) is (inl proceed) = let at = proceeds_at s e proceed.0 in of_proceed at.0 (is ∙ ap statement at.1) proceed.1
+    other_told p e (statement s) is (inr ballot_) = let at = ballots_at s e ballot_.0 in of_ballot at.0 (is ∙ ap statement at.1) ballot_.1
 
-    call_told : (p : Place) (g : ℕ) (e : CallError) → IsFaultHere f (spot_at p f.body) (carried p) (error.InvalidCall g e) → IsStrictCallError f g e
+    call_told : (p : Place) (g : ℕ) (e : CallError) → IsFaultHere f (spot_at p f.body) (carried p) (error.InvalidCall g e) → IsStrictCallError f p g e
     call_told p g (call_error.Argument place source) h =
         let found = call_at (spot_at p f.body) g h.0 in (
           h.1,
           record {
-            place = p;
             arguments = found.arguments;
             answer = found.answer;
             stands = found.is;
@@ -252,13 +216,15 @@ module _ (f : PlainFunction) where
         )
     call_told p g _ h = absurd h
 
-    fault_reported : (p : Place) (e : FunctionError) → IsFaultHere f (spot_at p f.body) (carried p) e → IsStrictFault f e
+    fault_reported : (p : Place) (e : FunctionError) → IsFaultHere f (spot_at p f.body) (carried p) e → IsStrictFaultAt f e p
     fault_reported p (error.Expression o source) h =
-        (h.0, ⊎_elim (λ own. inl (record { place = p; other = own.0; used = own.1.0; unknown = not_in_scope p o own.1.1 })) (λ early. inr (early_reported p o (spot_at p f.body) refl early)) h.1)
+        (h.0, ⊎_elim (λ own. inl (record { other = own.0; used = own.1.0; unknown = not_in_scope p o own.1.1 })) (λ early. inr (early_reported p o (spot_at p f.body) refl early)) h.1)
     fault_reported p (error.ExpressionAlreadyInScope x) h = absurd (never_again p x (again_at (spot_at p f.body) (carried p) x h))
     fault_reported p (error.InvalidCall g e) h = call_told p g e h
     fault_reported p (error.StrictResultMismatch e) h = other_told p e (spot_at p f.body) refl h
     fault_reported p _ h = absurd h
 
-    pub reported_in_body : (e : FunctionError) (sure : List ℕ) → sure ≡ [] → FaultIn f e sure f.body → IsStrictFault f e
-    reported_in_body e sure none wrong = let found = fault_in e [] f.body (subst (λ xs. FaultIn f e xs f.body) none wrong) in fault_reported found.place e found.wrong
+    pub reported_in_body : (t : Trail) (e : StrictError) (sure : List ℕ) → sure ≡ [] → IsPlaced t (FaultAt f sure f.body e) → IsPlaced t (λ p. IfFault e (λ x. IsStrictFaultAt f x p))
+    reported_in_body t e sure none wrong =
+        placed_then t (FaultAt f sure f.body e) (λ p. IfFault e (λ x. IsStrictFaultAt f x p))
+        (λ p there. if_fault_then e (IsFaultHere f (spot_at p f.body) (carried p)) (λ x. IsStrictFaultAt f x p) (fault_reported p) (subst (λ xs. FaultAt f xs f.body e p) none there)) wrong

@@ -19,15 +19,13 @@ use Rattle.spec_expressions.specs.judged.ExpressionNames.{expression_operands}
 use Rattle.spec_statements.specs.judged.Strict.{InStrictScope, Needs}
 
 -- an operand is used where it is not in strict scope, by another statement than a call
-pub record IsUsedUnsurely (f : PlainFunction) (o : ℕ) : Type 0 where
-  pub place : Place
+pub record IsUsedUnsurely (f : PlainFunction) (place : Place) (o : ℕ) : Type 0 where
   pub other : NoCallAt f place
   pub used : Needs f.body place o
   pub unknown : ¬ InStrictScope f place o
 
 -- an expression is emitted whose operand is neither before it in its range nor in strict scope
-pub record IsOperandOfEmitted (f : PlainFunction) (o : ℕ) : Type 0 where
-  pub place : Place
+pub record IsOperandOfEmitted (f : PlainFunction) (place : Place) (o : ℕ) : Type 0 where
   pub first : ℕ
   pub end : ℕ
   pub stands : OccursAt f.body place (emit first end)
@@ -41,8 +39,7 @@ pub record IsOperandOfEmitted (f : PlainFunction) (o : ℕ) : Type 0 where
   pub unknown : ¬ InStrictScope f place o
 
 -- what is passed to a function at a place is not in strict scope
-pub record IsPassedUnsurely (f : PlainFunction) (function place_of_argument : ℕ) : Type 0 where
-  pub place : Place
+pub record IsPassedUnsurely (f : PlainFunction) (place : Place) (function place_of_argument : ℕ) : Type 0 where
   pub arguments : List ℕ
   pub answer : Option ℕ
   pub stands : OccursAt f.body place (call function arguments answer)
@@ -51,21 +48,26 @@ pub record IsPassedUnsurely (f : PlainFunction) (function place_of_argument : �
   pub unknown : ¬ InStrictScope f place passed
 
 -- what denotes the answer of a `Proceed` or of a ballot is of another kind
-pub data IsOfOtherKind (f : PlainFunction) (e : ℕ) : Type 0 where
-  of_proceed : (p : Place) (query : ℕ) → OccursAt f.body p (operation (ray_query query (Proceed e))) → ¬ (slice_get f.expressions e ≡ Some (plain RayQueryProceedResult)) → IsOfOtherKind f e
-  of_ballot : (p : Place) (predicate : Option ℕ) → OccursAt f.body p (operation (ballot e predicate)) → ¬ (slice_get f.expressions e ≡ Some (plain SubgroupBallotResult)) → IsOfOtherKind f e
+pub data IsOfOtherKind (f : PlainFunction) (p : Place) (e : ℕ) : Type 0 where
+  of_proceed : (query : ℕ) → OccursAt f.body p (operation (ray_query query (Proceed e))) → ¬ (slice_get f.expressions e ≡ Some (plain RayQueryProceedResult)) → IsOfOtherKind f p e
+  of_ballot : (predicate : Option ℕ) → OccursAt f.body p (operation (ballot e predicate)) → ¬ (slice_get f.expressions e ≡ Some (plain SubgroupBallotResult)) → IsOfOtherKind f p e
 
-abbrev pub IsStrictCallError : PlainFunction → (function : ℕ) → CallError → Type 0
-IsStrictCallError f function (call_error.Argument place source) = (source ≡ NotInScope) × IsPassedUnsurely f function place
-IsStrictCallError f function _ = ⊥
+abbrev pub IsStrictCallError : PlainFunction → Place → (function : ℕ) → CallError → Type 0
+IsStrictCallError f p function (call_error.Argument place source) = (source ≡ NotInScope) × IsPassedUnsurely f p function place
+IsStrictCallError f p function _ = ⊥
 
+-- what the error says is so at this place
+abbrev pub IsStrictFaultAt : PlainFunction → FunctionError → Place → Type 0
+IsStrictFaultAt f (error.Expression o source) p = (source ≡ NotInScope) × (IsUsedUnsurely f p o ⊎ IsOperandOfEmitted f p o)
+IsStrictFaultAt f (error.InvalidCall function e) p = IsStrictCallError f p function e
+IsStrictFaultAt f (error.StrictResultMismatch e) p = IsOfOtherKind f p e
+IsStrictFaultAt f _ p = ⊥
+
+-- at some place
 abbrev pub IsStrictFault : PlainFunction → FunctionError → Type 0
-IsStrictFault f (error.Expression o source) = (source ≡ NotInScope) × (IsUsedUnsurely f o ⊎ IsOperandOfEmitted f o)
-IsStrictFault f (error.InvalidCall function e) = IsStrictCallError f function e
-IsStrictFault f (error.StrictResultMismatch e) = IsOfOtherKind f e
-IsStrictFault f _ = ⊥
+IsStrictFault f e = (p : Place) × IsStrictFaultAt f e p
 
--- a refusal tells such a fault, or that there is no memory
-abbrev pub IsStrictRefusal : PlainFunction → Refusal FunctionError → Type 0
-IsStrictRefusal f (refusal.Memory e) = Unit {0}
-IsStrictRefusal f (refusal.Fault e) = IsStrictFault f (error_of e) × (spans_of e ≡ [])
+-- a refusal tells such a fault of the place, or that there is no memory
+abbrev pub IsStrictRefusalAt : PlainFunction → Refusal FunctionError → Place → Type 0
+IsStrictRefusalAt f (refusal.Memory e) p = Unit {0}
+IsStrictRefusalAt f (refusal.Fault e) p = IsStrictFaultAt f (error_of e) p × (spans_of e ≡ [])

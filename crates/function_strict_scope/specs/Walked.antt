@@ -6,13 +6,16 @@ use Rattle.typing_errors.specs.declared.error.FunctionError.{FunctionError}
 use Rattle.typing_errors.specs.declared.error.FunctionError.TheVariants as error
 use Rattle.typing_errors.specs.declared.calls.CallError.TheVariants as call_error
 use Rattle.ir_arena.specs.judged.Handles.{handles_between}
-use Rattle.ir_blocks.specs.judged.Places.{Spot, nothing, statement, loop_condition}
+use Rattle.ir_blocks.specs.judged.Places.{Place, Spot, nothing, statement, loop_condition, spot_at}
+use Rattle.ir_blocks.specs.judged.Places as at
 use Rattle.ir_blocks.specs.judged.Plain.{PlainStatement, emit, block, if_, switch, loop, break, continue, return, kill, operation, call, PlainBlock, stop, next, PlainCases, no_case, case}
+use Rattle.ir_blocks.specs.judged.Shapes.{Part, case_at, case_body}
 use Rattle.ir_types.specs.judged.ExpressionPlain.{plain}
 use Rattle.ir_types.specs.declared.expressions.Expression.TheVariants.{RayQueryProceedResult, SubgroupBallotResult}
 use Rattle.ir_items.specs.judged.Plain.{PlainFunction}
+use Rattle.ir_places.specs.Paths.{later_by}
 use Rattle.spec_statements.specs.judged.Strict.{statement_needed, needed_at}
-use Rattle.spec_statements.specs.found.SureLevel.{holds_continue, sure_level}
+use Rattle.spec_statements.specs.found.SureLevel.{holds_continue, sure_level, visible_by}
 use Rattle.spec_statements.specs.judged.Tables.{introduced, introduced_at}
 use Rattle.spec_statements.specs.judged.Visible.{top_level}
 use Rattle.function_strict_scope.specs.Tables.{operands_given, proceeds_by, ballots_by}
@@ -141,25 +144,22 @@ module _ (f : PlainFunction) where
     MeetInCases sure no_case = Unit {0}
     MeetInCases sure (case value body falls rest) = AllMeet sure body × MeetInCases sure rest
 
-  abbrev mutual
-    pub FaultIn : FunctionError → (sure : List ℕ) → PlainBlock → Type 0
-    FaultIn e sure stop = ⊥
-    FaultIn e sure (next s rest) = FaultWithin e sure s ⊎ FaultIn e (sure ++ introduced s) rest
+  -- what an error speaks of is wrong at a place of a body, where so much is in scope as the body begins
+  abbrev pub FaultAt : (sure : List ℕ) → PlainBlock → StrictError → Place → Type 0
+  FaultAt sure b e p = IfFault e (IsFaultHere f (spot_at p b) (visible_by sure_level sure p b))
 
-    pub FaultWithin : FunctionError → (sure : List ℕ) → PlainStatement → Type 0
-    FaultWithin e sure (emit first end) = IsFaultHere f (statement (emit first end)) sure e
-    FaultWithin e sure (block b) = FaultIn e sure b
-    FaultWithin e sure (if_ test accept reject) = IsFaultHere f (statement (if_ test accept reject)) sure e ⊎ (FaultIn e sure accept ⊎ FaultIn e sure reject)
-    FaultWithin e sure (switch selector cases) = IsFaultHere f (statement (switch selector cases)) sure e ⊎ FaultInCases e sure cases
-    FaultWithin e sure (loop body continuing break_if) =
-        FaultIn e sure body ⊎ (FaultIn e (sure ++ sure_level body) continuing ⊎ IsFaultHere f (loop_condition break_if) ((sure ++ sure_level body) ++ top_level continuing) e)
-    FaultWithin e sure break = IsFaultHere f (statement break) sure e
-    FaultWithin e sure continue = IsFaultHere f (statement continue) sure e
-    FaultWithin e sure (return value) = IsFaultHere f (statement (return value)) sure e
-    FaultWithin e sure kill = IsFaultHere f (statement kill) sure e
-    FaultWithin e sure (operation a) = IsFaultHere f (statement (operation a)) sure e
-    FaultWithin e sure (call function arguments answer) = IsFaultHere f (statement (call function arguments answer)) sure e
+  -- the same of a statement, seen from a block that has it at an index, whatever follows
+  abbrev pub FaultFrom : (sure : List ℕ) → (index : ℕ) → PlainStatement → StrictError → Place → Type 0
+  FaultFrom sure k s e p = (q : Place) × (p ≡ later_by k q) × ((rest : PlainBlock) → FaultAt sure (next s rest) e q)
 
-    pub FaultInCases : FunctionError → (sure : List ℕ) → PlainCases → Type 0
-    FaultInCases e sure no_case = ⊥
-    FaultInCases e sure (case value body falls rest) = FaultIn e sure body ⊎ FaultInCases e sure rest
+  -- of a block in a part of that statement
+  abbrev pub FaultInPart : (sure : List ℕ) → (index : ℕ) → Part → PlainBlock → StrictError → Place → Type 0
+  FaultInPart sure k part b e p = (q : Place) × (p ≡ later_by k (at.inside part q)) × FaultAt sure b e q
+
+  -- of a case of that statement
+  abbrev pub FaultInCase : (sure : List ℕ) → (index : ℕ) → PlainCases → StrictError → Place → Type 0
+  FaultInCase sure k cases e p = (c : ℕ) × FaultInPart sure k (case_at c) (case_body cases c) e p
+
+  -- of its condition
+  abbrev pub FaultAtCondition : (sure : List ℕ) → (index : ℕ) → Option ℕ → StrictError → Place → Type 0
+  FaultAtCondition sure k break_if e p = (p ≡ later_by k at.condition) × IfFault e (IsFaultHere f (loop_condition break_if) sure)

@@ -12,6 +12,7 @@ pub mod laws;
 mod live;
 mod long;
 mod pairs;
+mod placed;
 mod statement;
 mod walk;
 

@@ -4,18 +4,20 @@ ghost use Rattle.std.specs.Prelude.{◌≡◌, ◌++◌, ◌||◌, if◌then◌e
 ghost use Rattle.ir_blocks.specs.found.View.{statement_view, block_view, case_view, cases_of};
 ghost use Rattle.ir_items.specs.judged.Plain.{PlainFunction};
 ghost use Rattle.ir_items.specs.found.View.{function_view};
+ghost use Rattle.ir_places.specs.Paths.{IsPlaced, part_view};
 ghost use Rattle.spec_statements.specs.found.SureLevel.{holds_continue, holds_continue_in, holds_continue_in_cases};
 ghost use Rattle.spec_statements.specs.judged.Tables.{introduced};
 ghost use Rattle.spec_statements.specs.judged.Visible.{top_level};
 ghost use Rattle.function_strict_scope.specs.Live.{Follows};
-ghost use Rattle.function_strict_scope.specs.Walked.{IfFault, AllMeet, MeetWithin, MeetInCases, FaultIn, FaultWithin, FaultInCases, left_in, first_left, cut_to};
+ghost use Rattle.function_strict_scope.specs.Walked.{AllMeet, MeetWithin, MeetInCases, FaultAt, FaultFrom, FaultInPart, FaultInCase, left_in, first_left, cut_to};
 
 use crate::error::StrictError;
 use crate::live::{LiveOperands, cut};
-use crate::statement::{check_condition, check_needed, check_own};
+use crate::placed::{check_condition, check_needed, check_own};
 use function_body_checks::ExpressionList;
 use ir_blocks::plain_operation;
 use ir_items::{Block, Function, Statement, SwitchCase};
+use ir_places::{Part, Step, Trail};
 
 // Where more than what is left has come into scope, lets it go.
 fn cut_after(live: &mut LiveOperands, sure: &mut ExpressionList, left: Option<usize>)
@@ -51,6 +53,7 @@ pub fn check_block(
     function: &Function,
     sure: &mut ExpressionList,
     live: &mut LiveOperands,
+    trail: &mut Trail,
     block: &Block,
 ) -> Result<Option<usize>, StrictError>
     requires { Follows (function_view function.now) live.old sure.old }
@@ -58,14 +61,41 @@ pub fn check_block(
     ensures scope { OnOk result (sure.new ≡ sure.old ++ top_level (block_view block.now)) }
     ensures left { IfOk result (λ left. left ≡ left_in sure.old (block_view block.now)) }
     ensures live { OnOk result (Follows (function_view function.now) live.new sure.new) }
-    ensures fault { IfErr result (λ r. IfFault r (λ e. FaultIn (function_view function.now) e sure.old (block_view block.now))) }
+    ensures fault { IfErr result (λ e. IsPlaced trail.new (FaultAt (function_view function.now) sure.old (block_view block.now) e)) }
 {
     let mut left = None;
-    for statement in block.as_slice() {
-        let continues = check_statement(function, sure, live, statement)?;
+    for (index, statement) in block.as_slice().iter().enumerate() {
+        let continues = check_statement(function, sure, live, trail, index, statement)?;
         left = left_after(left, continues, sure.len());
     }
     Ok(left)
+}
+
+// The same of a block in a part of a statement. The place is seen from the block that has the statement.
+#[cycle(walk)]
+fn check_part(
+    function: &Function,
+    sure: &mut ExpressionList,
+    live: &mut LiveOperands,
+    trail: &mut Trail,
+    index: usize,
+    part: Part,
+    block: &Block,
+) -> Result<Option<usize>, StrictError>
+    requires { Follows (function_view function.now) live.old sure.old }
+    ensures meet { OnOk result (AllMeet (function_view function.now) sure.old (block_view block.now)) }
+    ensures scope { OnOk result (sure.new ≡ sure.old ++ top_level (block_view block.now)) }
+    ensures left { IfOk result (λ left. left ≡ left_in sure.old (block_view block.now)) }
+    ensures live { OnOk result (Follows (function_view function.now) live.new sure.new) }
+    ensures fault { IfErr result (λ e. IsPlaced trail.new (FaultInPart (function_view function.now) sure.old index (part_view part) (block_view block.now) e)) }
+{
+    match check_block(function, sure, live, trail, block) {
+        Ok(left) => Ok(left),
+        Err(error) => {
+            trail.inside(Step { index, part });
+            Err(error)
+        }
+    }
 }
 
 // The same of a block after whose end nothing of it is in scope. It answers whether a continue of the loop around it stands in it.
@@ -74,6 +104,9 @@ fn check_inner(
     function: &Function,
     sure: &mut ExpressionList,
     live: &mut LiveOperands,
+    trail: &mut Trail,
+    index: usize,
+    part: Part,
     block: &Block,
 ) -> Result<bool, StrictError>
     requires { Follows (function_view function.now) live.old sure.old }
@@ -81,20 +114,22 @@ fn check_inner(
     ensures scope { OnOk result (sure.new ≡ sure.old) }
     ensures continues { IfOk result (λ b. b ≡ holds_continue_in (block_view block.now)) }
     ensures live { OnOk result (Follows (function_view function.now) live.new sure.new) }
-    ensures fault { IfErr result (λ r. IfFault r (λ e. FaultIn (function_view function.now) e sure.old (block_view block.now))) }
+    ensures fault { IfErr result (λ e. IsPlaced trail.new (FaultInPart (function_view function.now) sure.old index (part_view part) (block_view block.now) e)) }
 {
     let count = sure.len();
-    let left = check_block(function, sure, live, block)?;
+    let left = check_part(function, sure, live, trail, index, part, block)?;
     cut(live, sure, count);
     Ok(left.is_some())
 }
 
-// The same of the cases of a switch, one after another.
+// The same of the cases of a switch, one after another. The place is seen from the block that has the switch.
 #[cycle(walk)]
 fn check_cases(
     function: &Function,
     sure: &mut ExpressionList,
     live: &mut LiveOperands,
+    trail: &mut Trail,
+    index: usize,
     cases: &[SwitchCase],
 ) -> Result<bool, StrictError>
     requires { Follows (function_view function.now) live.old sure.old }
@@ -102,21 +137,26 @@ fn check_cases(
     ensures scope { OnOk result (sure.new ≡ sure.old) }
     ensures continues { IfOk result (λ b. b ≡ holds_continue_in_cases (cases_of (map case_view cases.now))) }
     ensures live { OnOk result (Follows (function_view function.now) live.new sure.new) }
-    ensures fault { IfErr result (λ r. IfFault r (λ e. FaultInCases (function_view function.now) e sure.old (cases_of (map case_view cases.now)))) }
+    ensures fault { IfErr result (λ e. IsPlaced trail.new (FaultInCase (function_view function.now) sure.old index (cases_of (map case_view cases.now)) e)) }
 {
     let mut continues = false;
-    for case in cases {
-        continues = either(continues, check_inner(function, sure, live, &case.body)?);
+    for (number, case) in cases.iter().enumerate() {
+        let part = Part::Case(number);
+        let own = check_inner(function, sure, live, trail, index, part, &case.body)?;
+        continues = either(continues, own);
     }
     Ok(continues)
 }
 
-// The same of a statement and of what stands inside it. What it brings itself stays in scope.
+// The same of a statement and of what stands inside it. What it brings itself stays in scope. The place is seen from the block
+// that has it at an index.
 #[cycle(walk)]
 fn check_statement(
     function: &Function,
     sure: &mut ExpressionList,
     live: &mut LiveOperands,
+    trail: &mut Trail,
+    index: usize,
     statement: &Statement,
 ) -> Result<bool, StrictError>
     requires { Follows (function_view function.now) live.old sure.old }
@@ -124,19 +164,21 @@ fn check_statement(
     ensures scope { OnOk result (sure.new ≡ sure.old ++ introduced (statement_view statement.now)) }
     ensures continues { IfOk result (λ b. b ≡ holds_continue (statement_view statement.now)) }
     ensures live { OnOk result (Follows (function_view function.now) live.new sure.new) }
-    ensures fault { IfErr result (λ r. IfFault r (λ e. FaultWithin (function_view function.now) e sure.old (statement_view statement.now))) }
+    ensures fault { IfErr result (λ e. IsPlaced trail.new (FaultFrom (function_view function.now) sure.old index (statement_view statement.now) e)) }
 {
     match statement {
-        Statement::Block(block) => check_inner(function, sure, live, block),
+        Statement::Block(block) => {
+            check_inner(function, sure, live, trail, index, Part::Inner, block)
+        }
         Statement::If { accept, reject, .. } => {
-            check_needed(function, sure, statement)?;
-            let accepting = check_inner(function, sure, live, accept)?;
-            let rejecting = check_inner(function, sure, live, reject)?;
-            Ok(either(accepting, rejecting))
+            check_needed(function, sure, trail, index, statement)?;
+            let first = check_inner(function, sure, live, trail, index, Part::Accepting, accept)?;
+            let second = check_inner(function, sure, live, trail, index, Part::Rejecting, reject)?;
+            Ok(either(first, second))
         }
         Statement::Switch { cases, .. } => {
-            check_needed(function, sure, statement)?;
-            check_cases(function, sure, live, cases)
+            check_needed(function, sure, trail, index, statement)?;
+            check_cases(function, sure, live, trail, index, cases)
         }
         Statement::Loop {
             body,
@@ -144,15 +186,16 @@ fn check_statement(
             break_if,
         } => {
             let count = sure.len();
-            let left = check_block(function, sure, live, body)?;
+            let left = check_part(function, sure, live, trail, index, Part::LoopBody, body)?;
             cut_after(live, sure, left);
-            check_block(function, sure, live, continuing)?;
-            check_condition(function, sure, *break_if)?;
+            let after = Part::LoopContinuing;
+            check_part(function, sure, live, trail, index, after, continuing)?;
+            check_condition(function, sure, trail, index, *break_if)?;
             cut(live, sure, count);
             Ok(false)
         }
         Statement::Continue => {
-            check_own(function, sure, live, statement)?;
+            check_own(function, sure, live, trail, index, statement)?;
             Ok(true)
         }
         Statement::Emit(_)
@@ -161,7 +204,7 @@ fn check_statement(
         | Statement::Kill
         | Statement::Call { .. }
         | plain_operation!() => {
-            check_own(function, sure, live, statement)?;
+            check_own(function, sure, live, trail, index, statement)?;
             Ok(false)
         }
     }

@@ -8,7 +8,7 @@ use std::alloc::AllocError;
 use thiserror::Error;
 
 /// Why a varying is refused (naga's `VaryingError`).
-#[derive(PartialEq, Debug, Drop, Error)]
+#[derive(Clone, PartialEq, Debug, Drop, Error)]
 pub enum VaryingError {
     /// No varying is of the type.
     #[error("type {0:?} cannot be the type of a varying")]

@@ -6,14 +6,19 @@ use Rattle.function_entry_checks.specs.declared.error.EntryPointError.TheVariant
 use Rattle.function_entries.proofs.Refuted.{connection_refuted, payload_fault_refutes, stage_fault_refutes}
 use Rattle.function_entries.proofs.Transport.{connection_fault_to, connections_to}
 use Rattle.function_entries.specs.ConnectionFaults.{IsConnectionFault}
-use Rattle.function_whole.specs.EntryFaults.{of_stage, of_function, of_payload, of_runs, of_connections, IsRefusedAs, IsReportedAs, IsUnconnected}
+use Rattle.function_whole.specs.EntryFaults.{of_stage, of_function, of_payload, of_runs, of_connections, IsEntryPointFaultAt, IsRefusedAs, IsRefusedAt, IsReportedAs, IsUnconnected}
 use Rattle.function_whole.specs.Validated.{AddsOwnUses, IsEntrySummary, ReportsSame}
 use Rattle.typing_errors.specs.declared.error.FunctionError.{FunctionError}
-use Rattle.function_whole.specs.Faults.{IsFunctionFault}
-use Rattle.function_interface.specs.Analysis.{Faults, IsRefusedFor as IsFunctionRefusedFor}
+use Rattle.function_whole.specs.Faults.{IsFunctionFault, IsFunctionFaultAt}
+use Rattle.function_interface.specs.Analysis.{Faults, IsRefusedAt as IsFunctionRefusedAt, IsRefusedFor as IsFunctionRefusedFor}
 use Rattle.ir_types.specs.found.Faults.{error_of}
 use Rattle.ir_types.specs.declared.refusal.Refusal.{Refusal}
 use Rattle.ir_types.specs.declared.refusal.Refusal.TheVariants as refusal
+use Rattle.ir_types.specs.declared.with_span.WithSpan.{WithSpan}
+use Rattle.ir_blocks.specs.judged.Places.{Place, here}
+use Rattle.ir_places.proofs.TrailLaws.{placed, placed_then}
+use Rattle.ir_places.specs.Paths.{place_of}
+use Rattle.ir_places.specs.declared.trail.Trail.{Trail}
 use Rattle.ir_flags.proofs.SetLaws.{all_shader_stages}
 use Rattle.ir_flags.specs.Sets.{Has}
 use Rattle.ir_flags.specs.declared.settings.Capabilities.{Capabilities}
@@ -106,24 +111,41 @@ module _ (R : Reading) (F : Faults) (callees : List ShaderStages) (s : Settings)
   abbrev Refused : EntryPointError → Type 0
   Refused x = IsRefusedAs R F callees (HasUse m e.function) s held m e x
 
+  -- the same of a fault at a place
+  abbrev FaultAt : Place → EntryPointError → Type 0
+  FaultAt p x = IsEntryPointFaultAt R F callees (HasUse m e.function) s held m e p x
+
+  pub anywhere : (t : Trail) (told : WithSpan EntryPointError) (x : EntryPointError) → error_of told ≡ x → FaultAt (place_of t) x → IsRefusedAt t FaultAt (refusal.Fault told)
+  anywhere t told x is h = placed t (λ p. FaultAt p (error_of told)) (subst (FaultAt (place_of t)) (sym is) h)
+
+  pub function_at : (t : Trail) (r : Refusal FunctionError) (told : Refusal EntryPointError) → IsReportedAs r told → IsFunctionRefusedAt t (IsFunctionFaultAt R F s true held m e.function) r → IsRefusedAt t FaultAt told
+  function_at t (refusal.Memory a) (refusal.Memory b) told fault = tt
+  function_at t (refusal.Memory a) (refusal.Fault f) told fault = absurd told
+  function_at t (refusal.Fault d) (refusal.Memory b) told fault = absurd told
+  function_at t (refusal.Fault d) (refusal.Fault f) told fault =
+      placed_then t (IsFunctionFaultAt R F s true held m e.function (error_of d)) (λ p. FaultAt p (error_of f)) (λ p w. subst (FaultAt p) (sym told.0) (of_function w)) fault.0
+
   pub by_stage : (x : EntryPointError) → IsStageFault s.capabilities e x → Refused x
-  by_stage x fault = record { refused = λ ok. stage_fault_refutes s.capabilities e x fault ok.stage; fault = of_stage fault }
+  by_stage x fault = record { refused = λ ok. stage_fault_refutes s.capabilities e x fault ok.stage; fault = (here, of_stage fault) }
 
   pub by_payload : (x : EntryPointError) → IsPayloadFault m e x → Refused x
-  by_payload x fault = record { refused = λ ok. payload_fault_refutes m e x fault ok.payload; fault = of_payload fault }
+  by_payload x fault = record { refused = λ ok. payload_fault_refutes m e x fault ok.payload; fault = (here, of_payload fault) }
 
   pub by_function : (r : Refusal FunctionError) (t : Refusal EntryPointError) → IsReportedAs r t → IsFunctionRefusedFor (λ y. FunctionOK R s true held m e.function → ⊥) r → IsFunctionRefusedFor (IsFunctionFault R F s true held m e.function) r
       → IsRefusedFor Refused t
   by_function (refusal.Memory a) (refusal.Memory b) told refused fault = tt
   by_function (refusal.Memory a) (refusal.Fault f) told refused fault = absurd told
   by_function (refusal.Fault d) (refusal.Memory b) told refused fault = absurd told
-  by_function (refusal.Fault d) (refusal.Fault f) told refused fault = (subst Refused (sym told.0) (record { refused = λ ok. refused.0 ok.function; fault = of_function fault.0 }), told.1)
+  by_function (refusal.Fault d) (refusal.Fault f) told refused fault = (subst Refused (sym told.0) (record { refused = λ ok. refused.0 ok.function; fault = (fault.0.0, of_function fault.0.1) }), told.1)
 
   module _ (noted : ShaderStages) (exact : (stage : ℕ) → Has noted.0 stage ↔ (Has all_stages.0 stage × AllowsStage R s callees e.function stage)) where
     pub by_runs : ¬ Has noted.0 (stage_set e.stage).0 → Refused ForbiddenStageOperations
     by_runs cannot =
         let forbidden : ¬ AllowsStage R s callees e.function (stage_set e.stage).0 = λ a. cannot ((exact (stage_set e.stage).0).1 (in_all e.stage, a)) in
-        record { refused = λ ok. forbidden ok.runs; fault = of_runs forbidden }
+        record { refused = λ ok. forbidden ok.runs; fault = (here, of_runs forbidden) }
+
+    pub runs_at : (p : Place) → ¬ Has noted.0 (stage_set e.stage).0 → FaultAt p ForbiddenStageOperations
+    runs_at p cannot = of_runs (λ a. cannot ((exact (stage_set e.stage).0).1 (in_all e.stage, a)))
 
     pub runs : Has noted.0 (stage_set e.stage).0 → AllowsStage R s callees e.function (stage_set e.stage).0
     runs has = ((exact (stage_set e.stage).0).0 has).1
@@ -138,7 +160,13 @@ module _ (R : Reading) (F : Faults) (callees : List ShaderStages) (s : Settings)
     pub by_connections : (x : EntryPointError) → IsUnconnected s.flags s.capabilities m e (EntryUses e (HasUseBit before.uses)) x → Refused x
     by_connections x u =
         let moved = unconnected_to m e (EntryUses e (HasUseBit before.uses)) (EntryUses e (HasUse m e.function)) same_own s.flags s.capabilities x u in
-        record { refused = λ ok. moved.refused ok.connections; fault = of_connections moved.fault }
+        record { refused = λ ok. moved.refused ok.connections; fault = (here, of_connections moved.fault) }
+
+    pub connections_at : (t : Trail) (r : Refusal EntryPointError) → IsRefusedFor (IsUnconnected s.flags s.capabilities m e (EntryUses e (HasUseBit before.uses))) r → IsRefusedAt t FaultAt r
+    connections_at t (refusal.Memory x) h = tt
+    connections_at t (refusal.Fault x) h =
+        let moved = unconnected_to m e (EntryUses e (HasUseBit before.uses)) (EntryUses e (HasUse m e.function)) same_own s.flags s.capabilities (error_of x) h.0 in
+        placed t (λ p. FaultAt p (error_of x)) (of_connections moved.fault)
 
     pub connected : ConnectionsOK s.flags s.capabilities m e (EntryUses e (HasUseBit before.uses)) → ConnectionsOK s.flags s.capabilities m e (EntryUses e (HasUse m e.function))
     connected ok = connections_to m e (EntryUses e (HasUseBit before.uses)) (EntryUses e (HasUse m e.function)) same_own s.flags s.capabilities ok

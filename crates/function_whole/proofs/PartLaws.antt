@@ -1,47 +1,72 @@
 -- What the parts of a check find, put together.
-use Rattle.std.proofs.Common.{◌≡◌, ◌↔◌, inl, inr, ℕ, Bool, List, Option, length, refl, sym, subst}
+use Rattle.std.proofs.Common.{◌≡◌, ◌↔◌, inl, inr, ℕ, Bool, List, Option, length, [], refl, sym, subst}
 use Rattle.std.specs.Int.RustNames.{bit_and}
 use Rattle.typing_errors.specs.declared.error.FunctionError.{FunctionError}
-use Rattle.function_interface.specs.Analysis.{Faults, IsRefusedFor, IsFaultBefore, in_arity as with_arity, in_analysis as with_analysis}
-use Rattle.function_interface.proofs.RefusedAs.{refused_as}
+use Rattle.function_interface.specs.Analysis.{Faults, IsRefusedAt, IsRefusedFor, IsFaultBefore, in_arity as with_arity, in_analysis as with_analysis}
+use Rattle.function_interface.proofs.RefusedAs.{refused_anywhere, refused_as, refused_at, told_at}
+use Rattle.ir_blocks.specs.judged.Places.{Place}
 use Rattle.ir_items.specs.judged.Plain.{PlainFunction, PlainModule}
+use Rattle.ir_places.proofs.TrailLaws.{placed, placed_then}
+use Rattle.ir_places.specs.Paths.{IsPlaced, place_of}
+use Rattle.ir_places.specs.declared.trail.Trail.{Trail}
 use Rattle.function_interface.specs.Refusals.{IsRefusal}
-use Rattle.ir_types.specs.found.Faults.{error_of}
+use Rattle.ir_types.specs.found.Faults.{error_of, spans_of}
 use Rattle.ir_types.specs.declared.refusal.Refusal.{Refusal}
 use Rattle.ir_types.specs.declared.refusal.Refusal.TheVariants as refusal
+use Rattle.ir_types.specs.declared.with_span.WithSpan.{WithSpan}
 use Rattle.ir_flags.specs.Sets.{Has}
-use Rattle.ir_flags.specs.declared.settings.TheConstants.ValidationFlags.{EXPRESSIONS, BLOCKS}
+use Rattle.ir_flags.specs.declared.settings.TheConstants.ValidationFlags.{EXPRESSIONS, BLOCKS, STRICT_SCOPE}
+use Rattle.ir_flags.specs.declared.settings.ValidationFlags.{ValidationFlags}
 use Rattle.ir_flags.specs.declared.stages.ShaderStages.{ShaderStages}
 use Rattle.ir_flags.specs.declared.settings.Settings.{Settings}
 use Rattle.function_interface.specs.Bodies.{MayRun}
-use Rattle.function_body_checks.specs.Faults.{IsScopeRefusal}
+use Rattle.function_body_checks.specs.ControlFaults.{IsControlFaultAt}
+use Rattle.function_body_checks.specs.Faults.{IsScopeRefusalAt}
 use Rattle.spec_statements.specs.judged.ExpressionStages.{all_stages}
 use Rattle.spec_statements.specs.judged.BlockContext.{BlockContext}
 use Rattle.spec_statements.specs.judged.Functions.{Reading}
 use Rattle.spec_statements.specs.judged.Interfaces.{InterfaceOK}
-use Rattle.function_statements.specs.Faults.{IsBodyRefusal}
+use Rattle.function_statements.specs.Faults.{IsBodyRefusalAt}
+use Rattle.function_statements.specs.Payloads.{IsPayloadsFaultAt}
+use Rattle.function_strict_scope.specs.Faults.{IsStrictFaultAt, IsStrictRefusalAt}
 use Rattle.function_whole.proofs.Below.{left_has, right_has, both_have}
-use Rattle.function_whole.specs.Faults.{AllAccepted, IsBodyInOrder, IsFaultOfBody, IsUnanswered, IsFaultAfter, in_body, unanswered, IsFunctionFault, in_arity, in_analysis}
-use Rattle.function_whole.specs.Judged.{AcceptedBelow, AreExpressionsMet, IsBodyMet, AllAnswer, AreBlocksMet, IsBlocksFault, ArePartsMet}
+use Rattle.function_whole.specs.Faults.{AllAccepted, IsBodyInOrder, IsFaultOfBodyAt, IsUnanswered, IsFaultAfter, in_body, unanswered, IsFunctionFaultAt, in_arity, in_analysis}
+use Rattle.function_whole.specs.Judged.{AcceptedBelow, AreExpressionsMet, IsBodyMet, AllAnswer, AreBlocksMet, IsBlocksFaultAt, ArePartsMet}
 
 -- ---- refusals
 
-pub before_function : (reading : Reading) (faults : Faults) (s : Settings) (entry : Bool) (before : Option ℕ) (m : PlainModule) (f : PlainFunction) (e : FunctionError)
-    → IsFaultBefore faults s.flags m f e → IsFunctionFault reading faults s entry before m f e
-before_function reading faults s entry before m f e (with_arity w) = in_arity w
-before_function reading faults s entry before m f e (with_analysis arity w) = in_analysis arity w
+pub before_function : (reading : Reading) (faults : Faults) (s : Settings) (entry : Bool) (before : Option ℕ) (m : PlainModule) (f : PlainFunction) (e : FunctionError) (p : Place)
+    → IsFaultBefore faults s.flags m f e p → IsFunctionFaultAt reading faults s entry before m f e p
+before_function reading faults s entry before m f e p (with_arity w) = in_arity w
+before_function reading faults s entry before m f e p (with_analysis arity w) = in_analysis arity w
 
-pub interface_refused : (Rule : Type 0) (P Q : FunctionError → Type 0) → ((e : FunctionError) → P e → Q e) → (r : Refusal FunctionError) → IsRefusal Rule P r → IsRefusedFor Q r
-interface_refused Rule P Q widen (refusal.Memory e) h = tt
-interface_refused Rule P Q widen (refusal.Fault e) h = (widen (error_of e) h.0, h.1)
+pub interface_refused : (t : Trail) (Rule : Type 0) (P : FunctionError → Type 0) (Q : FunctionError → Place → Type 0) → ((e : FunctionError) (p : Place) → P e → Q e p) → (r : Refusal FunctionError) → IsRefusal Rule P r → IsRefusedAt t Q r
+interface_refused t Rule P Q widen (refusal.Memory e) h = tt
+interface_refused t Rule P Q widen (refusal.Fault e) h = (placed t (Q (error_of e)) (widen (error_of e) (place_of t) h.0), h.1)
 
-pub scope_refused : (s : Settings) (before : Option ℕ) (c : BlockContext) (r : Refusal FunctionError) → IsScopeRefusal s.flags c.f r → IsRefusedFor (IsFaultOfBody s before c) r
-scope_refused s before c (refusal.Memory e) h = tt
-scope_refused s before c (refusal.Fault e) h = (inr (inl h.0), h.1)
+-- what is refused for each part of a body is refused for the body
+module _ (s : Settings) (before : Option ℕ) (c : BlockContext) (t : Trail) where
+  pub control_refused : (told : WithSpan FunctionError) (e : FunctionError) → error_of told ≡ e → spans_of told ≡ [] → IsPlaced t (IsControlFaultAt c.f.body e) → IsRefusedAt t (IsFaultOfBodyAt s before c) (refusal.Fault told)
+  control_refused told e is none h = told_at t (IsFaultOfBodyAt s before c) told e is none (placed_then t (IsControlFaultAt c.f.body e) (IsFaultOfBodyAt s before c e) (λ p w. inl w) h)
 
-pub statements_refused : (s : Settings) (before : Option ℕ) (c : BlockContext) (r : Refusal FunctionError) → IsBodyRefusal c r → IsRefusedFor (IsFaultOfBody s before c) r
-statements_refused s before c (refusal.Memory e) h = tt
-statements_refused s before c (refusal.Fault e) h = (inr (inr (inl h.0)), h.1)
+  pub scope_refused : (r : Refusal FunctionError) → IsPlaced t (IsScopeRefusalAt s.flags c.f r) → IsRefusedAt t (IsFaultOfBodyAt s before c) r
+  scope_refused (refusal.Memory e) h = tt
+  scope_refused (refusal.Fault e) h = (placed_then t (IsScopeRefusalAt s.flags c.f (refusal.Fault e)) (IsFaultOfBodyAt s before c (error_of e)) (λ p w. inr (inl w.0)) h, h.2.1)
+
+  pub strict_refused : (r : Refusal FunctionError) → IsRefusedAt t (λ e p. Has s.flags.0 STRICT_SCOPE.0 × IsStrictFaultAt c.f e p) r → IsRefusedAt t (IsFaultOfBodyAt s before c) r
+  strict_refused r h = refused_at t (λ e p. Has s.flags.0 STRICT_SCOPE.0 × IsStrictFaultAt c.f e p) (IsFaultOfBodyAt s before c) (λ e p w. inr (inr (inr (inr w)))) r h
+
+  pub statements_refused : (r : Refusal FunctionError) → IsPlaced t (IsBodyRefusalAt c r) → IsRefusedAt t (IsFaultOfBodyAt s before c) r
+  statements_refused (refusal.Memory e) h = tt
+  statements_refused (refusal.Fault e) h = (placed_then t (IsBodyRefusalAt c (refusal.Fault e)) (IsFaultOfBodyAt s before c (error_of e)) (λ p w. inr (inr (inl w.0))) h, h.2.1)
+
+  pub payloads_refused : (told : WithSpan FunctionError) (e : FunctionError) → error_of told ≡ e → spans_of told ≡ [] → IsPlaced t (IsPayloadsFaultAt c.m c.f before e) → IsRefusedAt t (IsFaultOfBodyAt s before c) (refusal.Fault told)
+  payloads_refused told e is none h = told_at t (IsFaultOfBodyAt s before c) told e is none (placed_then t (IsPayloadsFaultAt c.m c.f before e) (IsFaultOfBodyAt s before c e) (λ p w. inr (inr (inr (inl w)))) h)
+
+-- strict scope, where it is asked for
+pub strict_asked : (t : Trail) (flags : ValidationFlags) (f : PlainFunction) → Has flags.0 STRICT_SCOPE.0 → (r : Refusal FunctionError) → IsPlaced t (IsStrictRefusalAt f r) → IsRefusedAt t (λ e p. Has flags.0 STRICT_SCOPE.0 × IsStrictFaultAt f e p) r
+strict_asked t flags f asked (refusal.Memory e) h = tt
+strict_asked t flags f asked (refusal.Fault e) h = (placed_then t (IsStrictRefusalAt f (refusal.Fault e)) (λ p. Has flags.0 STRICT_SCOPE.0 × IsStrictFaultAt f (error_of e) p) (λ p w. (asked, w.0)) h, h.2.1)
 
 -- ---- expressions
 
@@ -91,11 +116,14 @@ asked_blocks s before c callees stages answered held asked met all run = record 
 pub asked_answers : (s : Settings) (c : BlockContext) → Has s.flags.0 EXPRESSIONS.0 → (r : Refusal FunctionError) → IsRefusedFor (IsUnanswered c.f) r → IsRefusedFor (λ e. Has s.flags.0 EXPRESSIONS.0 × IsUnanswered c.f e) r
 asked_answers s c asked r h = refused_as (IsUnanswered c.f) (λ e. Has s.flags.0 EXPRESSIONS.0 × IsUnanswered c.f e) (λ e w. (asked, w)) r h
 
-pub unanswered_refused : (s : Settings) (before : Option ℕ) (c : BlockContext) (answered : List ℕ) (held : Option ℕ) → Has s.flags.0 BLOCKS.0 → IsBodyMet s before c answered held → (r : Refusal FunctionError)
-    → IsRefusedFor (λ e. Has s.flags.0 EXPRESSIONS.0 × IsUnanswered c.f e) r → IsRefusedFor (IsBlocksFault s before c) r
-unanswered_refused s before c answered held asked met r h =
+pub unanswered_refused : (t : Trail) (s : Settings) (before : Option ℕ) (c : BlockContext) (answered : List ℕ) (held : Option ℕ) → Has s.flags.0 BLOCKS.0 → IsBodyMet s before c answered held → (r : Refusal FunctionError)
+    → IsRefusedFor (λ e. Has s.flags.0 EXPRESSIONS.0 × IsUnanswered c.f e) r → IsRefusedAt t (IsBlocksFaultAt s before c) r
+unanswered_refused t s before c answered held asked met r h =
     let ordered : IsBodyInOrder s before c = record { control = met.control; scope = met.scope; once = met.once; statements = met.statements; payloads = met.payloads.payloads; strict = met.strict } in
-    refused_as (λ e. Has s.flags.0 EXPRESSIONS.0 × IsUnanswered c.f e) (IsBlocksFault s before c) (λ e w. (asked, inr (ordered, w.0, w.1))) r h
+    refused_anywhere t (λ e. Has s.flags.0 EXPRESSIONS.0 × IsUnanswered c.f e) (IsBlocksFaultAt s before c) (λ e p w. (asked, inr (ordered, w.0, w.1))) r h
+
+pub body_refused : (t : Trail) (s : Settings) (before : Option ℕ) (c : BlockContext) → Has s.flags.0 BLOCKS.0 → (r : Refusal FunctionError) → IsRefusedAt t (IsFaultOfBodyAt s before c) r → IsRefusedAt t (IsBlocksFaultAt s before c) r
+body_refused t s before c asked r h = refused_at t (IsFaultOfBodyAt s before c) (IsBlocksFaultAt s before c) (λ e p w. (asked, inl w)) r h
 
 -- ---- all parts
 
@@ -117,6 +145,6 @@ parts_met R s entry before c callees body own held stages is interface expressio
   held_after = blocks.held_after;
 }
 
-pub behind_blocks : (R : Reading) (F : Faults) (s : Settings) (entry : Bool) (before : Option ℕ) (c : BlockContext) → InterfaceOK c entry → AllAccepted R s c → (e : FunctionError) → IsBlocksFault s before c e → IsFaultAfter R F s entry before c e
-behind_blocks R F s entry before c interface accepted e (asked, inl wrong) = in_body interface accepted asked wrong
-behind_blocks R F s entry before c interface accepted e (asked, inr (ordered, expressions, wrong)) = unanswered interface accepted asked ordered expressions wrong
+pub behind_blocks : (R : Reading) (F : Faults) (s : Settings) (entry : Bool) (before : Option ℕ) (c : BlockContext) → InterfaceOK c entry → AllAccepted R s c → (e : FunctionError) (p : Place) → IsBlocksFaultAt s before c e p → IsFaultAfter R F s entry before c e p
+behind_blocks R F s entry before c interface accepted e p (asked, inl wrong) = in_body interface accepted asked wrong
+behind_blocks R F s entry before c interface accepted e p (asked, inr (ordered, expressions, wrong)) = unanswered interface accepted asked ordered expressions wrong

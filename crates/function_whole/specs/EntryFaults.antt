@@ -5,7 +5,7 @@ use Rattle.function_entry_checks.specs.declared.error.EntryPointError.{EntryPoin
 use Rattle.function_entry_checks.specs.declared.error.EntryPointError.TheVariants.{ForbiddenStageOperations, Function}
 use Rattle.function_entries.specs.ConnectionFaults.{IsConnectionFault}
 use Rattle.typing_errors.specs.declared.error.FunctionError.{FunctionError}
-use Rattle.function_whole.specs.Faults.{IsFunctionFault}
+use Rattle.function_whole.specs.Faults.{IsFunctionFaultAt}
 use Rattle.function_interface.specs.Analysis.{Faults}
 use Rattle.ir_types.specs.found.Faults.{error_of, spans_of}
 use Rattle.ir_types.specs.declared.refusal.Refusal.{Refusal}
@@ -14,7 +14,10 @@ use Rattle.ir_flags.specs.declared.settings.Capabilities.{Capabilities}
 use Rattle.ir_flags.specs.declared.settings.ValidationFlags.{ValidationFlags}
 use Rattle.ir_flags.specs.declared.stages.ShaderStages.{ShaderStages}
 use Rattle.ir_flags.specs.declared.settings.Settings.{Settings}
+use Rattle.ir_blocks.specs.judged.Places.{Place}
 use Rattle.ir_items.specs.judged.Plain.{PlainEntry, PlainModule}
+use Rattle.ir_places.specs.Paths.{IsPlaced}
+use Rattle.ir_places.specs.declared.trail.Trail.{Trail}
 use Rattle.spec_interface.specs.judged.Entries.{ConnectionsOK, EntryOK}
 use Rattle.spec_interface.specs.judged.Uses.{EntryUses}
 use Rattle.spec_statements.specs.judged.Functions.{Reading, AllowsStage}
@@ -22,13 +25,17 @@ use Rattle.spec_interface.specs.judged.Contexts.{stage_set}
 
 -- What is wrong with an entry point of whose function the lower layer says this, where these stages may run its callees and its
 -- function uses global variables so: with its stage, its function, its payload, what its function does at its stage, or what
--- connects it with other stages and with hosts.
-pub data IsEntryPointFault (reading : Reading) (faults : Faults) (callees : List ShaderStages) (Uses : ℕ → ℕ → Type 0) (s : Settings) (before : Option ℕ) (m : PlainModule) (e : PlainEntry) : EntryPointError → Type 0 where
-  of_stage : {x : EntryPointError} → IsStageFault s.capabilities e x → IsEntryPointFault reading faults callees Uses s before m e x
-  of_function : {x : FunctionError} → IsFunctionFault reading faults s true before m e.function x → IsEntryPointFault reading faults callees Uses s before m e (Function x)
-  of_payload : {x : EntryPointError} → IsPayloadFault m e x → IsEntryPointFault reading faults callees Uses s before m e x
-  of_runs : ¬ AllowsStage reading s callees e.function (stage_set e.stage).0 → IsEntryPointFault reading faults callees Uses s before m e ForbiddenStageOperations
-  of_connections : {x : EntryPointError} → IsConnectionFault s.flags s.capabilities m e (EntryUses e Uses) x → IsEntryPointFault reading faults callees Uses s before m e x
+-- connects it with other stages and with hosts. What is wrong with its function stands at the place, where it is a call or in the body.
+pub data IsEntryPointFaultAt (reading : Reading) (faults : Faults) (callees : List ShaderStages) (Uses : ℕ → ℕ → Type 0) (s : Settings) (before : Option ℕ) (m : PlainModule) (e : PlainEntry) (p : Place) : EntryPointError → Type 0 where
+  of_stage : {x : EntryPointError} → IsStageFault s.capabilities e x → IsEntryPointFaultAt reading faults callees Uses s before m e p x
+  of_function : {x : FunctionError} → IsFunctionFaultAt reading faults s true before m e.function x p → IsEntryPointFaultAt reading faults callees Uses s before m e p (Function x)
+  of_payload : {x : EntryPointError} → IsPayloadFault m e x → IsEntryPointFaultAt reading faults callees Uses s before m e p x
+  of_runs : ¬ AllowsStage reading s callees e.function (stage_set e.stage).0 → IsEntryPointFaultAt reading faults callees Uses s before m e p ForbiddenStageOperations
+  of_connections : {x : EntryPointError} → IsConnectionFault s.flags s.capabilities m e (EntryUses e Uses) x → IsEntryPointFaultAt reading faults callees Uses s before m e p x
+
+-- at some place
+abbrev pub IsEntryPointFault : Reading → Faults → (callees : List ShaderStages) → (Uses : ℕ → ℕ → Type 0) → Settings → (before : Option ℕ) → PlainModule → PlainEntry → EntryPointError → Type 0
+IsEntryPointFault reading faults callees Uses s before m e x = (p : Place) × IsEntryPointFaultAt reading faults callees Uses s before m e p x
 
 -- The entry point is not accepted, and this is wrong with it.
 pub record IsRefusedAs (reading : Reading) (faults : Faults) (callees : List ShaderStages) (Uses : ℕ → ℕ → Type 0) (s : Settings) (before : Option ℕ) (m : PlainModule) (e : PlainEntry) (x : EntryPointError) : Type 0 where
@@ -40,9 +47,14 @@ pub record IsUnconnected (flags : ValidationFlags) (capabilities : Capabilities)
   pub refused : ¬ ConnectionsOK flags capabilities m e Uses
   pub fault : IsConnectionFault flags capabilities m e Uses x
 
--- what a function is refused for, as the error of its entry point
+-- the refusal of a function, wrapped as one of its entry point
 abbrev pub IsReportedAs : Refusal FunctionError → Refusal EntryPointError → Type 0
 IsReportedAs (refusal.Memory e) (refusal.Memory d) = Unit {0}
 IsReportedAs (refusal.Memory e) (refusal.Fault d) = ⊥
 IsReportedAs (refusal.Fault e) (refusal.Memory d) = ⊥
 IsReportedAs (refusal.Fault e) (refusal.Fault d) = (error_of d ≡ Function (error_of e)) × (spans_of d ≡ [])
+
+-- memory ran out, or the fault that is reported is one at a place, to which the trail leads
+abbrev pub IsRefusedAt : Trail → (Place → EntryPointError → Type 0) → Refusal EntryPointError → Type 0
+IsRefusedAt t IsFault (refusal.Memory x) = Unit {0}
+IsRefusedAt t IsFault (refusal.Fault x) = IsPlaced t (λ p. IsFault p (error_of x))

@@ -1,11 +1,11 @@
 -- What is wrong with a function: of its parts in their order the first with which something is wrong.
 use Rattle.std.specs.Prelude.{◌⊎◌, ◌<◌, ℕ, Option, Bool, List, length}
-use Rattle.function_body_checks.specs.ControlFaults.{IsControlFault}
+use Rattle.function_body_checks.specs.ControlFaults.{IsControlFaultAt}
 use Rattle.typing_errors.specs.declared.expressions.ExpressionError.{ExpressionError}
 use Rattle.typing_errors.specs.declared.error.FunctionError.{FunctionError}
 use Rattle.typing_errors.specs.declared.error.FunctionError.TheVariants as error
 use Rattle.function_interface.specs.Analysis.{Faults}
-use Rattle.function_interface.specs.Arities.{IsArityFault}
+use Rattle.function_interface.specs.Arities.{IsArityFaultAt}
 use Rattle.function_interface.specs.Interfaces.{IsInterfaceFault}
 use Rattle.ir_blocks.specs.judged.Control.{ControlOK}
 use Rattle.ir_blocks.specs.judged.Places.{Place, OccursAt}
@@ -14,8 +14,8 @@ use Rattle.ir_flags.specs.Sets.{Has}
 use Rattle.ir_flags.specs.declared.settings.TheConstants.ValidationFlags.{EXPRESSIONS, BLOCKS, STRICT_SCOPE}
 use Rattle.ir_flags.specs.declared.settings.Settings.{Settings}
 use Rattle.ir_items.specs.judged.Plain.{PlainFunction, PlainModule}
-use Rattle.function_statements.specs.Payloads.{IsPayloadsFault}
-use Rattle.function_body_checks.specs.Faults.{IsScopeFault}
+use Rattle.function_statements.specs.Payloads.{IsPayloadsFaultAt}
+use Rattle.function_body_checks.specs.Faults.{IsScopeFaultAt}
 use Rattle.spec_expressions.specs.judged.CallArities.{AritiesMatch}
 use Rattle.spec_statements.specs.found.Answered.{EachOnce}
 use Rattle.spec_statements.specs.judged.BlockContext.{BlockContext}
@@ -26,8 +26,8 @@ use Rattle.spec_statements.specs.judged.Results.{AnswersBy, DenotesResult}
 use Rattle.spec_statements.specs.judged.Scope.{ScopeOK}
 use Rattle.spec_statements.specs.judged.Statements.{StatementOK}
 use Rattle.spec_statements.specs.judged.Strict.{StrictOK}
-use Rattle.function_statements.specs.Faults.{IsBodyFault}
-use Rattle.function_strict_scope.specs.Faults.{IsStrictFault}
+use Rattle.function_statements.specs.Faults.{IsBodyFaultAt}
+use Rattle.function_strict_scope.specs.Faults.{IsStrictFaultAt}
 use Rattle.typing_forms.specs.declared.form.Form.{Form}
 
 -- ---- expressions
@@ -49,8 +49,9 @@ AllAccepted reading s c = Has s.flags.0 EXPRESSIONS.0 → (e : ℕ) → e < leng
 -- ---- the body
 
 -- how statements leave their blocks, what is in scope, what they answer by, their rules, the payloads of rays, or strict scope where it is required
-abbrev pub IsFaultOfBody : Settings → (before : Option ℕ) → BlockContext → FunctionError → Type 0
-IsFaultOfBody s before c e = IsControlFault c.f.body e ⊎ (IsScopeFault s.flags c.f e ⊎ (IsBodyFault c e ⊎ (IsPayloadsFault c.m c.f before e ⊎ (Has s.flags.0 STRICT_SCOPE.0 × IsStrictFault c.f e))))
+abbrev pub IsFaultOfBodyAt : Settings → (before : Option ℕ) → BlockContext → FunctionError → Place → Type 0
+IsFaultOfBodyAt s before c e p =
+    IsControlFaultAt c.f.body e p ⊎ (IsScopeFaultAt s.flags c.f e p ⊎ (IsBodyFaultAt c e p ⊎ (IsPayloadsFaultAt c.m c.f before e p ⊎ (Has s.flags.0 STRICT_SCOPE.0 × IsStrictFaultAt c.f e p))))
 
 -- nothing of this is wrong with the body
 pub record IsBodyInOrder (s : Settings) (before : Option ℕ) (c : BlockContext) : Type 0 where
@@ -72,16 +73,21 @@ IsUnanswered f _ = ⊥
 
 -- ---- all parts
 
--- after the arity of calls and the analysis
-pub data IsFaultAfter (reading : Reading) (faults : Faults) (s : Settings) (entry : Bool) (before : Option ℕ) (c : BlockContext) (e : FunctionError) : Type 0 where
-  in_interface : IsInterfaceFault c entry e → IsFaultAfter reading faults s entry before c e
-  in_expressions : InterfaceOK c entry → Has s.flags.0 EXPRESSIONS.0 → IsExpressionFault reading faults c e → IsFaultAfter reading faults s entry before c e
-  in_body : InterfaceOK c entry → AllAccepted reading s c → Has s.flags.0 BLOCKS.0 → IsFaultOfBody s before c e → IsFaultAfter reading faults s entry before c e
-  unanswered : InterfaceOK c entry → AllAccepted reading s c → Has s.flags.0 BLOCKS.0 → IsBodyInOrder s before c → Has s.flags.0 EXPRESSIONS.0 → IsUnanswered c.f e → IsFaultAfter reading faults s entry before c e
+-- after the arity of calls and the analysis; what is wrong with the body stands at the place
+pub data IsFaultAfter (reading : Reading) (faults : Faults) (s : Settings) (entry : Bool) (before : Option ℕ) (c : BlockContext) (e : FunctionError) (p : Place) : Type 0 where
+  in_interface : IsInterfaceFault c entry e → IsFaultAfter reading faults s entry before c e p
+  in_expressions : InterfaceOK c entry → Has s.flags.0 EXPRESSIONS.0 → IsExpressionFault reading faults c e → IsFaultAfter reading faults s entry before c e p
+  in_body : InterfaceOK c entry → AllAccepted reading s c → Has s.flags.0 BLOCKS.0 → IsFaultOfBodyAt s before c e p → IsFaultAfter reading faults s entry before c e p
+  unanswered : InterfaceOK c entry → AllAccepted reading s c → Has s.flags.0 BLOCKS.0 → IsBodyInOrder s before c → Has s.flags.0 EXPRESSIONS.0 → IsUnanswered c.f e → IsFaultAfter reading faults s entry before c e p
 
 -- The arity of calls, the analysis, the variables with the arguments and the result, the expressions, the body, and what stands
--- for answers: the fault is one of the first of these with which something is wrong.
-pub data IsFunctionFault (reading : Reading) (faults : Faults) (s : Settings) (entry : Bool) (before : Option ℕ) (m : PlainModule) (f : PlainFunction) (e : FunctionError) : Type 0 where
-  in_arity : IsArityFault m f e → IsFunctionFault reading faults s entry before m f e
-  in_analysis : AritiesMatch m f → faults.IsAnalysisFault s.flags e → IsFunctionFault reading faults s entry before m f e
-  behind : AritiesMatch m f → reading.IsAnalysed s.flags → (forms : List Form) → AreFormsBy reading f forms → IsFaultAfter reading faults s entry before (block_context s m f forms) e → IsFunctionFault reading faults s entry before m f e
+-- for answers: the fault is one of the first of these with which something is wrong. That of a call and that of the body stand at
+-- the place, of which the others don't speak.
+pub data IsFunctionFaultAt (reading : Reading) (faults : Faults) (s : Settings) (entry : Bool) (before : Option ℕ) (m : PlainModule) (f : PlainFunction) (e : FunctionError) (p : Place) : Type 0 where
+  in_arity : IsArityFaultAt m f e p → IsFunctionFaultAt reading faults s entry before m f e p
+  in_analysis : AritiesMatch m f → faults.IsAnalysisFault s.flags e → IsFunctionFaultAt reading faults s entry before m f e p
+  behind : AritiesMatch m f → reading.IsAnalysed s.flags → (forms : List Form) → AreFormsBy reading f forms → IsFaultAfter reading faults s entry before (block_context s m f forms) e p → IsFunctionFaultAt reading faults s entry before m f e p
+
+-- at some place
+abbrev pub IsFunctionFault : Reading → Faults → Settings → (entry : Bool) → (before : Option ℕ) → PlainModule → PlainFunction → FunctionError → Type 0
+IsFunctionFault reading faults s entry before m f e = (p : Place) × IsFunctionFaultAt reading faults s entry before m f e p

@@ -1,6 +1,6 @@
 -- What the parts of a check of a function find.
 use Rattle.std.specs.Prelude.{◌↔◌, ◌⊎◌, ◌<◌, ℕ, Bool, Contains, List, Option, length}
-use Rattle.function_whole.specs.Faults.{AllAccepted, IsBodyInOrder, IsFaultOfBody, IsUnanswered}
+use Rattle.function_whole.specs.Faults.{AllAccepted, IsBodyInOrder, IsFaultOfBodyAt, IsUnanswered}
 use Rattle.typing_errors.specs.declared.error.FunctionError.{FunctionError}
 use Rattle.ir_blocks.specs.judged.Control.{ControlOK}
 use Rattle.ir_blocks.specs.judged.Places.{Place, OccursAt}
@@ -60,8 +60,8 @@ pub record AreBlocksMet (s : Settings) (before : Option ℕ) (c : BlockContext) 
   pub held_after : IsPayloadAfter s.flags c.m c.f before held
 
 -- something is wrong with the body, or nothing is, and what denotes an answer is not answered
-abbrev pub IsBlocksFault : Settings → (before : Option ℕ) → BlockContext → FunctionError → Type 0
-IsBlocksFault s before c e = Has s.flags.0 BLOCKS.0 × (IsFaultOfBody s before c e ⊎ (IsBodyInOrder s before c × Has s.flags.0 EXPRESSIONS.0 × IsUnanswered c.f e))
+abbrev pub IsBlocksFaultAt : Settings → (before : Option ℕ) → BlockContext → FunctionError → Place → Type 0
+IsBlocksFaultAt s before c e p = Has s.flags.0 BLOCKS.0 × (IsFaultOfBodyAt s before c e p ⊎ (IsBodyInOrder s before c × Has s.flags.0 EXPRESSIONS.0 × IsUnanswered c.f e))
 
 -- ---- all parts after the analysis
 

@@ -1,9 +1,9 @@
 //! The checks of a function's body.
 
-ghost use Rattle.std.specs.Prelude.{IfErr, MatchResult, OnOk};
-ghost use Rattle.function_whole.specs.Faults.{IsFaultOfBody};
+ghost use Rattle.std.specs.Prelude.{◌↔◌, IfErr, IsTrue, MatchResult, OnOk};
+ghost use Rattle.function_whole.specs.Faults.{IsFaultOfBodyAt};
 ghost use Rattle.function_whole.specs.Judged.{IsBodyMet};
-ghost use Rattle.function_interface.specs.Analysis.{IsRefusedFor};
+ghost use Rattle.function_interface.specs.Analysis.{IsRefusedAt};
 ghost use Rattle.ir_flags.specs.Sets.{Has};
 ghost use Rattle.ir_flags.specs.declared.settings.TheConstants.ValidationFlags.{STRICT_SCOPE};
 ghost use Rattle.ir_items.specs.found.View.{function_view};
@@ -12,7 +12,7 @@ ghost use Rattle.spec_expressions.specs.judged.CallArities.{AritiesMatch};
 ghost use Rattle.spec_statements.specs.judged.Scope.{ScopeOK};
 ghost use Rattle.spec_statements.specs.judged.Strict.{StrictOK};
 ghost use Rattle.function_statement_checks.specs.View.{context_view, IsKnown};
-ghost use Rattle.function_strict_scope.specs.Faults.{IsStrictFault};
+ghost use Rattle.function_strict_scope.specs.Faults.{IsStrictFaultAt};
 
 use bitflags::Flags;
 use function_body_checks::{ExpressionList, check_control, check_scope};
@@ -22,6 +22,7 @@ use function_strict_scope::check_strict;
 use ir_arena::handle::Handle;
 use ir_flags::{Settings, ValidationFlags};
 use ir_items::Function;
+use ir_places::Trail;
 use ir_types::key;
 use ir_types::refusal::Refusal;
 use ir_types::with_span::WithSpan;
@@ -37,19 +38,29 @@ pub(crate) struct BodyFound {
     pub held: Option<Handle<key::IrType>>,
 }
 
+// Whether strict scope is required.
+fn requires_strict(flags: ValidationFlags) -> bool
+    ensures { IsTrue result ↔ Has flags.0 STRICT_SCOPE.0 }
+{
+    flags.contains(ValidationFlags::STRICT_SCOPE)
+}
+
 // Whether strict scope is as it should be, where it is required. It goes over a body whose scope is in order.
 fn check_strictly(
     alloc: Global,
+    trail: &mut Trail,
     flags: ValidationFlags,
     function: &Function,
 ) -> Result<(), Refusal<FunctionError>>
     ensures strict { OnOk result (Has flags.0 STRICT_SCOPE.0 → StrictOK (function_view function.now)) }
-    ensures fault { ScopeOK (function_view function.now) → IfErr result (IsRefusedFor (λ e. Has flags.0 STRICT_SCOPE.0 × IsStrictFault (function_view function.now) e)) }
+    ensures fault { ScopeOK (function_view function.now) → IfErr result (IsRefusedAt trail.new (λ e p. Has flags.0 STRICT_SCOPE.0 × IsStrictFaultAt (function_view function.now) e p)) }
 {
-    if flags.contains(ValidationFlags::STRICT_SCOPE) {
-        check_strict(alloc, function)
-    } else {
-        Ok(())
+    if !requires_strict(flags) {
+        return Ok(());
+    }
+    match check_strict(alloc, trail, function) {
+        Ok(()) => Ok(()),
+        Err(refusal) => Err(refusal),
     }
 }
 
@@ -57,6 +68,7 @@ fn check_strictly(
 /// answered.
 pub(crate) fn check_body(
     alloc: Global,
+    trail: &mut Trail,
     settings: Settings,
     held: Option<Handle<key::IrType>>,
     context: &BlockContext<'_>,
@@ -66,25 +78,25 @@ pub(crate) fn check_body(
     requires arities { AritiesMatch (context_view context.now).m (context_view context.now).f }
     ensures { MatchResult result
         (λ found. IsBodyMet settings held (context_view context.now) found.answered found.held)
-        (IsRefusedFor (IsFaultOfBody settings held (context_view context.now))) }
+        (IsRefusedAt trail.new (IsFaultOfBodyAt settings held (context_view context.now))) }
 {
-    match check_control(&context.function.body) {
+    match check_control(trail, &context.function.body) {
         Ok(()) => {}
         Err(error) => return Err(Refusal::Fault(WithSpan::new(alloc, error))),
     }
-    let answered = match check_scope(alloc, settings.flags, context.function) {
+    let answered = match check_scope(alloc, trail, settings.flags, context.function) {
         Ok(answered) => answered,
         Err(refusal) => return Err(refusal),
     };
-    match check_strictly(alloc, settings.flags, context.function) {
+    match check_strictly(alloc, trail, settings.flags, context.function) {
         Ok(()) => {}
         Err(refusal) => return Err(refusal),
     }
-    match validate_statements(alloc, context) {
+    match validate_statements(alloc, trail, context) {
         Ok(()) => {}
         Err(refusal) => return Err(refusal),
     }
-    match payload_of(context, held) {
+    match payload_of(trail, context, held) {
         Ok(held) => Ok(BodyFound { answered, held }),
         Err(error) => Err(Refusal::Fault(WithSpan::new(alloc, error))),
     }

@@ -1,9 +1,9 @@
 //! Whether a module may have an entry point.
 
-ghost use Rattle.std.specs.Prelude.{◌<◌, ◌↔◌, IfOk, IfSome, IsTrue, MatchResult, OnOk, length, map};
+ghost use Rattle.std.specs.Prelude.{◌<◌, ◌↔◌, IfErr, IfOk, IfSome, IsTrue, MatchResult, OnOk, length, map};
 ghost use Rattle.function_entry_checks.specs.Faults.{IsRefusedFor};
 ghost use Rattle.function_entries.specs.Interfaces.{AreInterfacesKnown};
-ghost use Rattle.function_whole.specs.EntryFaults.{IsRefusedAs, IsReportedAs};
+ghost use Rattle.function_whole.specs.EntryFaults.{IsEntryPointFaultAt, IsRefusedAs, IsRefusedAt, IsReportedAs};
 ghost use Rattle.function_whole.specs.Validated.{IsEntryValidated};
 ghost use Rattle.function_interface.specs.Question.{question};
 ghost use Rattle.ir_flags.specs.Sets.{Has};
@@ -26,13 +26,14 @@ use ir_arena::handle::Handle;
 use ir_flags::Settings;
 use ir_items::{EntryPoint, Module};
 use ir_kinds::ShaderStage;
+use ir_places::Trail;
 use ir_types::key;
 use ir_types::refusal::Refusal;
 use ir_types::with_span::WithSpan;
 use std::alloc::Global;
 use typing_errors::FunctionError;
 
-// What a function is refused for, as the error of its entry point.
+// Wraps a refusal of its function as one of an entry point.
 fn reported_of_function(alloc: Global, refusal: Refusal<FunctionError>) -> Refusal<EntryPointError>
     ensures { IsReportedAs refusal result }
 {
@@ -65,10 +66,11 @@ fn allows_stage<L: Lower>(lower: &L, info: &L::Info, stage: ShaderStage) -> bool
 /// [`Refusal::Fault`] exactly where the entry point is not accepted, with a fault that stands. It has no span, and is of the first of
 /// these with which something is wrong, which no clause says: its stage, its function ([`EntryPointError::Function`]), its payload, what its function does at its
 /// stage ([`EntryPointError::ForbiddenStageOperations`]), its arguments, its result, the global variables that it uses, and what a
-/// mesh shader gives. [`Refusal::Memory`] where memory ran out.
+/// mesh shader gives. The trail is that of its function. [`Refusal::Memory`] where memory ran out.
 pub fn validate_entry_point<L: Lower>(
     lower: &L,
     alloc: Global,
+    trail: &mut Trail,
     settings: Settings,
     held: Option<Handle<key::IrType>>,
     module: &Module,
@@ -88,12 +90,17 @@ pub fn validate_entry_point<L: Lower>(
         MatchResult result
         (λ v. IsEntryValidated (L.reading lower.now q) q.stages settings held m e (L.summary lower.now v.info) (L.noted lower.now v.info) (L.blending lower.now v.info) v.held)
         (IsRefusedFor (IsRefusedAs (L.reading lower.now q) (L.faults lower.now q) q.stages (HasUse m e.function) settings held m e)) }
+    ensures placed { let m = module_view «module».now in
+        let e = entry_view entry.now in
+        let q = question m e.function (map (L.summary lower.now) callees.now) (map (L.noted lower.now) callees.now) in
+        IfErr result (IsRefusedAt trail.new (IsEntryPointFaultAt (L.reading lower.now q) (L.faults lower.now q) q.stages (HasUse m e.function) settings held m e)) }
     ensures own { IfOk result (λ v. L.own lower.now (module_view «module».now) (entry_view entry.now).function v.info) }
 {
     let mut known = KnownInterfaces::new(alloc);
     validate_entry_point_with(
         lower,
         alloc,
+        trail,
         settings,
         held,
         module,
@@ -114,6 +121,7 @@ pub fn validate_entry_point<L: Lower>(
 pub fn validate_entry_point_with<L: Lower>(
     lower: &L,
     alloc: Global,
+    trail: &mut Trail,
     settings: Settings,
     held: Option<Handle<key::IrType>>,
     module: &Module,
@@ -136,6 +144,10 @@ pub fn validate_entry_point_with<L: Lower>(
         let q = question m e.function (map (L.summary lower.now) callees.now) (map (L.noted lower.now) callees.now) in MatchResult result
         (λ v. IsEntryValidated (L.reading lower.now q) q.stages settings held m e (L.summary lower.now v.info) (L.noted lower.now v.info) (L.blending lower.now v.info) v.held)
         (IsRefusedFor (IsRefusedAs (L.reading lower.now q) (L.faults lower.now q) q.stages (HasUse m e.function) settings held m e)) }
+    ensures placed { let m = module_view «module».now in
+        let e = entry_view entry.now in
+        let q = question m e.function (map (L.summary lower.now) callees.now) (map (L.noted lower.now) callees.now) in
+        IfErr result (IsRefusedAt trail.new (IsEntryPointFaultAt (L.reading lower.now q) (L.faults lower.now q) q.stages (HasUse m e.function) settings held m e)) }
     ensures own { IfOk result (λ v. L.own lower.now (module_view «module».now) (entry_view entry.now).function v.info) }
 {
     match check_stage(settings.capabilities, entry) {
@@ -145,6 +157,7 @@ pub fn validate_entry_point_with<L: Lower>(
     let validated = match validate_function_with(
         lower,
         alloc,
+        trail,
         settings,
         true,
         held,

@@ -2,8 +2,8 @@
 
 ghost use Rattle.std.specs.Prelude.{◌↔◌, ℕ, Contains, IsTrue, MatchResult, map};
 ghost use Rattle.function_whole.specs.Faults.{IsExpressionFault, IsFaultAfter, IsUnanswered};
-ghost use Rattle.function_whole.specs.Judged.{AllAnswer, AreExpressionsMet, AreBlocksMet, ArePartsMet, IsBlocksFault};
-ghost use Rattle.function_interface.specs.Analysis.{IsRefusedFor};
+ghost use Rattle.function_whole.specs.Judged.{AllAnswer, AreExpressionsMet, AreBlocksMet, ArePartsMet, IsBlocksFaultAt};
+ghost use Rattle.function_interface.specs.Analysis.{IsRefusedAt, IsRefusedFor};
 ghost use Rattle.function_interface.specs.Question.{question};
 ghost use Rattle.ir_flags.specs.Sets.{Has};
 ghost use Rattle.ir_flags.specs.declared.settings.TheConstants.ValidationFlags.{EXPRESSIONS, BLOCKS};
@@ -23,6 +23,7 @@ use function_interface::{Lower, check_interface, stages_of};
 use function_statement_checks::BlockContext;
 use ir_arena::handle::Handle;
 use ir_flags::{Settings, ShaderStages, ValidationFlags};
+use ir_places::Trail;
 use ir_types::key;
 use ir_types::refusal::Refusal;
 use ir_types::with_span::WithSpan;
@@ -103,6 +104,7 @@ fn answers_met(
 fn blocks_met<L: Lower>(
     lower: &L,
     alloc: Global,
+    trail: &mut Trail,
     settings: Settings,
     held: Option<Handle<key::IrType>>,
     context: &BlockContext<'_>,
@@ -113,7 +115,7 @@ fn blocks_met<L: Lower>(
     requires arities { AritiesMatch (context_view context.now).m (context_view context.now).f }
     ensures { MatchResult result
         (λ met. AreBlocksMet settings held (context_view context.now) (map (L.noted lower.now) callees.now) met.stages met.held)
-        (IsRefusedFor (IsBlocksFault settings held (context_view context.now))) }
+        (IsRefusedAt trail.new (IsBlocksFaultAt settings held (context_view context.now))) }
 {
     if !requires_blocks(settings.flags) {
         return Ok(Met {
@@ -121,7 +123,7 @@ fn blocks_met<L: Lower>(
             held,
         });
     }
-    let found = match check_body(alloc, settings, held, context) {
+    let found = match check_body(alloc, trail, settings, held, context) {
         Ok(found) => found,
         Err(refusal) => return Err(refusal),
     };
@@ -144,11 +146,12 @@ fn blocks_met<L: Lower>(
 ///
 /// # Errors
 ///
-/// A fault of the first of these with which something is wrong; or out of memory.
+/// A fault of the first of these with which something is wrong, where the trail leads if it stands in the body; or out of memory.
 #[tactic(auto, using(crate::proofs::PartLaws::parts_met))]
 pub(crate) fn check_parts<L: Lower>(
     lower: &L,
     alloc: Global,
+    trail: &mut Trail,
     settings: Settings,
     entry_point: bool,
     held: Option<Handle<key::IrType>>,
@@ -162,7 +165,7 @@ pub(crate) fn check_parts<L: Lower>(
     ensures { let q = question (context_view context.now).m (context_view context.now).f (map (L.summary lower.now) callees.now) (map (L.noted lower.now) callees.now) in
         MatchResult result
         (λ met. ArePartsMet (L.reading lower.now q) settings entry_point held (context_view context.now) (map (L.noted lower.now) callees.now) met.stages met.held)
-        (IsRefusedFor (IsFaultAfter (L.reading lower.now q) (L.faults lower.now q) settings entry_point held (context_view context.now))) }
+        (IsRefusedAt trail.new (IsFaultAfter (L.reading lower.now q) (L.faults lower.now q) settings entry_point held (context_view context.now))) }
 {
     match check_interface(alloc, context, lower.type_infos(), entry_point) {
         Ok(()) => {}
@@ -172,7 +175,7 @@ pub(crate) fn check_parts<L: Lower>(
         Ok(stages) => stages,
         Err(error) => return Err(Refusal::Fault(WithSpan::new(alloc, error))),
     };
-    match blocks_met(lower, alloc, settings, held, context, callees) {
+    match blocks_met(lower, alloc, trail, settings, held, context, callees) {
         Ok(met) => Ok(Met {
             stages: ShaderStages(met.stages.0 & own.0),
             held: met.held,

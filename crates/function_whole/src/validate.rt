@@ -1,9 +1,9 @@
 //! Whether a function is accepted.
 
 ghost use Rattle.std.specs.Prelude.{◌≡◌, ◌↔◌, ◌||◌, ℕ, IfErr, IfOk, MatchResult, OnOk, bit_and, false, length, map};
-ghost use Rattle.function_whole.specs.Faults.{IsFaultAfter, IsFunctionFault};
+ghost use Rattle.function_whole.specs.Faults.{IsFaultAfter, IsFunctionFault, IsFunctionFaultAt};
 ghost use Rattle.function_whole.specs.Judged.{ArePartsMet};
-ghost use Rattle.function_interface.specs.Analysis.{IsRefusedFor};
+ghost use Rattle.function_interface.specs.Analysis.{IsRefusedAt, IsRefusedFor};
 ghost use Rattle.function_interface.specs.Question.{question};
 ghost use Rattle.ir_flags.specs.Sets.{Has};
 ghost use Rattle.ir_items.specs.judged.Plain.{PlainFunction, PlainModule};
@@ -26,6 +26,7 @@ use function_statements::next_answers;
 use ir_arena::handle::Handle;
 use ir_flags::Settings;
 use ir_items::{Function, Module};
+use ir_places::Trail;
 use ir_types::key;
 use ir_types::refusal::Refusal;
 use std::alloc::Global;
@@ -45,6 +46,7 @@ pub struct Validated<I> {
 fn judge<L: Lower>(
     lower: &L,
     alloc: Global,
+    trail: &mut Trail,
     settings: Settings,
     entry_point: bool,
     held: Option<Handle<key::IrType>>,
@@ -63,7 +65,7 @@ fn judge<L: Lower>(
         let c = block_context settings q.m q.f (map (form_given q.m.types) (L.types lower.now info.now)) in
         MatchResult result
         (λ met. ArePartsMet (L.reading lower.now q) settings entry_point held c q.stages met.stages met.held)
-        (IsRefusedFor (IsFaultAfter (L.reading lower.now q) (L.faults lower.now q) settings entry_point held c)) }
+        (IsRefusedAt trail.new (IsFaultAfter (L.reading lower.now q) (L.faults lower.now q) settings entry_point held c)) }
 {
     let count = function.expressions.len();
     let forms = match forms_of(lower, alloc, &module.types, info, count) {
@@ -88,7 +90,16 @@ fn judge<L: Lower>(
         answers: &answers,
         descriptors,
     };
-    match check_parts(lower, alloc, settings, entry_point, held, &context, callees) {
+    match check_parts(
+        lower,
+        alloc,
+        trail,
+        settings,
+        entry_point,
+        held,
+        &context,
+        callees,
+    ) {
         Ok(met) => Ok(met),
         Err(refusal) => Err(refusal),
     }
@@ -126,11 +137,13 @@ fn noted<L: Lower>(lower: &L, info: L::Info, met: Met) -> Validated<L::Info>
 /// [`Refusal::Fault`] exactly where the function is not accepted: with a fault of the first of these with which something is
 /// wrong: the arity of calls ([`FunctionError::InvalidCall`] with `ArgumentCount`), the analysis, the variables, the arguments
 /// and the result, then under [`ValidationFlags::EXPRESSIONS`] the expressions, of which it is the first that is refused, under
-/// [`ValidationFlags::BLOCKS`] the body, and under both whether each that denotes an answer is answered.
+/// [`ValidationFlags::BLOCKS`] the body, and under both whether each that denotes an answer is answered. The fault of a call and
+/// that of the body stand where the trail leads, unless it is lost; the trail is not written for the others.
 /// [`Refusal::Memory`] where memory ran out.
 pub fn validate_function<L: Lower>(
     lower: &L,
     alloc: Global,
+    trail: &mut Trail,
     settings: Settings,
     entry_point: bool,
     held: Option<Handle<key::IrType>>,
@@ -148,6 +161,8 @@ pub fn validate_function<L: Lower>(
         IfErr result (IsRefusedFor (λ _. FunctionOK (L.reading lower.now q) settings entry_point held q.m q.f → ⊥)) }
     ensures fault { let q = question (module_view «module».now) (function_view function.now) (map (L.summary lower.now) callees.now) (map (L.noted lower.now) callees.now) in
         IfErr result (IsRefusedFor (IsFunctionFault (L.reading lower.now q) (L.faults lower.now q) settings entry_point held q.m q.f)) }
+    ensures placed { let q = question (module_view «module».now) (function_view function.now) (map (L.summary lower.now) callees.now) (map (L.noted lower.now) callees.now) in
+        IfErr result (IsRefusedAt trail.new (IsFunctionFaultAt (L.reading lower.now q) (L.faults lower.now q) settings entry_point held q.m q.f)) }
     ensures stages { let q = question (module_view «module».now) (function_view function.now) (map (L.summary lower.now) callees.now) (map (L.noted lower.now) callees.now) in
         IfOk result (λ v. (stage : ℕ) → Has (L.noted lower.now v.info).0 stage ↔ (Has all_stages.0 stage × AllowsStage (L.reading lower.now q) settings q.stages q.f stage)) }
     ensures joined { IfOk result (λ v. IsJoined (length (module_view «module».now).globals) (function_view function.now) (map (L.summary lower.now) callees.now) (L.summary lower.now v.info)) }
@@ -161,6 +176,7 @@ pub fn validate_function<L: Lower>(
     validate_function_with(
         lower,
         alloc,
+        trail,
         settings,
         entry_point,
         held,
@@ -180,6 +196,7 @@ pub fn validate_function<L: Lower>(
 pub fn validate_function_with<L: Lower>(
     lower: &L,
     alloc: Global,
+    trail: &mut Trail,
     settings: Settings,
     entry_point: bool,
     held: Option<Handle<key::IrType>>,
@@ -199,6 +216,8 @@ pub fn validate_function_with<L: Lower>(
         IfErr result (IsRefusedFor (λ _. FunctionOK (L.reading lower.now q) settings entry_point held q.m q.f → ⊥)) }
     ensures fault { let q = question (module_view «module».now) (function_view function.now) (map (L.summary lower.now) callees.now) (map (L.noted lower.now) callees.now) in
         IfErr result (IsRefusedFor (IsFunctionFault (L.reading lower.now q) (L.faults lower.now q) settings entry_point held q.m q.f)) }
+    ensures placed { let q = question (module_view «module».now) (function_view function.now) (map (L.summary lower.now) callees.now) (map (L.noted lower.now) callees.now) in
+        IfErr result (IsRefusedAt trail.new (IsFunctionFaultAt (L.reading lower.now q) (L.faults lower.now q) settings entry_point held q.m q.f)) }
     ensures stages { let q = question (module_view «module».now) (function_view function.now) (map (L.summary lower.now) callees.now) (map (L.noted lower.now) callees.now) in
         IfOk result (λ v. (stage : ℕ) → Has (L.noted lower.now v.info).0 stage ↔ (Has all_stages.0 stage × AllowsStage (L.reading lower.now q) settings q.stages q.f stage)) }
     ensures joined { IfOk result (λ v. IsJoined (length (module_view «module».now).globals) (function_view function.now) (map (L.summary lower.now) callees.now) (L.summary lower.now v.info)) }
@@ -209,13 +228,22 @@ pub fn validate_function_with<L: Lower>(
     ensures held { IfOk result (λ v. IsPayloadAfter settings.flags (module_view «module».now) (function_view function.now) held v.held) }
     ensures own { IfOk result (λ v. L.own lower.now (module_view «module».now) (function_view function.now) v.info) }
 {
-    let info = match analyse_function(lower, alloc, module, function, callees, settings.flags) {
+    let info = match analyse_function(
+        lower,
+        alloc,
+        trail,
+        module,
+        function,
+        callees,
+        settings.flags,
+    ) {
         Ok(info) => info,
         Err(refusal) => return Err(refusal),
     };
     match judge(
         lower,
         alloc,
+        trail,
         settings,
         entry_point,
         held,

@@ -155,7 +155,7 @@ impl Block {
     }
 
     /// Adds the statements of another block at the end, with their spans. The error is out of memory, and leaves the
-    /// block as it was; the other one is let go.
+    /// block as it was; the other one is dropped.
     pub fn extend_block(&mut self, other: Block) -> Result<(), AllocError>
         ensures statements { OnOk result (statements_of self.new ≡ statements_of self.old ++ statements_of other) }
         ensures spans { OnOk result (spans_of self.new ≡ spans_of self.old ++ spans_of other) }
@@ -204,7 +204,7 @@ impl Block {
 
     /// Puts the statements of another block in the place of those in `range`, with their spans. It requires by contract
     /// for a range within the block's statements, where naga panics. The error is out of memory, and leaves the block
-    /// as it was; the other one is let go.
+    /// as it was; the other one is dropped.
     pub fn splice<R: RangeBounds<usize>>(
         &mut self,
         range: R,

@@ -61,11 +61,11 @@ pub enum Statement {
     Emit(Range<key::Expression>),
     /// Statements with a scope of their own.
     Block(Block),
-    /// Does one of two blocks.
+    /// A conditional.
     If {
         /// What chooses: a boolean scalar.
         condition: Handle<key::Expression>,
-        /// What is done where it holds.
+        /// Taken if the condition is true.
         accept: Block,
         /// What is done where it doesn't.
         reject: Block,
@@ -88,7 +88,7 @@ pub enum Statement {
     },
     /// Leaves the nearest loop or switch.
     Break,
-    /// Goes on to the continuing part of the nearest loop.
+    /// Continues the innermost loop.
     Continue,
     /// Ends the function.
     Return {

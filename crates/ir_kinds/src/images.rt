@@ -118,7 +118,7 @@ pub enum ImageClass {
     Depth {
         multi: bool,
     },
-    /// An image that comes from outside, as a frame of a video.
+    /// An external image, such as a frame of a video.
     External,
     /// Texels of this format that are loaded and stored.
     Storage {

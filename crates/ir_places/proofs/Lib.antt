@@ -1,3 +1,4 @@
 pub mod TrailLaws
 pub mod StandLaws
 pub mod IndexLaws
+pub mod EachLaws

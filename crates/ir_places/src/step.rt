@@ -1,7 +1,7 @@
 //! A step of the way to a place.
 
 /// A part of a statement: a block inside it.
-#[derive(Clone, Copy)]
+#[derive(Clone, Copy, PartialEq, Eq, Debug)]
 pub enum Part {
     /// The block of a block.
     Inner,
@@ -18,7 +18,7 @@ pub enum Part {
 }
 
 /// A step of the way to a place: into a part of the statement of a block at an index.
-#[derive(Clone, Copy)]
+#[derive(Clone, Copy, PartialEq, Eq, Debug)]
 pub struct Step {
     /// The statement, counted from 0.
     pub index: usize,

@@ -10,7 +10,7 @@ use std::alloc::Global;
 /// Where in a body the error stands that a walk answers: the steps that lead to a block, the last of them first, the statement of
 /// that block, and whether the statement's condition is meant. It is written only where there is an error, and is lost where there
 /// is no memory for a step: the error is answered all the same.
-#[derive(Drop)]
+#[derive(Clone, PartialEq, Debug, Drop)]
 pub struct Trail {
     steps: Vec<Step>,
     index: usize,

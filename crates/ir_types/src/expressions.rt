@@ -15,7 +15,7 @@ use std::alloc::{AllocError, Global};
 /// How much of an image's detail a sample takes (naga's `SampleLevel`).
 #[derive(Clone, Copy, PartialEq, Debug)]
 pub enum SampleLevel {
-    /// By how fast the coordinate changes from fragment to fragment.
+    /// By the derivatives of the coordinate.
     Auto,
     /// The finest.
     Zero,
@@ -196,7 +196,7 @@ pub enum Expression {
         /// What is taken where it doesn't.
         reject: Handle<key::Expression>,
     },
-    /// A derivative: how fast a value changes from fragment to fragment.
+    /// A derivative of a value in screen space.
     Derivative {
         /// The axis.
         axis: DerivativeAxis,

@@ -40,7 +40,7 @@ impl<T: Drop, E> From<AllocFailed<T>> for Refusal<E> {
 
     ghost from_gives = { λ _ r. r ≡ Memory alloc_error };
 
-    /// The refusal of a growth whose value is let go.
+    /// The refusal of a growth whose value is dropped.
     fn from(_refused: AllocFailed<T>) -> Self {
         Refusal::Memory(AllocError)
     }

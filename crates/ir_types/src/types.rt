@@ -22,7 +22,7 @@ pub enum ArraySize {
 }
 
 /// A member of a struct (naga's `StructMember`).
-#[derive(PartialEq, Eq, Hash, Debug, Drop)]
+#[derive(Clone, PartialEq, Eq, Hash, Debug, Drop)]
 pub struct StructMember {
     /// The name in the source, if any.
     pub name: Option<String>,
@@ -35,9 +35,9 @@ pub struct StructMember {
 }
 
 /// What a type is made of (naga's `TypeInner`).
-#[derive(PartialEq, Eq, Hash, Debug, Drop)]
+#[derive(Clone, PartialEq, Eq, Hash, Debug, Drop)]
 pub enum TypeInner {
-    /// A number or a truth value.
+    /// A scalar.
     Scalar(Scalar),
     /// Scalars in a row.
     Vector {
@@ -66,7 +66,7 @@ pub enum TypeInner {
         /// Which operand of a product it is.
         role: CooperativeRole,
     },
-    /// A scalar that is only changed whole.
+    /// An atomic scalar.
     Atomic(Scalar),
     /// A pointer to a value of a type of the module.
     Pointer {
@@ -119,7 +119,7 @@ pub enum TypeInner {
         /// Whether a hit gives the vertices.
         vertex_return: bool,
     },
-    /// A ray that is being followed.
+    /// A ray query.
     RayQuery {
         /// Whether a hit gives the vertices.
         vertex_return: bool,

@@ -22,7 +22,7 @@ use Rattle.spec_statements.specs.judged.Returns.{ReturnOK}
 use Rattle.spec_statements.specs.judged.Statements.{OperationOK, StatementOK}
 use Rattle.spec_statements.specs.judged.StorageImages.{IsTexelOf, IsWritten, IsChanged, written_image, changed_image}
 use Rattle.spec_statements.specs.judged.Subgroups.{HasOperation, IndexIsKnown}
-use Rattle.spec_statements.specs.declared.shapes.Picture.{Picture}
+use Rattle.spec_statements.specs.declared.shapes.ImageType.{ImageType}
 use Rattle.judgement_laws.specs.judged.Like.{Matched, LikeFunction}
 use Rattle.judgement_laws.proofs.Shared.{some_and, if_some_moves}
 
@@ -38,7 +38,7 @@ module _ (c : BlockContext) (functions : List PlainFunction) (entries : List Pla
   supported : (needed : SubgroupOperationSet) → HasOperation c needed → HasOperation d needed
   supported needed h = record { capable = h.capable; supported = h.supported }
 
-  texel : (image : Picture) (coordinate : ℕ) (array_index : Option ℕ) → IsTexelOf c image coordinate array_index → IsTexelOf d image coordinate array_index
+  texel : (image : ImageType) (coordinate : ℕ) (array_index : Option ℕ) → IsTexelOf c image coordinate array_index → IsTexelOf d image coordinate array_index
   texel image coordinate array_index h = record { flat = h.flat; layer = h.layer }
 
   atomic_answer : (s : Scalar) (compare : Option ℕ) (answer : AtomicAnswer) → AtomicAnswerOK c s compare answer → AtomicAnswerOK d s compare answer
@@ -77,8 +77,8 @@ module _ (c : BlockContext) (functions : List PlainFunction) (entries : List Pla
   operation_moves (store pointer value) h = record { place = h.place; storable = h.storable; fits = h.fits; writable = h.writable }
   operation_moves (image_store image coordinate array_index value) h =
       some_and
-      (λ (p : Picture). IsTexelOf c p coordinate array_index × IsWritten p.class (form_at c value))
-      (λ (p : Picture). IsTexelOf d p coordinate array_index × IsWritten p.class (form_at d value))
+      (λ (p : ImageType). IsTexelOf c p coordinate array_index × IsWritten p.class (form_at c value))
+      (λ (p : ImageType). IsTexelOf d p coordinate array_index × IsWritten p.class (form_at d value))
       (written_image c.m c.f image)
       (λ p x. (texel p coordinate array_index x.0, x.1))
       h
@@ -86,8 +86,8 @@ module _ (c : BlockContext) (functions : List PlainFunction) (entries : List Pla
       some_and (AtomicChangeOK c pointer fun value result) (AtomicChangeOK d pointer fun value result) (changed_scalar c.m.types (form_at c pointer)) (changed pointer fun value result) h
   operation_moves (image_atomic image coordinate array_index fun value) h =
       some_and
-      (λ (p : Picture). IsTexelOf c p coordinate array_index × IsChanged c.capabilities p.class fun (form_at c value))
-      (λ (p : Picture). IsTexelOf d p coordinate array_index × IsChanged d.capabilities p.class fun (form_at d value))
+      (λ (p : ImageType). IsTexelOf c p coordinate array_index × IsChanged c.capabilities p.class fun (form_at c value))
+      (λ (p : ImageType). IsTexelOf d p coordinate array_index × IsChanged d.capabilities p.class fun (form_at d value))
       (changed_image c.m c.f image)
       (λ p x. (texel p coordinate array_index x.0, x.1))
       h

@@ -23,7 +23,7 @@ use typing_errors::{ComposeError, ConstExpressionError};
 use typing_layout::ExpressionKind;
 
 /// A global expression that is refused (naga's `ValidationError::ConstExpression`).
-#[derive(PartialEq, Debug, Drop, Error)]
+#[derive(Clone, PartialEq, Debug, Drop, Error)]
 #[error("global expression {expression:?} is invalid: {error}")]
 pub struct InvalidGlobalExpression {
     /// The expression.

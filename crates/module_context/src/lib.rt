@@ -11,6 +11,6 @@ pub use callees::{CalleeStages, ListedStages};
 pub use check_context::CheckContext;
 pub use refused::refused_unless;
 pub use shapes::{
-    are_same, form_of_shape, is_floating, is_integer, is_integer_scalar, is_numeric, is_truth,
-    picture_of, pointee_of, sampler_of, shaped_of,
+    are_same, form_of_shape, image_type_of, is_floating, is_integer, is_integer_scalar, is_numeric,
+    is_truth, pointee_of, sampler_of, shaped_of,
 };

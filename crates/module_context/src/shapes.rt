@@ -1,13 +1,13 @@
 //! What a type is made of.
 
 ghost use Rattle.std.specs.Prelude.{◌≡◌, ◌↔◌, IsTrue};
-ghost use Rattle.spec_statements.specs.judged.Shapes.{IsInteger, IsFloating, IsBool, IsNumeric, IsIntegerScalar, shaped_of, form_of_shape, picture_of, sampler_of};
+ghost use Rattle.spec_statements.specs.judged.Shapes.{IsInteger, IsFloating, IsBool, IsNumeric, IsIntegerScalar, shaped_of, form_of_shape, image_type_of, sampler_of};
 ghost use Rattle.spec_statements.specs.found.Pointers.{pointee_of};
 
 use ir_arena::handle::Handle;
 use ir_kinds::{Scalar, ScalarKind};
 use ir_types::key;
-use spec_statements::{Picture, Shape, Shaped};
+use spec_statements::{ImageType, Shape, Shaped};
 use typing_forms::Form;
 
 /// Whether a kind of scalar is one of integers.
@@ -71,11 +71,11 @@ pub const fn shaped_of(of: Form) -> Option<Shaped>
 {
     match of {
         Form::Scalar(scalar) => Some(Shaped {
-            shape: Shape::One,
+            shape: Shape::Scalar,
             scalar,
         }),
         Form::Vector { size, scalar } => Some(Shaped {
-            shape: Shape::Row(size),
+            shape: Shape::Vector(size),
             scalar,
         }),
         Form::Matrix {
@@ -83,7 +83,7 @@ pub const fn shaped_of(of: Form) -> Option<Shaped>
             rows,
             scalar,
         } => Some(Shaped {
-            shape: Shape::Grid { columns, rows },
+            shape: Shape::Matrix { columns, rows },
             scalar,
         }),
         Form::CooperativeMatrix {
@@ -92,7 +92,7 @@ pub const fn shaped_of(of: Form) -> Option<Shaped>
             scalar,
             role,
         } => Some(Shaped {
-            shape: Shape::Shared {
+            shape: Shape::CooperativeMatrix {
                 columns,
                 rows,
                 role,
@@ -118,14 +118,14 @@ pub const fn form_of_shape(shape: Shape, scalar: Scalar) -> Form
     ensures { result ≡ form_of_shape shape scalar }
 {
     match shape {
-        Shape::One => Form::Scalar(scalar),
-        Shape::Row(size) => Form::Vector { size, scalar },
-        Shape::Grid { columns, rows } => Form::Matrix {
+        Shape::Scalar => Form::Scalar(scalar),
+        Shape::Vector(size) => Form::Vector { size, scalar },
+        Shape::Matrix { columns, rows } => Form::Matrix {
             columns,
             rows,
             scalar,
         },
-        Shape::Shared {
+        Shape::CooperativeMatrix {
             columns,
             rows,
             role,
@@ -139,15 +139,15 @@ pub const fn form_of_shape(shape: Shape, scalar: Scalar) -> Form
 }
 
 /// The image that a type is.
-pub const fn picture_of(of: Form) -> Option<Picture>
-    ensures { result ≡ picture_of of }
+pub const fn image_type_of(of: Form) -> Option<ImageType>
+    ensures { result ≡ image_type_of of }
 {
     match of {
         Form::Image {
             dim,
             arrayed,
             class,
-        } => Some(Picture {
+        } => Some(ImageType {
             dim,
             arrayed,
             class,

@@ -47,12 +47,12 @@ fn is_addend(columns: CooperativeSize, rows: CooperativeSize, third: Shape) -> b
     ensures { IsTrue result ↔ IsAddend columns rows third }
 {
     match third {
-        Shape::Shared {
+        Shape::CooperativeMatrix {
             columns: more,
             rows: lines,
             role,
         } => role == CooperativeRole::C && more == columns && lines == rows,
-        Shape::One | Shape::Row(_) | Shape::Grid { .. } => false,
+        Shape::Scalar | Shape::Vector(_) | Shape::Matrix { .. } => false,
     }
 }
 
@@ -66,12 +66,12 @@ fn is_right_factor(
     ensures { IsTrue result ↔ IsRightFactor columns rows right third }
 {
     match right {
-        Shape::Shared {
+        Shape::CooperativeMatrix {
             columns: more,
             rows: lines,
             role,
         } => role == CooperativeRole::B && columns == lines && is_addend(more, rows, third),
-        Shape::One | Shape::Row(_) | Shape::Grid { .. } => false,
+        Shape::Scalar | Shape::Vector(_) | Shape::Matrix { .. } => false,
     }
 }
 
@@ -80,12 +80,12 @@ fn are_factors(left: Shape, right: Shape, third: Shape) -> bool
     ensures { IsTrue result ↔ AreFactors left right third }
 {
     match left {
-        Shape::Shared {
+        Shape::CooperativeMatrix {
             columns,
             rows,
             role,
         } => role == CooperativeRole::A && is_right_factor(columns, rows, right, third),
-        Shape::One | Shape::Row(_) | Shape::Grid { .. } => false,
+        Shape::Scalar | Shape::Vector(_) | Shape::Matrix { .. } => false,
     }
 }
 

@@ -1,4 +1,4 @@
-//! What changes from fragment to fragment.
+//! Derivatives.
 
 ghost use Rattle.std.specs.Prelude.{◌↔◌, IsTrue, MatchResult};
 ghost use Rattle.module_context.specs.Refused.{IsRefused};

@@ -88,8 +88,8 @@ const fn is_added(shape: Shape, kind: ScalarKind) -> bool
     ensures { IsTrue result ↔ IsAdded shape kind }
 {
     match shape {
-        Shape::One | Shape::Row(_) => is_numeric(kind),
-        Shape::Grid { .. } | Shape::Shared { .. } => true,
+        Shape::Scalar | Shape::Vector(_) => is_numeric(kind),
+        Shape::Matrix { .. } | Shape::CooperativeMatrix { .. } => true,
     }
 }
 
@@ -108,30 +108,30 @@ fn are_added(left: &Form, right: &Form) -> bool
 
 // Whether a row of so many is multiplied with something.
 fn is_row_multiplied(size: VectorSize, right: Shape) -> bool
-    ensures { IsTrue result ↔ AreMultiplied (Shape.Row size) right }
+    ensures { IsTrue result ↔ AreMultiplied (Shape.Vector size) right }
 {
     match right {
-        Shape::One => true,
-        Shape::Row(other) => size == other,
-        Shape::Grid { rows, .. } => size == rows,
-        Shape::Shared { .. } => false,
+        Shape::Scalar => true,
+        Shape::Vector(other) => size == other,
+        Shape::Matrix { rows, .. } => size == rows,
+        Shape::CooperativeMatrix { .. } => false,
     }
 }
 
-// Whether two shapes are multiplied.
+// Whether values of two shapes can be multiplied.
 fn are_shapes_multiplied(left: Shape, right: Shape) -> bool
     ensures { IsTrue result ↔ AreMultiplied left right }
 {
     match left {
-        Shape::One => true,
-        Shape::Row(size) => is_row_multiplied(size, right),
-        Shape::Grid { columns, .. } => match right {
-            Shape::One => true,
-            Shape::Row(size) => columns == size,
-            Shape::Grid { rows, .. } => columns == rows,
-            Shape::Shared { .. } => false,
+        Shape::Scalar => true,
+        Shape::Vector(size) => is_row_multiplied(size, right),
+        Shape::Matrix { columns, .. } => match right {
+            Shape::Scalar => true,
+            Shape::Vector(size) => columns == size,
+            Shape::Matrix { rows, .. } => columns == rows,
+            Shape::CooperativeMatrix { .. } => false,
         },
-        Shape::Shared { .. } => is_alone(right),
+        Shape::CooperativeMatrix { .. } => is_alone(right),
     }
 }
 

@@ -20,11 +20,11 @@ use typing_forms::Form;
 
 // Whether a truth value for each of so many components chooses from values of a shape.
 fn is_chosen_by_row(size: VectorSize, value: Shape) -> bool
-    ensures { IsTrue result ↔ ChoosesFrom (Shape.Row size) value }
+    ensures { IsTrue result ↔ ChoosesFrom (Shape.Vector size) value }
 {
     match value {
-        Shape::Row(other) => size == other,
-        Shape::One | Shape::Grid { .. } | Shape::Shared { .. } => false,
+        Shape::Vector(other) => size == other,
+        Shape::Scalar | Shape::Matrix { .. } | Shape::CooperativeMatrix { .. } => false,
     }
 }
 
@@ -33,9 +33,9 @@ fn chooses_from(condition: Shape, value: Shape) -> bool
     ensures { IsTrue result ↔ ChoosesFrom condition value }
 {
     match condition {
-        Shape::One => true,
-        Shape::Row(size) => is_chosen_by_row(size, value),
-        Shape::Grid { .. } | Shape::Shared { .. } => false,
+        Shape::Scalar => true,
+        Shape::Vector(size) => is_chosen_by_row(size, value),
+        Shape::Matrix { .. } | Shape::CooperativeMatrix { .. } => false,
     }
 }
 
@@ -91,8 +91,8 @@ const fn is_row(shape: Shape) -> bool
     ensures { IsTrue result ↔ IsVectorShape shape }
 {
     match shape {
-        Shape::Row(_) => true,
-        Shape::One | Shape::Grid { .. } | Shape::Shared { .. } => false,
+        Shape::Vector(_) => true,
+        Shape::Scalar | Shape::Matrix { .. } | Shape::CooperativeMatrix { .. } => false,
     }
 }
 

@@ -12,8 +12,8 @@ pub const fn is_alone(shape: Shape) -> bool
     ensures { IsTrue result ↔ IsScalarShape shape }
 {
     match shape {
-        Shape::One => true,
-        Shape::Row(_) | Shape::Grid { .. } | Shape::Shared { .. } => false,
+        Shape::Scalar => true,
+        Shape::Vector(_) | Shape::Matrix { .. } | Shape::CooperativeMatrix { .. } => false,
     }
 }
 
@@ -22,8 +22,8 @@ pub const fn is_of_value(shape: Shape) -> bool
     ensures { IsTrue result ↔ IsScalarOrVector shape }
 {
     match shape {
-        Shape::One | Shape::Row(_) => true,
-        Shape::Grid { .. } | Shape::Shared { .. } => false,
+        Shape::Scalar | Shape::Vector(_) => true,
+        Shape::Matrix { .. } | Shape::CooperativeMatrix { .. } => false,
     }
 }
 

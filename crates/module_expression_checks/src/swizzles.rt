@@ -41,8 +41,8 @@ fn is_swizzle(size: VectorSize, pattern: [SwizzleComponent; 4], of: Form) -> boo
 {
     match shaped_of(of) {
         Some(shaped) => match shaped.shape {
-            Shape::Row(components) => are_components(size, pattern, components),
-            Shape::One | Shape::Grid { .. } | Shape::Shared { .. } => false,
+            Shape::Vector(components) => are_components(size, pattern, components),
+            Shape::Scalar | Shape::Matrix { .. } | Shape::CooperativeMatrix { .. } => false,
         },
         None => false,
     }

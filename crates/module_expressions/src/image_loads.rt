@@ -13,9 +13,9 @@ use ir_flags::StorageAccess;
 use ir_kinds::{ImageClass, ImageDimension};
 use ir_types::{ImageQuery, key};
 use module_context::{
-    CheckContext, are_same, is_integer, is_integer_scalar, picture_of, refused_unless, shaped_of,
+    CheckContext, are_same, image_type_of, is_integer, is_integer_scalar, refused_unless, shaped_of,
 };
-use spec_statements::Picture;
+use spec_statements::ImageType;
 use typing_errors::ExpressionError;
 use typing_forms::Form;
 
@@ -58,7 +58,7 @@ fn is_readable(class: ImageClass) -> bool
 // Whether a texel is loaded from an image.
 fn is_texel_load(
     context: &CheckContext<'_>,
-    image: &Picture,
+    image: &ImageType,
     coordinate: Handle<key::Expression>,
     array_index: Option<Handle<key::Expression>>,
     sample: Option<Handle<key::Expression>>,
@@ -85,9 +85,9 @@ fn is_image_load(
 ) -> bool
     ensures { IsTrue result ↔ ImageLoadOK (scene_in context.now).forms image coordinate array_index sample level }
 {
-    match picture_of(image) {
-        Some(picture) => {
-            is_texel_load(context, &picture, coordinate, array_index, sample, level)
+    match image_type_of(image) {
+        Some(image_type) => {
+            is_texel_load(context, &image_type, coordinate, array_index, sample, level)
         }
         None => false,
     }
@@ -121,7 +121,7 @@ pub fn check_image_load(
 // Whether an image has a size at a level, if one is named.
 fn has_size(
     context: &CheckContext<'_>,
-    image: &Picture,
+    image: &ImageType,
     level: Option<Handle<key::Expression>>,
 ) -> bool
     ensures { IsTrue result ↔ IsAnswered (scene_in context.now).forms (ImageQuery.Size level) image.now }
@@ -133,7 +133,7 @@ fn has_size(
 }
 
 // Whether a query of an image has an answer.
-fn is_answered(context: &CheckContext<'_>, image: &Picture, query: ImageQuery) -> bool
+fn is_answered(context: &CheckContext<'_>, image: &ImageType, query: ImageQuery) -> bool
     ensures { IsTrue result ↔ IsAnswered (scene_in context.now).forms query image.now }
 {
     match query {
@@ -148,8 +148,8 @@ fn is_answered(context: &CheckContext<'_>, image: &Picture, query: ImageQuery) -
 fn is_image_query(context: &CheckContext<'_>, image: Form, query: ImageQuery) -> bool
     ensures { IsTrue result ↔ ImageQueryOK (scene_in context.now).forms image query }
 {
-    match picture_of(image) {
-        Some(picture) => is_answered(context, &picture, query),
+    match image_type_of(image) {
+        Some(image_type) => is_answered(context, &image_type, query),
         None => false,
     }
 }

@@ -14,8 +14,8 @@ use crate::operands::{along, is_number_if};
 use ir_arena::handle::Handle;
 use ir_kinds::{ImageClass, ImageDimension, Scalar, ScalarKind, SwizzleComponent};
 use ir_types::key;
-use module_context::{CheckContext, are_same, picture_of, refused_unless, sampler_of};
-use spec_statements::{Picture, Sampling};
+use module_context::{CheckContext, are_same, image_type_of, refused_unless, sampler_of};
+use spec_statements::{ImageType, Sampling};
 use typing_errors::ExpressionError;
 use typing_forms::Form;
 
@@ -106,7 +106,7 @@ fn is_offset_if(
 // ---- samples
 
 // Whether the sampler compares exactly where there is something to compare with.
-fn is_sampler_met(context: &CheckContext<'_>, image: &Picture, by: &Sampling) -> bool
+fn is_sampler_met(context: &CheckContext<'_>, image: &ImageType, by: &Sampling) -> bool
     ensures { IsTrue result
         ↔ (IsSomeAnd (sampler_of (form_among (scene_in context.now).forms by.now.sampler)) (λ comparison. comparison ≡ is_some by.now.depth_ref)
         × IfSome by.now.depth_ref (λ reference. IsFloat32 (form_among (scene_in context.now).forms reference) × (is_depth image.now.class ≡ true))) }
@@ -116,14 +116,14 @@ fn is_sampler_met(context: &CheckContext<'_>, image: &Picture, by: &Sampling) ->
 }
 
 // Whether the image has texels of one sample that are put together as they may be.
-fn is_class_met(image: &Picture, by: &Sampling) -> bool
+fn is_class_met(image: &ImageType, by: &Sampling) -> bool
     ensures { IsTrue result ↔ ((is_multisampled image.now.class ≡ false) × IsFiltered image.now.class by.now.gather) }
 {
     !image.class.is_multisampled() && is_filtered(image.class, by.gather)
 }
 
 // Whether the coordinate, the layer and the offset are those of a place in the image.
-fn is_place_met(context: &CheckContext<'_>, image: &Picture, by: &Sampling) -> bool
+fn is_place_met(context: &CheckContext<'_>, image: &ImageType, by: &Sampling) -> bool
     requires { IsKnown context.now }
     ensures { IsTrue result
         ↔ ((form_among (scene_in context.now).forms by.now.coordinate ≡ coordinate_form image.now.dim (floating 4))
@@ -136,7 +136,7 @@ fn is_place_met(context: &CheckContext<'_>, image: &Picture, by: &Sampling) -> b
 }
 
 // Whether what is gathered and the level are as they may be.
-fn is_detail_met(context: &CheckContext<'_>, image: &Picture, by: &Sampling) -> bool
+fn is_detail_met(context: &CheckContext<'_>, image: &ImageType, by: &Sampling) -> bool
     ensures { IsTrue result
         ↔ (IfSome by.now.gather (IsGathered image.now by.now.level)
         × IsLevel (scene_in context.now).forms image.now.class (form_among (scene_in context.now).forms by.now.coordinate) by.now.level) }
@@ -145,8 +145,8 @@ fn is_detail_met(context: &CheckContext<'_>, image: &Picture, by: &Sampling) -> 
         && is_level(context, image.class, by.coordinate, by.level)
 }
 
-// Whether the image is clamped as it may be, and one from outside sampled as it is.
-fn is_edge_met(image: &Picture, by: &Sampling) -> bool
+// Whether the image is clamped as it may be, and an external one sampled at level zero without an offset.
+fn is_edge_met(image: &ImageType, by: &Sampling) -> bool
     ensures { IsTrue result
         ↔ (ClampOK image.now by.now.clamp_to_edge × ExternalOK image.now.class by.now.gather by.now.offset by.now.level) }
 {
@@ -154,7 +154,7 @@ fn is_edge_met(image: &Picture, by: &Sampling) -> bool
 }
 
 // Whether the image is sampled.
-fn is_sampled(context: &CheckContext<'_>, image: &Picture, by: &Sampling) -> bool
+fn is_sampled(context: &CheckContext<'_>, image: &ImageType, by: &Sampling) -> bool
     requires { IsKnown context.now }
     ensures { IsTrue result ↔ IsSampled (expressions_in context.now) (scene_in context.now).forms image.now by.now }
 {
@@ -170,8 +170,8 @@ fn is_image_sample(context: &CheckContext<'_>, image: Form, by: &Sampling) -> bo
     requires { IsKnown context.now }
     ensures { IsTrue result ↔ ImageSampleOK (expressions_in context.now) (scene_in context.now).forms image by.now }
 {
-    match picture_of(image) {
-        Some(picture) => is_sampled(context, &picture, by),
+    match image_type_of(image) {
+        Some(image_type) => is_sampled(context, &image_type, by),
         None => false,
     }
 }

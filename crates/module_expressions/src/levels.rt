@@ -9,7 +9,7 @@ use ir_arena::handle::Handle;
 use ir_kinds::{ImageClass, ImageDimension, Scalar, ScalarKind, SwizzleComponent};
 use ir_types::{SampleLevel, key};
 use module_context::{CheckContext, are_same, is_integer_scalar};
-use spec_statements::Picture;
+use spec_statements::ImageType;
 use typing_forms::Form;
 
 /// Whether a type is that of a 32-bit float.
@@ -42,8 +42,8 @@ fn is_exact(context: &CheckContext<'_>, class: ImageClass, level: Handle<key::Ex
         || (class.is_depth() && is_integer_scalar(context.form_at(level)))
 }
 
-// Whether two expressions are slopes of a coordinate.
-fn are_slopes(
+// Whether two expressions are gradients of a coordinate.
+fn are_gradients(
     context: &CheckContext<'_>,
     coordinate: Handle<key::Expression>,
     right: Handle<key::Expression>,
@@ -69,7 +69,7 @@ pub(crate) fn is_level(
         SampleLevel::Auto | SampleLevel::Zero => true,
         SampleLevel::Exact(exact) => is_exact(context, class, exact),
         SampleLevel::Bias(bias) => is_float32(context.form_at(bias)),
-        SampleLevel::Gradient { x, y } => are_slopes(context, coordinate, x, y),
+        SampleLevel::Gradient { x, y } => are_gradients(context, coordinate, x, y),
     }
 }
 
@@ -86,7 +86,7 @@ const fn has_neighbours(dim: ImageDimension) -> bool
 }
 
 // Whether a component may be gathered of an image at a level.
-fn gathers(image: &Picture, level: SampleLevel, letter: SwizzleComponent) -> bool
+fn gathers(image: &ImageType, level: SampleLevel, letter: SwizzleComponent) -> bool
     ensures { IsTrue result ↔ IsGathered image.now level letter }
 {
     has_neighbours(image.dim)
@@ -96,7 +96,7 @@ fn gathers(image: &Picture, level: SampleLevel, letter: SwizzleComponent) -> boo
 
 /// The same where one may be gathered.
 pub(crate) fn gathers_if(
-    image: &Picture,
+    image: &ImageType,
     level: SampleLevel,
     gather: Option<SwizzleComponent>,
 ) -> bool
@@ -110,7 +110,7 @@ pub(crate) fn gathers_if(
 
 // ---- what is clamped
 
-// Whether an image comes from outside.
+// Whether an image is external.
 const fn is_external(class: ImageClass) -> bool
     ensures { IsTrue result ↔ (class ≡ ImageClass.External) }
 {
@@ -131,14 +131,14 @@ fn is_of_floats(class: ImageClass) -> bool
 }
 
 // Whether places in an image may be clamped.
-fn is_clamped(image: &Picture) -> bool
+fn is_clamped(image: &ImageType) -> bool
     ensures { IsTrue result ↔ IsClamped image.now }
 {
     image.dim == ImageDimension::D2 && !image.arrayed && is_of_floats(image.class)
 }
 
 /// Whether places in an image are clamped or not as they may be.
-pub(crate) fn is_clamp(image: &Picture, clamp_to_edge: bool) -> bool
+pub(crate) fn is_clamp(image: &ImageType, clamp_to_edge: bool) -> bool
     ensures { IsTrue result ↔ ClampOK image.now clamp_to_edge }
 {
     if clamp_to_edge {
@@ -148,7 +148,7 @@ pub(crate) fn is_clamp(image: &Picture, clamp_to_edge: bool) -> bool
     }
 }
 
-/// Whether an image, if it comes from outside, is sampled at the finest level as it is.
+/// Whether an image, if it is external, is sampled at level zero, without gather or offset.
 pub(crate) fn is_outside(
     class: ImageClass,
     gather: Option<SwizzleComponent>,

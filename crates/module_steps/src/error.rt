@@ -7,7 +7,7 @@ use thiserror::Error;
 use typing_layout::LayoutError;
 
 /// Why a module is refused (the variants of naga's `ValidationError` up to overrides, with their handles).
-#[derive(PartialEq, Debug, Drop, Error)]
+#[derive(Clone, PartialEq, Debug, Drop, Error)]
 pub enum ModuleError {
     /// A handle names nothing, or something that doesn't come before what depends on it.
     #[error("{0}")]

@@ -10,7 +10,7 @@ use ir_flags::Capabilities;
 use ir_kinds::{ImageClass, ImageDimension};
 use typing_layout::TypeError;
 
-// Whether there is an image that comes from outside.
+// Whether there is an external image.
 fn check_external(
     capabilities: Capabilities,
     dim: ImageDimension,

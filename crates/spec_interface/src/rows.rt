@@ -44,7 +44,7 @@ pub struct BuiltInRow {
 
 impl BuiltInRow {
     /// No stage.
-    pub const NOWHERE: ShaderStages = ShaderStages(0);
+    pub const NONE: ShaderStages = ShaderStages(0);
 
     /// The stages that give vertices.
     pub const RASTER: ShaderStages = ShaderStages(ShaderStages::VERTEX.0 | ShaderStages::MESH.0);
@@ -55,11 +55,11 @@ impl BuiltInRow {
     );
 
     /// Where a ray ends.
-    pub const ENDS: ShaderStages = ShaderStages(BuiltInRow::HITS.0 | ShaderStages::MISS.0);
+    pub const HIT_OR_MISS: ShaderStages = ShaderStages(BuiltInRow::HITS.0 | ShaderStages::MISS.0);
 
     /// The stages of rays.
     pub const RAYS: ShaderStages = ShaderStages(
-        BuiltInRow::ENDS.0 | ShaderStages::RAY_GENERATION.0,
+        BuiltInRow::HIT_OR_MISS.0 | ShaderStages::RAY_GENERATION.0,
     );
 
     /// The stages of instances.

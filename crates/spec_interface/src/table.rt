@@ -9,7 +9,7 @@ use ir_flags::{Capabilities as C, ShaderStages};
 use ir_kinds::{BuiltIn, Scalar, VectorSize};
 use typing_forms::Form;
 
-const NOWHERE: ShaderStages = BuiltInRow::NOWHERE;
+const NONE: ShaderStages = BuiltInRow::NONE;
 
 const VERTEX: ShaderStages = ShaderStages::VERTEX;
 
@@ -21,7 +21,7 @@ const SUBGROUPS: ShaderStages = BuiltInRow::SUBGROUPS;
 
 const HITS: ShaderStages = BuiltInRow::HITS;
 
-const ENDS: ShaderStages = BuiltInRow::ENDS;
+const HIT_OR_MISS: ShaderStages = BuiltInRow::HIT_OR_MISS;
 
 const RAYS: ShaderStages = BuiltInRow::RAYS;
 
@@ -70,7 +70,7 @@ const fn given(inputs: ShaderStages, ty: BuiltInType) -> BuiltInRow
 {
     BuiltInRow {
         inputs,
-        outputs: NOWHERE,
+        outputs: NONE,
         primitive: false,
         ty,
         capability: None,
@@ -89,7 +89,7 @@ const fn given_by(
 {
     BuiltInRow {
         inputs,
-        outputs: NOWHERE,
+        outputs: NONE,
         primitive: false,
         ty,
         capability: Some(capability),
@@ -102,7 +102,7 @@ const fn gives(outputs: ShaderStages, ty: BuiltInType) -> BuiltInRow
     ensures { result ≡ gives outputs ty }
 {
     BuiltInRow {
-        inputs: NOWHERE,
+        inputs: NONE,
         outputs,
         primitive: false,
         ty,
@@ -116,7 +116,7 @@ const fn gives_by(capability: C, outputs: ShaderStages, ty: BuiltInType) -> Buil
     ensures { result ≡ by capability (gives outputs ty) }
 {
     BuiltInRow {
-        inputs: NOWHERE,
+        inputs: NONE,
         outputs,
         primitive: false,
         ty,
@@ -144,8 +144,8 @@ const fn with_primitive(ty: BuiltInType) -> BuiltInRow
     ensures { result ≡ with_primitive ty }
 {
     BuiltInRow {
-        inputs: NOWHERE,
-        outputs: NOWHERE,
+        inputs: NONE,
+        outputs: NONE,
         primitive: true,
         ty,
         capability: Some(C::MESH_SHADER),
@@ -159,7 +159,7 @@ const fn primitive_index() -> BuiltInRow
 {
     BuiltInRow {
         inputs: BuiltInRow::PRIMITIVES,
-        outputs: NOWHERE,
+        outputs: NONE,
         primitive: true,
         ty: UINT,
         capability: Some(C::PRIMITIVE_INDEX),
@@ -222,14 +222,18 @@ pub const fn built_in_row(built_in: BuiltIn) -> BuiltInRow
         BuiltIn::LineIndices => with_primitive(TWO_UINTS),
         BuiltIn::TriangleIndices => with_primitive(THREE_UINTS),
         BuiltIn::VertexCount | BuiltIn::Vertices | BuiltIn::PrimitiveCount | BuiltIn::Primitives =>
-            given(NOWHERE, UINT),
+            given(NONE, UINT),
         BuiltIn::RayInvocationId | BuiltIn::NumRayInvocations => both(RAYS, RAYS, THREE_UINTS),
         BuiltIn::InstanceCustomData | BuiltIn::GeometryIndex | BuiltIn::HitKind => {
             both(HITS, HITS, UINT)
         }
-        BuiltIn::WorldRayOrigin | BuiltIn::WorldRayDirection => both(ENDS, ENDS, THREE_FLOATS),
+        BuiltIn::WorldRayOrigin | BuiltIn::WorldRayDirection => both(
+            HIT_OR_MISS,
+            HIT_OR_MISS,
+            THREE_FLOATS,
+        ),
         BuiltIn::ObjectRayOrigin | BuiltIn::ObjectRayDirection => both(HITS, HITS, THREE_FLOATS),
-        BuiltIn::RayTmin | BuiltIn::RayTCurrentMax => both(ENDS, ENDS, FLOAT),
+        BuiltIn::RayTmin | BuiltIn::RayTCurrentMax => both(HIT_OR_MISS, HIT_OR_MISS, FLOAT),
         BuiltIn::ObjectToWorld | BuiltIn::WorldToObject => both(HITS, HITS, FOUR_BY_THREE),
     }
 }

@@ -17,4 +17,4 @@ pub mod laws;
 mod shapes;
 pub mod worked;
 
-pub use shapes::{Picture, Sampling, Shape, Shaped};
+pub use shapes::{ImageType, Sampling, Shape, Shaped};

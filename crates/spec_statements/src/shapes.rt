@@ -1,4 +1,4 @@
-//! What is made of scalars, and images, as the rules of expressions look at them.
+//! Scalars, vectors, matrices and image types, as the rules of expressions read them.
 
 use ir_arena::handle::Handle;
 use ir_kinds::{
@@ -7,22 +7,22 @@ use ir_kinds::{
 };
 use ir_types::{SampleLevel, key};
 
-/// How many scalars there are, and how they are laid out.
+/// The shape of a scalar, a vector or a matrix.
 #[derive(Clone, Copy)]
 pub enum Shape {
-    /// One alone.
-    One,
-    /// So many in a row.
-    Row(VectorSize),
-    /// Column vectors in a row.
-    Grid {
+    /// A scalar.
+    Scalar,
+    /// A vector.
+    Vector(VectorSize),
+    /// A matrix of column vectors.
+    Matrix {
         /// How many columns.
         columns: VectorSize,
         /// How many scalars a column has.
         rows: VectorSize,
     },
-    /// A matrix that invocations work on together.
-    Shared {
+    /// A cooperative matrix.
+    CooperativeMatrix {
         /// How many columns.
         columns: CooperativeSize,
         /// How many scalars a column has.
@@ -35,40 +35,40 @@ pub enum Shape {
 /// A scalar, a vector or a matrix.
 #[derive(Clone, Copy)]
 pub struct Shaped {
-    /// How many scalars there are.
+    /// Its shape.
     pub shape: Shape,
-    /// What each is.
+    /// The type of each component.
     pub scalar: Scalar,
 }
 
-/// An image.
+/// The type of an image.
 #[derive(Clone, Copy)]
-pub struct Picture {
-    /// How many dimensions it has.
+pub struct ImageType {
+    /// Its dimension.
     pub dim: ImageDimension,
-    /// Whether it is one of several layers.
+    /// Whether it has layers.
     pub arrayed: bool,
     /// What its texels are.
     pub class: ImageClass,
 }
 
-/// What an image is sampled with.
+/// The operands of a sample or gather.
 #[derive(Clone, Copy)]
 pub struct Sampling {
-    /// How texels are put together.
+    /// The sampler.
     pub sampler: Handle<key::Expression>,
-    /// Which component of four texels is gathered, if any is.
+    /// The component that a gather takes of four texels, if it is one.
     pub gather: Option<SwizzleComponent>,
-    /// Where in the image.
+    /// The coordinates.
     pub coordinate: Handle<key::Expression>,
-    /// In which layer.
+    /// The layer.
     pub array_index: Option<Handle<key::Expression>>,
-    /// How many texels beside that place.
+    /// The offset in texels.
     pub offset: Option<Handle<key::Expression>>,
-    /// At which level of detail.
+    /// The level of detail.
     pub level: SampleLevel,
-    /// What depths are compared with.
+    /// The reference that depths are compared with.
     pub depth_ref: Option<Handle<key::Expression>>,
-    /// Whether the place is moved so far inwards that half a texel is left to the edge.
+    /// Whether the coordinates are clamped to half a texel from the edge.
     pub clamp_to_edge: bool,
 }

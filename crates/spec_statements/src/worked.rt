@@ -101,7 +101,7 @@ pub fn images()
     ensures layer_where_there_are_layers { ¬ ExactlyIf true None (λ place. place ≡ 0) }
     ensures no_layer_where_there_are_none { ¬ ExactlyIf false (Some 0) (λ place. place ≡ 0) }
     ensures level_of_floats { IsLevel (form.Scalar (floating 4) ∷ []) (class.Sampled kind.Float false) (form.Scalar (floating 4)) (Exact 0) }
-    ensures slopes { IsLevel (form.Scalar (floating 4) ∷ []) (class.Depth false) (form.Scalar (floating 4)) (Gradient 0 0) }
+    ensures gradients { IsLevel (form.Scalar (floating 4) ∷ []) (class.Depth false) (form.Scalar (floating 4)) (Gradient 0 0) }
     ensures bias_of_integers { ¬ IsLevel (form.Scalar (signed 4) ∷ []) (class.Sampled kind.Float false) (form.Scalar (floating 4)) (Bias 0) }
     ensures depths_not_clamped { ¬ IsClamped (record { dim = D2; arrayed = false; class = class.Depth false }) }
     ensures samples { IsAnswered [] NumSamples (record { dim = D2; arrayed = false; class = class.Depth true }) }
@@ -113,7 +113,7 @@ pub fn images()
     ensures read_and_written { IsReadable (class.Storage R32Uint (record { 0 = 3 })) }
 {}
 
-/// What is gathered, moved and clamped, and what comes from outside.
+/// Gathers, offsets, clamped samples and external images.
 pub fn samples()
     ensures integers_not_filtered { ¬ IsFiltered (class.Sampled kind.Uint false) None }
     ensures gathered_depths { IsGathered (record { dim = Cube; arrayed = true; class = class.Depth false }) Zero X }

@@ -6,7 +6,7 @@ use ir_types::key;
 use thiserror::Error;
 
 /// Why a call is refused (naga's `CallError`).
-#[derive(PartialEq, Debug, Drop, Error)]
+#[derive(Clone, PartialEq, Debug, Drop, Error)]
 pub enum CallError {
     /// What is passed is refused.
     #[error("argument {index} is invalid: {source}")]

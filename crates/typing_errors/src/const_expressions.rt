@@ -6,7 +6,7 @@ use thiserror::Error;
 use typing_layout::LiteralError;
 
 /// Why a global expression is refused (naga's `ConstExpressionError`).
-#[derive(PartialEq, Debug, Drop, Error)]
+#[derive(Clone, PartialEq, Debug, Drop, Error)]
 pub enum ConstExpressionError {
     /// Its value is known only when the shader runs.
     #[error("the expression is not a const-expression or an override-expression")]

@@ -13,7 +13,7 @@ use thiserror::Error;
 
 /// Why a function is refused (naga's `FunctionError`). Its text is for people: what is wrong, with the expression at
 /// fault where there is one, and the error inside it.
-#[derive(PartialEq, Debug, Drop, Error)]
+#[derive(Clone, PartialEq, Debug, Drop, Error)]
 pub enum FunctionError {
     /// An expression is refused.
     #[error("expression {handle:?} is invalid: {source}")]
@@ -146,7 +146,7 @@ pub enum FunctionError {
     },
     /// An atomic operation is refused.
     #[error("the atomic operation is invalid: {0}")]
-    InvalidAtomic(AtomicError),
+    InvalidAtomic(#[from] AtomicError),
     /// What should be a ray query is no variable of the function.
     #[error("the ray query {0:?} is not a local variable")]
     InvalidRayQueryExpression(Handle<key::Expression>),
@@ -196,7 +196,7 @@ pub enum FunctionError {
     WorkgroupUniformLoadInvalidPointer(Handle<key::Expression>),
     /// An operation of a subgroup is refused.
     #[error("the subgroup operation is invalid: {0}")]
-    InvalidSubgroup(SubgroupError),
+    InvalidSubgroup(#[from] SubgroupError),
     /// What is written as a cooperative matrix is none.
     #[error("the target {0:?} of a cooperative store is not a cooperative matrix")]
     InvalidCooperativeStoreTarget(Handle<key::Expression>),

@@ -10,7 +10,7 @@ use thiserror::Error;
 use typing_layout::LiteralError;
 
 /// Why an expression of a function is refused (naga's `ExpressionError`).
-#[derive(PartialEq, Debug, Drop, Error)]
+#[derive(Clone, PartialEq, Debug, Drop, Error)]
 pub enum ExpressionError {
     /// A statement uses it where it is not yet in scope.
     #[error("the expression is used before it is in scope")]

@@ -19,7 +19,7 @@ use ir_types::{ArraySize, IrType, TypeInner, key};
 /// which is its value pointer. Names don't count, nor whether the type is one of the module's.
 #[derive(Clone, Copy, PartialEq, Eq, Debug)]
 pub enum Form {
-    /// A number or a truth value.
+    /// A scalar.
     Scalar(Scalar),
     /// Scalars in a row.
     Vector {
@@ -39,7 +39,7 @@ pub enum Form {
         scalar: Scalar,
         role: CooperativeRole,
     },
-    /// A scalar that is only changed whole.
+    /// An atomic scalar.
     Atomic(Scalar),
     /// A pointer to a value of a type that is neither a scalar nor a vector.
     Pointer {
@@ -66,7 +66,7 @@ pub enum Form {
         arrayed: bool,
         class: ImageClass,
     },
-    /// What says how an image is sampled.
+    /// A sampler.
     Sampler {
         comparison: bool,
     },
@@ -74,7 +74,7 @@ pub enum Form {
     AccelerationStructure {
         vertex_return: bool,
     },
-    /// A ray that is being followed.
+    /// A ray query.
     RayQuery {
         vertex_return: bool,
     },

@@ -1,4 +1,4 @@
-//! How well a scalar is taken for another one.
+//! Conversion ranks of scalars.
 
 ghost use Rattle.std.specs.Prelude.{◌≡◌};
 ghost use Rattle.typing_forms.specs.judged.Ranks.{rank_in, float_ranks, integer_ranks, conversion, rank};

@@ -2,7 +2,7 @@
 use Rattle.std.proofs.Common.{◌≡◌, ◌≢◌, ◌==◌, ℕ, List, length, Bool, true, false, true≢false, if◌then◌else◌, Option, Some, None, refl, sym, ap, ◌∙◌, subst, slice_get}
 use Rattle.std.proofs.lemmas.Bool.{eq-eqb, eqb-true}
 use Rattle.ir_blocks.specs.judged.Plain.{PlainStatement, call}
-use Rattle.ir_blocks.specs.judged.Places.{OccursAt}
+use Rattle.ir_blocks.specs.judged.Places.{Place, OccursAt}
 use Rattle.ir_items.specs.judged.Plain.{PlainFunction, PlainModule}
 use Rattle.typing_references.proofs.FirstLaws.{none_at, place_found}
 use Rattle.typing_references.specs.First.{first_in}
@@ -24,9 +24,9 @@ counted_function : (o : Option PlainFunction) (seen : ℕ) → count_of o ≡ So
 counted_function None seen e = absurd (let x = e in cc)
 counted_function (Some g) seen e = (g, refl, (let x = e in cc))
 
-pub arities : (m : PlainModule) (f : PlainFunction) → first_in (arity_fault_of m) f.body ≡ None → AritiesMatch m f
-arities m f e p callee arguments result stands =
-    counted_function (slice_get m.functions callee) (length arguments) (none_counted callee (length arguments) (count_of (slice_get m.functions callee)) (none_at (arity_fault_of m) p f.body e (call callee arguments result) stands))
+pub arities : (m : PlainModule) (f : PlainFunction) → ((p : Place) (s : PlainStatement) → OccursAt f.body p s → arity_fault_of m s ≡ None) → AritiesMatch m f
+arities m f none p callee arguments result stands =
+    counted_function (slice_get m.functions callee) (length arguments) (none_counted callee (length arguments) (count_of (slice_get m.functions callee)) (none p (call callee arguments result) stands))
 
 -- ---- one is found
 
@@ -62,21 +62,28 @@ counted m (call function arguments answer) x e =
     }
 counted m _ x e = absurd (let y = e in cc)
 
-pub wrong_found : (m : PlainModule) (f : PlainFunction) (x : ArityFault) → first_in (arity_fault_of m) f.body ≡ Some x → PassesWrongCount m f x
-wrong_found m f x e =
-    let r = place_found (arity_fault_of m) f.body x e in
-    let c = counted m r.1 x r.3 in
+pub wrong_found : (m : PlainModule) (f : PlainFunction) (x : ArityFault) (p : Place) → (s : PlainStatement) × OccursAt f.body p s × (arity_fault_of m s ≡ Some x) → PassesWrongCount m f x p
+wrong_found m f x p found =
+    let c = counted m found.0 x found.2 in
     record {
-      place = r.0;
       arguments = c.arguments;
       answer = c.answer;
-      stands = subst (λ s. OccursAt f.body r.0 s) c.is r.2;
+      stands = subst (λ s. OccursAt f.body p s) c.is found.1;
       has = c.has;
       passed = c.passed;
       differs = c.differs;
     }
 
-pub wrong_refutes : (m : PlainModule) (f : PlainFunction) (x : ArityFault) → PassesWrongCount m f x → AritiesMatch m f → ⊥
-wrong_refutes m f x w ok =
-    let c = ok w.place x.function w.arguments w.answer w.stands in
+pub wrong_refutes : (m : PlainModule) (f : PlainFunction) (x : ArityFault) (p : Place) → PassesWrongCount m f x p → AritiesMatch m f → ⊥
+wrong_refutes m f x p w ok =
+    let c = ok p x.function w.arguments w.answer w.stands in
     w.differs (w.has ∙ ap count_of c.1 ∙ ap Some (sym c.2 ∙ sym w.passed))
+
+-- ---- by what is found first
+
+pub none_first : (m : PlainModule) (f : PlainFunction) → first_in (arity_fault_of m) f.body ≡ None → AritiesMatch m f
+none_first m f e = arities m f (λ p s stands. none_at (arity_fault_of m) p f.body e s stands)
+
+pub first_refutes : (m : PlainModule) (f : PlainFunction) (x : ArityFault) → first_in (arity_fault_of m) f.body ≡ Some x → AritiesMatch m f → ⊥
+first_refutes m f x e ok =
+    let found = place_found (arity_fault_of m) f.body x e in wrong_refutes m f x found.0 (wrong_found m f x found.0 (found.1, found.2, found.3)) ok

@@ -31,9 +31,8 @@ arity_fault_of m kill = None
 arity_fault_of m (operation a) = None
 arity_fault_of m (call function arguments result) = wrong_count function (length arguments) (count_of (slice_get m.functions function))
 
--- A call passes so many arguments to a function that is not there, or has another number.
-pub record PassesWrongCount (m : PlainModule) (f : PlainFunction) (x : ArityFault) : Type 0 where
-  pub place : Place
+-- The call at the place passes so many arguments to a function that is not there, or has another number.
+pub record PassesWrongCount (m : PlainModule) (f : PlainFunction) (x : ArityFault) (place : Place) : Type 0 where
   pub arguments : List ℕ
   pub answer : Option ℕ
   pub stands : OccursAt f.body place (call x.function arguments answer)

@@ -2,6 +2,7 @@
 
 ghost use Rattle.std.specs.Prelude.{◌≡◌, ◌↔◌, IsTrue, MatchOption, option_map, slice_get};
 ghost use Rattle.ir_items.specs.found.View.{function_view, module_view};
+ghost use Rattle.ir_places.specs.Paths.{IsPlaced};
 ghost use Rattle.typing_references.specs.First.{first_in};
 ghost use Rattle.spec_expressions.specs.judged.CallArities.{AritiesMatch};
 ghost use Rattle.typing_handles.specs.Tests.{arity_fault_of, count_of, wrong_count, PassesWrongCount};
@@ -9,7 +10,8 @@ ghost use Rattle.typing_handles.specs.Tests.{arity_fault_of, count_of, wrong_cou
 use ir_arena::handle::Handle;
 use ir_blocks::plain_operation;
 use ir_items::{Function, Module, Statement, key};
-use typing_references::{StatementLook, first_in};
+use ir_places::Trail;
+use typing_references::{StatementLook, first_in, placed_in};
 
 /// A call that passes another number of arguments than its function has.
 #[derive(Clone, Copy, PartialEq, Eq, Debug)]
@@ -110,13 +112,14 @@ fn first_fault(function: &Function, module: &Module) -> Option<ArityFault>
 }
 
 /// A call of a function that passes another number of arguments than the function that it names has, or names none that is
-/// there (the first in the order of the text, which no clause says); `None` where there is no such call.
-pub fn arity_fault(function: &Function, module: &Module) -> Option<ArityFault>
+/// there, where the trail leads (the first in the order of the text, which no clause says); `None` where there is no such call.
+pub fn arity_fault(trail: &mut Trail, function: &Function, module: &Module) -> Option<ArityFault>
     ensures { MatchOption result
         (AritiesMatch (module_view «module».now) (function_view function.now))
-        (PassesWrongCount (module_view «module».now) (function_view function.now)) }
+        (λ x. IsPlaced trail.new (PassesWrongCount (module_view «module».now) (function_view function.now) x)) }
 {
-    match first_fault(function, module) {
+    let arity = Arity { module };
+    match placed_in(trail, &arity, &function.body) {
         Some(fault) => Some(fault),
         None => None,
     }
@@ -126,7 +129,7 @@ pub fn arity_fault(function: &Function, module: &Module) -> Option<ArityFault>
 pub fn arities_match(function: &Function, module: &Module) -> bool
     ensures { IsTrue result ↔ AritiesMatch (module_view «module».now) (function_view function.now) }
 {
-    match arity_fault(function, module) {
+    match first_fault(function, module) {
         Some(_) => false,
         None => true,
     }

@@ -134,7 +134,7 @@ impl ModuleInfo {
         }
     }
 
-    /// Keeps what is known of the next function. The error is out of memory; the info is let go then, and nothing else changes.
+    /// Keeps what is known of the next function. The error is out of memory; the info is dropped then, and nothing else changes.
     pub fn push_function(&mut self, info: FunctionInfo) -> Result<(), AllocError>
         ensures added { OnOk result (self.new.functions.items ≡ self.old.functions.items ++ info ∷ []) }
         ensures kept { OnErr result (self.new.functions.items ≡ self.old.functions.items) }
@@ -144,7 +144,7 @@ impl ModuleInfo {
         Ok(())
     }
 
-    /// Keeps what is known of the function of the next entry point. The error is out of memory; the info is let go then, and
+    /// Keeps what is known of the function of the next entry point. The error is out of memory; the info is dropped then, and
     /// nothing else changes.
     pub fn push_entry_point(&mut self, info: FunctionInfo) -> Result<(), AllocError>
         ensures added { OnOk result (self.new.entry_points.items ≡ self.old.entry_points.items ++ info ∷ []) }

@@ -1,4 +1,3 @@
-pub mod EachLaws
 pub mod FirstLaws
 pub mod Entries
 pub mod FaultLaws

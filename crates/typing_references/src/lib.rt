@@ -1,10 +1,9 @@
-//! What expressions and statements name, found: items, operands, ranges and callees; the
-//! first of what is looked for in the statements of a body; whether each statement of a body meets a rule; and what is wrong with the handles of a function.
+//! The items, operands, ranges and callees that expressions and statements name; the first of what is looked for in the
+//! statements of a body; and what is wrong with the handles of a function.
 //! `spec_expressions` has what each kind names, and what is required of it.
 #![tactic(auto)]
 
 mod bounds;
-mod each;
 mod expressions;
 mod fault;
 mod forward;
@@ -16,7 +15,6 @@ mod statements;
 mod walk;
 
 pub use bounds::{Bounds, absent};
-pub use each::{StatementRule, check_each};
 pub use expressions::item_of;
 pub use fault::HandleFault;
 pub use forward::{forward_callee, forward_operand, forward_parent};

@@ -7,10 +7,9 @@ ghost use Rattle.ir_blocks.specs.judged.Plain.{PlainStatement};
 ghost use Rattle.ir_blocks.specs.found.View.{block_view};
 ghost use Rattle.ir_places.specs.Paths.{IsPlaced};
 
-use crate::each::{StatementRule, check_each};
 use crate::walk::StatementLook;
 use ir_items::{Block, Statement};
-use ir_places::Trail;
+use ir_places::{StatementRule, Trail, check_each};
 
 // That a statement has nothing of it.
 #[derive(Drop)]

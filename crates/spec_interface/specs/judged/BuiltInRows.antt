@@ -15,7 +15,7 @@ use Rattle.spec_interface.specs.declared.rows.BuiltInType.{BuiltInType}
 use Rattle.spec_interface.specs.declared.rows.BuiltInType.TheVariants.{Value, Distances}
 use Rattle.spec_interface.specs.declared.rows.Exception.{Exception}
 use Rattle.spec_interface.specs.declared.rows.Exception.TheVariants as exception
-use Rattle.spec_interface.specs.declared.rows.TheConstants.BuiltInRow.{NOWHERE, RASTER, HITS, ENDS, RAYS, INSTANCES, DRAWS, VIEWS, PRIMITIVES, SUBGROUPS}
+use Rattle.spec_interface.specs.declared.rows.TheConstants.BuiltInRow.{NONE, RASTER, HITS, HIT_OR_MISS, RAYS, INSTANCES, DRAWS, VIEWS, PRIMITIVES, SUBGROUPS}
 use Rattle.typing_forms.specs.declared.form.Form.TheVariants.{Scalar as scalar, Vector as vector, Matrix as matrix}
 
 -- ---- types
@@ -49,11 +49,11 @@ but e r = record r { exception = e }
 
 -- what is given by the stages before
 abbrev pub taken : ShaderStages → BuiltInType → BuiltInRow
-taken inputs type = row_with inputs NOWHERE false type
+taken inputs type = row_with inputs NONE false type
 
 -- what is given to the stages after
 abbrev pub gives : ShaderStages → BuiltInType → BuiltInRow
-gives outputs type = row_with NOWHERE outputs false type
+gives outputs type = row_with NONE outputs false type
 
 -- what is both, as all that rays know
 abbrev pub both : ShaderStages → BuiltInType → BuiltInRow
@@ -61,11 +61,11 @@ both stages type = row_with stages stages false type
 
 -- what a mesh shader gives with a primitive alone
 abbrev pub with_primitive : BuiltInType → BuiltInRow
-with_primitive type = by MESH_SHADER (row_with NOWHERE NOWHERE true type)
+with_primitive type = by MESH_SHADER (row_with NONE NONE true type)
 
 -- The four parts of what a mesh shader gives stand nowhere: it has them in a variable.
 abbrev pub built_in_row : BuiltIn → BuiltInRow
-built_in_row PrimitiveIndex = but exception.FreeAtHits (by PRIMITIVE_INDEX (row_with PRIMITIVES NOWHERE true uint))
+built_in_row PrimitiveIndex = but exception.FreeAtHits (by PRIMITIVE_INDEX (row_with PRIMITIVES NONE true uint))
 built_in_row (Position invariant) = row_with FRAGMENT RASTER false (float_vector Quad)
 built_in_row ViewIndex = by MULTIVIEW (taken VIEWS uint)
 built_in_row BaseInstance = taken VERTEX uint
@@ -97,20 +97,20 @@ built_in_row CullPrimitive = with_primitive truth
 built_in_row PointIndex = with_primitive uint
 built_in_row LineIndices = with_primitive (uint_vector Bi)
 built_in_row TriangleIndices = with_primitive (uint_vector Tri)
-built_in_row VertexCount = taken NOWHERE uint
-built_in_row Vertices = taken NOWHERE uint
-built_in_row PrimitiveCount = taken NOWHERE uint
-built_in_row Primitives = taken NOWHERE uint
+built_in_row VertexCount = taken NONE uint
+built_in_row Vertices = taken NONE uint
+built_in_row PrimitiveCount = taken NONE uint
+built_in_row Primitives = taken NONE uint
 built_in_row RayInvocationId = both RAYS (uint_vector Tri)
 built_in_row NumRayInvocations = both RAYS (uint_vector Tri)
 built_in_row InstanceCustomData = both HITS uint
 built_in_row GeometryIndex = both HITS uint
-built_in_row WorldRayOrigin = both ENDS (float_vector Tri)
-built_in_row WorldRayDirection = both ENDS (float_vector Tri)
+built_in_row WorldRayOrigin = both HIT_OR_MISS (float_vector Tri)
+built_in_row WorldRayDirection = both HIT_OR_MISS (float_vector Tri)
 built_in_row ObjectRayOrigin = both HITS (float_vector Tri)
 built_in_row ObjectRayDirection = both HITS (float_vector Tri)
-built_in_row RayTmin = both ENDS float
-built_in_row RayTCurrentMax = both ENDS float
+built_in_row RayTmin = both HIT_OR_MISS float
+built_in_row RayTCurrentMax = both HIT_OR_MISS float
 built_in_row ObjectToWorld = both HITS (Value (matrix Quad Tri (floating 4)))
 built_in_row WorldToObject = both HITS (Value (matrix Quad Tri (floating 4)))
 built_in_row HitKind = both HITS uint

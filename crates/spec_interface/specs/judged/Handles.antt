@@ -29,7 +29,7 @@ handle_capability o = elim o [ Some (plain (inner.Image dim arrayed class)) ↦ 
 
 -- ---- in binding arrays
 
--- what arrays of images of a class need; there are none of images from outside
+-- what arrays of images of a class need; there are none of external images
 abbrev pub class_array_capability : ImageClass → Option Capabilities
 class_array_capability (class.Sampled kind multi) = Some TEXTURE_AND_SAMPLER_BINDING_ARRAY
 class_array_capability (class.Depth multi) = Some TEXTURE_AND_SAMPLER_BINDING_ARRAY

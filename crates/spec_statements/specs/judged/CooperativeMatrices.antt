@@ -15,18 +15,18 @@ CooperativeLoadOK stride = stride ≡ form.Scalar (unsigned 4)
 
 -- a matrix of so many columns and rows for the sum of a product
 abbrev pub IsAddend : (columns rows : CooperativeSize) → Shape → Type 0
-IsAddend columns rows (shape.Shared more lines role) = (role ≡ C) × (more ≡ columns) × (lines ≡ rows)
+IsAddend columns rows (shape.CooperativeMatrix more lines role) = (role ≡ C) × (more ≡ columns) × (lines ≡ rows)
 IsAddend columns rows _ = ⊥
 
 -- a right factor for a left one of so many columns and rows, with what is added to the product
 abbrev pub IsRightFactor : (columns rows : CooperativeSize) → (right third : Shape) → Type 0
-IsRightFactor columns rows (shape.Shared more lines role) third = (role ≡ B) × (columns ≡ lines) × IsAddend more rows third
+IsRightFactor columns rows (shape.CooperativeMatrix more lines role) third = (role ≡ B) × (columns ≡ lines) × IsAddend more rows third
 IsRightFactor columns rows _ third = ⊥
 
 -- a left factor, a right factor and what is added: the left one's columns are the right one's rows, and the third has the
 -- rows of the left one and the columns of the right one
 abbrev pub AreFactors : (left right third : Shape) → Type 0
-AreFactors (shape.Shared columns rows role) right third = (role ≡ A) × IsRightFactor columns rows right third
+AreFactors (shape.CooperativeMatrix columns rows role) right third = (role ≡ A) × IsRightFactor columns rows right third
 AreFactors _ right third = ⊥
 
 -- the factors are of one scalar; that of what is added is free

@@ -1,4 +1,4 @@
--- What changes from fragment to fragment.
+-- Derivatives.
 use Rattle.typing_forms.specs.declared.form.Form.{Form}
 use Rattle.spec_statements.specs.judged.Shapes.{IsScalarOrVector, IsFloating, IsMadeOf}
 

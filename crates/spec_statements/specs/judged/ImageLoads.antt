@@ -11,8 +11,8 @@ use Rattle.ir_kinds.specs.declared.images.ImageDimension.{ImageDimension}
 use Rattle.ir_kinds.specs.declared.images.ImageDimension.TheVariants.{D1, D2, D3, Cube}
 use Rattle.typing_forms.specs.declared.form.Form.{Form}
 use Rattle.spec_statements.specs.judged.Scene.{form_among}
-use Rattle.spec_statements.specs.judged.Shapes.{shaped_of, IsInteger, IsIntegerScalar, ExactlyIf, coordinate_form, picture_of}
-use Rattle.spec_statements.specs.declared.shapes.Picture.{Picture}
+use Rattle.spec_statements.specs.judged.Shapes.{shaped_of, IsInteger, IsIntegerScalar, ExactlyIf, coordinate_form, image_type_of}
+use Rattle.spec_statements.specs.declared.shapes.ImageType.{ImageType}
 
 -- ---- loads
 
@@ -31,7 +31,7 @@ IsReadable External = Unit {0}
 IsReadable (Storage format access) = Has access.0 LOAD.0
 
 -- a texel, with its layer, its sample and its level each exactly where the image has several
-pub record IsTexelLoad (forms : List Form) (image : Picture) (texel : ℕ) (array_index of_texel of_image : Option ℕ) : Type 0 where
+pub record IsTexelLoad (forms : List Form) (image : ImageType) (texel : ℕ) (array_index of_texel of_image : Option ℕ) : Type 0 where
   pub coordinate : IsTexelCoordinate image.dim (form_among forms texel)
   pub layer : ExactlyIf image.arrayed array_index (λ layer. IsIntegerScalar (form_among forms layer))
   pub sample : ExactlyIf (is_multisampled image.class) of_texel (λ sample. IsIntegerScalar (form_among forms sample))
@@ -40,12 +40,12 @@ pub record IsTexelLoad (forms : List Form) (image : Picture) (texel : ℕ) (arra
 
 abbrev pub ImageLoadOK : (forms : List Form) → (image : Form) → (coordinate : ℕ) → (array_index sample level : Option ℕ) → Type 0
 ImageLoadOK forms image coordinate array_index sample level =
-    IsSomeAnd (picture_of image) (λ picture. IsTexelLoad forms picture coordinate array_index sample level)
+    IsSomeAnd (image_type_of image) (λ image_type. IsTexelLoad forms image_type coordinate array_index sample level)
 
 -- ---- queries
 
 -- the size at a level, and how many levels there are, where there are several; how many layers; how many samples
-abbrev pub IsAnswered : (forms : List Form) → ImageQuery → Picture → Type 0
+abbrev pub IsAnswered : (forms : List Form) → ImageQuery → ImageType → Type 0
 IsAnswered forms (Size None) image = Unit {0}
 IsAnswered forms (Size (Some level)) image = (is_mipmapped image.class ≡ true) × IsIntegerScalar (form_among forms level)
 IsAnswered forms NumLevels image = is_mipmapped image.class ≡ true
@@ -53,4 +53,4 @@ IsAnswered forms NumLayers image = image.arrayed ≡ true
 IsAnswered forms NumSamples image = is_multisampled image.class ≡ true
 
 abbrev pub ImageQueryOK : (forms : List Form) → (image : Form) → ImageQuery → Type 0
-ImageQueryOK forms image query = IsSomeAnd (picture_of image) (IsAnswered forms query)
+ImageQueryOK forms image query = IsSomeAnd (image_type_of image) (IsAnswered forms query)

@@ -17,8 +17,8 @@ use Rattle.typing_forms.specs.declared.form.Form.TheVariants as form
 use Rattle.typing_layout.specs.judged.Constness.{IsOfKind}
 use Rattle.typing_layout.specs.declared.constness.ExpressionKind.TheVariants.{Const}
 use Rattle.spec_statements.specs.judged.Scene.{form_among}
-use Rattle.spec_statements.specs.judged.Shapes.{IsIntegerScalar, ExactlyIf, coordinate_form, picture_of, sampler_of}
-use Rattle.spec_statements.specs.declared.shapes.Picture.{Picture}
+use Rattle.spec_statements.specs.judged.Shapes.{IsIntegerScalar, ExactlyIf, coordinate_form, image_type_of, sampler_of}
+use Rattle.spec_statements.specs.declared.shapes.ImageType.{ImageType}
 use Rattle.spec_statements.specs.declared.shapes.Sampling.{Sampling}
 
 -- a 32-bit float
@@ -38,7 +38,7 @@ abbrev pub HasNeighbours : ImageDimension → Type 0
 HasNeighbours dim = elim dim [ D2 ↦ Unit {0} | Cube ↦ Unit {0} | _ ↦ ⊥ ]
 
 -- four texels of the finest level; of depths their one component
-pub record IsGathered (image : Picture) (level : SampleLevel) (letter : SwizzleComponent) : Type 0 where
+pub record IsGathered (image : ImageType) (level : SampleLevel) (letter : SwizzleComponent) : Type 0 where
   pub neighbours : HasNeighbours image.dim
   pub finest : level ≡ Zero
   pub component : is_depth image.class ≡ true → letter ≡ X
@@ -49,7 +49,7 @@ pub record IsOffset (expressions : List PlainExpression) (forms : List Form) (di
   pub texels : form_among forms offset ≡ coordinate_form dim (signed 4)
   pub flat : dim ≢ Cube
 
--- a level is a float, of depths also an integer; slopes are as the coordinate
+-- a level is a float, of depth images also an integer; gradients have the type of the coordinate
 abbrev pub IsLevel : (forms : List Form) → ImageClass → (coordinate : Form) → SampleLevel → Type 0
 IsLevel forms class coordinate Auto = Unit {0}
 IsLevel forms class coordinate Zero = Unit {0}
@@ -58,18 +58,18 @@ IsLevel forms class coordinate (Bias bias) = IsFloat32 (form_among forms bias)
 IsLevel forms class coordinate (Gradient right below) = (form_among forms right ≡ coordinate) × (form_among forms below ≡ coordinate)
 
 -- of floats, in a flat image without layers
-abbrev pub IsClamped : Picture → Type 0
+abbrev pub IsClamped : ImageType → Type 0
 IsClamped image = (image.dim ≡ D2) × (image.arrayed ≡ false) × ((multi : Bool) × (image.class ≡ Sampled Float multi))
 
--- images from outside are always clamped, others where they may be
-abbrev pub ClampOK : Picture → (clamp_to_edge : Bool) → Type 0
+-- external images are always clamped, others where they may be
+abbrev pub ClampOK : ImageType → (clamp_to_edge : Bool) → Type 0
 ClampOK image clamp_to_edge = elim clamp_to_edge [ true ↦ (image.class ≡ External) ⊎ IsClamped image | false ↦ image.class ≢ External ]
 
--- images from outside are sampled at the finest level as they are
+-- external images are sampled at level zero, without gather or offset
 abbrev pub ExternalOK : ImageClass → (gather : Option SwizzleComponent) → (offset : Option ℕ) → SampleLevel → Type 0
 ExternalOK class gather offset level = class ≡ External → (level ≡ Zero) × (gather ≡ None) × (offset ≡ None)
 
-pub record IsSampled (expressions : List PlainExpression) (forms : List Form) (image : Picture) (by : Sampling) : Type 0 where
+pub record IsSampled (expressions : List PlainExpression) (forms : List Form) (image : ImageType) (by : Sampling) : Type 0 where
   -- a sampler compares exactly where there is something to compare with: a float, and depths
   pub sampler : IsSomeAnd (sampler_of (form_among forms by.sampler)) (λ comparison. comparison ≡ is_some by.depth_ref)
   pub compared : IfSome by.depth_ref (λ reference. IsFloat32 (form_among forms reference) × (is_depth image.class ≡ true))
@@ -86,4 +86,4 @@ pub record IsSampled (expressions : List PlainExpression) (forms : List Form) (i
   pub outside : ExternalOK image.class by.gather by.offset by.level
 
 abbrev pub ImageSampleOK : (expressions : List PlainExpression) → (forms : List Form) → (image : Form) → Sampling → Type 0
-ImageSampleOK expressions forms image by = IsSomeAnd (picture_of image) (λ picture. IsSampled expressions forms picture by)
+ImageSampleOK expressions forms image by = IsSomeAnd (image_type_of image) (λ image_type. IsSampled expressions forms image_type by)

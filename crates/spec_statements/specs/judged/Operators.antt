@@ -39,10 +39,10 @@ IsIntegerOrBool _ = ⊥
 
 -- numbers alone and in a row, and any matrix
 abbrev pub IsAdded : Shape → ScalarKind → Type 0
-IsAdded shape.One k = IsNumeric k
-IsAdded (shape.Row n) k = IsNumeric k
-IsAdded (shape.Grid columns rows) k = Unit {0}
-IsAdded (shape.Shared columns rows role) k = Unit {0}
+IsAdded shape.Scalar k = IsNumeric k
+IsAdded (shape.Vector n) k = IsNumeric k
+IsAdded (shape.Matrix columns rows) k = Unit {0}
+IsAdded (shape.CooperativeMatrix columns rows role) k = Unit {0}
 
 abbrev pub SumOK : (left right : Form) → Type 0
 SumOK left right = (left ≡ right) × IsSomeAnd (shaped_of left) (λ x. IsAdded x.shape x.scalar.kind)
@@ -50,14 +50,14 @@ SumOK left right = (left ≡ right) × IsSomeAnd (shaped_of left) (λ x. IsAdded
 -- A scalar scales anything. Rows are as long as each other; the rows and the columns of a matrix are multiplied with as long
 -- a row; and of two matrices the left one has as many columns as the right one has rows.
 abbrev pub AreMultiplied : (left right : Shape) → Type 0
-AreMultiplied shape.One right = Unit {0}
-AreMultiplied (shape.Row n) shape.One = Unit {0}
-AreMultiplied (shape.Row n) (shape.Row m) = n ≡ m
-AreMultiplied (shape.Row n) (shape.Grid columns rows) = n ≡ rows
-AreMultiplied (shape.Grid columns rows) shape.One = Unit {0}
-AreMultiplied (shape.Grid columns rows) (shape.Row n) = columns ≡ n
-AreMultiplied (shape.Grid columns rows) (shape.Grid more lines) = columns ≡ lines
-AreMultiplied (shape.Shared columns rows role) shape.One = Unit {0}
+AreMultiplied shape.Scalar right = Unit {0}
+AreMultiplied (shape.Vector n) shape.Scalar = Unit {0}
+AreMultiplied (shape.Vector n) (shape.Vector m) = n ≡ m
+AreMultiplied (shape.Vector n) (shape.Matrix columns rows) = n ≡ rows
+AreMultiplied (shape.Matrix columns rows) shape.Scalar = Unit {0}
+AreMultiplied (shape.Matrix columns rows) (shape.Vector n) = columns ≡ n
+AreMultiplied (shape.Matrix columns rows) (shape.Matrix more lines) = columns ≡ lines
+AreMultiplied (shape.CooperativeMatrix columns rows role) shape.Scalar = Unit {0}
 AreMultiplied _ _ = ⊥
 
 -- of one scalar, in shapes that are multiplied

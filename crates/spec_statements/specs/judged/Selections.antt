@@ -9,8 +9,8 @@ use Rattle.spec_statements.specs.declared.shapes.Shape.TheVariants as shape
 
 -- one truth value for the whole, or one for each of as many components
 abbrev pub ChoosesFrom : (condition value : Shape) → Type 0
-ChoosesFrom shape.One value = Unit {0}
-ChoosesFrom (shape.Row n) (shape.Row m) = n ≡ m
+ChoosesFrom shape.Scalar value = Unit {0}
+ChoosesFrom (shape.Vector n) (shape.Vector m) = n ≡ m
 ChoosesFrom _ _ = ⊥
 
 abbrev pub IsCondition : (condition : Form) → (value : Shape) → Type 0

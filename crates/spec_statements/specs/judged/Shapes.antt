@@ -10,7 +10,7 @@ use Rattle.ir_types.specs.judged.Plain.{PlainInner, PlainType}
 use Rattle.typing_forms.specs.declared.form.Form.{Form}
 use Rattle.typing_forms.specs.declared.form.Form.TheVariants as form
 use Rattle.typing_forms.specs.judged.Resolutions.{inner_at}
-use Rattle.spec_statements.specs.declared.shapes.Picture.{Picture}
+use Rattle.spec_statements.specs.declared.shapes.ImageType.{ImageType}
 use Rattle.spec_statements.specs.declared.shapes.Shape.{Shape}
 use Rattle.spec_statements.specs.declared.shapes.Shape.TheVariants as shape
 use Rattle.spec_statements.specs.declared.shapes.Shaped.{Shaped}
@@ -41,30 +41,30 @@ IsNumeric kind.AbstractFloat = Unit {0}
 -- ---- shapes
 
 abbrev pub IsScalarShape : Shape → Type 0
-IsScalarShape s = elim s [ shape.One ↦ Unit {0} | _ ↦ ⊥ ]
+IsScalarShape s = elim s [ shape.Scalar ↦ Unit {0} | _ ↦ ⊥ ]
 
 abbrev pub IsVectorShape : Shape → Type 0
-IsVectorShape s = elim s [ shape.Row n ↦ Unit {0} | _ ↦ ⊥ ]
+IsVectorShape s = elim s [ shape.Vector n ↦ Unit {0} | _ ↦ ⊥ ]
 
 -- that of a value: one scalar, or a vector
 abbrev pub IsScalarOrVector : Shape → Type 0
-IsScalarOrVector s = elim s [ shape.One ↦ Unit {0} | shape.Row n ↦ Unit {0} | _ ↦ ⊥ ]
+IsScalarOrVector s = elim s [ shape.Scalar ↦ Unit {0} | shape.Vector n ↦ Unit {0} | _ ↦ ⊥ ]
 
 -- ---- what is made of scalars
 
 -- a scalar, a vector, or a matrix of either kind
 abbrev pub shaped_of : Form → Option Shaped
-shaped_of (form.Scalar s) = Some (record { shape = shape.One; scalar = s })
-shaped_of (form.Vector n s) = Some (record { shape = shape.Row n; scalar = s })
-shaped_of (form.Matrix columns rows s) = Some (record { shape = shape.Grid columns rows; scalar = s })
-shaped_of (form.CooperativeMatrix columns rows s role) = Some (record { shape = shape.Shared columns rows role; scalar = s })
+shaped_of (form.Scalar s) = Some (record { shape = shape.Scalar; scalar = s })
+shaped_of (form.Vector n s) = Some (record { shape = shape.Vector n; scalar = s })
+shaped_of (form.Matrix columns rows s) = Some (record { shape = shape.Matrix columns rows; scalar = s })
+shaped_of (form.CooperativeMatrix columns rows s role) = Some (record { shape = shape.CooperativeMatrix columns rows role; scalar = s })
 shaped_of _ = None
 
 abbrev pub form_of_shape : Shape → Scalar → Form
-form_of_shape shape.One s = form.Scalar s
-form_of_shape (shape.Row n) s = form.Vector n s
-form_of_shape (shape.Grid columns rows) s = form.Matrix columns rows s
-form_of_shape (shape.Shared columns rows role) s = form.CooperativeMatrix columns rows s role
+form_of_shape shape.Scalar s = form.Scalar s
+form_of_shape (shape.Vector n) s = form.Vector n s
+form_of_shape (shape.Matrix columns rows) s = form.Matrix columns rows s
+form_of_shape (shape.CooperativeMatrix columns rows role) s = form.CooperativeMatrix columns rows s role
 
 -- made of scalars of such a kind, in such a shape
 abbrev pub IsMadeOf : (Shape → Type 0) → (ScalarKind → Type 0) → Form → Type 0
@@ -78,8 +78,8 @@ IsIntegerScalar = IsMadeOf IsScalarShape IsInteger
 
 -- ---- images, and what a pointer leads to
 
-abbrev pub picture_of : Form → Option Picture
-picture_of t = elim t [ form.Image dim arrayed class ↦ Some (record { dim = dim; arrayed = arrayed; class = class }) | _ ↦ None ]
+abbrev pub image_type_of : Form → Option ImageType
+image_type_of t = elim t [ form.Image dim arrayed class ↦ Some (record { dim = dim; arrayed = arrayed; class = class }) | _ ↦ None ]
 
 -- whether a sampler compares
 abbrev pub sampler_of : Form → Option Bool

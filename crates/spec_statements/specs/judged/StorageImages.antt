@@ -20,8 +20,8 @@ use Rattle.typing_forms.specs.judged.Forms.{form_of_type}
 use Rattle.typing_forms.specs.declared.form.Form.{Form}
 use Rattle.typing_forms.specs.declared.form.Form.TheVariants as form
 use Rattle.spec_statements.specs.judged.ImageLoads.{IsTexelCoordinate}
-use Rattle.spec_statements.specs.judged.Shapes.{ExactlyIf, IsIntegerScalar, picture_of}
-use Rattle.spec_statements.specs.declared.shapes.Picture.{Picture}
+use Rattle.spec_statements.specs.judged.Shapes.{ExactlyIf, IsIntegerScalar, image_type_of}
+use Rattle.spec_statements.specs.declared.shapes.ImageType.{ImageType}
 use Rattle.spec_statements.specs.judged.BlockContext.{BlockContext, form_at}
 use Rattle.spec_statements.specs.judged.Variables.{variable_at, accessed_at}
 
@@ -32,23 +32,23 @@ abbrev pub resource_of : Form → Option ℕ
 resource_of t = elim t [ form.BindingArray base size ↦ Some base | _ ↦ None ]
 
 -- texels are written in a global variable that is an image, or in one of an array of images
-abbrev pub written_image : PlainModule → PlainFunction → (image : ℕ) → Option Picture
-written_image m f image = option_or (option_and_then (λ g. picture_of (form_of_type m.types g.ty)) (variable_at m f image))
-    (option_and_then (λ g. option_and_then (λ r. picture_of (form_of_type m.types r)) (resource_of (form_of_type m.types g.ty))) (accessed_at m f image))
+abbrev pub written_image : PlainModule → PlainFunction → (image : ℕ) → Option ImageType
+written_image m f image = option_or (option_and_then (λ g. image_type_of (form_of_type m.types g.ty)) (variable_at m f image))
+    (option_and_then (λ g. option_and_then (λ r. image_type_of (form_of_type m.types r)) (resource_of (form_of_type m.types g.ty))) (accessed_at m f image))
 
 -- an array of images counts as one of them
-abbrev pub picture_in : List PlainType → Form → Option ℕ → Option Picture
-picture_in types t o = elim o [ Some resource ↦ picture_of (form_of_type types resource) | None ↦ picture_of t ]
+abbrev pub image_type_in : List PlainType → Form → Option ℕ → Option ImageType
+image_type_in types t o = elim o [ Some resource ↦ image_type_of (form_of_type types resource) | None ↦ image_type_of t ]
 
 -- texels are changed atomically in a global variable, or in an element of one, which are images or arrays of them
-abbrev pub changed_image : PlainModule → PlainFunction → (image : ℕ) → Option Picture
-changed_image m f image = option_and_then (λ g. picture_in m.types (form_of_type m.types g.ty) (resource_of (form_of_type m.types g.ty)))
+abbrev pub changed_image : PlainModule → PlainFunction → (image : ℕ) → Option ImageType
+changed_image m f image = option_and_then (λ g. image_type_in m.types (form_of_type m.types g.ty) (resource_of (form_of_type m.types g.ty)))
     (option_or (variable_at m f image) (accessed_at m f image))
 
 -- ---- the texel
 
 -- A texel of the image: its coordinate, and its layer exactly where there are several.
-pub record IsTexelOf (c : BlockContext) (image : Picture) (coordinate : ℕ) (array_index : Option ℕ) : Type 0 where
+pub record IsTexelOf (c : BlockContext) (image : ImageType) (coordinate : ℕ) (array_index : Option ℕ) : Type 0 where
   pub flat : IsTexelCoordinate image.dim (form_at c coordinate)
   pub layer : ExactlyIf image.arrayed array_index (λ layer. IsIntegerScalar (form_at c layer))
 
@@ -58,7 +58,7 @@ IsWritten o value = elim o [ class.Storage format access ↦ value ≡ form.Vect
 
 abbrev pub ImageStoreOK : BlockContext → (image coordinate : ℕ) → (array_index : Option ℕ) → (value : ℕ) → Type 0
 ImageStoreOK c image coordinate array_index value =
-    IsSomeAnd (written_image c.m c.f image) (λ picture. IsTexelOf c picture coordinate array_index × IsWritten picture.class (form_at c value))
+    IsSomeAnd (written_image c.m c.f image) (λ image_type. IsTexelOf c image_type coordinate array_index × IsWritten image_type.class (form_at c value))
 
 -- ---- what is done with it
 
@@ -92,4 +92,4 @@ IsChanged capabilities o done value = elim o [ class.Storage format access ↦ I
 
 abbrev pub ImageAtomicOK : BlockContext → (image coordinate : ℕ) → (array_index : Option ℕ) → AtomicFunction → (value : ℕ) → Type 0
 ImageAtomicOK c image coordinate array_index done value = IsSomeAnd (changed_image c.m c.f image)
-    (λ picture. IsTexelOf c picture coordinate array_index × IsChanged c.capabilities picture.class done (form_at c value))
+    (λ image_type. IsTexelOf c image_type coordinate array_index × IsChanged c.capabilities image_type.class done (form_at c value))

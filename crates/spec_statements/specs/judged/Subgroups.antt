@@ -57,7 +57,7 @@ AnswersAs c argument result = IsSomeAnd (option_and_then answered_type (slice_ge
 
 -- ---- ballots
 
--- a ballot is by a truth value, or by who is there
+-- the predicate of a ballot is bool or absent
 pub record BallotOK (c : BlockContext) (predicate : Option ℕ) : Type 0 where
   pub operation : HasOperation c BALLOT
   pub truth : IfSome predicate (λ e. form_at c e ≡ form.Scalar boolean)

@@ -9,7 +9,7 @@ use Rattle.spec_statements.specs.declared.shapes.Shape.{Shape}
 use Rattle.spec_statements.specs.declared.shapes.Shape.TheVariants as shape
 
 abbrev pub row_size : Shape → Option VectorSize
-row_size s = elim s [ shape.Row n ↦ Some n | _ ↦ None ]
+row_size s = elim s [ shape.Vector n ↦ Some n | _ ↦ None ]
 
 -- of the pattern as many letters count as the size says, and each is that of a component
 abbrev pub AreComponents : (size : VectorSize) → (pattern : List SwizzleComponent) → (of : VectorSize) → Type 0

@@ -1,4 +1,4 @@
--- How well a scalar is taken for another one: the lower the rank, the better.
+-- Conversion ranks of scalars: the lower the rank, the better the conversion.
 use Rattle.std.specs.Prelude.{ℕ, List, [], ◌∷◌, Option, Some, None, if◌then◌else◌}
 use Rattle.ir_kinds.specs.declared.scalars.Scalar.{Scalar}
 use Rattle.ir_kinds.specs.judged.Scalars.{signed, unsigned, floating, abstract_int, abstract_float, same_scalar}

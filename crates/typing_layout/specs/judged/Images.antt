@@ -9,7 +9,7 @@ use Rattle.ir_kinds.specs.declared.images.ImageClass.TheVariants.{External}
 use Rattle.ir_kinds.specs.declared.images.ImageDimension.{ImageDimension}
 use Rattle.ir_kinds.specs.declared.images.ImageDimension.TheVariants.{D2, D3, Cube}
 
--- cubes in layers have a capability; what has three dimensions has no layers and no depths; images from outside have a
+-- cube arrays require a capability; three-dimensional images have no layers and no depth class; external images require a
 -- capability, two dimensions and no layers
 pub record ImageOK (capabilities : Capabilities) (dim : ImageDimension) (arrayed : Bool) (class : ImageClass) : Type 0 where
   pub cube : dim ≡ Cube → arrayed ≡ true → Has capabilities.0 CUBE_ARRAY_TEXTURES.0

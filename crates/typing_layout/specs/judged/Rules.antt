@@ -39,7 +39,7 @@ CountIsResolved resolved o = elim o [ count.Constant n ↦ Unit {0} | count.Pend
 abbrev pub ArrayOK : (resolved : Bool) → (base : Tree) → ArraySize → Type 0
 ArrayOK resolved base n = HasFlag Data base × HasFlag Sized base × CountIsResolved resolved n
 
--- what stands in binding arrays: no image from outside
+-- the elements of binding arrays: no external image
 abbrev pub IsBindingArrayBase : Tree → Type 0
 IsBindingArrayBase (struct ms span) = Unit {0}
 IsBindingArrayBase (image dim arrayed (class.Sampled kind multi)) = Unit {0}

@@ -1,7 +1,11 @@
-use Rattle.std.proofs.Common.{true≢false, sym, ◌∙◌}
+use Rattle.std.proofs.Common.{rules, Err, IfErr, true≢false, ◌≡◌, sym, subst, ◌∙◌}
 use Rattle.ir_items.specs.found.View.{function_view}
-use Rattle.function_body_checks.proofs.FaultLaws.{reported_in_body, scope_fine, each_once, is_asked, all_answers, if_fault_then}
-use Rattle.function_body_checks.specs.Faults.{IsScopeFault}
+use Rattle.ir_places.proofs.TrailLaws.{placed, placed_then}
+use Rattle.ir_places.specs.Paths.{IsPlaced}
+use Rattle.ir_types.specs.declared.refusal.Refusal.TheVariants as refusal
+use Rattle.function_body_checks.proofs.FaultLaws.{reported_in_body, scope_fine, each_once, is_asked, all_answers}
+use Rattle.function_body_checks.specs.Carried.{IfFault}
+use Rattle.function_body_checks.specs.Faults.{IsScopeFaultAt, IsScopeRefusalAt}
 use Rattle.function_body_checks.proofs.scope_function.check_scope.Goals as goal
 
 pub returns-in-Ok-clause-scope : goal.returns-in-Ok-clause-scope
@@ -23,7 +27,19 @@ returns-in-Ok-clause-answered c =
 pub returns-clause-fault : goal.returns-clause-fault
 returns-clause-fault c =
     let f = function_view c.args.function.now in
-    c.refused.ensures c.args.flags f
-    (if_fault_then c.in-Err.error _ (IsScopeFault c.args.flags f)
-    (λ e. reported_in_body c.args.flags f c.requires_results-asked.result (λ is has. true≢false (sym (c.requires_results-asked.ensures.1 has) ∙ is)) e _ _ c.in_ok-carried.ensures.scope c.in_ok-carried.ensures.answered)
-    c.in-Err.ensures.fault)
+    let t = c.check_block.new.trail in
+    placed_then t (λ p. IfFault c.in-Err.error (λ e. IsScopeFaultAt c.args.flags f e p)) (IsScopeRefusalAt c.args.flags f c.refused.result) (c.refused.ensures c.args.flags f)
+    (reported_in_body c.args.flags f c.requires_results-asked.result (λ is has. true≢false (sym (c.requires_results-asked.ensures.1 has) ∙ is)) t c.in-Err.error _ _
+    c.in_ok-carried.ensures.scope c.in_ok-carried.ensures.answered c.in-Err.ensures.fault)
+
+pub returns-in_err-always-clause-fault : goal.returns-in_err-always-clause-fault
+returns-in_err-always-clause-fault c =
+    let f = function_view c.args.function.now in
+    let same : c.from_residual.result ≡ Err (refusal.Memory c.in_err-always.field-0.0) = search rules in
+    subst (λ x. IfErr x (λ r. IsPlaced c.args.trail.now (IsScopeRefusalAt c.args.flags f r))) (sym same) (placed c.args.trail.now (λ p. Unit {0}) tt)
+
+pub returns-in_err-carried-clause-fault : goal.returns-in_err-carried-clause-fault
+returns-in_err-carried-clause-fault c =
+    let f = function_view c.args.function.now in
+    let same : c.from_residual-in_err-carried.result ≡ Err (refusal.Memory c.in_err-carried.field-0.0) = search rules in
+    subst (λ x. IfErr x (λ r. IsPlaced c.args.trail.now (IsScopeRefusalAt c.args.flags f r))) (sym same) (placed c.args.trail.now (λ p. Unit {0}) tt)

@@ -29,7 +29,7 @@ returns-in-Ok-false-clause-apart c =
     let e = entry_view c.index.result.now in
     let at = item_there entry_view m.entry_points.items c.args.index c.requires.within c.index.result.now c.index.ensures in (
       conflict (module_view m) c.args.index c.args.names.now c.requires.before e at (held_if _ (λ unseen. true≢false (sym (c.in-Ok-false.ensures.fresh.1 unseen) ∙ c.in-Ok-false.field-0-test))),
-      ap (λ (x : InvalidEntryPoint). x.index) c.new.ensures.error,
-      ap (λ (x : InvalidEntryPoint). x.error) c.new.ensures.error,
-      c.new.ensures.spans,
+      ap (λ (x : InvalidEntryPoint). x.index) c.new-in-Ok-false.ensures.error,
+      ap (λ (x : InvalidEntryPoint). x.error) c.new-in-Ok-false.ensures.error,
+      c.new-in-Ok-false.ensures.spans,
     )

@@ -61,4 +61,4 @@ returns-in-Err-clause-judged g c =
     let summary = g.L.Lower.summary v.lower in
     let at = item_there entry_view m.entry_points.items c.args.index c.requires.within c.index.result.now c.index.ensures in
     reported_entry (module_view m) c.requires.handles c.args.index (entry_view c.index.result.now) at (g.L.Lower.reading v.lower) (g.L.Lower.faults v.lower) v.settings (map summary c.args.callees.now)
-    (map (g.L.Lower.noted v.lower) c.args.callees.now) (map summary c.args.kept.now) (map (note_of (g.L.Lower.noted v.lower) (g.L.Lower.blending v.lower)) c.args.kept.now) c.args.held c.requires.before.judged c.in-Err.refusal c.refusal_at.result c.refusal_at.ensures c.in-Err.ensures.judged
+    (map (g.L.Lower.noted v.lower) c.args.callees.now) (map summary c.args.kept.now) (map (note_of (g.L.Lower.noted v.lower) (g.L.Lower.blending v.lower)) c.args.kept.now) c.args.held c.requires.before.judged c.validate_entry_point_with.new.trail c.in-Err.refusal c.refusal_at.result c.refusal_at.ensures c.in-Err.ensures.judged c.in-Err.ensures.placed

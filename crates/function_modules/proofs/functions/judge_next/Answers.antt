@@ -42,4 +42,4 @@ returns-in-Err g c =
     let s = v.settings in
     let at = view_there m.functions c.args.handle c.index.result.now c.index.ensures function_view in
     reported_refusal (module_view m) c.requires.handles (g.L.Lower.reading v.lower) s c.args.handle (map (g.L.Lower.summary v.lower) c.args.infos.now) (map (g.L.Lower.noted v.lower) c.args.infos.now) c.args.held c.requires.before.judged (function_view c.index.result.now) at
-    (g.L.Lower.faults v.lower) c.in-Err.refusal c.refusal_at.result c.refusal_at.ensures c.in-Err.ensures.refused c.in-Err.ensures.fault
+    (g.L.Lower.faults v.lower) c.validate_function_with.new.trail c.in-Err.refusal c.refusal_at.result c.refusal_at.ensures c.in-Err.ensures.refused c.in-Err.ensures.placed

@@ -1,10 +1,6 @@
-use Rattle.std.proofs.Common.{ap, ◌∙◌}
-use Rattle.typing_references.specs.First.{first_in}
+use Rattle.ir_blocks.specs.found.View.{block_view}
 use Rattle.function_statements.proofs.PayloadLemmas.{other_told}
-use Rattle.function_statements.specs.Payloads.{payload_type, unlike}
 use Rattle.function_statements.proofs.payloads.other_payload.Goals as goal
 
 pub returns : goal.returns
-returns g c =
-    let x = g.C.StatementContext.seen c.args.context.now in
-    other_told x c.args.held c.first_in.result (c.first_in.ensures ∙ ap (first_in (λ s. unlike c.args.held (payload_type x s))) c.body.ensures)
+returns g c = other_told c.placed_in.new.trail (g.C.StatementContext.seen c.args.context.now) c.args.held (block_view c.body.result.now) c.placed_in.result c.body.ensures c.placed_in.ensures

@@ -6,13 +6,13 @@ use Rattle.function_strict_scope.specs.Live.{Follows}
 use Rattle.function_strict_scope.proofs.walk.+walk.Given as goal
 
 -- the rest leads to the whole
-abbrev pub invariant-check_block-loop-statement : goal.invariant-check_block-loop-statement
-invariant-check_block-loop-statement l =
-    Leads (function_view l.function) l.fn.sure (statements_view l.statement-items) l.sure l.left (statements_view (drop l.statement-index l.statement-items))
+abbrev pub invariant-check_block-loop-index : goal.invariant-check_block-loop-index
+invariant-check_block-loop-index l =
+    Leads (function_view l.function) l.fn.sure (statements_view l.statement-items) l.index l.sure l.left (statements_view (drop l.index l.statement-items))
     × Follows (function_view l.function) l.live l.sure
 
-abbrev pub invariant-check_cases-loop-case : goal.invariant-check_cases-loop-case
-invariant-check_cases-loop-case l =
+abbrev pub invariant-check_cases-loop-number : goal.invariant-check_cases-loop-number
+invariant-check_cases-loop-number l =
     (l.sure ≡ l.fn.sure)
-    × LeadsCases (function_view l.function) l.fn.sure (cases_of (map case_view l.cases)) l.continues (cases_of (map case_view (drop l.case-index l.cases)))
+    × LeadsCases (function_view l.function) l.fn.sure (cases_of (map case_view l.cases)) l.number l.continues (cases_of (map case_view (drop l.number l.cases)))
     × Follows (function_view l.function) l.live l.sure

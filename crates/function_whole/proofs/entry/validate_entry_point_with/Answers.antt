@@ -1,6 +1,8 @@
 use Rattle.std.proofs.Common.{◌∙◌, map, sym, subst, true≢false}
-use Rattle.function_whole.proofs.EntryWhole.{by_stage, by_function, by_payload, by_runs, by_connections, connected, entry_summary, noted_still, refused_as, runs}
-use Rattle.function_whole.specs.EntryFaults.{IsRefusedAs, IsUnconnected}
+use Rattle.function_whole.proofs.EntryWhole.{anywhere, connections_at, function_at, runs_at, by_stage, by_function, by_payload, by_runs, by_connections, connected, entry_summary, noted_still, refused_as, runs}
+use Rattle.function_whole.specs.EntryFaults.{IsRefusedAs, IsUnconnected, of_payload, of_stage}
+use Rattle.function_entry_checks.specs.declared.error.EntryPointError.TheVariants.{ForbiddenStageOperations}
+use Rattle.ir_places.specs.Paths.{place_of}
 use Rattle.function_interface.specs.Question.{question}
 use Rattle.ir_items.specs.found.View.{entry_view, module_view}
 use Rattle.spec_expressions.specs.judged.CallChains.{HasUse}
@@ -113,3 +115,74 @@ returns-in-Err-connect-clause-judged g c =
 pub returns-in-Ok-connect-clause-own : goal.returns-in-Ok-connect-clause-own
 returns-in-Ok-connect-clause-own g c =
     c.in-Ok-connect.ensures.own (module_view c.args.«module».now) (entry_view c.args.entry.now).function c.in-Ok-validate_function_with.ensures.own
+
+-- ---- where it stands
+
+pub returns-in-Err-clause-placed : goal.returns-in-Err-clause-placed
+returns-in-Err-clause-placed g c =
+    let l = c.args.lower.now in
+    let m = module_view c.args.«module».now in
+    let e = entry_view c.args.entry.now in
+    let stages = map (g.L.Lower.noted l) c.args.callees.now in
+    let q = question m e.function (map (g.L.Lower.summary l) c.args.callees.now) stages in
+    let s = c.args.settings in
+    let held = c.args.held in
+    let R = g.L.Lower.reading l q in
+    let F = g.L.Lower.faults l q in
+    anywhere R F stages s held m e c.args.trail.now c.new.result c.in-Err.error c.new.ensures.error (of_stage c.in-Err.ensures)
+
+pub returns-in-Err-validate_function_with-clause-placed : goal.returns-in-Err-validate_function_with-clause-placed
+returns-in-Err-validate_function_with-clause-placed g c =
+    let l = c.args.lower.now in
+    let m = module_view c.args.«module».now in
+    let e = entry_view c.args.entry.now in
+    let stages = map (g.L.Lower.noted l) c.args.callees.now in
+    let q = question m e.function (map (g.L.Lower.summary l) c.args.callees.now) stages in
+    let s = c.args.settings in
+    let held = c.args.held in
+    let R = g.L.Lower.reading l q in
+    let F = g.L.Lower.faults l q in
+    function_at R F stages s held m e c.validate_function_with.new.trail c.in-Err-validate_function_with.refusal c.reported_of_function.result c.reported_of_function.ensures c.in-Err-validate_function_with.ensures.placed
+
+pub returns-in-Err-check_payload-clause-placed : goal.returns-in-Err-check_payload-clause-placed
+returns-in-Err-check_payload-clause-placed g c =
+    let l = c.args.lower.now in
+    let m = module_view c.args.«module».now in
+    let e = entry_view c.args.entry.now in
+    let stages = map (g.L.Lower.noted l) c.args.callees.now in
+    let q = question m e.function (map (g.L.Lower.summary l) c.args.callees.now) stages in
+    let s = c.args.settings in
+    let held = c.args.held in
+    let R = g.L.Lower.reading l q in
+    let F = g.L.Lower.faults l q in
+    anywhere R F stages s held m e c.validate_function_with.new.trail c.new-in-Err-check_payload.result c.in-Err-check_payload.error c.new-in-Err-check_payload.ensures.error (of_payload c.in-Err-check_payload.ensures)
+
+pub returns-then-not-allows_stage-clause-placed : goal.returns-then-not-allows_stage-clause-placed
+returns-then-not-allows_stage-clause-placed g c =
+    let l = c.args.lower.now in
+    let m = module_view c.args.«module».now in
+    let e = entry_view c.args.entry.now in
+    let stages = map (g.L.Lower.noted l) c.args.callees.now in
+    let q = question m e.function (map (g.L.Lower.summary l) c.args.callees.now) stages in
+    let s = c.args.settings in
+    let held = c.args.held in
+    let R = g.L.Lower.reading l q in
+    let F = g.L.Lower.faults l q in
+    let v = c.in-Ok-validate_function_with.validated in
+    let t = c.validate_function_with.new.trail in
+    anywhere R F stages s held m e t c.new-then-not-allows_stage.result ForbiddenStageOperations c.new-then-not-allows_stage.ensures.error
+    (runs_at R F stages s held m e (g.L.Lower.noted l v.info) c.in-Ok-validate_function_with.ensures.stages (place_of t) (λ has. true≢false (sym (c.allows_stage.ensures.1 has) ∙ c.if-not-allows_stage.true)))
+
+pub returns-in-Err-connect-clause-placed : goal.returns-in-Err-connect-clause-placed
+returns-in-Err-connect-clause-placed g c =
+    let l = c.args.lower.now in
+    let m = module_view c.args.«module».now in
+    let e = entry_view c.args.entry.now in
+    let stages = map (g.L.Lower.noted l) c.args.callees.now in
+    let q = question m e.function (map (g.L.Lower.summary l) c.args.callees.now) stages in
+    let s = c.args.settings in
+    let held = c.args.held in
+    let R = g.L.Lower.reading l q in
+    let F = g.L.Lower.faults l q in
+    let before = g.L.Lower.summary l c.in-Ok-validate_function_with.validated.info in
+    connections_at R F stages s held m e before (c.in-Ok-validate_function_with.ensures.chains c.requires.known) c.validate_function_with.new.trail c.in-Err-connect.refusal c.in-Err-connect.ensures.judged

@@ -4,9 +4,9 @@ use Rattle.ir_places.proofs.StandLaws.{stands_here, stands_in_block, stands_in_c
 use Rattle.ir_places.proofs.TrailLaws.{block_is, item_at, stepped_out}
 use Rattle.ir_places.specs.Paths.{part_view}
 use Rattle.ir_places.specs.Stands.{StandsAt, StandsInPart}
-use Rattle.typing_references.specs.Each.{AllAre}
-use Rattle.typing_references.proofs.EachLaws.{none_left, case_more}
-use Rattle.typing_references.proofs.each.+each.Goals as goal
+use Rattle.ir_places.specs.Each.{AllAre}
+use Rattle.ir_places.proofs.EachLaws.{none_left, case_more}
+use Rattle.ir_places.proofs.each.+each.Goals as goal
 
 pub check_block-returns : goal.check_block-returns
 check_block-returns g t c =

@@ -11,7 +11,7 @@ use Rattle.ir_blocks.specs.judged.Places.{Place, here, later, condition, OccursA
 use Rattle.ir_blocks.specs.judged.Places as at
 use Rattle.ir_blocks.specs.judged.Plain.{PlainStatement, emit, block, if_, switch, loop, break, continue, return, kill, operation, call, PlainBlock, stop, next, PlainCases, no_case, case}
 use Rattle.ir_blocks.specs.judged.Shapes.{shape_of, Part, inner, accepting, rejecting, case_at, loop_body, loop_continuing, case_body, part_of}
-use Rattle.typing_references.specs.Each.{AllAre, AllWithin, AllInCases}
+use Rattle.ir_places.specs.Each.{AllAre, AllWithin, AllInCases}
 
 module _ (P : PlainStatement → Type 0) where
   case_is : (cs : PlainCases) (k : ℕ) → AllInCases P cs → AllAre P (case_body cs k)

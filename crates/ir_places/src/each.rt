@@ -6,11 +6,11 @@ ghost use Rattle.ir_blocks.specs.judged.Plain.{PlainStatement};
 ghost use Rattle.ir_blocks.specs.found.View.{statement_view, block_view, case_view, cases_of};
 ghost use Rattle.ir_places.specs.Paths.{IsPlaced, part_view};
 ghost use Rattle.ir_places.specs.Stands.{StandsAt, StandsFrom, StandsInCase, StandsInPart};
-ghost use Rattle.typing_references.specs.Each.{AllAre, AllWithin, AllInCases};
+ghost use Rattle.ir_places.specs.Each.{AllAre, AllWithin, AllInCases};
 
-use ir_blocks::plain_operation;
-use ir_items::{Block, Statement, SwitchCase};
-use ir_places::{Part, Step, Trail};
+use crate::step::{Part, Step};
+use crate::trail::Trail;
+use ir_blocks::{Block, Statement, SwitchCase, plain_operation};
 
 /// A rule of statements, which is required of a statement without what stands inside it.
 pub trait StatementRule<E> {

@@ -1,7 +1,7 @@
 use Rattle.std.proofs.Common.{drop, map}
 use Rattle.ir_blocks.specs.found.View.{statements_view, case_view, cases_of}
-use Rattle.typing_references.specs.Each.{AllAre, AllInCases}
-use Rattle.typing_references.proofs.each.+each.Given as goal
+use Rattle.ir_places.specs.Each.{AllAre, AllInCases}
+use Rattle.ir_places.proofs.each.+each.Given as goal
 
 -- the rest leads to the whole
 abbrev pub invariant-check_block-loop-index : goal.invariant-check_block-loop-index
