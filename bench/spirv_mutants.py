@@ -16,7 +16,7 @@ import sys
 FORMS = ["--verdict", "--verdict", "--names", "--json", "--leaves", "--document"]
 # what a word is changed to, beside ids
 NUMBERS = [0, 1, 2, 0xFFFF, 0xFFFFF, 1 << 30, 0x7FFFFFFF, 1 << 31, 0xFFFFFFFE, 0xFFFFFFFF]
-UNREAD = re.compile(rb"(unsupported|malformed): .+ at word [0-9]+\n")
+UNREAD = re.compile(rb"(unsupported|malformed): .+ at word [0-9]+, .+\n")
 
 
 def mutate(random_, words):
@@ -70,7 +70,7 @@ def main():
             status = "timeout"
         slowest = sorted([*slowest, (spent() - began, len(made), number, name.name)], reverse=True)[:3]
         found[status] = found.get(status, 0) + 1
-        is_unread = UNREAD.fullmatch(text) is not None or text.startswith(b'{"text":') and form == "--json"
+        is_unread = UNREAD.fullmatch(text) is not None or text.startswith(b'{"at":') and form == "--json"
         if status not in (0, 1, 3) or is_unread != (status == 3):
             print("mutant", number, form, "status", status, text[:200], flush=True)
             pathlib.Path("mutant-%d.spv" % number).write_bytes(made)

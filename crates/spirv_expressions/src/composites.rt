@@ -10,7 +10,7 @@ use ir_kinds::{
 use ir_types::{ArraySize, Expression};
 use spirv_numbers::ops;
 use spirv_types::{MatrixShape, MemberShape, Shape, Stored, vector_size};
-use spirv_words::{Feature, Instruction, Malformed};
+use spirv_words::{Feature, Instruction, Malformed, SpirvError};
 
 // How many parts a value may have that is put together anew.
 const MAX_PARTS: u32 = 1024;
@@ -96,12 +96,66 @@ fn part_as<B: Builder>(
             Form::Plain => plain_matrix(builder, operation, value, &matrix, stored),
             Form::Stored => relaid_matrix(builder, operation, value, &matrix, stored),
         },
-        // arrays of matrices that are stored otherwise than as the IR has them are not translated
-        _ => refuse(
-            builder,
-            stored.unsupported(operation, Feature::RowMajorStruct),
-        ),
+        _ => {
+            let plain = match form {
+                Form::Plain => plain_array(builder, operation, value, part.ty, stored),
+                Form::Stored => None,
+            };
+            // arrays of matrices are put together as the IR has them alone
+            let error = stored.unsupported(operation, Feature::RowMajorStruct);
+            given_or_refused(builder, plain, error)
+        }
     }
+}
+
+// The value, or none since this is wrong.
+fn given_or_refused<B: Builder>(
+    builder: &mut B,
+    value: Option<Value>,
+    error: SpirvError,
+) -> Value {
+    match value {
+        Some(value) => value,
+        None => refuse(builder, error),
+    }
+}
+
+/// The matrices that are the elements of an array of known length, and how many there are, where a type is such an array.
+pub fn matrices_of<B: Builder>(builder: &B, ty: u32) -> Option<(MatrixShape, u32)> {
+    match builder.shape(ty) {
+        Shape::Array {
+            element,
+            size: ArraySize::Constant(count),
+            ..
+        } => match MatrixShape::of(&builder.shape(element)) {
+            Some(matrix) => Some((matrix, count)),
+            None => None,
+        },
+        _ => None,
+    }
+}
+
+/// The value of an array of matrices that are stored so, as the IR has it, matrix by matrix; none where a type is no such array of
+/// known length.
+pub fn plain_array<B: Builder>(
+    builder: &mut B,
+    operation: &Instruction,
+    value: Value,
+    ty: u32,
+    stored: Stored,
+) -> Option<Value> {
+    let (matrix, count) = matrices_of(builder, ty)?;
+    let mut components = Vec::new(builder.alloc());
+    for index in 0..count {
+        if builder.has_failed() {
+            break;
+        }
+        let part = part_of(builder, operation, value, index);
+        let plain = plain_matrix(builder, operation, part, &matrix, stored);
+        keep(builder, &mut components, plain);
+    }
+    let ty = builder.built(ty, operation);
+    Some(compose(builder, operation, ty, components))
 }
 
 // A member of a struct's value, as the IR has it.
@@ -167,13 +221,11 @@ fn extract<B: Builder>(builder: &mut B, operation: &Instruction) -> Value {
         }
     }
     if stored.is_plain() {
-        value
-    } else {
-        refuse(
-            builder,
-            stored.unsupported(operation, Feature::ExtractOfRowMajor),
-        )
+        return value;
     }
+    let plain = plain_array(builder, operation, value, ty, stored);
+    let error = stored.unsupported(operation, Feature::ExtractOfRowMajor);
+    given_or_refused(builder, plain, error)
 }
 
 // A matrix whose columns or rows are members of a struct's value.

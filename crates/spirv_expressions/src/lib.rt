@@ -11,6 +11,9 @@ pub use builder::{
     compose_pair, compose_result, convert, keep, need, no_type, no_value, operand, operand_scalar,
     operand_shape, part_of, refuse, result_scalar, scalar_of, select, signed, splat,
 };
-pub use composites::{composite, packed_line, parts_from, plain_line, plain_matrix, relaid_matrix};
+pub use composites::{
+    composite, matrices_of, packed_line, parts_from, plain_array, plain_line, plain_matrix,
+    relaid_matrix,
+};
 pub use operators::{arithmetic, resized};
 pub use words::Words;

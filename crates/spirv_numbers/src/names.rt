@@ -106,7 +106,7 @@ const OPCODES: &str = "\
     5276 HitObjectIsEmptyNV 5277 HitObjectIsHitNV 5278 HitObjectIsMissNV 5279 ReorderThreadWithHitObjectNV \
     5280 ReorderThreadWithHintNV 5281 TypeHitObjectNV 5283 ImageSampleFootprintNV 5294 EmitMeshTasksEXT \
     5295 SetMeshOutputsEXT 5296 GroupNonUniformPartitionNV 5299 WritePackedPrimitiveIndices4x8NV \
-    5334 ReportIntersectionNV 5335 IgnoreIntersectionNV 5336 TerminateRayNV 5337 TraceNV 5338 TraceMotionNV \
+    5334 ReportIntersectionKHR 5335 IgnoreIntersectionNV 5336 TerminateRayNV 5337 TraceNV 5338 TraceMotionNV \
     5339 TraceRayMotionNV 5340 RayQueryGetIntersectionTriangleVertexPositionsKHR \
     5341 TypeAccelerationStructureKHR 5344 ExecuteCallableNV 5358 TypeCooperativeMatrixNV \
     5359 CooperativeMatrixLoadNV 5360 CooperativeMatrixStoreNV 5361 CooperativeMatrixMulAddNV \
@@ -127,8 +127,8 @@ const OPCODES: &str = "\
 // Execution models (section 3.3).
 const MODELS: &str = "\
     0 Vertex 1 TessellationControl 2 TessellationEvaluation 3 Geometry 4 Fragment 5 GLCompute 6 Kernel \
-    5267 TaskNV 5268 MeshNV 5313 RayGenerationNV 5314 IntersectionNV 5315 AnyHitNV 5316 ClosestHitNV 5317 MissNV \
-    5318 CallableNV 5364 TaskEXT 5365 MeshEXT";
+    5267 TaskNV 5268 MeshNV 5313 RayGenerationKHR 5314 IntersectionKHR 5315 AnyHitKHR 5316 ClosestHitKHR \
+    5317 MissKHR 5318 CallableKHR 5364 TaskEXT 5365 MeshEXT";
 
 // Dimensions (section 3.8).
 const DIMENSIONS: &str = "\
@@ -137,8 +137,8 @@ const DIMENSIONS: &str = "\
 // Storage classes (section 3.7).
 const CLASSES: &str = "\
     0 UniformConstant 1 Input 2 Uniform 3 Output 4 Workgroup 5 CrossWorkgroup 6 Private 7 Function 8 Generic \
-    9 PushConstant 10 AtomicCounter 11 Image 12 StorageBuffer 5328 CallableDataNV 5329 IncomingCallableDataNV \
-    5338 RayPayloadNV 5339 HitAttributeNV 5342 IncomingRayPayloadNV 5343 ShaderRecordBufferNV \
+    9 PushConstant 10 AtomicCounter 11 Image 12 StorageBuffer 5328 CallableDataKHR 5329 IncomingCallableDataKHR \
+    5338 RayPayloadKHR 5339 HitAttributeKHR 5342 IncomingRayPayloadKHR 5343 ShaderRecordBufferKHR \
     5349 PhysicalStorageBuffer 5385 HitObjectAttributeNV 5402 TaskPayloadWorkgroupEXT";
 
 // Formats of images (section 3.11).
@@ -171,11 +171,23 @@ const BUILT_INS: &str = "\
     5276 PrimitiveIndicesNV 5277 ClipDistancePerViewNV 5278 CullDistancePerViewNV 5279 LayerPerViewNV \
     5280 MeshViewCountNV 5281 MeshViewIndicesNV 5286 BaryCoordKHR 5287 BaryCoordNoPerspKHR 5292 FragSizeEXT \
     5293 FragInvocationCountEXT 5294 PrimitivePointIndicesEXT 5295 PrimitiveLineIndicesEXT \
-    5296 PrimitiveTriangleIndicesEXT 5299 CullPrimitiveEXT 5319 LaunchIdNV 5320 LaunchSizeNV \
-    5321 WorldRayOriginNV 5322 WorldRayDirectionNV 5323 ObjectRayOriginNV 5324 ObjectRayDirectionNV \
-    5325 RayTminNV 5326 RayTmaxNV 5327 InstanceCustomIndexNV 5330 ObjectToWorldNV 5331 WorldToObjectNV \
-    5332 HitTNV 5333 HitKindNV 5334 CurrentRayTimeNV 5351 IncomingRayFlagsNV 5352 RayGeometryIndexKHR \
+    5296 PrimitiveTriangleIndicesEXT 5299 CullPrimitiveEXT 5319 LaunchIdKHR 5320 LaunchSizeKHR \
+    5321 WorldRayOriginKHR 5322 WorldRayDirectionKHR 5323 ObjectRayOriginKHR 5324 ObjectRayDirectionKHR \
+    5325 RayTminKHR 5326 RayTmaxKHR 5327 InstanceCustomIndexKHR 5330 ObjectToWorldKHR 5331 WorldToObjectKHR \
+    5332 HitTNV 5333 HitKindKHR 5334 CurrentRayTimeNV 5351 IncomingRayFlagsKHR 5352 RayGeometryIndexKHR \
     5374 WarpsPerSMNV 5375 SMCountNV 5376 WarpIDNV 5377 SMIDNV 6021 CullMaskKHR";
+
+// Functions of GLSL.std.450 (its section 2).
+const MATH_FUNCTIONS: &str = "\
+    1 Round 2 RoundEven 3 Trunc 4 FAbs 5 SAbs 6 FSign 7 SSign 8 Floor 9 Ceil 10 Fract 11 Radians 12 Degrees 13 Sin \
+    14 Cos 15 Tan 16 Asin 17 Acos 18 Atan 19 Sinh 20 Cosh 21 Tanh 22 Asinh 23 Acosh 24 Atanh 25 Atan2 26 Pow 27 Exp \
+    28 Log 29 Exp2 30 Log2 31 Sqrt 32 InverseSqrt 33 Determinant 34 MatrixInverse 35 Modf 36 ModfStruct 37 FMin \
+    38 UMin 39 SMin 40 FMax 41 UMax 42 SMax 43 FClamp 44 UClamp 45 SClamp 46 FMix 47 IMix 48 Step 49 SmoothStep \
+    50 Fma 51 Frexp 52 FrexpStruct 53 Ldexp 54 PackSnorm4x8 55 PackUnorm4x8 56 PackSnorm2x16 57 PackUnorm2x16 \
+    58 PackHalf2x16 59 PackDouble2x32 60 UnpackSnorm2x16 61 UnpackUnorm2x16 62 UnpackHalf2x16 63 UnpackSnorm4x8 \
+    64 UnpackUnorm4x8 65 UnpackDouble2x32 66 Length 67 Distance 68 Cross 69 Normalize 70 FaceForward 71 Reflect \
+    72 Refract 73 FindILsb 74 FindSMsb 75 FindUMsb 76 InterpolateAtCentroid 77 InterpolateAtSample \
+    78 InterpolateAtOffset 79 NMin 80 NMax 81 NClamp";
 
 /// Numbers that have names.
 #[derive(Clone, Copy)]
@@ -194,6 +206,8 @@ pub enum Names {
     Decoration,
     /// Built-ins.
     BuiltIn,
+    /// Functions of GLSL.std.450.
+    MathFunction,
 }
 
 impl Names {
@@ -207,6 +221,7 @@ impl Names {
             Names::Format => FORMATS,
             Names::Decoration => DECORATIONS,
             Names::BuiltIn => BUILT_INS,
+            Names::MathFunction => MATH_FUNCTIONS,
         };
         name_in(names, number)
     }

@@ -85,6 +85,8 @@ pub const TYPE_POINTER: u16 = 32;
 
 pub const TYPE_FUNCTION: u16 = 33;
 
+pub const TYPE_FORWARD_POINTER: u16 = 39;
+
 // Constants (section 3.52.7).
 pub const CONSTANT_TRUE: u16 = 41;
 

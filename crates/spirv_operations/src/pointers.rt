@@ -5,8 +5,8 @@ use ir_blocks::Statement;
 use ir_kinds::{MathFunction, Scalar, ScalarKind, VectorSize};
 use ir_types::Expression;
 use spirv_expressions::{
-    Value, call, component_count, compose, keep, need, no_value, packed_line, part_of, plain_line,
-    plain_matrix, relaid_matrix,
+    Value, call, component_count, compose, keep, matrices_of, need, no_value, packed_line, part_of,
+    plain_array, plain_line, plain_matrix, refuse, relaid_matrix,
 };
 use spirv_images::count_resources;
 use spirv_types::{MatrixShape, MemberShape, MeshMember, Shape, Stored, TypeHandle};
@@ -312,8 +312,26 @@ pub fn load<L: FunctionBuilder>(lowering: &mut L, place: u32, operation: &Instru
     if let (Some((length, scalar)), false) = (vector_of(&shape), from.stored.is_plain()) {
         return plain_line(lowering, operation, value, length, scalar);
     }
-    refuse_arrays(lowering, operation, &from, &shape, Feature::LoadOfRowMajor);
+    if matches!(shape, Shape::Array { .. }) && !from.stored.is_plain() {
+        return load_array(lowering, &from, value, operation);
+    }
     value
+}
+
+// An array of matrices that is loaded as it is stored, as the IR has it.
+fn load_array<L: FunctionBuilder>(
+    lowering: &mut L,
+    from: &Pointer,
+    value: Value,
+    operation: &Instruction,
+) -> Value {
+    match plain_array(lowering, operation, value, from.ty, from.stored) {
+        Some(plain) => plain,
+        None => refuse(
+            lowering,
+            from.stored.unsupported(operation, Feature::LoadOfRowMajor),
+        ),
+    }
 }
 
 // A matrix whose columns or rows are members of a struct, put together of them.
@@ -450,7 +468,33 @@ pub fn store_into<L: FunctionBuilder>(
     if to.split.is_some() {
         refuse_split(lowering, &to, operation);
     }
+    if let (Some((matrix, count)), false) = (matrices_of(lowering, to.ty), to.stored.is_plain()) {
+        store_matrices(lowering, place, value, &matrix, count, operation);
+        return;
+    }
     let value = stored_value(lowering, &to, value, operation);
     let pointer = lowering.way(place, operation);
     lowering.add(Statement::Store { pointer, value }, operation);
+}
+
+// Stores so many matrices into an array of those, each as it is stored there.
+fn store_matrices<L: FunctionBuilder>(
+    lowering: &mut L,
+    place: u32,
+    value: Value,
+    matrix: &MatrixShape,
+    count: u32,
+    operation: &Instruction,
+) {
+    let stored = lowering.pointer_at(place, operation).stored;
+    let array = lowering.way(place, operation);
+    for index in 0..count {
+        if lowering.has_failed() {
+            break;
+        }
+        let pointer = part_of(lowering, operation, array, index);
+        let part = part_of(lowering, operation, value, index);
+        let value = relaid_matrix(lowering, operation, part, matrix, stored);
+        lowering.add(Statement::Store { pointer, value }, operation);
+    }
 }

@@ -15,6 +15,7 @@ use spirv_bodies::{Lowered, Special, lower_functions};
 use spirv_declarations::{Budget, ReadModule, declare};
 use spirv_flow::{Flow, flow_of};
 use spirv_interface::declare_mesh;
+use spirv_rules::check_rules;
 use spirv_tables::Demands;
 use spirv_types::Reading;
 use spirv_words::{Failure, SpirvError, list};
@@ -27,6 +28,7 @@ pub fn read_spirv(alloc: Global, bytes: &[u8]) -> Result<Document, SpirvError>
     ensures { IfOk result (λ d. MakesSixChecks d.settings.flags) }
 {
     let listing = list(alloc, bytes)?;
+    check_rules(alloc, &listing)?;
     let (uses, flow) = flow_of(alloc, &listing)?;
     let reading = Reading::of(alloc, listing, uses)?;
     read_module(reading, flow, KeyedState::of_bytes(bytes))

@@ -53,10 +53,26 @@ pub enum Malformed {
     Unfinished,
     /// A block without an end.
     OpenBlock,
+    /// A version that the standard does not have.
+    Version,
+    /// A buffer of what is not said to be a block.
+    NotLaidOut,
+    /// A member of a buffer of which it is not said where it begins.
+    NoOffset,
+    /// An array in a buffer of which it is not said how far it is from element to element.
+    NoArrayStride,
+    /// A matrix in a buffer of which it is not said how far it is from column to column, or from row to row.
+    NoMatrixStride,
+    /// A matrix in a buffer of which it is not said whether it is stored column by column.
+    NoMajorness,
+    /// An operand of a type that its instruction does not take.
+    OperandType,
+    /// A result of a type that its instruction does not give.
+    ResultType,
 }
 
 // What is wrong in words, in the order of the variants.
-static TEXTS: [&str; 21] = [
+static TEXTS: [&str; 29] = [
     "no whole words, or no header",
     "too many bytes",
     "no magic number",
@@ -78,6 +94,14 @@ static TEXTS: [&str; 21] = [
     "an instruction out of its place",
     "a function without an end",
     "a block without an end",
+    "a version other than 1.0 to 1.6",
+    "a buffer without Block or BufferBlock",
+    "a member of a buffer without Offset",
+    "an array in a buffer without ArrayStride",
+    "a matrix in a buffer without MatrixStride",
+    "a matrix in a buffer without RowMajor or ColMajor",
+    "an operand of a type that its instruction does not take",
+    "a result of a type that its instruction does not give",
 ];
 
 impl Malformed {

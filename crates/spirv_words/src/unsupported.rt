@@ -163,10 +163,12 @@ pub enum Feature {
     EmitInCallee,
     /// OpTraceRayKHR with an offset, a stride or a miss index that is not the constant 0.
     ShaderBindingTable,
+    /// References to buffers (`PhysicalStorageBuffer`).
+    BufferReference,
 }
 
 // What they are in words, in the order of the variants.
-static TEXTS: [&str; 78] = [
+static TEXTS: [&str; 79] = [
     "more expressions, types, members, atomic parts or names than so many words may make",
     "composites of specialization constants more than 32 deep",
     "a value out of its scope",
@@ -245,6 +247,7 @@ static TEXTS: [&str; 78] = [
     "a whole output of a mesh stage",
     "OpEmitMeshTasksEXT in a function that is called",
     "OpTraceRayKHR with an offset, a stride or a miss index that is not the constant 0",
+    "references to buffers",
 ];
 
 impl Feature {
@@ -328,7 +331,11 @@ impl Unsupported {
             ),
             Unsupported::Format(number) => ("OpTypeImage format ", Name(Names::Format), number),
             Unsupported::SpecId(number) => ("SpecId ", Number, number),
-            Unsupported::MathFunction(number) => ("GLSL.std.450 ", Number, number),
+            Unsupported::MathFunction(number) => (
+                "GLSL.std.450 ",
+                Name(Names::MathFunction),
+                number,
+            ),
             Unsupported::VectorSize(number) => ("OpTypeVector ", Number, number),
             Unsupported::IntWidth(number) => ("OpTypeInt ", Number, number),
             Unsupported::FloatWidth(number) => ("OpTypeFloat ", Number, number),
