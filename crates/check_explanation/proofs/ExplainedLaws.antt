@@ -23,7 +23,8 @@ use Rattle.shader_check.specs.declared.examined.Examined.{Examined}
 use Rattle.shader_check.specs.declared.examined.Examined.TheVariants as examined
 use Rattle.judgement.specs.judged.ModuleSteps.{layout}
 use Rattle.spirv_words.specs.declared.error.SpirvError.{SpirvError}
-use Rattle.check_explanation.specs.Answered.{IsExplained}
+use Rattle.judgement_laws.specs.judged.Sound.{AreChecked}
+use Rattle.check_explanation.specs.Answered.{IsExplained, IsExplainedOf}
 use Rattle.check_explanation.specs.declared.traced.Traced.{Traced}
 
 -- what is found of its module with the error is found of the document
@@ -34,14 +35,14 @@ found_if d m x (Err a) h is = tt
 
 -- an accepted module is found to be one
 pub accepted_if : (requested : Requested) (m : PlainModule) (strict : Bool) (r : Result Explanation AllocError) → IfOk r (IsAccepted requested m strict) → IfOk r (λ e. finding_of e ≡ findings.Accepted strict)
-accepted_if requested m strict (Ok (Accepted found lines)) h = ap findings.Accepted h.0
+accepted_if requested m strict (Ok (Accepted found lines names)) h = ap findings.Accepted h.0
 accepted_if requested m strict (Ok (NoDocument _ _)) h = elim h [ ]
 accepted_if requested m strict (Ok (Refused _ _)) h = elim h [ ]
 accepted_if requested m strict (Err a) h = tt
 
 pub accepted_explains : (requested : Requested) (m : PlainModule) (x : Examined) (strict : Bool) (r : Result Explanation AllocError) → IfOk r (IsAccepted requested m strict)
     → IfOk r (ExplainsModule requested m x)
-accepted_explains requested m x strict (Ok (Accepted found lines)) h = h.1
+accepted_explains requested m x strict (Ok (Accepted found lines names)) h = h.1
 accepted_explains requested m x strict (Ok (NoDocument _ _)) h = elim h [ ]
 accepted_explains requested m x strict (Ok (Refused _ _)) h = elim h [ ]
 accepted_explains requested m x strict (Err a) h = tt
@@ -50,28 +51,28 @@ accepted_explains requested m x strict (Err a) h = tt
 pub refused_if : (error : ValidationError) (r : Result Explanation AllocError) → IfOk r (IsRefusedWith error) → IfOk r (λ e. finding_of e ≡ refused_by error)
 refused_if error (Ok (Refused found item)) h = ap refused_by h
 refused_if error (Ok (NoDocument _ _)) h = elim h [ ]
-refused_if error (Ok (Accepted _ _)) h = elim h [ ]
+refused_if error (Ok (Accepted _ _ _)) h = elim h [ ]
 refused_if error (Err a) h = tt
 
 pub refused_explains : (requested : Requested) (m : PlainModule) (error : ValidationError) (r : Result Explanation AllocError) → IfOk r (IsRefusedWith error)
     → IfOk r (ExplainsModule requested m (examined.Refused error))
 refused_explains requested m error (Ok (Refused found item)) h = ap examined.Refused (sym h)
 refused_explains requested m error (Ok (NoDocument _ _)) h = elim h [ ]
-refused_explains requested m error (Ok (Accepted _ _)) h = elim h [ ]
+refused_explains requested m error (Ok (Accepted _ _ _)) h = elim h [ ]
 refused_explains requested m error (Err a) h = tt
 
 -- bytes that spell no document are found to be so, for a reason
 pub misread_if : (bytes : List ℕ) (error : DocumentError) (r : Result Explanation AllocError) → (error ≢ unread.Memory → (d : PlainDocument) → ¬ Reads bytes d) → IfOk r (IsMisread error)
     → IfOk r (λ e. Judged bytes (finding_of e))
 misread_if bytes error (Ok (NoDocument found hint)) none h = none h.1
-misread_if bytes error (Ok (Accepted _ _)) none h = elim h [ ]
+misread_if bytes error (Ok (Accepted _ _ _)) none h = elim h [ ]
 misread_if bytes error (Ok (Refused _ _)) none h = elim h [ ]
 misread_if bytes error (Err a) none h = tt
 
 pub misread_explains : (requested : Requested) (bytes : List ℕ) (error : DocumentError) (r : Result Explanation AllocError) → IsReason bytes error → IfOk r (IsMisread error)
     → IfOk r (ExplainsBytes requested bytes)
 misread_explains requested bytes error (Ok (NoDocument found hint)) reason h = subst (λ x. IsReason bytes x × (x ≢ unread.Memory)) (sym h.0) (reason, h.1)
-misread_explains requested bytes error (Ok (Accepted _ _)) reason h = elim h [ ]
+misread_explains requested bytes error (Ok (Accepted _ _ _)) reason h = elim h [ ]
 misread_explains requested bytes error (Ok (Refused _ _)) reason h = elim h [ ]
 misread_explains requested bytes error (Err a) reason h = tt
 
@@ -95,7 +96,7 @@ can_report d m (examined.Refused e) h = tt
 pub explained_in : (requested : Requested) (d : PlainDocument) (m : PlainModule) (x : Examined) (r : Result Explanation AllocError) → IsExaminedDocument d m x → IfOk r (ExplainsModule requested m x)
     → IfOk r (ExplainsDocument requested d)
 explained_in requested d m x (Ok (NoDocument error hint)) of h = h
-explained_in requested d m x (Ok (Accepted strict lines)) of h = record { judged = m; prepared = of.prepared; are = h }
+explained_in requested d m x (Ok (Accepted strict lines names)) of h = record { judged = m; prepared = of.prepared; are = h }
 explained_in requested d m x (Ok (Refused error item)) of h = record { judged = m; prepared = of.prepared; fault = subst (IsExamined d.settings m) h of.examined }
 explained_in requested d m x (Err a) of h = tt
 
@@ -103,11 +104,18 @@ explained_in requested d m x (Err a) of h = tt
 pub explained_on : (requested : Requested) (bytes : List ℕ) (d : PlainDocument) (r : Result Explanation AllocError) → Reads bytes d → IfOk r (ExplainsDocument requested d)
     → IfOk r (ExplainsBytes requested bytes)
 explained_on requested bytes d (Ok (NoDocument error hint)) reads h = elim h [ ]
-explained_on requested bytes d (Ok (Accepted strict lines)) reads h = record { document = d; reads = reads; judged = h.judged; prepared = h.prepared; are = h.are }
+explained_on requested bytes d (Ok (Accepted strict lines names)) reads h = record { document = d; reads = reads; judged = h.judged; prepared = h.prepared; are = h.are }
 explained_on requested bytes d (Ok (Refused error item)) reads h = record { document = d; reads = reads; wrong = h }
 explained_on requested bytes d (Err a) reads h = tt
 
 -- what is explained stays so with the instruction that it comes from
-pub traced_if : (requested : Requested) (e : Explanation) (r : Result Traced SpirvError) → IsExplained requested e → IfOk r (λ t. t.explanation ≡ e) → IfOk r (λ t. IsExplained requested t.explanation)
-traced_if requested e (Ok t) h is = subst (IsExplained requested) (sym is) h
-traced_if requested e (Err a) h is = tt
+pub traced_if : (requested : Requested) (d : PlainDocument) (e : Explanation) (r : Result Traced SpirvError) → IsExplainedOf requested d e → IfOk r (λ t. t.explanation ≡ e)
+    → IfOk r (λ t. IsExplainedOf requested d t.explanation)
+traced_if requested d e (Ok t) h is = subst (IsExplainedOf requested d) (sym is) h
+traced_if requested d e (Err a) h is = tt
+
+-- what is explained of a document under such checks is explained of some such document
+pub explained_under : (requested : Requested) (d : PlainDocument) (r : Result Traced SpirvError) → AreChecked d.settings → IfOk r (λ t. IsExplainedOf requested d t.explanation)
+    → IfOk r (λ t. IsExplained requested t.explanation)
+explained_under requested d (Ok t) checked h = record { document = d; checked = checked; judged = h.judged; explains = h.explains }
+explained_under requested d (Err a) checked h = tt

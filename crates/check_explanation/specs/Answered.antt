@@ -61,6 +61,11 @@ IsAnswered Accepted text = IsTextOfSome Accepted text
 IsAnswered Refused text = IsTextOfSome Refused text
 IsAnswered Unread text = Unit {0}
 
+-- This is found of this document, whose module has the lines that are wanted, or this error.
+pub record IsExplainedOf (requested : Requested) (d : PlainDocument) (e : Explanation) : Type 0 where
+  pub judged : FindsIn d (finding_of e)
+  pub explains : ExplainsDocument requested d e
+
 -- This is found of some such document, whose module has the lines that are wanted, or this error.
 pub record IsExplained (requested : Requested) (e : Explanation) : Type 0 where
   pub document : PlainDocument

@@ -12,17 +12,17 @@ use Rattle.check_explanation.specs.declared.explanation.Explanation.TheVariants.
 -- the finding that is explained
 abbrev pub finding_of : Explanation → Finding
 finding_of (NoDocument error hint) = findings.RefusedDocument
-finding_of (Accepted strict lines) = findings.Accepted strict
+finding_of (Accepted strict lines names) = findings.Accepted strict
 finding_of (Refused error item) = refused_by error
 
 -- the explanation of bytes that spell no document, for this reason, which is not that there was no memory
 abbrev pub IsMisread : DocumentError → Explanation → Type 0
 IsMisread error (NoDocument found hint) = (found ≡ error) × (error ≢ unread.Memory)
-IsMisread error (Accepted strict lines) = ⊥
+IsMisread error (Accepted strict lines names) = ⊥
 IsMisread error (Refused found item) = ⊥
 
 -- the explanation of a module that is refused with this error
 abbrev pub IsRefusedWith : ValidationError → Explanation → Type 0
 IsRefusedWith error (NoDocument found hint) = ⊥
-IsRefusedWith error (Accepted strict lines) = ⊥
+IsRefusedWith error (Accepted strict lines names) = ⊥
 IsRefusedWith error (Refused found item) = found ≡ error

@@ -42,19 +42,19 @@ ListsAsRequested Report m lines = IsReport m lines
 -- the lines of an explanation
 abbrev pub lines_of : Explanation → List ℕ
 lines_of (NoDocument error hint) = []
-lines_of (Accepted strict lines) = string_bytes lines
+lines_of (Accepted strict lines names) = string_bytes lines
 lines_of (Refused error item) = []
 
 -- of a module of which this is found: lines as wanted where it is accepted, else the error that is found
 abbrev pub ExplainsModule : (requested : Requested) → PlainModule → Examined → Explanation → Type 0
 ExplainsModule requested m x (NoDocument error hint) = ⊥
-ExplainsModule requested m x (Accepted strict lines) = ListsAsRequested requested m (string_bytes lines)
+ExplainsModule requested m x (Accepted strict lines names) = ListsAsRequested requested m (string_bytes lines)
 ExplainsModule requested m x (Refused error item) = x ≡ examined.Refused error
 
 -- the explanation of an accepted module
 abbrev pub IsAccepted : (requested : Requested) → PlainModule → Bool → Explanation → Type 0
 IsAccepted requested m strict (NoDocument error hint) = ⊥
-IsAccepted requested m strict (Accepted found lines) = (found ≡ strict) × ListsAsRequested requested m (string_bytes lines)
+IsAccepted requested m strict (Accepted found lines names) = (found ≡ strict) × ListsAsRequested requested m (string_bytes lines)
 IsAccepted requested m strict (Refused error item) = ⊥
 
 -- They are those of the document's module, with returns put in where it requires them.
@@ -71,7 +71,7 @@ pub record IsWrongIn (d : PlainDocument) (error : ValidationError) : Type 0 wher
 
 abbrev pub ExplainsDocument : (requested : Requested) → PlainDocument → Explanation → Type 0
 ExplainsDocument requested d (NoDocument error hint) = ⊥
-ExplainsDocument requested d (Accepted strict lines) = AreListedIn requested d (string_bytes lines)
+ExplainsDocument requested d (Accepted strict lines names) = AreListedIn requested d (string_bytes lines)
 ExplainsDocument requested d (Refused error item) = IsWrongIn d error
 
 -- They are those of the module of the document that the bytes spell, with returns put in where it requires them.
@@ -91,5 +91,5 @@ pub record IsWrongWith (bytes : List ℕ) (error : ValidationError) : Type 0 whe
 -- of bytes: where they spell no document, a reason for it that is not that there was no memory
 abbrev pub ExplainsBytes : (requested : Requested) → (bytes : List ℕ) → Explanation → Type 0
 ExplainsBytes requested bytes (NoDocument error hint) = IsReason bytes error × (error ≢ unread.Memory)
-ExplainsBytes requested bytes (Accepted strict lines) = AreListed requested bytes (string_bytes lines)
+ExplainsBytes requested bytes (Accepted strict lines names) = AreListed requested bytes (string_bytes lines)
 ExplainsBytes requested bytes (Refused error item) = IsWrongWith bytes error

@@ -16,6 +16,7 @@ ghost use Rattle.shader_check.specs.found.Judgements.{Judged, FindsIn};
 use crate::refused::{RefusedItem, refused_item, value_of};
 use crate::types::type_texts;
 use check_faults::{Refused, accepted_value, no_document_value, refused_value};
+use check_names::{Names, Roles, entries_value, globals_value};
 use check_reasons::{PathNames, Slip, hint};
 use document_forms::Place;
 use document_reader::{Document, DocumentError, MAX_LEN, read_document};
@@ -49,6 +50,8 @@ pub enum Explanation {
         strict: bool,
         /// The lines that were wanted.
         lines: String,
+        /// What the parts of the module are, where lines were wanted.
+        names: Names,
     },
     /// A step fails: why, and the first item that fails it.
     Refused(ValidationError, RefusedItem),
@@ -68,6 +71,14 @@ fn lines(
         Requested::Nothing => Ok(String::new(alloc)),
         Requested::Leaves => leaf_report(alloc, module, info),
         Requested::Report => report(alloc, module, info),
+    }
+}
+
+// What the parts of a module are, where lines of it are wanted.
+fn names(alloc: Global, requested: Requested, module: &Module) -> Result<Names, AllocError> {
+    match requested {
+        Requested::Nothing => Ok(Names::none(alloc)),
+        Requested::Leaves | Requested::Report => Names::of_module(alloc, module),
     }
 }
 
@@ -93,8 +104,13 @@ fn accepted(
     requires can { CanReport (module_view «module».now) info.now }
     ensures { IfOk result (IsAccepted requested (module_view «module».now) strict) }
 {
+    let names = names(alloc, requested, module)?;
     let lines = lines(alloc, requested, module, info)?;
-    Ok(Explanation::Accepted { strict, lines })
+    Ok(Explanation::Accepted {
+        strict,
+        lines,
+        names,
+    })
 }
 
 // The explanation of a module that is refused so, unless there was no memory for its item.
@@ -288,6 +304,20 @@ fn no_document(alloc: Global, error: &DocumentError, hint: &str) -> Result<Value
     no_document_value(alloc, &path, steps, &text)
 }
 
+// The object of an accepted document.
+fn accepted_object(
+    alloc: Global,
+    strict: bool,
+    lines: &str,
+    names: &Names,
+) -> Result<Value, AllocError>
+    ensures { IfOk result (λ v. Has (view v) (codes "verdict") (string (codes "accepted"))) }
+{
+    let globals = globals_value(alloc, names, &Roles::none(alloc), lines)?;
+    let entries = entries_value(alloc, names)?;
+    accepted_value(alloc, strict, lines, globals, entries)
+}
+
 // The object of a refused item.
 fn refused_object(alloc: Global, verdict: &str, item: &RefusedItem) -> Result<Value, AllocError>
     ensures { IfOk result (λ v. Has (view v) (codes "verdict") (string verdict.now)) }
@@ -340,7 +370,11 @@ impl Explanation {
     {
         match self {
             Explanation::NoDocument(error, hint) => no_document(alloc, error, hint),
-            Explanation::Accepted { strict, lines } => accepted_value(alloc, *strict, lines),
+            Explanation::Accepted {
+                strict,
+                lines,
+                names,
+            } => accepted_object(alloc, *strict, lines, names),
             Explanation::Refused(error, item) => {
                 refused_object(alloc, verdict_word(refused_by(error)), item)
             }

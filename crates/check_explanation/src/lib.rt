@@ -12,10 +12,12 @@ mod traced;
 mod types;
 mod varyings;
 
+pub use check_names::unread_json;
 pub use explanation::{Explanation, Requested, explain, explain_document};
 pub use origin::Origin;
 pub use refused::RefusedItem;
 pub use shader_check::{DocumentError, MAX_TAKEN};
-pub use spirv::{SpirvAnswer, SpirvVerdict, check_spirv, document_text, refusal_json};
+pub use spirv::{SpirvAnswer, SpirvVerdict, check_spirv, document_text};
+pub use spirv_lines::error_text;
 pub use spirv_reader::SpirvError;
-pub use traced::{Traced, explain_spirv};
+pub use traced::{Traced, explain_made, explain_spirv};

@@ -2,8 +2,10 @@
 
 use crate::spans::{entry_at, member_at, span_at};
 use crate::varyings::varying_at;
+use check_names::put_position;
 use ir_items::Module;
-use serde_json::{Value, json};
+use serde_json::{Map, Value, put};
+use spirv_lines::{Position, position_of};
 use spirv_numbers::names::opcode_name;
 use spirv_numbers::ops;
 use spirv_words::{Instruction, Listing, SpirvError, list};
@@ -21,6 +23,8 @@ pub struct Origin {
     pub id: u32,
     /// The name of that, or of the variable or function that it works on, where it has one.
     pub name: Option<String>,
+    /// Where it is in its source or in the module.
+    pub position: Position,
 }
 
 // Whether its first operand is a pointer or a function, whose name says what it works on.
@@ -114,20 +118,22 @@ pub(crate) fn origin_of(
         return Ok(None);
     };
     let name = name_at(alloc, &listing, &instruction, member_at(path))?;
+    let position = position_of(alloc, &listing, instruction.start)?;
     Ok(Some(Origin {
         word: instruction.start,
         opcode: opcode_name(instruction.opcode),
         id: instruction.id,
         name,
+        position,
     }))
 }
 
 impl Display for Origin {
     fn fmt<W: fmt::Write>(&self, f: &mut fmt::Formatter<W>) -> fmt::Result {
-        let (opcode, word) = (self.opcode, self.word);
+        let (opcode, word, position) = (self.opcode, self.word, &self.position);
         match &self.name {
-            Some(name) => write!(f, "Op{opcode} {name:?} at word {word}"),
-            None => write!(f, "Op{opcode} at word {word}"),
+            Some(name) => write!(f, "Op{opcode} {name:?} at word {word}, {position}"),
+            None => write!(f, "Op{opcode} at word {word}, {position}"),
         }
     }
 }
@@ -136,8 +142,6 @@ impl Origin {
     // As a JSON object.
     pub(crate) fn value(&self, alloc: Global) -> Result<Value, AllocError> {
         let opcode = format!(in alloc; "Op{}", self.opcode)?;
-        let opcode = opcode.as_str();
-        let word = Value::from(u64::from(self.word));
         let id = match self.id {
             0 => Value::Null,
             id => Value::from(u64::from(id)),
@@ -146,11 +150,17 @@ impl Origin {
             Some(name) => Value::try_from_str(alloc, name)?,
             None => Value::Null,
         };
-        json!(in alloc; {
-            "word": word,
-            "opcode": opcode,
-            "id": id,
-            "name": name
-        })
+        let mut map = Map::new(alloc);
+        put(&mut map, alloc, "word", Value::from(u64::from(self.word)))?;
+        put_position(&mut map, alloc, &self.position)?;
+        put(
+            &mut map,
+            alloc,
+            "opcode",
+            Value::try_from_str(alloc, &opcode)?,
+        )?;
+        put(&mut map, alloc, "id", id)?;
+        put(&mut map, alloc, "name", name)?;
+        Ok(Value::Object(map))
     }
 }

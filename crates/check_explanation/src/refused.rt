@@ -1,6 +1,7 @@
 // The item that is refused, and why.
 
-use check_reasons::{Reason, Refusal, name_of, path_of};
+use check_reasons::{BodyPlace, Reason, Refusal, name_of, path_of};
+use ir_places::Trail;
 use serde_json::Value;
 use shader_check::{Finding, Named, Step, ValidationError, refused_by};
 use std::alloc::{AllocError, Global};
@@ -123,6 +124,29 @@ fn name_with_fields(alloc: Global, error: &ValidationError) -> Result<String, Al
     }
 }
 
+// Where in a body the error stands, if the trail leads there.
+fn place_at(of_entry: bool, index: usize, trail: &Trail) -> Option<BodyPlace<'_>> {
+    if trail.is_lost() {
+        return None;
+    }
+    Some(BodyPlace {
+        of_entry,
+        index,
+        trail,
+    })
+}
+
+// The same, of an error of a module.
+fn place_of(error: &ValidationError) -> Option<BodyPlace<'_>> {
+    match error {
+        ValidationError::Module(_) | ValidationError::GlobalVariable(_) => None,
+        ValidationError::Function(refused) => {
+            place_at(false, refused.function.index(), &refused.trail)
+        }
+        ValidationError::EntryPoint(refused) => place_at(true, refused.index, &refused.trail),
+    }
+}
+
 // The item of a document that is refused so.
 fn item_in(
     alloc: Global,
@@ -138,6 +162,7 @@ fn item_in(
         index: index.unwrap_or(0),
         error: &named,
         types,
+        place: place_of(error),
     };
     item_of(alloc, &refusal, step, index)
 }

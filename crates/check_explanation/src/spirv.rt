@@ -6,8 +6,8 @@ ghost use Rattle.check_explanation.specs.declared.spirv.SpirvVerdict.TheVariants
 
 use document_reader::Document;
 use document_writer::write_document;
-use serde_json::{Value, json};
 use shader_check::{Finding, Judgement, judge_document};
+use spirv_lines::error_text;
 use spirv_reader::{SpirvError, read_spirv};
 use std::alloc::{AllocError, Global};
 
@@ -89,7 +89,8 @@ pub fn check_spirv(alloc: Global, bytes: &[u8]) -> Result<SpirvAnswer, AllocErro
         Ok(judgement) => answer_of(alloc, &judgement),
         Err(SpirvError::Memory) => Err(AllocError),
         Err(error) => {
-            let text = format!(in alloc; "{error}\n")?;
+            let mut text = error_text(alloc, bytes, &error)?;
+            text.push_str("\n")?;
             Ok(SpirvAnswer {
                 verdict: SpirvVerdict::Unread,
                 text,
@@ -116,22 +117,4 @@ pub fn document_text(alloc: Global, bytes: &[u8]) -> Result<String, SpirvError> 
         }
         Err(error) => Err(error),
     }
-}
-
-/// One JSON object that tells why no module was read, in one line without its end. The error is out of memory.
-pub fn refusal_json(alloc: Global, error: &SpirvError) -> Result<String, AllocError> {
-    let text = format!(in alloc; "{error}")?;
-    let (verdict, word) = match error {
-        SpirvError::Memory => return Err(AllocError),
-        SpirvError::Malformed { word, .. } => ("malformed", *word),
-        SpirvError::Unsupported { word, .. } => ("unsupported", *word),
-    };
-    let place = Value::from(u64::from(word));
-    let text = text.as_str();
-    json!(in alloc; {
-        "verdict": verdict,
-        "word": place,
-        "text": text
-    })?
-    .to_string(alloc)
 }

@@ -1,15 +1,16 @@
 // What is found of a module of SPIR-V, explained.
 ghost use Rattle.std.specs.Prelude.{◌≡◌, IfOk};
-ghost use Rattle.spirv_reader.specs.Checks.{MakesSixChecks};
-ghost use Rattle.check_explanation.specs.Answered.{IsExplained};
+ghost use Rattle.document_reader.specs.found.View.{document_view};
+ghost use Rattle.check_explanation.specs.Answered.{IsExplained, IsExplainedOf};
 
 use crate::explanation::{Explanation, Requested, explain_document};
 use crate::origin::{Origin, origin_of};
 use crate::spans::FUNCTIONS;
 use crate::spirv::written;
+use check_names::{NamedLines, Roles, globals_value};
 use document_reader::Document;
 use ir_items::Module;
-use serde_json::{Value, put};
+use serde_json::{Map, Value, put};
 use shader_check::ValidationError;
 use spirv_reader::{SpirvError, read_spirv};
 use std::alloc::{AllocError, Global};
@@ -23,6 +24,8 @@ pub struct Traced {
     pub explanation: Explanation,
     /// The instruction, where it is known; never of a document that was not made of SPIR-V.
     pub origin: Option<Origin>,
+    /// What the global variables of an accepted module of SPIR-V are there.
+    pub roles: Roles,
 }
 
 // The path of the expression at which all invocations have to arrive together and may not: the path of the refusal leads to the
@@ -55,7 +58,23 @@ fn trace(
     }
 }
 
-// The explanation with the instruction that the refused part comes from.
+// What is traced of an explanation.
+fn traces(
+    alloc: Global,
+    bytes: &[u8],
+    module: &Module,
+    explanation: &Explanation,
+) -> Result<(Option<Origin>, Roles), SpirvError> {
+    match explanation {
+        Explanation::Accepted { .. } => Ok((None, Roles::of_bytes(alloc, module, bytes)?)),
+        Explanation::NoDocument(..) | Explanation::Refused(..) => {
+            let origin = trace(alloc, bytes, module, explanation)?;
+            Ok((origin, Roles::none(alloc)))
+        }
+    }
+}
+
+// The explanation with the instruction that the refused part comes from, and what global variables are.
 fn with_origin(
     alloc: Global,
     bytes: &[u8],
@@ -64,10 +83,11 @@ fn with_origin(
 ) -> Result<Traced, SpirvError>
     ensures { IfOk result (λ t. t.explanation ≡ explanation) }
 {
-    match trace(alloc, bytes, module, &explanation) {
-        Ok(origin) => Ok(Traced {
+    match traces(alloc, bytes, module, &explanation) {
+        Ok((origin, roles)) => Ok(Traced {
             explanation,
             origin,
+            roles,
         }),
         Err(error) => {
             drop(explanation);
@@ -84,8 +104,7 @@ fn explain_written(
     text: &[u8],
     document: &mut Document,
 ) -> Result<Traced, SpirvError>
-    requires { MakesSixChecks document.old.settings.flags }
-    ensures { IfOk result (λ t. IsExplained requested t.explanation) }
+    ensures { IfOk result (λ t. IsExplainedOf requested (document_view document.old) t.explanation) }
 {
     match explain_document(alloc, requested, text, document) {
         Ok(explanation) => with_origin(alloc, bytes, &document.module, explanation),
@@ -93,15 +112,15 @@ fn explain_written(
     }
 }
 
-// The explanation of a document that was made of these bytes.
-fn explain_read(
+/// The explanation of a document that was read from these bytes of SPIR-V, with the lines that are wanted, where it is accepted. Its
+/// settings may be others than those that it was read with.
+pub fn explain_made(
     alloc: Global,
     requested: Requested,
     bytes: &[u8],
     document: &mut Document,
 ) -> Result<Traced, SpirvError>
-    requires { MakesSixChecks document.old.settings.flags }
-    ensures { IfOk result (λ t. IsExplained requested t.explanation) }
+    ensures { IfOk result (λ t. IsExplainedOf requested (document_view document.old) t.explanation) }
 {
     match written(alloc, document) {
         Ok(text) => explain_written(alloc, requested, bytes, text.as_bytes(), document),
@@ -119,7 +138,7 @@ pub fn explain_spirv(
 {
     match read_spirv(alloc, bytes) {
         Ok(mut document) => {
-            let traced = explain_read(alloc, requested, bytes, &mut document);
+            let traced = explain_made(alloc, requested, bytes, &mut document);
             drop(document);
             traced
         }
@@ -137,15 +156,67 @@ impl Display for Traced {
     }
 }
 
+// Puts what global variables are in SPIR-V.
+fn put_globals(
+    map: &mut Map<String, Value>,
+    alloc: Global,
+    traced: &Traced,
+) -> Result<(), AllocError> {
+    match &traced.explanation {
+        Explanation::Accepted { lines, names, .. } => {
+            let globals = globals_value(alloc, names, &traced.roles, lines)?;
+            put(map, alloc, "globals", globals)
+        }
+        Explanation::NoDocument(..) | Explanation::Refused(..) => Ok(()),
+    }
+}
+
 impl Traced {
-    /// One JSON object with all of it, in one line without its end. The error is out of memory.
-    pub fn json(&self, alloc: Global) -> Result<String, AllocError> {
+    /// That of a document that was not made of SPIR-V.
+    pub fn of_document(alloc: Global, explanation: Explanation) -> Traced {
+        Traced {
+            explanation,
+            origin: None,
+            roles: Roles::none(alloc),
+        }
+    }
+
+    /// A JSON object with all of it. The error is out of memory.
+    pub fn value(&self, alloc: Global) -> Result<Value, AllocError> {
         let mut value = self.explanation.value(alloc)?;
         if let Value::Object(map) = &mut value {
             if let Some(origin) = &self.origin {
                 put(map, alloc, "spirv", origin.value(alloc)?)?;
             }
+            put_globals(map, alloc, self)?;
         }
-        value.to_string(alloc)
+        Ok(value)
+    }
+
+    /// The object in one line without its end. The error is out of memory.
+    pub fn json(&self, alloc: Global) -> Result<String, AllocError> {
+        match self.value(alloc) {
+            Ok(value) => value.to_string(alloc),
+            Err(error) => Err(error),
+        }
+    }
+
+    /// The line of what is found, and after it the lines that were wanted, with what each number of a global variable or an entry point
+    /// is. The error is out of memory.
+    pub fn named(&self, alloc: Global) -> Result<String, AllocError> {
+        let mut text = self.explanation.finding().text(alloc)?;
+        if let Explanation::Accepted { lines, names, .. } = &self.explanation {
+            let roles = &self.roles;
+            let lines = format!(in alloc;
+                "{}",
+                NamedLines {
+                    names,
+                    roles,
+                    lines
+                }
+            )?;
+            text.push_str(&lines)?;
+        }
+        Ok(text)
     }
 }

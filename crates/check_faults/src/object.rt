@@ -138,14 +138,23 @@ pub fn no_document_value(
     Ok(Value::Object(map))
 }
 
-/// The object of an accepted document, with its report. The error is out of memory.
-pub fn accepted_value(alloc: Global, strict: bool, report: &str) -> Result<Value, AllocError>
+/// The object of an accepted document, with its report, and with these lists of what its global variables and its entry points are.
+/// The error is out of memory.
+pub fn accepted_value(
+    alloc: Global,
+    strict: bool,
+    report: &str,
+    globals: Value,
+    entries: Value,
+) -> Result<Value, AllocError>
     ensures verdict { IfOk result (λ v. Has (view v) (codes "verdict") (string (codes "accepted"))) }
     ensures strict { IfOk result (λ v. Has (view v) (codes "strict") (boolean strict)) }
 {
     let mut map = Map::new(alloc);
     put_text(&mut map, alloc, "verdict", "accepted")?;
     put(&mut map, alloc, "strict", Value::Bool(strict))?;
+    put(&mut map, alloc, "globals", globals)?;
+    put(&mut map, alloc, "entries", entries)?;
     let (buffers, entries) = report_lists(alloc, report)?;
     put(&mut map, alloc, "buffers", buffers)?;
     put(&mut map, alloc, "entry_points", entries)?;

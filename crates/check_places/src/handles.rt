@@ -1,6 +1,7 @@
 // The first item that names something which is not there, or comes too late.
 
-use crate::walk::{Rule, Scene, Search, find_statement, step};
+use crate::body_place::step;
+use crate::walk::{Rule, Scene, Search, find_statement};
 use check_faults::document::{along, at, number_at, parts, word};
 use check_faults::forms::{Names, Part, does_name, expression_parts};
 use serde_json::Value;

@@ -1,11 +1,13 @@
 // Where in a document the item stands that a refusal speaks of.
 
-ghost use Rattle.std.specs.Prelude.{◌≡◌, IfOk};
+ghost use Rattle.std.specs.Prelude.{◌≡◌, IfOk, IfSome, take};
 ghost use Rattle.serde_json.specs.View.{view};
 ghost use Rattle.check_places.specs.Leading.{Leads, lead_length as length_leading};
+ghost use Rattle.check_places.specs.Placed.{path_to};
 
+use crate::body_place::{BodyPlace, place_path, step as step_of};
 use crate::handles::{Target, find_item, find_range};
-use crate::walk::{Rule, Scene, Search, find_statement, has, step as step_of};
+use crate::walk::{Rule, Scene, Search, find_statement, has};
 use check_faults::document::{along, at, number_at, parts, word, word_at};
 use check_faults::error_text::{field, handle, head, name_of, number, part, quoted, text_of};
 use check_faults::forms::{Names, names_of};
@@ -28,6 +30,8 @@ pub struct Refusal<'a> {
     /// The types of the expressions of the function or of the global expressions, as `{:?}` writes each, as far as they are
     /// known.
     pub types: &'a [String],
+    /// Where it stands in a body, if it does.
+    pub place: Option<BodyPlace<'a>>,
 }
 
 // An error that is wrapped in another one: the outer one's name, and the part that the inner one is.
@@ -565,13 +569,16 @@ fn lead_length(document: &Value, path: &[u32]) -> usize
 }
 
 /// The indexes that lead to the item that is refused, or to the part of it that the refusal speaks of, from the outermost on: always
-/// to a part of the document. The error is out of memory.
+/// to a part of the document. Of an error that stands in a body they are those of the place. The error is out of memory.
 #[tactic(auto, using(crate::proofs::Leading::leads))]
 pub fn path_of(alloc: Global, refusal: &Refusal<'_>) -> Result<Vec<u32>, AllocError>
-    ensures { IfOk result (λ path. Leads path.items (view refusal.now.document.now)) }
+    ensures leads { IfOk result (λ path. Leads path.items (view refusal.now.document.now)) }
+    ensures placed { IfSome refusal.now.place (λ place. IfOk result (λ path. path.items ≡ take (length_leading (path_to place) (view refusal.now.document.now)) (path_to place))) }
 {
-    let mut path = Vec::new(alloc);
-    find_path(refusal, &mut path)?;
+    let mut path = match refusal.place {
+        Some(place) => place_path(alloc, place)?,
+        None => found_path(alloc, refusal)?,
+    };
     let count = lead_length(refusal.document, &path);
     path.truncate(count);
     Ok(path)
@@ -593,7 +600,7 @@ fn find_in_list(refusal: &Refusal<'_>, path: &mut Vec<u32>) -> Result<(), AllocE
     }
 }
 
-// The same, where the error may speak of more than the document has.
+// Puts the way to the item at the end of the path, which is empty; the error may speak of more than the document has.
 fn find_path(refusal: &Refusal<'_>, path: &mut Vec<u32>) -> Result<(), AllocError> {
     match refusal.step {
         "handles" => find_handle(refusal, path),
@@ -603,4 +610,11 @@ fn find_path(refusal: &Refusal<'_>, path: &mut Vec<u32>) -> Result<(), AllocErro
         }
         _ => find_in_list(refusal, path),
     }
+}
+
+// The path that is found by the error. The error is out of memory.
+fn found_path(alloc: Global, refusal: &Refusal<'_>) -> Result<Vec<u32>, AllocError> {
+    let mut path = Vec::new(alloc);
+    find_path(refusal, &mut path)?;
+    Ok(path)
 }

@@ -1,5 +1,6 @@
 // A statement of a body that is looked for, in the order in which statements are judged.
 
+use crate::body_place::step;
 use check_faults::document::{along, at, number_at, parts, word, word_at};
 use check_faults::error_text::{field, number, part, text_of};
 use check_faults::forms::{Names, answers_by, does_name, expression_parts, statement_parts};
@@ -368,11 +369,6 @@ fn inside(statement: &Value, part: usize, around: Around) -> Around {
         },
         _ => around,
     }
-}
-
-/// The step of a path to the part at an index.
-pub fn step(index: usize) -> u32 {
-    u32::try_from(index).unwrap_or(u32::MAX)
 }
 
 // Whether it is a loop whose condition is looked at after its blocks.

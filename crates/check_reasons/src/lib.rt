@@ -9,6 +9,6 @@ mod rules;
 mod show;
 
 pub use check_faults::PathNames;
-pub use check_places::{Refusal, path_of};
+pub use check_places::{BodyPlace, Refusal, path_of};
 pub use hints::{Slip, hint};
 pub use reason::{Reason, name_of};

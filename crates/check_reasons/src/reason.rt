@@ -53,6 +53,8 @@ fn function_of<'a>(document: &'a Value, path: &[u32]) -> Option<&'a Value> {
     }
 }
 
+static ARGUMENT: [Part; 1] = [(1, Names::Type)];
+
 static CONSTANT: [Part; 2] = [(1, Names::Type), (2, Names::Expression)];
 
 static OVERRIDE: [Part; 2] = [(2, Names::Type), (3, Names::Expression)];
@@ -64,7 +66,8 @@ static OUTPUT: [Part; 1] = [(0, Names::Type)];
 // The parts of the item inside a function that name something.
 fn form_inside(inside: &[u32], item: &Value) -> &'static [Part] {
     match inside.first() {
-        Some(1 | 3) => &CONSTANT,
+        Some(1) => &ARGUMENT,
+        Some(3) => &CONSTANT,
         Some(2) => &OUTPUT,
         Some(4) => expression_parts(item),
         Some(5) => statement_parts(item),

@@ -37,7 +37,7 @@ Compose|Typing|only vectors, matrices, arrays of constant length and structs can
 |ComponentCount|the composition requires {expected} components, and {given} are provided
 |ComponentType|component {index} must have the type of that component of the composed type
 Typing|OutOfBoundsIndex|expressions{expr} has no component {index}
-Typing|InvalidAccess|expressions{expr} cannot be indexed: only vectors, matrices, arrays, structs, binding arrays and pointers to them can
+Typing|InvalidAccess|expressions{expr} cannot be indexed so: only vectors, matrices, arrays, binding arrays and pointers to them can, and structs by an AccessIndex
 Typing|InvalidSubAccess|types{ty} cannot be indexed
 Typing|InvalidScalar|a splat must be of a scalar, and expressions{0} is not one
 Typing|InvalidVector|a swizzle must be of a vector, and expressions{0} is not one
@@ -90,7 +90,7 @@ global|InitializerType|the initializer must have the type of the variable
 |CoherentNotSupported|the document's capabilities lack MEMORY_DECORATION_COHERENT
 |VolatileNotSupported|the document's capabilities lack MEMORY_DECORATION_VOLATILE
 |NotInScope|an operand must be emitted, or be the result of a statement, earlier in the same block or in an enclosing one
-|ExpressionAlreadyInScope|expressions{0} is already in scope, and can come into scope only once
+|ExpressionAlreadyInScope|expressions{0} is already in scope, and enters scope once per path: a literal, a constant, a variable and an argument always are
 |InvalidArgumentType|the type of an argument must be one that can be passed to functions
 |NonConstructibleReturnType|the result type of a function must be constructible
 |InvalidArgumentPointerSpace|a pointer argument must be into Function or Private, and not into {space}
@@ -161,7 +161,7 @@ InvalidSubgroup|ResultTypeMismatch|the result must have the type of the operand,
 |MissingVertexOutputPosition|a vertex shader must output Position: bind the result, or a member of it
 |UnexpectedEarlyDepthTest|only fragment shaders can have an early depth test
 |UnexpectedWorkgroupSize|a stage without workgroups must have the workgroup size [0,0,0]
-|OutOfRangeWorkgroupSize|each dimension of the workgroup size must be 1 to 16384, and their product within the limit
+|OutOfRangeWorkgroupSize|each dimension of the workgroup size must be 1 to 16384
 |ForbiddenStageOperations|the function and its callees must not execute operations that are forbidden at this stage
 |InvalidGlobalUsage|the variable's address space and access do not allow the use {1}
 |MoreThanOneImmediateUsed|an entry point can use at most one variable in Immediate

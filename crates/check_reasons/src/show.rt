@@ -7,12 +7,26 @@ use std::fmt::{self, Display};
 
 // More parts than these are left out.
 const MOST_PARTS: usize = 12;
+// More characters of a text are left out.
+const MOST_CHARACTERS: usize = 60;
 // Pointers and arrays are followed so far.
 const MOST_TYPES: u32 = 4;
 
 /// A part of the document as JSON, without what lies deeper inside, and not all of a long list.
 #[derive(Clone, Copy)]
 pub(crate) struct Shown<'a>(pub(crate) &'a Value);
+
+// A text in quotes, and not all of a long one.
+fn write_text<W: fmt::Write>(f: &mut fmt::Formatter<W>, text: &str) -> fmt::Result {
+    let end = match text.char_indices().nth(MOST_CHARACTERS) {
+        Some((end, _)) => end,
+        None => return write!(f, "{text:?}"),
+    };
+    match text.get(..end) {
+        Some(head) => write!(f, "{head:?}.."),
+        None => Ok(()),
+    }
+}
 
 fn write_number<W: fmt::Write>(f: &mut fmt::Formatter<W>, value: &Value) -> fmt::Result {
     match (value.as_u64(), value.as_i64()) {
@@ -28,7 +42,7 @@ fn write_leaf<W: fmt::Write>(f: &mut fmt::Formatter<W>, value: &Value) -> fmt::R
         Value::Null => write!(f, "null"),
         Value::Bool(truth) => write!(f, "{truth}"),
         Value::Number(_) => write_number(f, value),
-        Value::String(text) => write!(f, "{:?}", text.as_str()),
+        Value::String(text) => write_text(f, text.as_str()),
         Value::Array(_) => write!(f, "[..]"),
         Value::Object(_) => write!(f, "an object"),
     }
@@ -328,7 +342,10 @@ impl Display for NameIn<'_> {
     fn fmt<W: fmt::Write>(&self, f: &mut fmt::Formatter<W>) -> fmt::Result {
         match self.0 {
             Some(value) => match value.as_str() {
-                Some(name) => write!(f, " {name:?}"),
+                Some(name) => {
+                    write!(f, " ")?;
+                    write_text(f, name)
+                }
                 None => Ok(()),
             },
             None => Ok(()),

@@ -1,0 +1,20 @@
+-- The path of a place of a body.
+use Rattle.std.specs.Prelude.{ℕ, Bool, true, false, List, [], ◌∷◌, ◌++◌, map, nat_le, if◌then◌else◌}
+use Rattle.check_paths.specs.Json.{json_path}
+use Rattle.check_places.specs.declared.body_place.BodyPlace.{BodyPlace}
+
+-- the greatest index that a path has
+abbrev pub greatest : ℕ
+greatest = 4294967295
+
+-- an index as a path has it
+abbrev pub clamped : ℕ → ℕ
+clamped n = if nat_le n greatest then n else greatest
+
+-- the array of the statements of the body of a function, or of that of an entry point
+abbrev pub body_path : (of_entry : Bool) → (index : ℕ) → List ℕ
+body_path false index = 12 ∷ index ∷ 5 ∷ []
+body_path true index = 13 ∷ index ∷ 6 ∷ 5 ∷ []
+
+abbrev pub path_to : BodyPlace → List ℕ
+path_to place = map clamped (body_path place.of_entry place.index ++ json_path place.trail.now)
