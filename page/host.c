@@ -1,7 +1,7 @@
 /* What the program `checker` takes from its host, where the host is a page: a heap, one input to read, and room for what it
- * writes. `room` takes the input's length and answers where its bytes go, `judge` runs the program over them and answers its status,
- * and `text` with `text_length` is what it wrote. What `judge` takes says what the input is and what is written: 0 a document and what
- * `--json` says of it, 1 a module of SPIR-V and the same, 2 a module of SPIR-V and the document that it says. */
+ * writes. `room` takes the input's length and how many bytes all of it may take, and returns where the input goes, or 0. `judge` runs
+ * the program over the input and returns its status, and `text` with `text_length` is what it wrote. Of what `judge` takes, the first
+ * says what is written (a place of `forms`), the second whether the input is a module of SPIR-V and no document. */
 
 typedef unsigned long size;
 typedef long offset;
@@ -24,10 +24,10 @@ struct block {
 extern unsigned char __heap_base;
 extern int check_main(void);
 
-static size top;
+static size top, limit;
 static struct block *freed[CLASSES];
 static unsigned char *document, *written;
-static int wanted;
+static const char *words[4];
 static size document_length, document_read, written_length, written_room;
 static int error;
 
@@ -35,9 +35,12 @@ static size round16(size n) {
     return (n + 15) & ~15ul;
 }
 
-/* Takes so many bytes at the end of the memory. */
+/* Takes so many bytes at the end of the memory, within the limit. */
 static void *extend(size n) {
     size end = top + n, pages = __builtin_wasm_memory_size(0);
+    if (end < top || end > limit) {
+        return 0;
+    }
     if (end > pages * PAGE && __builtin_wasm_memory_grow(0, (end - pages * PAGE + PAGE - 1) / PAGE) == ~0ul) {
         return 0;
     }
@@ -112,11 +115,13 @@ offset lseek(int file, offset to, int whence) {
     return -1;
 }
 
-/* The arguments: the program's name, and the words of what is wanted. */
-static const char *const words[3][3] = {{"shader", "--json", 0}, {"shader", "--json", "--spirv"}, {"shader", "--document", "--spirv"}};
+/* The arguments, by which the program writes the verdict with its reason or report, the document, or the leaves of the buffers. */
+#define FORMS 3
+
+static const char *const forms[FORMS] = {"--json", "--document", "--leaves"};
 
 offset rattle_arg(size index, unsigned char *to, size n) {
-    const char *word = index < 3 ? words[wanted][index] : 0;
+    const char *word = index < 4 ? words[index] : 0;
     size length = 0;
     if (!word) {
         return -1;
@@ -154,21 +159,24 @@ offset __sysv_signal(int signal, offset to) {
     return 0;
 }
 
-/* Where the bytes of an input of this length go, or 0; what was written before is gone. */
-unsigned char *room(size length) {
+/* Where the bytes of an input of this length go, or 0, where all of it may take so many bytes; what was written before is gone. */
+unsigned char *room(size length, size most) {
     top = round16((size)&__heap_base);
+    limit = most < ~0ul - top ? top + most : ~0ul;
     for (int class = 0; class < CLASSES; class++) {
         freed[class] = 0;
     }
     document_length = length;
-    document = extend(round16(length));
+    document = length < limit ? extend(round16(length)) : 0;
     return document;
 }
 
 /* Runs the program over the input: 0 for accepted, 1 for refused, 2 where there is no memory, 3 for a module that was not read. */
-int judge(int what) {
+int judge(int form, int is_spirv) {
     struct tried got = rattle_alloc(4096, 1);
-    wanted = what < 0 || what > 2 ? 0 : what;
+    words[0] = "shader";
+    words[1] = forms[form < 0 || form >= FORMS ? 0 : form];
+    words[2] = is_spirv ? "--spirv" : 0;
     document_read = written_length = 0;
     written_room = got.ok ? 4096 : 0;
     written = got.place;

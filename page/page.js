@@ -1,212 +1,230 @@
-// Judges the document in the page while it is typed, or a module of SPIR-V out of a file, and shows the answer. MODULE, EXAMPLES and
-// SPIRV_EXAMPLES are those of out/module.js.
+// Judges the document in the page while it is typed, or a file, and shows the answer. EXAMPLES and SPIRV_EXAMPLES are those of
+// out/module.js.
 "use strict";
 
-const $ = (name) => document.getElementById(name);
-const bytes = typeof MODULE === "undefined" ? null : decoded(MODULE);
-let module = null;
-let program = null;
+(() => {
+    const $ = (name) => document.getElementById(name);
+    const FIRST = "shader-vertex-and-fragment-lit-texture";
+    // What a module of SPIR-V begins with, in either order of bytes.
+    const MAGIC = [[3, 2, 35, 7], [7, 35, 2, 3]];
+    // The longest text that is shown: longer ones are no documents.
+    const LONGEST = 2 ** 24;
 
-// What the program is run for, as host.c numbers it.
-const DOCUMENT = 0;
-const SPIRV = 1;
-const TRANSLATED = 2;
+    // The names of lists in paths, and their places in a document, in a function and in an entry point.
+    const LISTS = { types: 5, constants: 8, overrides: 9, "global expressions": 10, globals: 11, functions: 12, "entry points": 13 };
+    const EXPRESSIONS = { 12: [4], 13: [6, 4] };
+    const EXPRESSION = /(?:(functions|entry points)\[(\d+)\](?:\.function)?\.)?\bexpressions\[(\d+)\]/;
+    const ITEM = new RegExp(`(${Object.keys(LISTS).join("|")})\\[(\\d+)\\]`);
+    const NAMED = new RegExp(`${EXPRESSION.source}|${ITEM.source}`, "g");
 
-// What the program writes on an input and its status, or why there is neither.
-async function run(input, what) {
-    try {
-        module ??= await WebAssembly.compile(bytes);
-        program ??= (await WebAssembly.instantiate(module, {})).exports;
-        const room = program.room(BigInt(input.length));
-        if (room === 0n && input.length > 0) throw new Error("no memory");
-        new Uint8Array(program.memory.buffer).set(input, Number(room));
-        const status = program.judge(what);
-        if (status === 2) throw new Error("no memory");
-        const found = new Uint8Array(program.memory.buffer, Number(program.text()), Number(program.text_length()));
-        return { text: new TextDecoder().decode(found), status };
-    } catch (error) {
-        program = null;
-        return { fault: String(error.message ?? error) };
+    // --- the document
+
+    // Puts a text in, if it is another one. What was marked is so no longer.
+    function putText(text) {
+        const area = $("document");
+        if (area.value !== text) area.value = text;
+        $("marked").replaceChildren();
     }
-}
 
-// A document with a line for each item of its lists.
-function inLines(text) {
-    let depth = 0;
-    return text.replace(/"(?:[^"\\]|\\.)*"|[[\],]/g, (it) => {
-        if (it === "[") depth++;
-        if (it === "]") depth--;
-        return it === "," && depth <= 2 ? `,\n${" ".repeat(depth)}` : it;
-    });
-}
-
-// The end of the JSON value that begins at a place of a text, or what stands at an index of it: [start, end].
-function skipSpace(text, at) {
-    while (/\s/.test(text[at] ?? "")) at++;
-    return at;
-}
-
-function endOf(text, start) {
-    let depth = 0;
-    for (let at = start; at < text.length; at++) {
-        if (text[at] === '"') {
-            for (at++; at < text.length && text[at] !== '"'; at++) if (text[at] === "\\") at++;
-        } else if ("[{".includes(text[at])) depth++;
-        else if ("]}".includes(text[at]) && --depth < 0) return at;
-        if (depth === 0 && /[\],}\s]/.test(text[at + 1] ?? ",") && !/[\s,]/.test(text[at])) return at + 1;
+    // The marks lie under the text, and move with it.
+    function moveMarks() {
+        const area = $("document");
+        $("marked").style.transform = `translate(${-area.scrollLeft}px, ${-area.scrollTop}px)`;
     }
-    return text.length;
-}
 
-// Where the part is that steps lead to.
-function placeOf(text, steps) {
-    let start = skipSpace(text, 0);
-    for (const step of steps) {
-        if (text[start] !== "[") return null;
-        start = skipSpace(text, start + 1);
-        for (let index = 0; index < step; index++) {
-            const comma = skipSpace(text, endOf(text, start));
-            if (text[comma] !== ",") return null;
-            start = skipSpace(text, comma + 1);
+    // Marks a part of the text, selects it and scrolls to it.
+    function mark([start, end]) {
+        const area = $("document"), text = area.value, part = Report.made("mark", text.slice(start, end) || " ");
+        $("marked").replaceChildren(text.slice(0, start), part);
+        area.focus();
+        area.setSelectionRange(start, end);
+        const line = parseFloat(getComputedStyle(area).lineHeight), base = $("marked").getBoundingClientRect();
+        const at = part.getClientRects()[0], top = at.top - base.top, left = at.left - base.left;
+        area.scrollTop = top - Math.min(4 * line, area.clientHeight / 3);
+        const past = left + at.width + line - area.clientWidth;
+        area.scrollLeft = Math.max(0, Math.min(past, left - line));
+        moveMarks();
+    }
+
+    // Shows the part that steps lead to, in lines in which it can be seen.
+    function showPart(steps) {
+        putText(Layout.showing($("document").value, steps));
+        mark(Layout.placeOf($("document").value, steps));
+    }
+
+    function showColumn(line, column) {
+        mark(Layout.placeOfColumn($("document").value, line, column));
+    }
+
+    // --- the answer
+
+    // Writes a text, if it is another one, so that what is read aloud is new.
+    function write(name, text) {
+        if ($(name).textContent !== text) $(name).textContent = text;
+    }
+
+    // A text with a link for each match.
+    function withLinks(text, pattern, linked) {
+        const parts = [];
+        let at = 0;
+        for (const match of text.matchAll(pattern)) {
+            parts.push(text.slice(at, match.index), linked(match));
+            at = match.index + match[0].length;
+        }
+        return [...parts, text.slice(at)];
+    }
+
+    // The steps to what a reason names: an item of the document, or an expression of the function that is named or that the path is in,
+    // or a global one.
+    function stepsTo([, owner, at, expression, list, index], steps) {
+        if (list) return [LISTS[list], Number(index)];
+        const inside = owner ? [LISTS[owner], Number(at)] : steps.slice(0, 2);
+        const all = inside[0] in EXPRESSIONS ? [...inside, ...EXPRESSIONS[inside[0]]] : [LISTS["global expressions"]];
+        return [...all, Number(expression)];
+    }
+
+    // What a reason names as a link to it.
+    const pathLink = (steps) => (match) => Report.link(match[0], `Show ${match[0]} in the document`, () => showPart(stepsTo(match, steps)));
+
+    // A line and a column as a link to the character.
+    function columnLink([text, line, column]) {
+        return Report.link(text, `Show ${text} in the document`, () => showColumn(Number(line), Number(column)));
+    }
+
+    // The reason after its path, with links.
+    function reasonOf(found) {
+        const isAfterPath = found.path && found.text.startsWith(found.path);
+        const text = isAfterPath ? found.text.slice(found.path.length).replace(/^: /, "") : (found.text ?? "");
+        const from = found.spirv ? ` (${found.spirv.opcode}${found.spirv.name ? ` "${found.spirv.name}"` : ""} at word ${found.spirv.word}, ${found.spirv.at})` : "";
+        if (found.step === "document" && !found.path) return withLinks(text, /line (\d+), column (\d+)/g, columnLink);
+        return found.verdict === "refused" ? withLinks(text + from, NAMED, pathLink(found.steps)) : [text];
+    }
+
+    function showPath(found) {
+        const isThere = found.verdict === "refused" && Boolean(found.path);
+        $("where").hidden = !isThere;
+        write("path", found.path ?? "");
+        $("path").setAttribute("aria-label", `Show ${found.path} in the document`);
+        $("path").onclick = () => showPart(found.steps);
+    }
+
+    function showFound(found, lines = "") {
+        $("verdict").className = found.verdict;
+        write("verdict", found.verdict + (found.strict ? " strict" : ""));
+        const item = [found.step, found.index ?? "", found.name ?? ""].join(" ").trim();
+        write("item", found.verdict === "refused" ? `at the step ${item}` : "");
+        showPath(found);
+        $("reason").replaceChildren(...reasonOf(found));
+        $("report").replaceChildren(...Report.partsOf(found, $("document").value, lines));
+    }
+
+    // Shows an answer. ./try-page reads it from the page.
+    function showAnswer(answer, lines) {
+        const fault = { verdict: "no verdict", text: `This browser gave no answer: ${answer.fault}` };
+        showFound(answer.fault ? fault : JSON.parse(answer.text), lines);
+        $("answer").dataset.text = answer.text ?? "";
+        $("answer").dispatchEvent(new Event("judged"));
+    }
+
+    // --- judging
+
+    // How many inputs there were: the answer on any but the last is not shown.
+    let turns = 0;
+    let waiting = 0;
+
+    // Judges an input, and shows the answer; of a module of SPIR-V that was read also the document that it says.
+    async function judge(input, isSpirv) {
+        clearTimeout(waiting);
+        const turn = ++turns;
+        const answer = await Program.run(input, Program.JSON_ANSWER, isSpirv);
+        const hasDocument = isSpirv && (answer.status === 0 || answer.status === 1);
+        const said = hasDocument ? await Program.run(input, Program.DOCUMENT, true) : null;
+        const leaves = answer.status === 0 ? await Program.run(input, Program.LEAVES, isSpirv) : { text: "" };
+        if (turn !== turns) return;
+        if (isSpirv) putText(Layout.inLines(said?.text ?? ""));
+        showAnswer(answer, leaves.text ?? null);
+    }
+
+    const judgeTyped = () => judge(new TextEncoder().encode($("document").value), false);
+
+    function judgeSoon() {
+        turns++;
+        $("marked").replaceChildren();
+        clearTimeout(waiting);
+        waiting = setTimeout(judgeTyped, 100);
+    }
+
+    // Puts a document or a module in, whatever its name is, and judges its bytes as they are.
+    async function put(input) {
+        const isSpirv = MAGIC.some((magic) => magic.every((it, index) => input[index] === it));
+        if (!isSpirv) putText(input.length > LONGEST ? "" : new TextDecoder().decode(input));
+        await judge(input, isSpirv);
+    }
+
+    async function putExample(name) {
+        const text = Object.hasOwn(EXAMPLES, name) ? EXAMPLES[name] : null;
+        await put(text === null ? Program.decoded(SPIRV_EXAMPLES[name]) : new TextEncoder().encode(text));
+    }
+
+    const isExample = (name) => Object.hasOwn(EXAMPLES, name) || Object.hasOwn(SPIRV_EXAMPLES, name);
+
+    async function putFile(file) {
+        if (!file) return;
+        $("examples").value = "";
+        await put(new Uint8Array(await file.arrayBuffer()));
+    }
+
+    // --- the page
+
+    // Takes files that are dropped anywhere.
+    function takeDrops() {
+        const hasFile = (event) => event.dataTransfer?.types.includes("Files");
+        const dropping = (isOver) => $("view").classList.toggle("dropping", isOver);
+        document.addEventListener("dragover", (event) => {
+            if (!hasFile(event)) return;
+            event.preventDefault();
+            dropping(true);
+        });
+        document.addEventListener("dragleave", (event) => event.relatedTarget ?? dropping(false));
+        document.addEventListener("drop", (event) => {
+            if (!hasFile(event)) return;
+            event.preventDefault();
+            dropping(false);
+            putFile(event.dataTransfer.files[0]);
+        });
+    }
+
+    // What the address says after #: the name of an example, and whether its path is shown, as in #NAME!show.
+    function addressed() {
+        try {
+            return decodeURIComponent(location.hash.slice(1)).split("!");
+        } catch {
+            return [""];
         }
     }
-    return [start, endOf(text, start)];
-}
 
-// Marks the part in the text, and scrolls to it.
-function show(steps) {
-    const area = $("document");
-    const place = placeOf(area.value, steps);
-    if (!place) return;
-    const line = area.value.slice(0, place[0]).split("\n").length;
-    area.focus();
-    area.setSelectionRange(...place);
-    const height = area.scrollHeight / Math.max(1, area.value.split("\n").length);
-    area.scrollTop = Math.max(0, (line - 6) * height);
-}
-
-// An element with text or with others inside.
-function made(name, ...inside) {
-    const it = document.createElement(name);
-    it.append(...inside);
-    return it;
-}
-
-function table(heads, rows) {
-    const body = rows.map((row) => made("tr", ...row.map((it) => made("td", String(it)))));
-    return made("table", made("tr", ...heads.map((it) => made("th", it))), ...body);
-}
-
-// The names of the items of a list of the document, by their place in a row.
-function names(list, place) {
-    try {
-        return JSON.parse($("document").value)[list].map((it) => it[place]);
-    } catch {
-        return [];
+    async function open() {
+        const [name, shown] = addressed();
+        $("examples").value = isExample(name) ? name : FIRST;
+        await putExample($("examples").value);
+        if (shown === "show") $("path").click();
     }
-}
 
-function showReport(found) {
-    const parts = [];
-    const globals = names(11, 0);
-    const global = (index) => (globals[index] ? `${index} ${globals[index]}` : String(index));
-    if (found.buffers?.length) {
-        parts.push(made("h2", "Buffers"), table(["variable", "size", "alignment"], found.buffers.map((it) => [global(it.global), it.size, it.alignment])));
+    function begin() {
+        const missing = Program.missing();
+        if (missing) {
+            showFound({ verdict: "no verdict", text: missing });
+            return;
+        }
+        for (const name of [...Object.keys(EXAMPLES), ...Object.keys(SPIRV_EXAMPLES)]) $("examples").append(Report.made("option", name));
+        $("examples").onchange = () => isExample($("examples").value) && putExample($("examples").value);
+        $("document").oninput = judgeSoon;
+        $("document").onscroll = moveMarks;
+        $("file").onchange = () => putFile($("file").files[0]);
+        addEventListener("hashchange", open);
+        takeDrops();
+        open();
     }
-    const entries = names(13, 1);
-    (found.entry_points ?? []).forEach((entry, index) => {
-        parts.push(made("h2", `Entry point ${index} ${entries[index] ?? ""}`));
-        const rows = entry.globals.map((it) => [global(it.global), it.uses.join(" ")]);
-        entry.samples.forEach((it) => rows.push([global(it.image), `sampled by ${global(it.sampler)}`]));
-        if (entry.payload !== null) rows.push([global(entry.payload), "payload"]);
-        if (entry.mesh !== null) rows.push([global(entry.mesh), "mesh output"]);
-        parts.push(rows.length ? table(["variable", "use"], rows) : made("p", "uses no variable"));
-    });
-    $("report").replaceChildren(...parts);
-}
 
-function showFound(found) {
-    $("verdict").className = found.verdict;
-    $("verdict").textContent = found.verdict + (found.strict ? " strict" : "");
-    const item = [found.step, found.index ?? "", found.name ?? ""].join(" ").trim();
-    $("item").textContent = found.verdict === "refused" ? `at the step ${item}` : "";
-    $("path").textContent = found.path ?? "";
-    $("path").onclick = () => show(found.steps ?? []);
-    const text = found.path && found.text.startsWith(found.path) ? found.text.slice(found.path.length).replace(/^: /, "") : (found.text ?? "");
-    const from = found.spirv ? ` (${found.spirv.opcode}${found.spirv.name ? ` "${found.spirv.name}"` : ""} at word ${found.spirv.word})` : "";
-    $("reason").textContent = text + from;
-    showReport(found);
-}
-
-// Shows an answer. ./try-page reads it from the page.
-function showAnswer(answer) {
-    showFound(answer.fault ? { verdict: "no verdict", text: `This browser gave no answer: ${answer.fault}` } : JSON.parse(answer.text));
-    $("answer").dataset.text = answer.text ?? "";
-    $("answer").dispatchEvent(new Event("judged"));
-}
-
-// How many inputs were judged: the answer on any but the last is not shown.
-let turns = 0;
-
-// Judges what stands in the page.
-async function judge() {
-    const text = $("document").value;
-    const turn = ++turns;
-    const answer = await run(new TextEncoder().encode(text), DOCUMENT);
-    if (turn === turns && text === $("document").value) showAnswer(answer);
-}
-
-// Judges a module of SPIR-V, and puts the document that it says into the page, if it could be read.
-async function putModule(input) {
-    clearTimeout(waiting);
-    const turn = ++turns;
-    const answer = await run(input, SPIRV);
-    const translated = answer.fault || answer.status === 3 ? { text: "" } : await run(input, TRANSLATED);
-    if (turn !== turns) return;
-    $("document").value = inLines(translated.text ?? "");
-    showAnswer(answer);
-}
-
-let waiting = 0;
-function judgeSoon() {
-    clearTimeout(waiting);
-    waiting = setTimeout(judge, 100);
-}
-
-function put(text) {
-    $("document").value = text;
-    judge();
-}
-
-// The bytes of what is written in base 64.
-function decoded(text) {
-    return Uint8Array.from(atob(text), (it) => it.charCodeAt(0));
-}
-
-function putExample(name) {
-    if (name in SPIRV_EXAMPLES) putModule(decoded(SPIRV_EXAMPLES[name]));
-    else put(EXAMPLES[name] ?? "");
-}
-
-async function putFile(file) {
-    if (!file) return;
-    if (file.name.endsWith(".spv")) putModule(new Uint8Array(await file.arrayBuffer()));
-    else put(await file.text());
-}
-
-function begin() {
-    if (!bytes) {
-        showFound({ verdict: "no verdict", text: "The module is not there: ./build-page makes it." });
-        return;
-    }
-    for (const name of [...Object.keys(EXAMPLES), ...Object.keys(SPIRV_EXAMPLES)]) $("examples").append(made("option", name));
-    $("examples").onchange = () => putExample($("examples").value);
-    $("document").oninput = judgeSoon;
-    $("file").onchange = () => putFile($("file").files[0]);
-    const [name, shown] = decodeURIComponent(location.hash.slice(1)).split("!");
-    $("examples").value = name in EXAMPLES || name in SPIRV_EXAMPLES ? name : "shader-vertex-and-fragment-lit-texture";
-    putExample($("examples").value);
-    if (shown === "show") $("answer").addEventListener("judged", () => $("path").click(), { once: true });
-}
-
-begin();
+    begin();
+})();

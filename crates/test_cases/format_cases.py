@@ -25,8 +25,8 @@ OPEN = {1, 2, 5, 8, 9, 10, 11, 12, 13}
 
 # what is due where a document is of plain parts and not accepted, or of others
 ANSWERS = {
-    "statement: leave the nearest loop or switch": "refused function 1",
-    "statement: go on with the nearest loop's continuing part": "refused function 1",
+    "statement: a break out of the innermost loop or switch": "refused function 1",
+    "statement: a continue of the innermost loop": "refused function 1",
     "case: a case: its value, its body, and whether it falls through to the next": "refused function 1",
     "value: a number with a sign, from -2147483648 to 2147483647": "refused function 1",
     "value: what no other case names": "refused function 1",
@@ -39,7 +39,7 @@ ANSWERS = {
     "stage of an entry point: Mesh": "refused entry 0",
     "stage of an entry point: Task": "refused entry 0",
     # there are no such types, and no such variable
-    "mesh: what a mesh shader gives; where a most is an override's, the expression that names it": "refused handles",
+    "mesh: the mesh output; where a limit is an override's, the expression that names it": "refused handles",
     "topology: Points": "refused handles",
     "topology: Lines": "refused handles",
     "topology: Triangles": "refused handles",

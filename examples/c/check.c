@@ -1,4 +1,5 @@
-/* Judges the document in each file that is named, as ./shader-check does; with --json or --spirv in front as that does with it. */
+/* Judges the document in each file that is named, as ./shader-check does; with --json, --leaves, --spirv or --document in front as that
+ * does with them. --version prints the library's version. */
 #include "shader_check.h"
 
 #include <stdio.h>
@@ -33,36 +34,73 @@ static uint8_t *bytes_of(const char *name, size_t *length)
 
 typedef uint32_t call(const uint8_t *, size_t, uint8_t *, size_t, size_t *);
 
-/* Judges a document or a module of SPIR-V, with as much room for the text as it takes. */
+/* What the words in front say. */
+struct wanted {
+    int is_spirv, is_json, is_leaves, is_document;
+};
+
+/* Takes a word, and says whether it is one. */
+static int take_word(struct wanted *wanted, const char *word)
+{
+    if (strcmp(word, "--spirv") == 0)
+        wanted->is_spirv = 1;
+    else if (strcmp(word, "--json") == 0)
+        wanted->is_json = 1;
+    else if (strcmp(word, "--leaves") == 0)
+        wanted->is_leaves = 1;
+    else if (strcmp(word, "--document") == 0)
+        wanted->is_document = 1;
+    else
+        return 0;
+    return 1;
+}
+
+/* The call for them. */
+static call *call_for(const struct wanted *wanted)
+{
+    if (wanted->is_document)
+        return shader_check_spirv_document;
+    if (wanted->is_json)
+        return wanted->is_spirv ? shader_check_spirv_json : shader_check_json;
+    if (wanted->is_leaves)
+        return wanted->is_spirv ? shader_check_spirv_leaves : shader_check_leaves;
+    return wanted->is_spirv ? shader_check_spirv : shader_check;
+}
+
+/* Judges a document or a module of SPIR-V. First without room for the text, which says how much it takes. */
 static uint32_t judge(call *check, const uint8_t *bytes, size_t length, uint8_t **text, size_t *needed)
 {
-    uint8_t small[256];
-    uint32_t status = check(bytes, length, small, sizeof small, needed);
+    uint32_t status = check(bytes, length, NULL, 0, needed);
     *text = NULL;
     if (status == SHADER_CHECK_NO_MEMORY)
         return status;
     *text = malloc(*needed);
-    return *text ? check(bytes, length, *text, *needed, needed) : SHADER_CHECK_NO_MEMORY;
+    return *text ? check(bytes, length, *text, *needed, NULL) : SHADER_CHECK_NO_MEMORY;
 }
 
 int main(int count, char **names)
 {
+    if (count > 1 && strcmp(names[1], "--version") == 0) {
+        uint32_t version = shader_check_version();
+        printf("%u.%u.%u\n", version >> 16, version >> 8 & 255, version & 255);
+        return version != SHADER_CHECK_VERSION_NUMBER;
+    }
     uint32_t worst = SHADER_CHECK_ACCEPTED;
-    int is_json = count > 1 && strcmp(names[1], "--json") == 0;
-    int is_spirv = count > 1 && strcmp(names[1], "--spirv") == 0;
-    call *check = is_json ? shader_check_json : is_spirv ? shader_check_spirv : shader_check;
-    int first = is_json || is_spirv ? 2 : 1;
-    for (int at = first; at < count; at++) {
+    struct wanted wanted = {0, 0, 0, 0};
+    int at = 1;
+    while (at < count && take_word(&wanted, names[at]))
+        at++;
+    for (; at < count; at++) {
         size_t length, needed;
         uint8_t *text, *bytes = bytes_of(names[at], &length);
         if (!bytes) {
             fprintf(stderr, "%s cannot be read\n", names[at]);
             return 125;
         }
-        uint32_t status = judge(check, bytes, length, &text, &needed);
+        uint32_t status = judge(call_for(&wanted), bytes, length, &text, &needed);
         if (text) {
             fwrite(text, 1, needed, stdout);
-            if (is_json)
+            if (needed && text[needed - 1] != '\n')
                 putchar('\n');
         } else
             fputs("fault: memory\n", stderr);

@@ -3,6 +3,7 @@
     import shader_check
     answer = shader_check.check(document)          # bytes, or a text
     answer = shader_check.check_spirv(module)      # bytes
+    answer = shader_check.check_leaves(document)   # what lies where in its buffers
     if not answer.accepted:
         print(answer.text, shader_check.check_json(document).data["text"])
 
@@ -15,7 +16,8 @@ import json
 import os
 from dataclasses import dataclass
 
-__all__ = ["Answer", "Status", "check", "check_json", "check_spirv"]
+__all__ = ["Answer", "Status", "check", "check_json", "check_leaves", "check_spirv", "check_spirv_json", "check_spirv_leaves",
+           "document_of_spirv", "version"]
 __version__ = "0.1.0"
 
 
@@ -41,7 +43,7 @@ class Answer:
 
     @property
     def data(self):
-        """The object of an answer of `check_json`."""
+        """The object of an answer of `check_json` or `check_spirv_json`."""
         return json.loads(self.text)
 
 
@@ -50,7 +52,10 @@ def _load():
     if not name:
         raise OSError("the library shader_check is not found; SHADER_CHECK_LIBRARY names its file")
     library = ctypes.CDLL(name)
-    for call in (library.shader_check, library.shader_check_json, library.shader_check_spirv):
+    library.shader_check_version.argtypes = []
+    library.shader_check_version.restype = ctypes.c_uint32
+    for call in (library.shader_check, library.shader_check_json, library.shader_check_leaves, library.shader_check_spirv,
+                 library.shader_check_spirv_json, library.shader_check_spirv_leaves, library.shader_check_spirv_document):
         call.argtypes = [ctypes.c_char_p, ctypes.c_size_t, ctypes.c_char_p, ctypes.c_size_t, ctypes.POINTER(ctypes.c_size_t)]
         call.restype = ctypes.c_uint32
     return library
@@ -71,6 +76,12 @@ def _answer(call, module):
     return Answer(status, room.raw[: needed.value].decode("utf-8", "replace"))
 
 
+def version():
+    """The version of the library that is loaded: major, minor and patch number."""
+    number = _library.shader_check_version()
+    return number >> 16, number >> 8 & 255, number & 255
+
+
 def check(document):
     """Judges a document, as `shader-check` does."""
     return _answer(_library.shader_check, document)
@@ -81,6 +92,29 @@ def check_json(document):
     return _answer(_library.shader_check_json, document)
 
 
+def check_leaves(document):
+    """Judges a document, and lists what lies in its buffers, as `shader-check --leaves` does."""
+    return _answer(_library.shader_check_leaves, document)
+
+
 def check_spirv(module):
     """Judges a module of SPIR-V, as `shader-check --spirv` does."""
     return _answer(_library.shader_check_spirv, module)
+
+
+def check_spirv_json(module):
+    """Judges a module of SPIR-V; the text is the object of `shader-check --spirv --json`, and `data` what it says."""
+    return _answer(_library.shader_check_spirv_json, module)
+
+
+def check_spirv_leaves(module):
+    """Judges a module of SPIR-V, and lists what lies in its buffers, as `shader-check --spirv --leaves` does."""
+    return _answer(_library.shader_check_spirv_leaves, module)
+
+
+def document_of_spirv(module):
+    """The document that a module of SPIR-V says, not judged; ValueError says why there is none."""
+    answer = _answer(_library.shader_check_spirv_document, module)
+    if not answer.accepted:
+        raise ValueError(answer.text.strip())
+    return answer.text

@@ -1,16 +1,20 @@
 // Judges the document on standard input. With `--explain` it prints why it is refused, and where, in one line, with `--names` with the
 // error by its name after it, or with `--json` all of it as one JSON object; with `--leaves` what lies inside the buffers of an
 // accepted one, too. With `--spirv` the module of SPIR-V there, in the same forms, and with `--document` the document that it says.
-// With `--measure` how often the path that is reported leads to a slip that is known.
+// With `--lsp` as its first word it is a language server. With `--measure` how often the path that is reported leads to a slip that is known.
 #![tactic(auto)]
 
+mod chosen;
+mod editor;
 mod measure;
 
+use check_choices::Choices;
 use check_explanation::{
     Explanation, MAX_TAKEN, Requested, SpirvAnswer, SpirvError, SpirvVerdict, Traced, check_spirv,
-    document_text, explain, explain_spirv, refusal_json,
+    document_text, error_text, explain, explain_spirv, unread_json,
 };
 use check_ports::{Sink, Source, TakeError};
+use chosen::{chosen_document, chosen_json, explain_chosen};
 use measure::Measured;
 use shader_check::{check_document, outcome};
 use std::alloc::AllocError;
@@ -26,9 +30,17 @@ enum Form {
     Line,
     LineWithNames,
     Leaves,
+    NamedLeaves,
     Object,
     Document,
     Measure,
+}
+
+// What a word after an argument says.
+#[derive(Clone, Copy)]
+enum Choice {
+    Without,
+    Capabilities,
 }
 
 // What the arguments say.
@@ -36,6 +48,9 @@ enum Form {
 struct Arguments {
     form: Form,
     is_spirv: bool,
+    choices: Choices,
+    // of what the next one has the words
+    open: Option<Choice>,
 }
 
 fn fault(rt: &HostRuntime, message: &str) -> ExitCode {
@@ -57,29 +72,63 @@ fn form_of(word: &str) -> Option<Form> {
     }
 }
 
+// The form of two arguments, one after the other: the last one, but that leaves may have names.
+fn joined(before: Form, after: Form) -> Form {
+    match (before, after) {
+        (Form::Leaves, Form::LineWithNames) | (Form::LineWithNames, Form::Leaves) => {
+            Form::NamedLeaves
+        }
+        _ => after,
+    }
+}
+
 // Takes what an argument says, and returns whether it says something.
 fn take_word(wanted: &mut Arguments, word: &str) -> bool {
-    if word == "--spirv" {
-        wanted.is_spirv = true;
-        return true;
+    match wanted.open {
+        Some(Choice::Without) => {
+            wanted.open = None;
+            return wanted.choices.leave_out(word);
+        }
+        Some(Choice::Capabilities) => {
+            wanted.open = None;
+            return wanted.choices.allow(word);
+        }
+        None => {}
+    }
+    match word {
+        "--spirv" => {
+            wanted.is_spirv = true;
+            return true;
+        }
+        "--without" => {
+            wanted.open = Some(Choice::Without);
+            return true;
+        }
+        "--capabilities" => {
+            wanted.open = Some(Choice::Capabilities);
+            return true;
+        }
+        _ => {}
     }
     match form_of(word) {
         Some(found) => {
-            wanted.form = found;
+            wanted.form = joined(wanted.form, found);
             true
         }
         None => false,
     }
 }
 
-// The longest argument, in bytes.
-const MAX_WORD: usize = 16;
+// The longest argument, in bytes: there is room for the words of all capabilities.
+const MAX_WORD: usize = 1024;
 
 // What the arguments say, the last of them that names a form; nothing where one of them says nothing. It takes no memory.
 fn read_arguments(rt: &HostRuntime) -> Option<Arguments> {
     let mut wanted = Arguments {
         form: Form::Verdict,
         is_spirv: false,
+        choices: Choices::NONE,
+        open: None,
     };
     for place in 1..usize::MAX {
         let mut buffer = [0; MAX_WORD];
@@ -93,15 +142,17 @@ fn read_arguments(rt: &HostRuntime) -> Option<Arguments> {
             return None;
         }
     }
-    Some(wanted)
+    // what is chosen is of modules of SPIR-V
+    let is_whole = wanted.open.is_none() && (wanted.is_spirv || wanted.choices.is_none());
+    if is_whole { Some(wanted) } else { None }
 }
 
 // What is to be known of an accepted document for this form.
 fn requested_by(form: Form) -> Requested {
     match form {
-        Form::Line | Form::LineWithNames | Form::Measure => Requested::Nothing,
-        Form::Leaves => Requested::Leaves,
-        Form::Verdict | Form::Object | Form::Document => Requested::Report,
+        Form::Line | Form::Measure => Requested::Nothing,
+        Form::Leaves | Form::NamedLeaves => Requested::Leaves,
+        Form::Verdict | Form::LineWithNames | Form::Object | Form::Document => Requested::Report,
     }
 }
 
@@ -130,11 +181,14 @@ fn print_text(
     }
 }
 
-// Prints the line, with the error by its name after it.
-fn print_names(rt: &HostRuntime, traced: &Traced) -> io::Result<()> {
-    match traced.explanation.error_name() {
-        Some(error) => println!(rt; "{traced} ({error})"),
-        None => println!(rt; "{traced}"),
+// Prints the line, with the error by its name after it; of what is accepted the lines that were wanted, with the names of its parts.
+fn print_names(rt: &HostRuntime, traced: &Traced, status: u8) -> ExitCode {
+    match (&traced.explanation, traced.explanation.error_name()) {
+        (_, Some(error)) => ended(rt, println!(rt; "{traced} ({error})"), status),
+        (Explanation::Accepted { .. }, None) => {
+            print_text(rt, traced.named(rt.alloc()), "", status)
+        }
+        (_, None) => ended(rt, println!(rt; "{traced}"), status),
     }
 }
 
@@ -150,7 +204,7 @@ fn print_explanation(rt: &HostRuntime, form: Form, traced: &Traced) -> ExitCode 
     let status = status(&traced.explanation);
     match form {
         Form::Line => ended(rt, println!(rt; "{traced}"), status),
-        Form::LineWithNames => ended(rt, print_names(rt, traced), status),
+        Form::LineWithNames | Form::NamedLeaves => print_names(rt, traced, status),
         Form::Object => print_text(rt, traced.json(rt.alloc()), "\n", status),
         Form::Verdict | Form::Leaves | Form::Document | Form::Measure => {
             print_text(rt, traced.explanation.listing(rt.alloc()), "", status)
@@ -175,17 +229,18 @@ fn spirv_status(answer: &SpirvAnswer) -> u8 {
 }
 
 // Prints why no module was read.
-fn print_unread(rt: &HostRuntime, form: Form, error: &SpirvError) -> ExitCode {
+fn print_unread(rt: &HostRuntime, form: Form, bytes: &[u8], error: &SpirvError) -> ExitCode {
     match error {
         SpirvError::Memory => fault(rt, "memory"),
         SpirvError::Malformed { .. } | SpirvError::Unsupported { .. } => match form {
-            Form::Object => print_text(rt, refusal_json(rt.alloc(), error), "\n", 3),
+            Form::Object => print_text(rt, unread_json(rt.alloc(), bytes, error), "\n", 3),
             Form::Verdict
             | Form::Line
             | Form::LineWithNames
             | Form::Leaves
+            | Form::NamedLeaves
             | Form::Document
-            | Form::Measure => ended(rt, println!(rt; "{error}"), 3),
+            | Form::Measure => print_text(rt, error_text(rt.alloc(), bytes, error), "\n", 3),
         },
     }
 }
@@ -202,30 +257,52 @@ fn print_spirv(rt: &HostRuntime, form: Form, bytes: &[u8]) -> ExitCode {
         },
         Form::Document => match document_text(rt.alloc(), bytes) {
             Ok(text) => print_text(rt, Ok(text), "\n", 0),
-            Err(error) => print_unread(rt, form, &error),
+            Err(error) => print_unread(rt, form, bytes, &error),
         },
-        Form::Line | Form::LineWithNames | Form::Leaves | Form::Object | Form::Measure =>
-            match explain_spirv(rt.alloc(), requested_by(form), bytes) {
-                Ok(traced) => print_traced(rt, form, traced),
-                Err(error) => print_unread(rt, form, &error),
-            },
+        Form::Line
+        | Form::LineWithNames
+        | Form::Leaves
+        | Form::NamedLeaves
+        | Form::Object
+        | Form::Measure => match explain_spirv(rt.alloc(), requested_by(form), bytes) {
+            Ok(traced) => print_traced(rt, form, traced),
+            Err(error) => print_unread(rt, form, bytes, &error),
+        },
+    }
+}
+
+// Prints what is found of a module under choices.
+fn print_traced_under(rt: &HostRuntime, form: Form, choices: &Choices, traced: Traced) -> ExitCode {
+    if let Form::Object = form {
+        let status = status(&traced.explanation);
+        let text = chosen_json(rt.alloc(), choices, &traced);
+        drop(traced);
+        return print_text(rt, text, "\n", status);
+    }
+    print_traced(rt, form, traced)
+}
+
+// Prints what the module of SPIR-V is found to be under choices.
+fn print_chosen(rt: &HostRuntime, form: Form, choices: &Choices, bytes: &[u8]) -> ExitCode {
+    if choices.leaves_out() {
+        let _ = eprintln!(rt; "not under all six checks: without {choices}");
+    }
+    if let Form::Document = form {
+        return match chosen_document(rt.alloc(), choices, bytes) {
+            Ok(text) => print_text(rt, Ok(text), "\n", 0),
+            Err(error) => print_unread(rt, form, bytes, &error),
+        };
+    }
+    match explain_chosen(rt.alloc(), requested_by(form), choices, bytes) {
+        Ok(traced) => print_traced_under(rt, form, choices, traced),
+        Err(error) => print_unread(rt, form, bytes, &error),
     }
 }
 
 // Prints what the document is found to be.
 fn print_document(rt: &HostRuntime, form: Form, bytes: &[u8]) -> ExitCode {
     match explain(rt.alloc(), requested_by(form), bytes) {
-        Ok(explanation) => {
-            let origin = None;
-            print_traced(
-                rt,
-                form,
-                Traced {
-                    explanation,
-                    origin,
-                },
-            )
-        }
+        Ok(explanation) => print_traced(rt, form, Traced::of_document(rt.alloc(), explanation)),
         Err(_) => fault(rt, "memory"),
     }
 }
@@ -243,6 +320,8 @@ fn print_measured(rt: &HostRuntime, bytes: &[u8]) -> ExitCode {
 fn print_all(rt: &HostRuntime, wanted: Arguments, bytes: &[u8]) -> ExitCode {
     if let Form::Measure = wanted.form {
         print_measured(rt, bytes)
+    } else if wanted.is_spirv && !wanted.choices.is_none() {
+        print_chosen(rt, wanted.form, &wanted.choices, bytes)
     } else if wanted.is_spirv {
         print_spirv(rt, wanted.form, bytes)
     } else {
@@ -261,10 +340,13 @@ fn judge(rt: &HostRuntime) -> ExitCode {
 }
 
 fn main(rt: HostRuntime) -> ExitCode {
+    if editor::is_wanted(&rt) {
+        return editor::serve(&rt);
+    }
     let Some(wanted) = read_arguments(&rt) else {
         return fault(
             &rt,
-            "an argument is no form (see shader-check --help), and not --spirv",
+            "an argument is no form and no choice (see shader-check --help), and not --spirv",
         );
     };
     if let (Form::Verdict, false) = (wanted.form, wanted.is_spirv) {

@@ -1,14 +1,20 @@
 -- What a host is given.
-use Rattle.std.specs.Prelude.{◌≡◌, ◌↔◌, ◌++◌, ℕ, List, IsTrue, codes, drop, length, min, nat_eq, take}
+use Rattle.std.specs.Prelude.{◌≡◌, ◌≢◌, ◌↔◌, ◌++◌, ℕ, List, IsTrue, codes, drop, length, min, nat_eq, take}
 use Rattle.std.specs.List.{starts_with}
+use Rattle.judgement.specs.judged.Text.{text_of}
 use Rattle.judgement.specs.declared.finding.Finding.{Finding}
 use Rattle.judgement.specs.declared.finding.Finding.TheVariants as findings
 use Rattle.shader_check.specs.found.Judgements.{Judged}
 use Rattle.shader_check.specs.judged.Theorem.{IsExpected, SoundText}
 use Rattle.shader_check.specs.declared.check.Verdict.{Verdict}
 use Rattle.shader_check.specs.declared.check.Verdict.TheVariants.{Accepted, Refused}
-use Rattle.check_explanation.specs.Answered.{IsAnswered}
+use Rattle.check_explanation.specs.Answered.{IsAnswered, verdict_of}
+use Rattle.check_explanation.specs.Answered.{IsExplained as IsExplainedAs}
+use Rattle.check_explanation.specs.Explained.{finding_of}
+use Rattle.check_explanation.specs.Listed.{ExplainsBytes, lines_of}
 use Rattle.check_explanation.specs.Objects.{IsObjectText}
+use Rattle.check_explanation.specs.declared.explanation.Explanation.{Explanation}
+use Rattle.check_explanation.specs.declared.explanation.Requested.TheVariants.{Leaves, Report}
 use Rattle.check_explanation.specs.declared.spirv.SpirvVerdict.{SpirvVerdict}
 use Rattle.check_explanation.specs.declared.spirv.SpirvVerdict.TheVariants as spirv
 
@@ -66,3 +72,58 @@ pub record IsGivenOfSpirv (status : ℕ) (old new : List ℕ) (needed : ℕ) : T
   pub status_is : status ≡ status_of_spirv verdict
   pub written : new ≡ front_of text old
   pub whole : needed ≡ length text
+
+-- The text is the line of what is found of the document, and after it, where that is accepted, the lines of its buffers, each with those
+-- of its leaves.
+pub record IsListing (document : List ℕ) (finding : Finding) (text : List ℕ) : Type 0 where
+  pub explanation : Explanation
+  pub finding_is : finding ≡ finding_of explanation
+  pub judged : Judged document finding
+  pub explains : ExplainsBytes Leaves document explanation
+  pub text_is : text ≡ text_of finding ++ lines_of explanation
+
+-- The host is given the front of such a text and its length, and the status is that of what is found.
+pub record IsGivenListing (document : List ℕ) (status : ℕ) (old new : List ℕ) (needed : ℕ) : Type 0 where
+  pub finding : Finding
+  pub text : List ℕ
+  pub listing : IsListing document finding text
+  pub status_is : status ≡ status_in finding
+  pub written : new ≡ front_of text old
+  pub whole : needed ≡ length text
+
+-- The verdict is that of what is found of some document with all checks.
+pub record IsVerdictOfSome (verdict : SpirvVerdict) : Type 0 where
+  pub explanation : Explanation
+  pub explained : IsExplainedAs Report explanation
+  pub verdict_is : verdict ≡ verdict_of (finding_of explanation)
+
+-- The text is the listing of what is found of some document with all checks, and the verdict is that of it.
+pub record IsListingOfSome (verdict : SpirvVerdict) (text : List ℕ) : Type 0 where
+  pub explanation : Explanation
+  pub explained : IsExplainedAs Leaves explanation
+  pub verdict_is : verdict ≡ verdict_of (finding_of explanation)
+  pub text_is : text ≡ text_of (finding_of explanation) ++ lines_of explanation
+
+-- of a module that was not read nothing is said
+abbrev pub IsVerdictOfSpirv : SpirvVerdict → Type 0
+IsVerdictOfSpirv spirv.Accepted = IsVerdictOfSome spirv.Accepted
+IsVerdictOfSpirv spirv.Refused = IsVerdictOfSome spirv.Refused
+IsVerdictOfSpirv spirv.Unread = Unit {0}
+
+abbrev pub IsListingOfSpirv : SpirvVerdict → (text : List ℕ) → Type 0
+IsListingOfSpirv spirv.Accepted text = IsListingOfSome spirv.Accepted text
+IsListingOfSpirv spirv.Refused text = IsListingOfSome spirv.Refused text
+IsListingOfSpirv spirv.Unread text = Unit {0}
+
+-- The host is given the front of a text and its length, and the status is that of a verdict of which `Of` holds with the text.
+pub record IsGivenWith (Of : SpirvVerdict → List ℕ → Type 0) (status : ℕ) (old new : List ℕ) (needed : ℕ) : Type 0 where
+  pub verdict : SpirvVerdict
+  pub text : List ℕ
+  pub of : Of verdict text
+  pub status_is : status ≡ status_of_spirv verdict
+  pub written : new ≡ front_of text old
+  pub whole : needed ≡ length text
+
+-- the module was read, or not
+abbrev pub IsReadOrNot : SpirvVerdict → (text : List ℕ) → Type 0
+IsReadOrNot verdict text = verdict ≢ spirv.Refused

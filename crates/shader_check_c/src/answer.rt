@@ -2,14 +2,19 @@
 
 ghost use Rattle.std.specs.Prelude.{◌≡◌, ◌<◌, ◌≢◌, ◌≤◌, IfSome, string_bytes};
 ghost use Rattle.shader_check.specs.found.Judgements.{Judged};
-ghost use Rattle.check_explanation.specs.Answered.{IsAnswered};
+ghost use Rattle.check_explanation.specs.Answered.{IsAnswered, IsExplained, verdict_of};
+ghost use Rattle.check_explanation.specs.Explained.{finding_of};
 ghost use Rattle.check_explanation.specs.Objects.{IsObjectText};
-ghost use Rattle.shader_check_c.specs.Answers.{IsAnswerOn, front_of, status_in, status_of};
+ghost use Rattle.check_explanation.specs.declared.explanation.Requested.TheVariants.{Leaves as leaves};
+ghost use Rattle.shader_check_c.specs.Answers.{IsAnswerOn, IsListing, IsListingOfSpirv, IsVerdictOfSpirv, front_of, status_in, status_of};
 ghost use Rattle.shader_check_c.specs.Answers.{status_of_spirv};
 
-use check_explanation::{Requested, SpirvAnswer, SpirvVerdict, check_spirv, explain};
+use check_explanation::{
+    Requested, SpirvAnswer, SpirvError, SpirvVerdict, Traced, check_spirv, document_text,
+    error_text, explain, explain_spirv, unread_json,
+};
 use shader_check::{Finding, Sink, Source, Verdict, check_document};
-use std::alloc::Global;
+use std::alloc::{AllocError, Global};
 
 /// What the check answers of a document, with the text that it writes.
 #[derive(Drop)]
@@ -59,6 +64,24 @@ pub(crate) fn explained_on(alloc: Global, document: &[u8]) -> Option<Explained>
     }
 }
 
+/// What is listed of these bytes, with the leaves of the buffers; nothing where memory was refused.
+pub(crate) fn listed_on(alloc: Global, document: &[u8]) -> Option<Explained>
+    ensures { IfSome result (λ found. IsListing document.now found.finding (string_bytes found.text)) }
+{
+    match explain(alloc, Requested::Leaves, document) {
+        Ok(explanation) => {
+            let finding = explanation.finding();
+            let listing = explanation.listing(alloc);
+            drop(explanation);
+            match listing {
+                Ok(text) => Some(Explained { finding, text }),
+                Err(_) => None,
+            }
+        }
+        Err(_) => None,
+    }
+}
+
 /// What is answered of these bytes of SPIR-V; nothing where memory was refused.
 pub(crate) fn spirv_answer_on(alloc: Global, spirv: &[u8]) -> Option<SpirvAnswer>
     ensures { IfSome result (λ answer. IsAnswered answer.verdict (string_bytes answer.text)) }
@@ -66,6 +89,98 @@ pub(crate) fn spirv_answer_on(alloc: Global, spirv: &[u8]) -> Option<SpirvAnswer
     match check_spirv(alloc, spirv) {
         Ok(answer) => Some(answer),
         Err(_) => None,
+    }
+}
+
+fn verdict_of(finding: Finding) -> SpirvVerdict
+    ensures { result ≡ verdict_of finding }
+{
+    match finding {
+        Finding::Accepted { .. } => SpirvVerdict::Accepted,
+        Finding::RefusedDocument | Finding::RefusedHandles | Finding::Refused(..) =>
+            SpirvVerdict::Refused,
+    }
+}
+
+// The text with its verdict, where there was memory for it.
+fn with_verdict(verdict: SpirvVerdict, text: Result<String, AllocError>) -> Option<SpirvAnswer>
+    ensures { IfSome result (λ answer. (answer.verdict ≡ verdict) × (text ≡ Ok answer.text)) }
+{
+    match text {
+        Ok(text) => Some(SpirvAnswer { verdict, text }),
+        Err(_) => None,
+    }
+}
+
+// Why no module was read of these bytes, in a line.
+fn unread_line(alloc: Global, spirv: &[u8], error: SpirvError) -> Option<SpirvAnswer>
+    ensures { IfSome result (λ answer. answer.verdict ≡ SpirvVerdict.Unread) }
+{
+    if let SpirvError::Memory = error {
+        return None;
+    }
+    match error_text(alloc, spirv, &error) {
+        Ok(text) => with_verdict(SpirvVerdict::Unread, format!(in alloc; "{text}\n")),
+        Err(_) => None,
+    }
+}
+
+// Why no module was read of these bytes, as an object.
+fn unread_object(alloc: Global, spirv: &[u8], error: SpirvError) -> Option<SpirvAnswer>
+    ensures { IfSome result (λ answer. answer.verdict ≡ SpirvVerdict.Unread) }
+{
+    with_verdict(SpirvVerdict::Unread, unread_json(alloc, spirv, &error))
+}
+
+// The object of what is explained of a module.
+fn object_of(alloc: Global, traced: Traced) -> Option<SpirvAnswer>
+    ensures { IfSome result (λ answer. answer.verdict ≡ verdict_of (finding_of traced.explanation)) }
+{
+    let verdict = verdict_of(traced.explanation.finding());
+    let object = traced.json(alloc);
+    drop(traced);
+    with_verdict(verdict, object)
+}
+
+// The listing of what is explained of a module.
+fn listing_of(alloc: Global, traced: Traced) -> Option<SpirvAnswer>
+    requires { IsExplained leaves traced.explanation }
+    ensures { IfSome result (λ answer. IsListingOfSpirv answer.verdict (string_bytes answer.text)) }
+{
+    let verdict = verdict_of(traced.explanation.finding());
+    let listing = traced.explanation.listing(alloc);
+    drop(traced);
+    with_verdict(verdict, listing)
+}
+
+/// What is explained of these bytes of SPIR-V, as an object; nothing where memory was refused.
+pub(crate) fn spirv_object_on(alloc: Global, spirv: &[u8]) -> Option<SpirvAnswer>
+    ensures { IfSome result (λ answer. IsVerdictOfSpirv answer.verdict) }
+{
+    match explain_spirv(alloc, Requested::Report, spirv) {
+        Ok(traced) => object_of(alloc, traced),
+        Err(error) => unread_object(alloc, spirv, error),
+    }
+}
+
+/// What is listed of these bytes of SPIR-V, with the leaves of the buffers; nothing where memory was refused.
+pub(crate) fn spirv_listing_on(alloc: Global, spirv: &[u8]) -> Option<SpirvAnswer>
+    ensures { IfSome result (λ answer. IsListingOfSpirv answer.verdict (string_bytes answer.text)) }
+{
+    match explain_spirv(alloc, Requested::Leaves, spirv) {
+        Ok(traced) => listing_of(alloc, traced),
+        Err(error) => unread_line(alloc, spirv, error),
+    }
+}
+
+/// The document that these bytes of SPIR-V say, as accepted though it is not judged, or why no module was read; nothing where memory
+/// was refused.
+pub(crate) fn spirv_document_on(alloc: Global, spirv: &[u8]) -> Option<SpirvAnswer>
+    ensures { IfSome result (λ answer. answer.verdict ≢ SpirvVerdict.Refused) }
+{
+    match document_text(alloc, spirv) {
+        Ok(text) => with_verdict(SpirvVerdict::Accepted, Ok(text)),
+        Err(error) => unread_line(alloc, spirv, error),
     }
 }
 

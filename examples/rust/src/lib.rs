@@ -1,15 +1,26 @@
-//! The check of a shader module, in process: [`check`] of the bytes of a document, [`check_spirv`] of those of SPIR-V.
+//! The check of a shader module, in process: [`check`] of the bytes of a document, [`check_spirv`] of those of SPIR-V, and the other forms
+//! of answer beside them.
 
 use std::error::Error;
 use std::fmt;
 
-/// What a document was found to be, each with the text of `shader-check`: the verdict's line, and of an accepted one the report.
+/// What a module was found to be, each with the text of `shader-check`: by [`check`] and [`check_spirv`] the verdict's line, and of an
+/// accepted one the report.
 #[derive(Clone, Debug, PartialEq, Eq)]
 pub enum Verdict {
     Accepted(String),
     Refused(String),
     /// Only of SPIR-V: the words are none, or say what is not translated. The text says what, and at which word.
     Unread(String),
+}
+
+impl Verdict {
+    /// The text.
+    pub fn text(&self) -> &str {
+        match self {
+            Verdict::Accepted(text) | Verdict::Refused(text) | Verdict::Unread(text) => text,
+        }
+    }
 }
 
 /// Memory was refused.
@@ -24,29 +35,34 @@ impl fmt::Display for NoMemory {
 
 impl Error for NoMemory {}
 
-extern "C" {
-    fn shader_check(document: *const u8, length: usize, text: *mut u8, capacity: usize, needed: *mut usize) -> u32;
-    fn shader_check_json(document: *const u8, length: usize, text: *mut u8, capacity: usize, needed: *mut usize) -> u32;
-    fn shader_check_spirv(spirv: *const u8, length: usize, text: *mut u8, capacity: usize, needed: *mut usize) -> u32;
-}
-
 type Call = unsafe extern "C" fn(*const u8, usize, *mut u8, usize, *mut usize) -> u32;
 
+extern "C" {
+    fn shader_check_version() -> u32;
+    fn shader_check(document: *const u8, length: usize, text: *mut u8, capacity: usize, needed: *mut usize) -> u32;
+    fn shader_check_json(document: *const u8, length: usize, text: *mut u8, capacity: usize, needed: *mut usize) -> u32;
+    fn shader_check_leaves(document: *const u8, length: usize, text: *mut u8, capacity: usize, needed: *mut usize) -> u32;
+    fn shader_check_spirv(spirv: *const u8, length: usize, text: *mut u8, capacity: usize, needed: *mut usize) -> u32;
+    fn shader_check_spirv_json(spirv: *const u8, length: usize, text: *mut u8, capacity: usize, needed: *mut usize) -> u32;
+    fn shader_check_spirv_leaves(spirv: *const u8, length: usize, text: *mut u8, capacity: usize, needed: *mut usize) -> u32;
+    fn shader_check_spirv_document(spirv: *const u8, length: usize, text: *mut u8, capacity: usize, needed: *mut usize) -> u32;
+}
+
 // One call with so much room. Answers the status, the bytes that were written, and how many the whole text has.
-fn call(check: Call, document: &[u8], capacity: usize) -> (u32, Vec<u8>, usize) {
+fn call(check: Call, module: &[u8], capacity: usize) -> (u32, Vec<u8>, usize) {
     let mut text = vec![0; capacity];
     let mut needed = 0;
-    // SAFETY: the pointers are those of slices that live through the call, and are not null.
-    let status = unsafe { check(document.as_ptr(), document.len(), text.as_mut_ptr(), text.len(), &mut needed) };
+    // SAFETY: the pointers are those of slices that live through the call.
+    let status = unsafe { check(module.as_ptr(), module.len(), text.as_mut_ptr(), text.len(), &mut needed) };
     text.truncate(needed);
     (status, text, needed)
 }
 
 // With as much room as the text takes.
-fn verdict(check: Call, document: &[u8]) -> Result<Verdict, NoMemory> {
-    let (mut status, mut text, needed) = call(check, document, 256);
+fn verdict(check: Call, module: &[u8]) -> Result<Verdict, NoMemory> {
+    let (mut status, mut text, needed) = call(check, module, 256);
     if text.len() < needed {
-        (status, text, _) = call(check, document, needed);
+        (status, text, _) = call(check, module, needed);
     }
     let text = String::from_utf8_lossy(&text).into_owned();
     match status {
@@ -55,6 +71,13 @@ fn verdict(check: Call, document: &[u8]) -> Result<Verdict, NoMemory> {
         3 => Ok(Verdict::Unread(text)),
         _ => Err(NoMemory),
     }
+}
+
+/// The version of the library that is linked: major, minor and patch number.
+pub fn version() -> (u32, u32, u32) {
+    // SAFETY: it takes nothing.
+    let number = unsafe { shader_check_version() };
+    (number >> 16, number >> 8 & 255, number & 255)
 }
 
 /// Judges a document: the text is that of `./shader-check`.
@@ -67,7 +90,30 @@ pub fn check_json(document: &[u8]) -> Result<Verdict, NoMemory> {
     verdict(shader_check_json, document)
 }
 
+/// Judges a document: the text is that of `./shader-check --leaves`.
+pub fn check_leaves(document: &[u8]) -> Result<Verdict, NoMemory> {
+    verdict(shader_check_leaves, document)
+}
+
 /// Judges a module of SPIR-V: the text is that of `./shader-check --spirv`.
 pub fn check_spirv(spirv: &[u8]) -> Result<Verdict, NoMemory> {
     verdict(shader_check_spirv, spirv)
+}
+
+/// Judges a module of SPIR-V: the text is the object of `./shader-check --spirv --json`.
+pub fn check_spirv_json(spirv: &[u8]) -> Result<Verdict, NoMemory> {
+    verdict(shader_check_spirv_json, spirv)
+}
+
+/// Judges a module of SPIR-V: the text is that of `./shader-check --spirv --leaves`.
+pub fn check_spirv_leaves(spirv: &[u8]) -> Result<Verdict, NoMemory> {
+    verdict(shader_check_spirv_leaves, spirv)
+}
+
+/// The document that a module of SPIR-V says, not judged: `Ok(Ok(document))`, or `Ok(Err(why))` where no module was read.
+pub fn document_of_spirv(spirv: &[u8]) -> Result<Result<String, String>, NoMemory> {
+    match verdict(shader_check_spirv_document, spirv)? {
+        Verdict::Accepted(document) => Ok(Ok(document)),
+        Verdict::Refused(why) | Verdict::Unread(why) => Ok(Err(why)),
+    }
 }

@@ -1,0 +1,62 @@
+// Modules of SPIR-V that are judged under choices.
+
+use check_choices::Choices;
+use check_explanation::{Requested, SpirvError, Traced, explain_made};
+use document_writer::write_document;
+use serde_json::{Value, put};
+use spirv_reader::read_spirv;
+use std::alloc::{AllocError, Global};
+
+/// The explanation of the document that these bytes of SPIR-V say, with the settings that are chosen, and with the lines that are
+/// wanted, where it is accepted.
+pub fn explain_chosen(
+    alloc: Global,
+    requested: Requested,
+    choices: &Choices,
+    bytes: &[u8],
+) -> Result<Traced, SpirvError> {
+    match read_spirv(alloc, bytes) {
+        Ok(mut document) => {
+            choices.apply(&mut document.settings);
+            let traced = explain_made(alloc, requested, bytes, &mut document);
+            drop(document);
+            traced
+        }
+        Err(error) => Err(error),
+    }
+}
+
+/// The document that the module says, with the settings that are chosen, as JSON in one line without its end.
+pub fn chosen_document(
+    alloc: Global,
+    choices: &Choices,
+    bytes: &[u8],
+) -> Result<String, SpirvError> {
+    match read_spirv(alloc, bytes) {
+        Ok(mut document) => {
+            choices.apply(&mut document.settings);
+            let text = write_document(alloc, &document);
+            drop(document);
+            match text {
+                Ok(text) => Ok(text),
+                Err(_) => Err(SpirvError::Memory),
+            }
+        }
+        Err(error) => Err(error),
+    }
+}
+
+/// The object of an explanation in one line without its end, which says which checks were left out. The error is out of memory.
+pub fn chosen_json(
+    alloc: Global,
+    choices: &Choices,
+    traced: &Traced,
+) -> Result<String, AllocError> {
+    let mut value = traced.value(alloc)?;
+    if let Value::Object(map) = &mut value {
+        if choices.leaves_out() {
+            put(map, alloc, "without", choices.without_value(alloc)?)?;
+        }
+    }
+    value.to_string(alloc)
+}

@@ -1,0 +1,5 @@
+pub mod Frames
+pub mod Messages
+pub mod Replies
+pub mod Documents
+pub mod Steps

@@ -1,0 +1,17 @@
+//! A language server (LSP 3.17) over one kind of document: messages in their frames, the state of the server, and what it answers. What is
+//! wrong with a text, the caller says.
+#![tactic(auto)]
+
+mod document;
+mod fault;
+mod frame;
+mod message;
+mod reply;
+mod server;
+mod slip;
+
+pub use document::{Document, MAX_CHANGES, MAX_DOCUMENTS, MAX_TEXT, Text};
+pub use fault::Fault;
+pub use frame::{Frames, MAX_HEADER, MAX_MESSAGE, Received, framed};
+pub use server::{Next, Server};
+pub use slip::Slip;

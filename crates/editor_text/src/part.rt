@@ -1,0 +1,74 @@
+// Where a part of a JSON text stands.
+ghost use Rattle.std.specs.Prelude.{◌≤◌, ◌<◌, ◌≡◌, length, IfSome};
+
+use crate::scan::{after_space, after_value};
+
+/// A part of a text: the bytes from `start` on, before `end`.
+#[derive(Clone, Copy, Debug, PartialEq, Eq)]
+pub struct Part {
+    /// Its first byte.
+    pub start: usize,
+    /// The first byte after it.
+    pub end: usize,
+    ghost ordered: { start ≤ end },
+}
+
+// Where the item of this index begins, of an array that begins at this byte.
+fn item_at(text: &[u8], array: usize, index: u32) -> Option<usize>
+    requires { array ≤ length text.now }
+    ensures { IfSome result (λ at. at ≤ length text.now) }
+{
+    if array == text.len() || text[array] != b'[' {
+        return None;
+    }
+    let mut at = after_space(text, array + 1);
+    for _ in 0..index {
+        at = after_space(text, after_value(text, at));
+        if at == text.len() || text[at] != b',' {
+            return None;
+        }
+        at = after_space(text, at + 1);
+    }
+    if at == text.len() || text[at] == b']' {
+        return None;
+    }
+    Some(at)
+}
+
+/// The part of a JSON text that a path of indexes leads to, or the last one on the way there that is. Of a text that is no JSON it is
+/// some part.
+pub fn part_at(text: &[u8], path: &[u32]) -> Part
+    ensures { result.end ≤ length text.now }
+{
+    let mut start = after_space(text, 0);
+    for index in path {
+        match item_at(text, start, *index) {
+            Some(next) => start = next,
+            None => break,
+        }
+    }
+    Part {
+        start,
+        end: after_value(text, start),
+    }
+}
+
+/// The character of a text in UTF-8 that begins at this byte; nothing at the end.
+pub fn character_at(text: &[u8], start: usize) -> Part
+    requires { start ≤ length text.now }
+    ensures begins { result.start ≡ start }
+    ensures within { result.end ≤ length text.now }
+{
+    if start == text.len() {
+        return Part { start, end: start };
+    }
+    for end in start + 1..text.len() {
+        if !matches!(text[end], 0x80..=0xbf) {
+            return Part { start, end };
+        }
+    }
+    Part {
+        start,
+        end: text.len(),
+    }
+}
