@@ -1,8 +1,8 @@
 #!/usr/bin/env python3
-"""Writes CALLING.md of the crates that others build on: a proved caller, and the contracts of what a crate hands on.
+"""Writes CALLING.md of the crates that others build on: a proved caller, and the contracts of the calls that it makes.
 
-All of it is quoted from the sources, so that no clause is written twice by hand. With --check it writes nothing, says
-which pages are not as they would be written, and ends with status 1 where there is one.
+All of it is quoted from the sources, so that no clause is written twice by hand. A page has at most MOST lines. With --check it
+writes nothing, says which pages are not as they would be written, and ends with status 1 where there is one.
 """
 import re
 import sys
@@ -10,45 +10,40 @@ from pathlib import Path
 
 TOP = Path(__file__).resolve().parent.parent
 CRATES = TOP / "crates"
+MOST = 120
 
-# a page: its crate, what it is for, the callers as what each is and (file, first line), the crates whose calls it quotes
+# a page: its crate, what it is for, the caller as (file, first lines of its functions), and the calls that it makes as
+# (crate, Owner::name)
 PAGES = [
     ("check_ports", "Readers and writers with a mark that failed calls leave.",
-     [("A caller", "checker/src/main.rt", "fn judge(")], ["check_ports"]),
-    ("shader_ir", "The representation of a shader module: arenas, types, expressions, blocks, items, and calls over them.",
-     [("A caller", "test_items/src/returns.rt", None)], ["ir_flags", "ir_kinds", "ir_arena", "ir_sets", "ir_types",
-                                        "ir_blocks", "ir_items"]),
-    ("shader_typing", "What is required of types, their layouts, the kinds and types of expressions, and the overload sets of the math functions.",
-     [("A caller", "test_calls/src/overload_alone.rt", None)], ["typing_forms", "typing_infos", "typing_layout", "typing_rules",
-                                            "typing_overloads",
-                                            "spec_expressions", "typing_resolve", "typing_handles", "typing_analysis"]),
+     ("checker/src/main.rt", ["fn judge("]),
+     [("check_ports", "Source::new"), ("check_ports", "Source::take_all"), ("check_ports", "Sink::new"),
+      ("check_ports", "Sink::write_all")]),
+    ("shader_ir", "The representation of a shader module: arenas, types, expressions, blocks, items.",
+     ("test_cases/src/built.rt", ["fn store_one(", "fn declare("]),
+     [("ir_items", "Module::new"), ("ir_sets", "UniqueArena::insert"), ("ir_arena", "Arena::append"), ("ir_blocks", "Block::push")]),
+    ("shader_typing", "Layouts, the kinds and types of expressions, overload sets, and what is kept of a function.",
+     ("test_calls/src/overload_alone.rt", ["fn supplied(", "fn rules_left("]),
+     [("typing_overloads", "MathFunctionExt::overloads"), ("typing_overloads", "OverloadSet::arg"),
+      ("typing_overloads", "OverloadSet::overload_list")]),
     ("module_validator", "The check of a module up to its overrides, and what is kept of it.",
-     [("A caller", "test_layers/src/judged.rt", "pub fn accepts_items(")],
-     ["module_handles", "module_type_checks", "module_constants", "module_globals", "module_steps", "typing_infos", "judgement"]),
-    ("function_validator", "The check of functions, entry points and whole modules, over any layer beneath or over that of this repository.",
-     [("A caller", "test_layers/src/judged.rt", "pub fn accepts(")],
-     ["function_interface", "function_real_lower", "function_whole", "function_modules", "function_entries", "judgement_laws", "judgement_report"]),
+     ("test_layers/src/judged.rt", ["fn is_accepted<", "pub fn accepts_items("]),
+     [("module_steps", "ModuleValidator::new"), ("module_steps", "ModuleValidator::validate")]),
+    ("function_validator", "The check of functions, entry points and whole modules, over any layer beneath.",
+     ("test_layers/src/judged.rt", ["fn is_accepted<", "pub fn accepts("]),
+     [("typing_infos", "ModuleInfo::new"), ("function_real_lower", "RealLower::new"), ("function_modules", "Validator::new"),
+      ("function_modules", "Validator::validate")]),
     ("document_reader", "From bytes to a document.",
-     [("A caller", "test_items/src/modules.rt", "pub fn document_of(")], ["document_forms", "document_reader"]),
-    ("shader_check", "The check of a module that is built by calls, and of a document from a reader to a writer.",
-     [("A caller that builds a module", "test_cases/src/built.rt", None),
-      ("A caller that has a document", "checker/src/main.rt", "fn judge(")], ["judgement", "function_modules", "shader_check"]),
+     ("test_items/src/modules.rt", ["pub fn document_of("]),
+     [("document_reader", "read_document"), ("document_reader", "take_document"), ("document_reader", "Document::into_module")]),
+    ("shader_check", "The check of a document, from a reader to a writer.",
+     ("checker/src/main.rt", ["fn judge("]),
+     [("shader_check", "check_document"), ("shader_check", "outcome"), ("shader_check", "judge_document")]),
 ]
 
 
 def sources(crate):
-    return sorted((CRATES / crate / "src").glob("*.rt"))
-
-
-def exported(crate):
-    """The names that the crate hands on, and the modules whose public items it hands on whole."""
-    text = (CRATES / crate / "src/lib.rt").read_text()
-    names, modules = set(), set(re.findall(r"^pub mod (\w+);", text, re.M))
-    for path in re.findall(r"^pub use (.*?);", text, re.M | re.S):
-        inside = re.search(r"\{(.*)\}", path, re.S)
-        parts = inside.group(1).split(",") if inside else [path.split("::")[-1]]
-        names |= {part.strip().split(" as ")[-1] for part in parts if part.strip()}
-    return names, modules
+    return sorted((CRATES / crate / "src").glob("**/*.rt"))
 
 
 def signature(lines, start):
@@ -93,60 +88,55 @@ def owner_of(line):
     return (block.group(1), False) if block else (None, False)
 
 
-def calls_of(path, names, whole):
-    """(owner, doc, signature) of each public call of a file that is handed on."""
-    lines = path.read_text().split("\n")
-    owner, trait, inside = None, False, False
-    for number, line in enumerate(lines):
-        if re.match(r"(impl|pub trait)\b", line):
-            owner, trait = owner_of(line)
-            inside = True
-        elif line == "}":
-            owner, trait, inside = None, False, False
-        function = re.match(r"(    )?(pub )?(?:const )?fn (\w+)", line)
-        if not function:
-            continue
-        indented, public, name = function.groups()
-        if indented and not (owner and (public or trait)):
-            continue
-        if not indented and not public:
-            continue
-        if not whole and (owner if indented else name) not in names:
-            continue
-        yield (owner if indented else None), doc_above(lines, number), signature(lines, number)
+def contracts(crate):
+    """Of each public call of the crate by its name, with its owner where it has one: doc and signature."""
+    found = {}
+    for path in sources(crate):
+        lines = path.read_text().split("\n")
+        owner = None
+        for number, line in enumerate(lines):
+            if re.match(r"(impl|pub trait)\b", line):
+                owner, _ = owner_of(line)
+            elif line == "}":
+                owner = None
+            function = re.match(r"(    )?(?:pub )?(?:const )?fn (\w+)", line)
+            if function and not (function[1] and not owner):
+                name = f"{owner}::{function[2]}" if function[1] else function[2]
+                found.setdefault(name, (doc_above(lines, number), signature(lines, number)))
+    return found
 
 
-def caller(file, first):
+def function(file, first):
+    """The lines of a function of a file."""
     lines = (CRATES / file).read_text().rstrip("\n").split("\n")
-    if first is None:
-        return lines
     start = next(n for n, line in enumerate(lines) if line.startswith(first))
     end = next(n for n in range(start, len(lines)) if lines[n] == "}")
     return lines[start: end + 1]
 
 
-def page(crate, purpose, callers, crates):
-    out = [f"# Calling `{crate}`", "", purpose + " This page is written by `docs/calling.py` from the sources; "
-           "the words of the clauses stand in each crate's `specs/`.", ""]
-    for heading, file, first in callers:
-        out += [f"## {heading}", "", f"From `crates/{file}`, which is proved.", "", "```rust", *caller(file, first), "```", ""]
-    out += ["## Contracts"]
-    for part in crates:
-        names, modules = exported(part)
-        out += ["", f"### `{part}`"]
-        for path in sources(part):
-            for owner, doc, text in calls_of(path, names, path.stem in modules):
-                head = f"In `{owner}`: " if owner else ""
-                first = " ".join(doc).split("# Errors")[0].strip()
-                out += ["", head + (first or "(no words)"), "", "```text", *text, "```"]
-    return "\n".join(out) + "\n"
+def page(crate, purpose, caller, calls):
+    file, firsts = caller
+    out = [f"# Calling `{crate}`", "", purpose + " Written by `docs/calling.py` from the sources; the words of the clauses are "
+           "defined in each crate's `specs/`, and [THEOREMS.md](../../docs/THEOREMS.md) has the other calls.", "",
+           f"A caller, of `crates/{file}`, which is proved:", "", "```rust"]
+    for at, first in enumerate(firsts):
+        out += ([""] if at else []) + function(file, first)
+    out += ["```", ""]
+    for part, name in calls:
+        doc, text = contracts(part)[name]
+        first = " ".join(doc).split("# Errors")[0].strip()
+        out += [f"`{name}` of `{part}`: {first}", "", "```text", *text, "```", ""]
+    return "\n".join(out)
 
 
 def main():
     stale = 0
-    for crate, purpose, callers, crates in PAGES:
+    for crate, *parts in PAGES:
         path = CRATES / crate / "CALLING.md"
-        text = page(crate, purpose, callers, crates)
+        text = page(crate, *parts)
+        if text.count("\n") > MOST:
+            print(f"{path.relative_to(TOP)} has {text.count(chr(10))} lines")
+            stale += 1
         if "--check" in sys.argv[1:]:
             if not path.exists() or path.read_text() != text:
                 print(f"{path.relative_to(TOP)} is not as docs/calling.py writes it")

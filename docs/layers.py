@@ -14,7 +14,7 @@ TOP = Path(__file__).resolve().parent.parent
 CRATES = TOP / "crates"
 # the layers, lowest first, each with the first words of its crates' names; definitions stand on the types that they speak of
 LAYERS = [("ir",), ("typing", "spec", "judgement"), ("module",), ("function",), ("document",), ("spirv",),
-          ("check", "checker", "shader"), ("test",)]
+          ("check", "checker", "editor", "shader"), ("test",)]
 # crates that hand a layer on, and stand in it
 DOORS = {"shader_ir": 0, "shader_typing": 1, "module_validator": 2, "function_validator": 3, "shader_check": 6}
 

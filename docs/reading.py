@@ -137,15 +137,25 @@ def unknown():
     return [name for name in sorted(set(re.findall(r"`([A-Za-z_]+)`", PROSE.read_text()))) if name not in there]
 
 
+def entry(file, names):
+    """A file with how many lines of it are read, and which of its definitions where not all are."""
+    size = sum(len(file.bodies[it]) for it in names)
+    others = [it for it in file.bodies if it not in names]
+    text = f"{file.module.split('.')[-1]} {size}"
+    if others and len(others) < len(names):
+        return f"{text} (without {', '.join(f'`{it}`' for it in others)})"
+    return f"{text} ({', '.join(f'`{it}`' for it in names)})" if others else text
+
+
 def page(files):
     lines = ["# What the theorem rests on", "",
-             "Written by `docs/reading.py`. Whoever wants to believe the theorem reads these definitions, from the top, and the first two"
-             " columns of [JUDGEMENT.md](JUDGEMENT.md) beside them. They cite nothing else in `specs/`, and nothing in `proofs/` has to be"
-             " read. A crate that has other definitions keeps those to read in `specs/judged/`. A file is listed where it is reached"
-             " first.", ""]
+             "Written by `docs/reading.py`. Whoever wants to believe the theorem reads these definitions in this order, with"
+             " [JUDGEMENT.md](JUDGEMENT.md) beside them. They cite nothing else in `specs/`, and nothing in `proofs/` has to be read."
+             " Each file, `NAME.antt` in its folder, is listed where it is reached first, with the number of lines to read; all its"
+             " definitions are read unless some are named.", ""]
     read, whole = set(), 0
     for title, root in ROOTS:
-        order, types = reached(files, root)
+        order, _ = reached(files, root)
         order = [it for it in order if it not in read]
         read |= set(order)
         by_file = {}
@@ -155,9 +165,14 @@ def page(files):
         whole += count
         lines += [f"## {title}: `{root}`", "",
                   f"{len(order)} definitions, {count} lines, {len(by_file)} files of {len({c for c, _ in by_file})} crates.", ""]
+        folder = None
         for (crate, module), names in by_file.items():
-            size = sum(len(files[crate, module].bodies[it]) for it in names)
-            lines.append(f"- `{crate}/specs/{module.replace('.', '/')}.antt`, {size}: " + ", ".join(f"`{it}`" for it in names))
+            home = "/".join([crate, "specs", *module.split(".")[:-1]])
+            if home == folder:
+                lines[-1] += f", {entry(files[crate, module], names)}"
+            else:
+                lines.append(f"- `{home}`: {entry(files[crate, module], names)}")
+            folder = home
         lines.append("")
     lines.append(f"In all {len(read)} definitions in {whole} lines.")
     return "\n".join(lines) + "\n"

@@ -1,8 +1,8 @@
 #!/usr/bin/env python3
-"""Checks the table of THEOREMS.md of the public calls that can be refused memory.
+"""Checks the table of THEOREMS.md of the public calls that can be refused memory, and the list of those that change nothing.
 
 Such a call is a public function, or a method of a public type or trait, of the crates that others build on, whose `Result` has
-memory in its error. Says which calls the table lacks and which rows are of none, and ends with status 1 where there is one.
+memory in its error. Says which calls both lack and which rows are of none, and ends with status 1 where there is one.
 With --list it prints the calls, each with its file and the labels of its clauses on `Err`.
 """
 import re
@@ -100,11 +100,14 @@ def calls():
 
 
 def rows():
+    """The calls of the table, and those of refusals.txt."""
     text = (TOP / "docs/THEOREMS.md").read_text()
-    if HEADING not in text:
-        return set()
     part = text.split(HEADING, 1)[1].split("\n## ", 1)[0]
-    return {name for line in part.split("\n") if line.startswith("| `") for name in re.findall(r"`([^`]+)`", line.split("|")[1])}
+    listed = {name for line in part.split("\n") if line.startswith("| `") for name in re.findall(r"`([^`]+)`", line.split("|")[1])}
+    for line in (TOP / "docs/refusals.txt").read_text().split("\n"):
+        if line.startswith(" "):
+            listed |= set(line.split())
+    return listed
 
 
 def main():
@@ -115,10 +118,10 @@ def main():
         return 0
     listed = rows()
     for name in sorted(set(found) - listed):
-        print(f"not in the table: {name} ({found[name][0]})")
+        print(f"not listed: {name} ({found[name][0]})")
     for name in sorted(listed - set(found)):
         print(f"no such call: {name}")
-    print(f"{len(found)} calls, {len(listed)} in the table")
+    print(f"{len(found)} calls, {len(listed)} listed")
     return 1 if set(found) ^ listed else 0
 
 

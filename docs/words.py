@@ -64,7 +64,7 @@ def of_comments(file):
 
 def main():
     crates = TOP / "crates"
-    pages = [TOP / "README.md", *sorted((TOP / "docs").glob("*.md")), *sorted(crates.glob("*/CALLING.md")), *sorted((TOP / "examples").rglob("*.md"))]
+    pages = [TOP / "README.md", TOP / "page/README.md", *sorted((TOP / "docs").glob("*.md")), *sorted(crates.glob("*/CALLING.md")), *sorted((TOP / "examples").rglob("*.md"))]
     found = [it for file in pages for it in places(file, of_page(file))]
     sources = sorted(crates.glob("*/src/**/*.rt"))
     found += [it for file in sources for it in places(file, of_errors(file))]
