@@ -109,11 +109,7 @@ fn part_as<B: Builder>(
 }
 
 // The value, or none since this is wrong.
-fn given_or_refused<B: Builder>(
-    builder: &mut B,
-    value: Option<Value>,
-    error: SpirvError,
-) -> Value {
+fn given_or_refused<B: Builder>(builder: &mut B, value: Option<Value>, error: SpirvError) -> Value {
     match value {
         Some(value) => value,
         None => refuse(builder, error),
