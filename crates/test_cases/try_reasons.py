@@ -11,8 +11,8 @@ part names by a handle; or where the text names what was changed (a capability t
 taken away). Bytes that are no JSON have no path, and are not counted. Each kind is counted, and each document of which none is so
 is printed with --list. The status is 1 where the share of those that it holds is below 97 in 100.
 
-With --write every third document of the corpora that is refused by one slip goes to crates/checker/stdin, a line each: the steps to
-the slip, a tab, the document. `checker --measure` counts by them in `rt ci` how many paths lead to the slip, or to what names it.
+With --write every third document of the corpora that is refused by one slip goes to crates/test_reasons/stdin, a line each: the steps to
+the slip, a tab, the document. `test_reasons` counts by them in `rt ci` how many paths lead to the slip, or to what names it.
 """
 import collections
 import concurrent.futures
@@ -24,7 +24,7 @@ import sys
 from pathlib import Path
 
 DATA = Path(__file__).resolve().parent / "data"
-LINES = DATA.parent.parent / "checker/stdin"
+LINES = DATA.parent.parent / "test_reasons/stdin"
 EACH = 3
 LEAST = 97
 MADE = 3

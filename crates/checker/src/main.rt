@@ -1,12 +1,11 @@
 // Judges the document on standard input. With `--explain` it prints why it is refused, and where, in one line, with `--names` with the
 // error by its name after it, or with `--json` all of it as one JSON object; with `--leaves` what lies inside the buffers of an
 // accepted one, too. With `--spirv` the module of SPIR-V there, in the same forms, and with `--document` the document that it says.
-// With `--lsp` as its first word it is a language server. With `--measure` how often the path that is reported leads to a slip that is known.
+// With `--lsp` as its first word it is a language server. Words that are none of these are ignored.
 #![tactic(auto)]
 
 mod chosen;
 mod editor;
-mod measure;
 
 use check_choices::Choices;
 use check_explanation::{
@@ -15,7 +14,6 @@ use check_explanation::{
 };
 use check_ports::{Sink, Source, TakeError};
 use chosen::{chosen_document, chosen_json, explain_chosen};
-use measure::Measured;
 use shader_check::{check_document, outcome};
 use std::alloc::AllocError;
 use std::env::{Env, FillError};
@@ -33,7 +31,6 @@ enum Form {
     NamedLeaves,
     Object,
     Document,
-    Measure,
 }
 
 // What a word after an argument says.
@@ -67,7 +64,6 @@ fn form_of(word: &str) -> Option<Form> {
         "--json" => Some(Form::Object),
         "--verdict" => Some(Form::Verdict),
         "--document" => Some(Form::Document),
-        "--measure" => Some(Form::Measure),
         _ => None,
     }
 }
@@ -82,7 +78,7 @@ fn joined(before: Form, after: Form) -> Form {
     }
 }
 
-// Takes what an argument says, and returns whether it says something.
+// Takes what an argument says; a word that says nothing is ignored. Returns whether it names checks or capabilities where it has to.
 fn take_word(wanted: &mut Arguments, word: &str) -> bool {
     match wanted.open {
         Some(Choice::Without) => {
@@ -110,19 +106,17 @@ fn take_word(wanted: &mut Arguments, word: &str) -> bool {
         }
         _ => {}
     }
-    match form_of(word) {
-        Some(found) => {
-            wanted.form = joined(wanted.form, found);
-            true
-        }
-        None => false,
+    if let Some(found) = form_of(word) {
+        wanted.form = joined(wanted.form, found);
     }
+    true
 }
 
 // The longest argument, in bytes: there is room for the words of all capabilities.
 const MAX_WORD: usize = 1024;
 
-// What the arguments say, the last of them that names a form; nothing where one of them says nothing. It takes no memory.
+// What the arguments say, the last of them that names a form; nothing where what is left out or allowed is named wrongly, or is not of a
+// module of SPIR-V. It takes no memory.
 fn read_arguments(rt: &HostRuntime) -> Option<Arguments> {
     let mut wanted = Arguments {
         form: Form::Verdict,
@@ -135,6 +129,8 @@ fn read_arguments(rt: &HostRuntime) -> Option<Arguments> {
         let length = match rt.arg(place, &mut buffer) {
             Ok(length) => length,
             Err(FillError::NotPresent) => break,
+            // what is too long for a word of an option is none
+            Err(FillError::TooLong) if wanted.open.is_none() => continue,
             Err(FillError::TooLong) => return None,
         };
         let word = from_utf8(buffer.get(..length).unwrap_or(&[])).unwrap_or("");
@@ -150,7 +146,7 @@ fn read_arguments(rt: &HostRuntime) -> Option<Arguments> {
 // What is to be known of an accepted document for this form.
 fn requested_by(form: Form) -> Requested {
     match form {
-        Form::Line | Form::Measure => Requested::Nothing,
+        Form::Line => Requested::Nothing,
         Form::Leaves | Form::NamedLeaves => Requested::Leaves,
         Form::Verdict | Form::LineWithNames | Form::Object | Form::Document => Requested::Report,
     }
@@ -206,7 +202,7 @@ fn print_explanation(rt: &HostRuntime, form: Form, traced: &Traced) -> ExitCode 
         Form::Line => ended(rt, println!(rt; "{traced}"), status),
         Form::LineWithNames | Form::NamedLeaves => print_names(rt, traced, status),
         Form::Object => print_text(rt, traced.json(rt.alloc()), "\n", status),
-        Form::Verdict | Form::Leaves | Form::Document | Form::Measure => {
+        Form::Verdict | Form::Leaves | Form::Document => {
             print_text(rt, traced.explanation.listing(rt.alloc()), "", status)
         }
     }
@@ -239,8 +235,7 @@ fn print_unread(rt: &HostRuntime, form: Form, bytes: &[u8], error: &SpirvError) 
             | Form::LineWithNames
             | Form::Leaves
             | Form::NamedLeaves
-            | Form::Document
-            | Form::Measure => print_text(rt, error_text(rt.alloc(), bytes, error), "\n", 3),
+            | Form::Document => print_text(rt, error_text(rt.alloc(), bytes, error), "\n", 3),
         },
     }
 }
@@ -259,15 +254,11 @@ fn print_spirv(rt: &HostRuntime, form: Form, bytes: &[u8]) -> ExitCode {
             Ok(text) => print_text(rt, Ok(text), "\n", 0),
             Err(error) => print_unread(rt, form, bytes, &error),
         },
-        Form::Line
-        | Form::LineWithNames
-        | Form::Leaves
-        | Form::NamedLeaves
-        | Form::Object
-        | Form::Measure => match explain_spirv(rt.alloc(), requested_by(form), bytes) {
-            Ok(traced) => print_traced(rt, form, traced),
-            Err(error) => print_unread(rt, form, bytes, &error),
-        },
+        Form::Line | Form::LineWithNames | Form::Leaves | Form::NamedLeaves | Form::Object =>
+            match explain_spirv(rt.alloc(), requested_by(form), bytes) {
+                Ok(traced) => print_traced(rt, form, traced),
+                Err(error) => print_unread(rt, form, bytes, &error),
+            },
     }
 }
 
@@ -307,20 +298,9 @@ fn print_document(rt: &HostRuntime, form: Form, bytes: &[u8]) -> ExitCode {
     }
 }
 
-// Prints how often the path leads to the slip.
-fn print_measured(rt: &HostRuntime, bytes: &[u8]) -> ExitCode {
-    let mut measured = Measured::new();
-    match measured.read_all(rt.alloc(), from_utf8(bytes).unwrap_or("")) {
-        Ok(()) => ended(rt, println!(rt; "{measured}"), 0),
-        Err(_) => fault(rt, "memory"),
-    }
-}
-
 // Prints what the arguments want of these bytes.
 fn print_all(rt: &HostRuntime, wanted: Arguments, bytes: &[u8]) -> ExitCode {
-    if let Form::Measure = wanted.form {
-        print_measured(rt, bytes)
-    } else if wanted.is_spirv && !wanted.choices.is_none() {
+    if wanted.is_spirv && !wanted.choices.is_none() {
         print_chosen(rt, wanted.form, &wanted.choices, bytes)
     } else if wanted.is_spirv {
         print_spirv(rt, wanted.form, bytes)
@@ -346,7 +326,7 @@ fn main(rt: HostRuntime) -> ExitCode {
     let Some(wanted) = read_arguments(&rt) else {
         return fault(
             &rt,
-            "an argument is no form and no choice (see shader-check --help), and not --spirv",
+            "--without or --capabilities has a word that it does not take, or no --spirv beside it",
         );
     };
     if let (Form::Verdict, false) = (wanted.form, wanted.is_spirv) {
