@@ -1,4 +1,4 @@
-// What instructions do with the function that is built.
+// How instructions change the function under construction.
 
 use crate::lowering::Lowering;
 use crate::writing::{Writing, fail_in, read_in, type_in};
@@ -21,7 +21,7 @@ use spirv_types::{
 use spirv_words::{Failure, Feature, Instruction, Malformed, SpirvError};
 use std::alloc::Global;
 
-// How many steps a pointer may have from its variable (universal limit of the standard).
+// The most access steps from a variable to a pointer (universal limit of the standard).
 const MAX_STEPS: usize = 255;
 
 impl<K: Knowledge, T: Types, W: Writing> Emits for Lowering<K, T, W> {

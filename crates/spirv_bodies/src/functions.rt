@@ -18,9 +18,9 @@ use spirv_types::{
 };
 use spirv_words::{Failure, Feature, FunctionParts, Instruction, Malformed};
 
-/// What is built of the functions of a module.
+/// The functions of a module, in the IR.
 pub struct Lowered<K: Knowledge, T: Types, W: Writing> {
-    /// What is known of the module, with what its functions require besides.
+    /// What is known of the module, and what its functions require as well.
     pub known: K,
     /// Its types.
     pub built: T,
@@ -32,7 +32,7 @@ pub struct Lowered<K: Knowledge, T: Types, W: Writing> {
     pub rays: RayTypes,
 }
 
-/// Builds the functions of a module, if nothing was wrong so far; they are of no use where the body keeps something that was wrong.
+/// Builds the functions of a module, unless there was an error. Where the body has recorded an error, the result must not be used.
 pub fn lower_functions<K: Knowledge, T: Types, W: Writing>(
     known: K,
     built: T,
@@ -61,7 +61,7 @@ pub fn lower_functions<K: Knowledge, T: Types, W: Writing>(
 }
 
 impl<K: Knowledge, T: Types, W: Writing> Lowering<K, T, W> {
-    // What was built.
+    // The result.
     fn finish(self) -> Lowered<K, T, W> {
         let Lowering {
             alloc: _,
@@ -130,7 +130,7 @@ impl<K: Knowledge, T: Types, W: Writing> Lowering<K, T, W> {
         arguments
     }
 
-    // Adds an argument; answers the expression that it is.
+    // Adds an argument; returns the expression that it is.
     fn add_argument(
         &mut self,
         operation: &Instruction,

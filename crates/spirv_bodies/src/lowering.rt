@@ -29,7 +29,7 @@ pub struct Lowering<K: Knowledge, T: Types, W: Writing> {
     pub(crate) scope: u32,
 }
 
-// The parts that a composite is put together of: the first, and how many.
+// The parts of a composite: the first, and how many.
 fn parts_of(made: &Made) -> Option<(u32, u32)> {
     match made {
         Made::Parts { first, count } => Some((*first, *count)),
@@ -49,7 +49,7 @@ impl<K: Knowledge, T: Types, W: Writing> Lowering<K, T, W> {
         }
     }
 
-    /// The expression of a constant or a variable with this id, which is named once in a function.
+    /// The expression of the constant or variable with this id, made once a function.
     pub(crate) fn name(
         &mut self,
         id: u32,
@@ -79,7 +79,7 @@ impl<K: Knowledge, T: Types, W: Writing> Lowering<K, T, W> {
         value
     }
 
-    // The value of a constant of which this is known, if it is one.
+    // The value of a known constant.
     #[cycle(constants)]
     fn constant_value(
         &mut self,
@@ -96,7 +96,7 @@ impl<K: Knowledge, T: Types, W: Writing> Lowering<K, T, W> {
         Some(self.composite(known.ty, first, count, operation, depth))
     }
 
-    // A composite of constants, put together here.
+    // A composite of constants, composed here.
     #[cycle(constants)]
     fn composite(
         &mut self,
@@ -170,7 +170,7 @@ impl<K: Knowledge, T: Types, W: Writing> Lowering<K, T, W> {
         self.add_pointer(given)
     }
 
-    /// What is wrong with an id that is no value and no pointer here.
+    /// The error for an id that is neither a value nor a pointer here.
     pub(crate) fn missing(&self, id: u32, operation: &Instruction) -> SpirvError {
         match self.known.reading().listing.definition(id) {
             None => operation.malformed(Malformed::Undefined),

@@ -1,4 +1,4 @@
-// The structs that some expressions give.
+// The predeclared result structs of some expressions.
 
 use crate::lowering::Lowering;
 use crate::writing::{Writing, made_in, type_in};
@@ -11,7 +11,7 @@ use spirv_images::{Pair, pair_of};
 use spirv_types::{TypeHandle, Types};
 use std::alloc::{AllocError, Global};
 
-// The name of the struct that an expression gives.
+// The name of an expression's result struct.
 fn name_of(alloc: Global, of: PredeclaredType) -> Result<String, AllocError> {
     let (function, size, scalar) = match of {
         PredeclaredType::ModfResult { size, scalar } => ("modf", size, scalar),
@@ -37,7 +37,7 @@ fn name_of(alloc: Global, of: PredeclaredType) -> Result<String, AllocError> {
 }
 
 impl<K: Knowledge, T: Types, W: Writing> Lowering<K, T, W> {
-    /// The struct that an expression gives, which is built once.
+    /// The result struct of an expression, built once.
     pub fn special_type(&mut self, of: PredeclaredType) -> TypeHandle {
         if let Some(handle) = self.names.special(of) {
             return handle;

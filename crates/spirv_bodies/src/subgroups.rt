@@ -1,5 +1,5 @@
-// What entry points compute for functions: of the number of an invocation in its subgroup and of the subgroup's size, and of the
-// place of a fragment.
+// What entry points compute for functions from built-ins: the invocation's index in its subgroup, the subgroup's size, and the fragment's
+// position.
 
 use crate::writing::{Writing, type_in};
 use ir_arena::span::Span;
@@ -15,11 +15,11 @@ use spirv_types::Types;
 /// What is computed by an entry point.
 #[derive(Clone, Copy)]
 pub struct Subgroups {
-    /// What words are computed with.
+    /// How the words are computed.
     pub words: Words,
 }
 
-// What a built-in is taken as: the position as four floats, the numbers of a subgroup as words.
+// The type in which an entry point takes a built-in: the position as four floats, a subgroup's numbers as words.
 fn inner_of(built_in: BuiltIn) -> TypeInner {
     match built_in {
         BuiltIn::Position { .. } => TypeInner::Vector {
@@ -30,7 +30,7 @@ fn inner_of(built_in: BuiltIn) -> TypeInner {
     }
 }
 
-// The place of the argument with a built-in, if there is one.
+// The index of the argument with a built-in.
 fn place_of(arguments: &[FunctionArgument], built_in: BuiltIn) -> Option<u32> {
     let mut place = 0u32;
     for argument in arguments {
@@ -82,13 +82,13 @@ impl Subgroups {
         body.place(Expression::FunctionArgument(place), self.words.span)
     }
 
-    // What is stored into a variable.
+    // A store into a variable.
     fn store<W: Writing>(&self, body: &mut W, variable: &Variable, value: Value) {
         let pointer = body.place(Expression::GlobalVariable(variable.handle), self.words.span);
         body.statement(Statement::Store { pointer, value }, self.words.span);
     }
 
-    /// Stores a mask into its variable: the invocations below the end of it that are not below its beginning.
+    /// Stores a mask into its variable: the invocations from its beginning up to its end.
     pub fn store_mask<T: Types, W: Writing>(
         &self,
         built: &mut T,
@@ -123,7 +123,7 @@ impl Subgroups {
         self.store(body, variable, value);
     }
 
-    /// Stores the number of the invocation and the subgroup's size into their variable.
+    /// Stores the invocation's index and the subgroup's size into their variable.
     pub fn store_numbers<T: Types, W: Writing>(
         &self,
         built: &mut T,
@@ -141,7 +141,7 @@ impl Subgroups {
         self.store(body, variable, value);
     }
 
-    /// Stores the place of the fragment into its variable.
+    /// Stores the fragment's position into its variable.
     pub fn store_place<T: Types, W: Writing>(
         &self,
         built: &mut T,

@@ -1,4 +1,4 @@
-// What functions are written with.
+// The writer that functions are built with.
 
 use ir_arena::span::Span;
 use ir_items::{Block, FunctionArgument, FunctionResult, LocalVariable, Statement};
@@ -9,18 +9,18 @@ use spirv_types::TypeHandle;
 use spirv_words::{Failure, Listing, SpirvError};
 use std::alloc::{AllocError, Global};
 
-/// What functions are written with, one after the other. What is wrong first is kept, and after that nothing is written.
+/// The writer that functions are built with, one after the other. It records the first error, and writes nothing after it.
 pub trait Writing: Emits {
-    /// What was wrong first.
+    /// The first error.
     fn failure(&self) -> Option<SpirvError>;
 
-    /// So much is made, beside expressions.
+    /// Charges the budget for what is made, expressions aside.
     fn spend(&mut self, count: u64, span: Span);
 
-    /// Emits what no statement emits yet.
+    /// Emits the expressions that no statement has emitted yet.
     fn flush(&mut self);
 
-    /// A statement, after what no statement emits yet.
+    /// Appends a statement, after emitting pending expressions.
     fn statement(&mut self, statement: Statement, span: Span);
 
     /// Opens a block.
@@ -29,11 +29,10 @@ pub trait Writing: Emits {
     /// Closes the innermost block.
     fn close(&mut self) -> Block;
 
-    /// A local; answers the pointer to it.
+    /// Adds a local variable, and returns the pointer to it.
     fn local(&mut self, local: LocalVariable, span: Span) -> Value;
 
-    /// Ends a function, whose name and body this is, and which takes and gives this. Its expressions and locals are those that
-    /// were written.
+    /// Ends a function with this name, body, arguments and result. Its expressions and locals are those written so far.
     fn end_function(
         &mut self,
         name: Option<String>,
@@ -110,7 +109,7 @@ pub fn clone_in<W: Writing>(
     }
 }
 
-/// What was wrong, if anything was.
+/// The error, if there was one.
 pub fn fail_in<W: Writing>(body: &mut W, failed: &Failure) {
     if let Some(error) = failed.first {
         body.fail(error);

@@ -1,4 +1,4 @@
-// Constants that are put together of others, and their parts.
+// Composite constants and their parts.
 
 use crate::constants::{ConstantTable, Constants, Kind};
 use crate::known::{ExpressionHandle, Inside, Known, count_parts};
@@ -8,7 +8,7 @@ use spirv_types::{Reading, TypeHandle, TypeTable, span_of};
 use spirv_words::{Feature, Instruction};
 use std::alloc::Global;
 
-// How many parts a constant may have of which one is put in anew.
+// The most parts of a constant into which `OpCompositeInsert` puts one.
 const MAX_PARTS: u32 = 1024;
 
 // A part of a constant.
@@ -19,7 +19,7 @@ struct Place {
 }
 
 impl<C: Constants> ConstantTable<C> {
-    // The expressions of the module that these constants are.
+    // The global expressions of these constants.
     pub(crate) fn expressions_of_parts(
         &mut self,
         alloc: Global,
@@ -34,7 +34,7 @@ impl<C: Constants> ConstantTable<C> {
         all
     }
 
-    // A constant that is put together of these: a constant of the module where all of them are such, else kept as its parts.
+    // A composite constant: a constant of the module where all its parts are constants, else kept as its parts.
     pub(crate) fn put_composite(
         &mut self,
         reading: &Reading,
@@ -52,7 +52,7 @@ impl<C: Constants> ConstantTable<C> {
         }
     }
 
-    // A composite of this type that is put together of these.
+    // A composite of this type with these parts.
     fn compose(
         &mut self,
         alloc: Global,
@@ -71,7 +71,7 @@ impl<C: Constants> ConstantTable<C> {
         Known::of_parts(first, parts.len(), ty, init)
     }
 
-    // The constant that is a part of another one; of a null another null, a constant more.
+    // The constant that is a part of another one. A part of a null is a null, added as a constant.
     pub(crate) fn constant_in(
         &mut self,
         types: &TypeTable,
@@ -145,7 +145,7 @@ impl<C: Constants> ConstantTable<C> {
         self.known.set_same(instruction.id, made);
     }
 
-    // The composite in which this constant is the part at a place; a constant more.
+    // The composite with this constant as the part at an index, added as a constant.
     fn replaced(
         &mut self,
         alloc: Global,
@@ -196,7 +196,7 @@ impl<C: Constants> ConstantTable<C> {
         let mut parts = Vec::new(reading.alloc);
         for component in operands.get(2..).unwrap_or(&[]) {
             let (of, index) = match component.checked_sub(count) {
-                // any value would do
+                // undefined: any value is allowed
                 Some(_) if *component == u32::MAX => (first, 0),
                 Some(index) => (second, index),
                 None => (first, *component),

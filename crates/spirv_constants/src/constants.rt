@@ -12,7 +12,7 @@ use spirv_words::{Failure, Instruction, Listing, Malformed, SpirvError, Unsuppor
 use std::alloc::Global;
 use std::collections::BTreeMap;
 
-/// Where the constants of a module are built, and the expressions that they are made of.
+/// Builds the constants of a module and their expressions.
 pub trait Constants {
     /// A constant.
     fn constant(
@@ -41,20 +41,19 @@ pub trait Constants {
     ) -> Result<ExpressionHandle, SpirvError>;
 }
 
-/// The constants of a module: those that are built, and what each id of one is. What is wrong first is kept: after that every
-/// declaration fails.
+/// The constants of a module: those built, and what each id of one means. After the first error every declaration fails.
 pub struct ConstantTable<C: Constants> {
-    /// Those that are built.
+    /// The constants built so far.
     pub built: C,
-    /// What each id is.
+    /// The meaning of each id.
     pub known: KnownConstants,
     // the first specialization constant with each number
     numbered: BTreeMap<u16, u32>,
-    // what was wrong first
+    // the first error
     pub(crate) failed: Failure,
 }
 
-// As what a constant is built.
+// How a constant is represented.
 #[derive(Clone, Copy)]
 pub(crate) enum Kind {
     Constant,
@@ -63,7 +62,7 @@ pub(crate) enum Kind {
 }
 
 impl<C: Constants> ConstantTable<C> {
-    /// None, with ids below the bound, to be built there.
+    /// No constants yet, with ids below the bound.
     pub fn new(alloc: Global, bound: usize, built: C, failed: &mut Failure) -> ConstantTable<C> {
         ConstantTable {
             built,
@@ -73,7 +72,7 @@ impl<C: Constants> ConstantTable<C> {
         }
     }
 
-    /// What each id is, and those that are built.
+    /// The meaning of each id, and the constants built.
     pub fn finish(self) -> (KnownConstants, C) {
         let ConstantTable {
             built,
@@ -100,7 +99,7 @@ impl<C: Constants> ConstantTable<C> {
         self.failed.take(made, Handle::at(0))
     }
 
-    /// The expression of the module that a constant is.
+    /// The global expression of a constant.
     pub fn expression(
         &mut self,
         id: u32,
@@ -111,7 +110,7 @@ impl<C: Constants> ConstantTable<C> {
         self.failed.answer(handle)
     }
 
-    // The same of a part of a constant.
+    // The same for a part of a constant.
     pub(crate) fn part_expression(
         &mut self,
         id: u32,
@@ -154,7 +153,7 @@ impl<C: Constants> ConstantTable<C> {
         self.failed.take(made, Made::Nothing)
     }
 
-    // A constant of which this is known, or an override where it is decorated as one.
+    // A known constant, or an override where it is decorated as one.
     pub(crate) fn put(
         &mut self,
         reading: &Reading,
@@ -181,7 +180,7 @@ impl<C: Constants> ConstantTable<C> {
         self.known.set(instruction.id, known);
     }
 
-    // A specialization constant with the number of one before: that one, where both are of one type and begin as one value.
+    // A specialization constant whose `SpecId` occurred before: the earlier one, where types and defaults are equal.
     fn put_again(
         &mut self,
         instruction: &Instruction,
@@ -197,7 +196,7 @@ impl<C: Constants> ConstantTable<C> {
         self.known.set_same(instruction.id, first);
     }
 
-    /// A constant as it is declared, but for those that an operation computes.
+    /// A declared constant, except those that `OpSpecConstantOp` computes.
     pub fn declare(
         &mut self,
         reading: &Reading,
@@ -234,7 +233,7 @@ impl<C: Constants> ConstantTable<C> {
         self.failed.answer(())
     }
 
-    /// The expressions of the module that these constants are.
+    /// The global expressions of these constants.
     pub fn expressions_of(
         &mut self,
         alloc: Global,
@@ -247,7 +246,7 @@ impl<C: Constants> ConstantTable<C> {
     }
 }
 
-// As what the constant of an instruction is built.
+// How the constant of an instruction is represented.
 fn kind_of(listing: &Listing, instruction: &Instruction) -> Result<Kind, SpirvError> {
     match Decorated::of(listing, instruction.id, None).spec_id {
         Some(number) => match u16::try_from(number) {
@@ -258,7 +257,7 @@ fn kind_of(listing: &Listing, instruction: &Instruction) -> Result<Kind, SpirvEr
     }
 }
 
-// The literal of a constant of a scalar; none of what is all zeros.
+// The literal of a scalar constant; `None` for a null.
 fn literal_of(
     listing: &Listing,
     instruction: &Instruction,

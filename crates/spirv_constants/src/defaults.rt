@@ -1,4 +1,4 @@
-// What outputs begin as.
+// Initial values of outputs.
 
 use crate::constants::{ConstantTable, Constants};
 use crate::known::ExpressionHandle;
@@ -13,7 +13,7 @@ use std::alloc::Global;
 const ONE: u32 = 0x3f80_0000;
 
 impl<C: Constants> ConstantTable<C> {
-    /// What a value with this binding begins as, or a struct of bound members where there is none.
+    /// The initial value of an output with this binding, or of a struct of bound members where there is none.
     pub fn default_value<T: Types>(
         &mut self,
         alloc: Global,
@@ -38,7 +38,7 @@ impl<C: Constants> ConstantTable<C> {
         self.failed.answer(handle)
     }
 
-    // What one value begins as; the position is 0, 0, 0, 1.
+    // The initial value of one output; the position is 0, 0, 0, 1.
     fn build_default(
         &mut self,
         alloc: Global,

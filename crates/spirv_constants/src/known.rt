@@ -1,4 +1,4 @@
-// What is known of the constants of a module, wherever they are built.
+// What is known of the constants of a module, independent of where they are built.
 
 use ir_arena::handle::Handle;
 use ir_types::{ArraySize, Expression, key};
@@ -10,7 +10,7 @@ use std::alloc::Global;
 /// The handle of an expression, of the module or of a function.
 pub type ExpressionHandle = Handle<key::Expression>;
 
-/// What a constant is.
+/// The representation of a constant.
 #[derive(Clone, Copy)]
 pub enum Made {
     /// None.
@@ -19,11 +19,11 @@ pub enum Made {
     Constant(Handle<key::Constant>),
     /// An override.
     Override(Handle<key::Override>),
-    /// Put together of others, of which one is an override; by their places in the table of parts.
+    /// A composite with an override among its parts; a range of the table of parts.
     Parts {
-        /// The first.
+        /// Index of the first part.
         first: u32,
-        /// How many.
+        /// Number of parts.
         count: u32,
     },
 }
@@ -31,15 +31,15 @@ pub enum Made {
 /// What is known of a constant.
 #[derive(Clone, Copy)]
 pub struct Known {
-    /// What it is.
+    /// Its representation.
     pub made: Made,
     /// Its type.
     pub ty: u32,
-    /// Its value, of a whole number, a truth value or a float that is 0; of a specialization constant its default.
+    /// Its value, for an integer, a bool, or a float that is 0; for a specialization constant its default.
     pub value: Option<i64>,
-    // the expression of the module that it is
+    // its global expression
     pub(crate) expression: Option<ExpressionHandle>,
-    // the first of its parts and how many there are, where it is put together
+    // the first of its parts and their number, of a composite
     first: u32,
     count: u32,
     // whether it is all zeros
@@ -58,7 +58,7 @@ pub(crate) const NOTHING: Known = Known {
 };
 
 impl Known {
-    // Made so, of this type and value.
+    // A constant with this representation, type and value.
     pub(crate) fn of(made: Made, ty: u32, value: Option<i64>) -> Known {
         Known {
             made,
@@ -79,7 +79,7 @@ impl Known {
         }
     }
 
-    // Put together of so many parts, as this expression.
+    // A composite with this many parts and this expression.
     pub(crate) fn of_parts(first: u32, count: usize, ty: u32, init: ExpressionHandle) -> Known {
         let count = u32::try_from(count).unwrap_or(u32::MAX);
         Known {
@@ -102,17 +102,17 @@ pub(crate) enum Inside {
     Null(u32),
 }
 
-/// What each id of a constant is.
+/// The constants by id.
 #[derive(Drop)]
 pub struct KnownConstants {
-    // what each id is, and after those what the parts of constants are that have no id
+    // first by id, then the parts of constants that have no id
     all: Vec<Known>,
     bound: usize,
     parts: Vec<u32>,
 }
 
 impl KnownConstants {
-    // None, with ids below the bound.
+    // An empty table for ids below the bound.
     pub(crate) fn new(alloc: Global, bound: usize, failed: &mut Failure) -> KnownConstants {
         KnownConstants {
             all: failed.table(alloc, NOTHING, bound),
@@ -121,7 +121,7 @@ impl KnownConstants {
         }
     }
 
-    // What is known of an id or of a part, if only that it is no constant.
+    // What is known of an id or of a part, possibly that it is no constant.
     pub(crate) fn at(&self, id: u32) -> Known {
         match self.all.get(id as usize) {
             Some(known) => *known,
@@ -129,7 +129,7 @@ impl KnownConstants {
         }
     }
 
-    /// What is known of a constant, if the id is of one.
+    /// What is known of the constant with this id.
     pub fn of(&self, id: u32) -> Option<Known> {
         if (id as usize) < self.bound {
             self.of_part(id)
@@ -138,7 +138,7 @@ impl KnownConstants {
         }
     }
 
-    /// The same of a part of a constant, which need not have an id.
+    /// The same for a part of a constant, which may have no id.
     pub fn of_part(&self, id: u32) -> Option<Known> {
         let known = self.at(id);
         match known.made {
@@ -147,7 +147,7 @@ impl KnownConstants {
         }
     }
 
-    /// The value of a constant, if it is a whole number or a truth value.
+    /// The value of a constant that is an integer or a bool.
     pub fn value(&self, id: u32) -> Option<i64> {
         match self.of(id) {
             Some(known) => known.value,
@@ -155,12 +155,12 @@ impl KnownConstants {
         }
     }
 
-    /// The constant at a place among those that one is put together of, which begin at the first; 0 where there is none.
+    /// The part at an index of a composite constant; 0 where there is none.
     pub fn part(&self, first: u32, place: u32) -> u32 {
         number_at(&self.parts, first.saturating_add(place))
     }
 
-    /// The length of an array that a constant says.
+    /// The length of an array, given by a constant.
     pub fn length(&self, id: u32, instruction: &Instruction) -> Result<ArraySize, SpirvError> {
         let Some(known) = self.of(id) else {
             return Err(instruction.malformed(Malformed::NoConstant));
@@ -172,7 +172,7 @@ impl KnownConstants {
         }
     }
 
-    // The id, which has to be of a constant.
+    // The id, which must be that of a constant.
     pub(crate) fn need(&self, id: u32, instruction: &Instruction) -> Result<u32, SpirvError> {
         match self.of(id) {
             Some(_) => Ok(id),
@@ -180,7 +180,7 @@ impl KnownConstants {
         }
     }
 
-    // The constant of the module that is the operand at this place.
+    // The constant of the module that is the operand at this index.
     pub(crate) fn operand(
         &self,
         instruction: &Instruction,
@@ -195,7 +195,7 @@ impl KnownConstants {
         failed.take(id, 0)
     }
 
-    // All these have to be constants.
+    // Requires that all of these are constants.
     pub(crate) fn need_all(
         &self,
         ids: &[u32],
@@ -209,12 +209,12 @@ impl KnownConstants {
         Ok(())
     }
 
-    // Whether it is a constant, and not an override or put together of such.
+    // Whether it is a constant without an override in it.
     pub(crate) fn is_constant(&self, id: u32) -> bool {
         matches!(self.at(id).made, Made::Constant(_))
     }
 
-    // Whether all these are constants, and none is an override or has one in it.
+    // Whether all of these are constants without an override in them.
     pub(crate) fn are_constants(&self, ids: &[u32]) -> bool {
         for id in ids {
             if !self.is_constant(*id) {
@@ -250,21 +250,21 @@ impl KnownConstants {
         }
     }
 
-    // This is known of an id.
+    // Records what is known of an id.
     pub(crate) fn set(&mut self, id: u32, known: Known) {
         if let Some(place) = self.all.get_mut(id as usize) {
             *place = known;
         }
     }
 
-    // An id is the same constant as another.
+    // Makes an id an alias of another constant.
     pub(crate) fn set_same(&mut self, id: u32, other: u32) {
         if let Some(known) = self.of_part(other) {
             self.set(id, known);
         }
     }
 
-    // A constant that has no id; answers its place, after the ids.
+    // Adds a constant without an id, and returns its index, after the ids.
     pub(crate) fn add(&mut self, known: Known, failed: &mut Failure) -> u32 {
         let place = u32::try_from(self.all.len()).unwrap_or(u32::MAX);
         failed.push(&mut self.all, NOTHING);
@@ -272,7 +272,7 @@ impl KnownConstants {
         place
     }
 
-    // Parts that a constant is put together of; answers the place of the first.
+    // Adds the parts of a composite, and returns the index of the first.
     pub(crate) fn add_parts(&mut self, parts: &[u32], failed: &mut Failure) -> u32 {
         let first = u32::try_from(self.parts.len()).unwrap_or(u32::MAX);
         if self.parts.extend_from_slice(parts).is_err() {
@@ -291,7 +291,7 @@ pub fn named(made: &Made) -> Option<Expression> {
     }
 }
 
-// How many parts a value of a type has.
+// The number of parts of a value of a type.
 pub(crate) fn count_parts(types: &TypeTable, ty: u32) -> u32 {
     match types.shape(ty) {
         Shape::Vector { size, .. } => u32::from(size),

@@ -1,4 +1,4 @@
-// What operations on scalars are that are computed of constants.
+// Operations on scalar constants, as expressions.
 
 use crate::known::{ExpressionHandle, KnownConstants, Made};
 use ir_arena::handle::Handle;
@@ -16,7 +16,7 @@ use std::alloc::Global;
 pub(crate) struct Operation {
     pub instruction: Instruction,
     pub opcode: u16,
-    // the constants that it is of, and how many these are
+    // its operands, and their number
     pub operands: [u32; 3],
     pub count: usize,
     // the type of the result, and its scalar
@@ -26,21 +26,21 @@ pub(crate) struct Operation {
     pub component: Option<u32>,
 }
 
-// A step of what an operation becomes: an expression. Those that it is of are named by the places of their steps.
+// One expression of an operation's translation. Operands refer to earlier ones by index.
 #[derive(Clone, Copy)]
 pub(crate) enum Step {
-    // what this constant is
+    // the expression of this constant
     Constant(u32),
     Literal(Literal),
     Unary(UnaryOperator, usize),
     Quantized(usize),
-    // as a scalar of this kind and this width; bit for bit where only the sign differs
+    // converted to a scalar of this kind and width; a bitcast where only the sign differs
     As(usize, Scalar),
     Binary(BinaryOperator, usize, usize),
     Select([usize; 3]),
 }
 
-// The steps of what an operation becomes, of which the last is all of it, and what is wrong after them.
+// The expressions of an operation's translation, the last of which is its result, and the error, if any.
 #[derive(Drop)]
 pub(crate) struct Steps {
     pub all: Vec<Step>,
@@ -48,7 +48,7 @@ pub(crate) struct Steps {
 }
 
 impl Steps {
-    // A step more, unless something is wrong; answers its place.
+    // Adds an expression, unless there was an error, and returns its index.
     fn add(&mut self, step: Step) -> usize {
         let place = self.all.len();
         if self.failed.first.is_none() {
@@ -58,8 +58,7 @@ impl Steps {
     }
 }
 
-// An operation of two operands: the kind that these are taken as, whether the second is a count of bits, and the kind of what it
-// gives.
+// A binary operation: the kind of its operands, whether the second is a shift count, and the kind of its result.
 #[derive(Clone, Copy)]
 pub(crate) struct Binary {
     pub op: BinaryOperator,
@@ -69,7 +68,7 @@ pub(crate) struct Binary {
 }
 
 impl Binary {
-    // One whose operands are of this kind.
+    // One with operands of this kind.
     pub(crate) fn of(op: BinaryOperator, kind: ScalarKind, gives: ScalarKind) -> Binary {
         Binary {
             op,
@@ -81,7 +80,7 @@ impl Binary {
 }
 
 impl Operation {
-    // An operation whose result has this shape, or of one of its components; its operands are not said yet.
+    // An operation with a result of this shape, or for one component of it; its operands are set later.
     pub(crate) fn of(
         instruction: &Instruction,
         opcode: u16,
@@ -112,13 +111,13 @@ impl Operation {
         }
     }
 
-    // It is not translated.
+    // The error that this is not translated.
     pub(crate) fn unsupported(&self) -> SpirvError {
         self.instruction
             .unsupported_as(Unsupported::SpecOperation(self.opcode))
     }
 
-    // The operand at this place.
+    // The operand at this index.
     fn operand(&self, place: usize, failed: &mut Failure) -> u32 {
         match self.operands.get(place) {
             Some(id) if place < self.count => *id,
@@ -129,7 +128,7 @@ impl Operation {
         }
     }
 
-    // The name of what it gives, or of one of its components.
+    // The name of its result, or of one component of it.
     pub(crate) fn name(&self, reading: &Reading) -> Result<String, SpirvError> {
         let id = self.instruction.id;
         let whole = match reading.listing.name(reading.alloc, id, None) {
@@ -143,7 +142,7 @@ impl Operation {
         }
     }
 
-    // The literal that it gives, where all operands are constants and it was computed.
+    // The resulting literal, where all operands are constants and it could be computed.
     pub(crate) fn literal(&self, known: &KnownConstants, value: Option<i64>) -> Option<Literal> {
         let operands = self.operands.get(..self.count).unwrap_or(&[]);
         match (value, self.scalar.kind) {
@@ -154,7 +153,7 @@ impl Operation {
         }
     }
 
-    // The constant that a choice by a constant gives.
+    // The constant selected by a constant condition.
     pub(crate) fn chosen(&self, known: &KnownConstants) -> Option<u32> {
         let [condition, accept, reject] = self.operands;
         let condition = known.at(condition);
@@ -165,7 +164,7 @@ impl Operation {
         }
     }
 
-    // What it is with the defaults, where it can be computed here.
+    // Its value with the default values, where it can be computed here.
     pub(crate) fn fold(&self, types: &TypeTable, known: &KnownConstants) -> Option<i64> {
         let [first, second, third] = self.operands;
         match (
@@ -190,7 +189,7 @@ impl Operation {
         }
     }
 
-    // The steps of what it becomes: this literal, if there is one.
+    // Its translation as this literal, if there is one.
     pub(crate) fn steps(
         &self,
         alloc: Global,
@@ -225,7 +224,7 @@ impl Operation {
         steps
     }
 
-    // The scalar of the operand at this place.
+    // The scalar of the operand at this index.
     fn scalar_at(
         &self,
         types: &TypeTable,
@@ -243,7 +242,7 @@ impl Operation {
         }
     }
 
-    // The operand at this place as one of this kind.
+    // The operand at this index, converted to this kind.
     fn add_operand(
         &self,
         types: &TypeTable,
@@ -260,13 +259,13 @@ impl Operation {
         self.add_operand_as(known, place, from, to, steps)
     }
 
-    // The second operand as a word without a sign, which a count of bits is.
+    // The second operand as `u32`, the type of a shift count.
     fn add_count(&self, types: &TypeTable, known: &KnownConstants, steps: &mut Steps) -> usize {
         let from = self.scalar_at(types, known, 1, &mut steps.failed);
         self.add_operand_as(known, 1, from, Scalar::U32, steps)
     }
 
-    // The operand at this place, of one scalar, as one of another: a constant as a literal of it.
+    // The operand at this index, converted from one scalar to another; a constant becomes a literal.
     fn add_operand_as(
         &self,
         known: &KnownConstants,
@@ -287,14 +286,14 @@ impl Operation {
         }
     }
 
-    // What has this kind, as the result's, bit for bit.
+    // A value of this kind, bitcast to the result's.
     fn add_cast(&self, made: usize, from: ScalarKind, steps: &mut Steps) {
         if from != self.scalar.kind {
             steps.add(Step::As(made, self.scalar));
         }
     }
 
-    // The remainder with the sign of the divisor: x % y, and y more where that has another sign and is not 0.
+    // The remainder with the sign of the divisor: x % y, plus y where the remainder is not 0 and has the other sign.
     fn add_modulo(&self, types: &TypeTable, known: &KnownConstants, steps: &mut Steps) {
         let kind = ScalarKind::Sint;
         let signed = Scalar {
@@ -319,7 +318,7 @@ impl Operation {
         self.add_cast(chosen, kind, steps);
     }
 
-    // A choice.
+    // A select.
     fn add_choice(&self, steps: &mut Steps) {
         let mut parts = [0, 0, 0];
         let mut place = 0usize;
@@ -363,7 +362,7 @@ fn scalar_of(types: &TypeTable, known: &KnownConstants, id: u32) -> Option<Scala
     types.shape(known.at(id).ty).scalar()
 }
 
-// The operation as one of two operands, if it is one.
+// The binary operation, if it is one.
 fn binary_of(
     types: &TypeTable,
     known: &KnownConstants,
@@ -402,7 +401,7 @@ fn binary_of(
     }
 }
 
-// The expression of a step, where these were made of the steps before; none of a constant, which has its own.
+// The expression of a step, given those of the steps before; `None` for a constant, which has its own.
 pub(crate) fn expression_of(step: &Step, made: &[ExpressionHandle]) -> Option<Expression> {
     match *step {
         Step::Constant(_) => None,
@@ -439,7 +438,7 @@ pub(crate) fn expression_of(step: &Step, made: &[ExpressionHandle]) -> Option<Ex
     }
 }
 
-// What was made of the step at this place.
+// The expression made of the step at this index.
 fn made_at(made: &[ExpressionHandle], place: usize) -> ExpressionHandle {
     match made.get(place) {
         Some(handle) => *handle,

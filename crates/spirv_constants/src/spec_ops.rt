@@ -1,5 +1,4 @@
-// Specialization constants that an operation computes (`OpSpecConstantOp`): of a vector each component by itself, since an
-// override is a scalar.
+// Specialization constants computed by `OpSpecConstantOp`: a vector component by component, because an override is a scalar.
 
 use crate::constants::{ConstantTable, Constants, Kind};
 use crate::known::{ExpressionHandle, Known, NOTHING};
@@ -11,7 +10,7 @@ use spirv_words::{Instruction, SpirvError};
 use std::alloc::Global;
 
 impl<C: Constants> ConstantTable<C> {
-    /// A specialization constant that an operation computes: an override without an id, or a composite of such.
+    /// A computed specialization constant: an override without an id, or a composite of such.
     pub fn declare_operation(
         &mut self,
         reading: &Reading,
@@ -30,7 +29,7 @@ impl<C: Constants> ConstantTable<C> {
         self.failed.answer(())
     }
 
-    // An operation of numbers or truth values, component by component.
+    // An operation on numbers or bools, component by component.
     fn compute_all(
         &mut self,
         reading: &Reading,
@@ -58,7 +57,7 @@ impl<C: Constants> ConstantTable<C> {
         self.put_composite(reading, instruction, ty, &parts);
     }
 
-    // The operands of an operation; of a component those of a vector's component, and scalars as they are.
+    // The operands of an operation on one component: the component of each vector, and each scalar as it is.
     fn operands_at(
         &mut self,
         types: &TypeTable,
@@ -83,7 +82,7 @@ impl<C: Constants> ConstantTable<C> {
         all
     }
 
-    // An operation of scalars, at this place among what is known: computed where all of them are constants and it can be, else an
+    // An operation on scalars, at this index among the known constants: computed where possible if all operands are constants, else an
     // override.
     fn compute(
         &mut self,
@@ -121,7 +120,7 @@ impl<C: Constants> ConstantTable<C> {
         self.known.set(place, Known::of(made, operation.ty, value));
     }
 
-    // What an operation becomes by these steps, each an expression of the module.
+    // Adds the global expressions of an operation's translation.
     fn build_steps(
         &mut self,
         alloc: Global,

@@ -1,30 +1,30 @@
-// How much may be made of a module, so that work and memory are linear in its words.
+// The budget of what may be made from a module, so that work and memory are linear in its words.
 
 use ir_arena::span::Span;
 use ir_types::{Expression, IrType, StructMember, TypeInner};
 use spirv_words::{Feature, SpirvError};
 
-// How much for any module, however few words it has: what is made of that is little.
+// The budget of any module, however small: what it allows is little.
 const AT_LEAST: u64 = 65_536;
 
-/// How many expressions, types, members and words of names may still be made.
+/// The expressions, types, members and words of names that may still be made.
 #[derive(Clone, Copy)]
 pub struct Budget {
     left: u64,
 }
 
 impl Budget {
-    /// That of all functions of a module of so many words.
+    /// The budget for all functions of a module of this many words.
     pub fn of_functions(words: usize) -> Budget {
         Budget::of(words, 64)
     }
 
-    /// That of its types, of its constants, or of its entry points.
+    /// The budget for its types, its constants, or its entry points.
     pub fn of_rest(words: usize) -> Budget {
         Budget::of(words, 16)
     }
 
-    // So much for each word.
+    // A budget of this much a word.
     fn of(words: usize, each: u64) -> Budget {
         let words = u64::try_from(words).unwrap_or(0);
         Budget {
@@ -32,7 +32,7 @@ impl Budget {
         }
     }
 
-    /// So many are made, of what begins at the span's word. An error is that these are too many.
+    /// Charges this many, for the instruction at the span's word. The error is that these are too many.
     pub fn spend(&mut self, count: u64, span: Span) -> Result<(), SpirvError> {
         let left = self.left.checked_sub(count);
         self.left = left.unwrap_or(0);
@@ -47,7 +47,7 @@ impl Budget {
     }
 }
 
-/// How many words a name has.
+/// The number of words of a name.
 pub fn words_of(name: &Option<String>) -> u64 {
     match name {
         Some(name) => u64::try_from(name.len() / 4).unwrap_or(u64::MAX),
@@ -55,7 +55,7 @@ pub fn words_of(name: &Option<String>) -> u64 {
     }
 }
 
-// How many members and words of names these are.
+// The cost of members and their names.
 fn members_size(members: &[StructMember]) -> u64 {
     let mut size = 0u64;
     for member in members {
@@ -66,7 +66,7 @@ fn members_size(members: &[StructMember]) -> u64 {
     size
 }
 
-/// How much a type is.
+/// The cost of a type.
 pub fn type_size(ty: &IrType) -> u64 {
     let inside = match &ty.inner {
         TypeInner::Struct { members, .. } => members_size(members),
@@ -75,7 +75,7 @@ pub fn type_size(ty: &IrType) -> u64 {
     inside.saturating_add(1).saturating_add(words_of(&ty.name))
 }
 
-/// How much an expression is.
+/// The cost of an expression.
 pub fn expression_size(expression: &Expression) -> u64 {
     match expression {
         Expression::Compose { components, .. } => {

@@ -11,19 +11,19 @@ use spirv_tables::Demands;
 use spirv_types::{Reading, TypeTable, Types};
 use spirv_words::{Failure, Instruction, Listing, SpirvError};
 
-/// What is known of what a module declares, wherever it is built.
+/// What is known of a module's declarations, independent of where they are built.
 pub struct Declared {
-    /// What each id of a type is.
+    /// The types by id.
     pub types: TypeTable,
-    /// What each id of a constant is.
+    /// The constants by id.
     pub constants: KnownConstants,
-    /// What each id of a global variable is.
+    /// The global variables by id.
     pub variables: KnownVariables,
-    /// What it requires of the validator.
+    /// The capabilities and operations that it requires.
     pub demands: Demands,
 }
 
-// Written out, so that it is freed in a call of this crate wherever it is let go.
+// Written out, so that a drop anywhere is a call into this crate.
 impl Drop for Declared {
     fn drop(self) {
         let Declared {
@@ -35,7 +35,7 @@ impl Drop for Declared {
     }
 }
 
-// Declarations on their way, with what they are built in.
+// Declarations under construction, with their arenas.
 pub(crate) struct Declarations<T: Types, C: Constants, V: Variables> {
     pub types: TypeTable,
     pub built: T,
@@ -46,7 +46,7 @@ pub(crate) struct Declarations<T: Types, C: Constants, V: Variables> {
     pub demands: Demands,
 }
 
-/// What a module declares, and what its types, its constants and its global variables are built in.
+/// The declarations of a module, and the arenas of its types, constants and global variables.
 pub fn declare<T: Types, C: Constants, V: Variables>(
     reading: &Reading,
     types: T,
@@ -86,7 +86,7 @@ pub fn declare<T: Types, C: Constants, V: Variables>(
 }
 
 impl<T: Types, C: Constants, V: Variables> Declarations<T, C, V> {
-    // What the capabilities of a module require, its declarations, and what its functions need besides, until something is wrong.
+    // Reads the capabilities and declarations of a module, and what its functions need besides, up to the first error.
     fn take_all(&mut self, reading: &Reading, failed: &mut Failure) {
         let listing = &reading.listing;
         for place in &listing.parts.capabilities {
@@ -112,7 +112,7 @@ impl<T: Types, C: Constants, V: Variables> Declarations<T, C, V> {
         }
     }
 
-    // A type, a constant or a variable.
+    // Declares a type, a constant or a variable.
     fn take(&mut self, reading: &Reading, instruction: &Instruction) -> Result<(), SpirvError> {
         let Declarations {
             types,
@@ -145,7 +145,7 @@ impl<T: Types, C: Constants, V: Variables> Declarations<T, C, V> {
     }
 }
 
-// How many elements an array has.
+// The number of elements of an array.
 fn length_of(
     constants: &KnownConstants,
     listing: &Listing,

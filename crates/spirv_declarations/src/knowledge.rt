@@ -1,33 +1,33 @@
-// What is known of a module when its functions are built.
+// What is known of a module while its functions are built.
 
 use crate::declarations::Declared;
 use spirv_flow::Flow;
 use spirv_tables::Demands;
 use spirv_types::Reading;
 
-/// What is known of a module while its functions are built, wherever it is kept.
+/// What is known of a module while its functions are built, independent of where it is stored.
 pub trait Knowledge {
-    /// The module that is read.
+    /// The module.
     fn reading(&self) -> &Reading;
 
-    /// What its functions do.
+    /// The control flow of its functions.
     fn flow(&self) -> &Flow;
 
-    /// What is known of what it declares.
+    /// What is known of its declarations.
     fn declared(&self) -> &Declared;
 
-    /// What it requires of the validator.
+    /// The capabilities and operations that it requires.
     fn demands(&mut self) -> &mut Demands;
 }
 
-/// What is known of a module that is read.
+/// What is known of a module.
 #[derive(Drop)]
 pub struct ReadModule {
     /// The module.
     pub reading: Reading,
-    /// What its functions do.
+    /// The control flow of its functions.
     pub flow: Flow,
-    /// What it declares.
+    /// Its declarations.
     pub declared: Declared,
 }
 

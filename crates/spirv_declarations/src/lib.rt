@@ -1,5 +1,5 @@
-//! The declarations of a SPIR-V module, in the IR: its types with its constants and global variables. They are declared
-//! over whatever these are built in, so that a module's arenas are looked at in one place.
+//! The declarations of a SPIR-V module, in the IR: types, constants and global variables. Generic over the arenas, which are used in one
+//! crate alone.
 #![tactic(auto)]
 
 mod budget;

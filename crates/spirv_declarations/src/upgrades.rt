@@ -1,11 +1,11 @@
-// Types with atomics in them.
+// Types with atomic parts.
 
 use ir_types::{StructMember, TypeInner};
 use spirv_flow::PathPart;
 use spirv_types::{Reading, TypeHandle, Types, insert, span_of};
 use spirv_words::{Failure, Feature, Instruction};
 
-// The type in which the parts that this place of the paths has are atomic; the same one where something is wrong.
+// The type with the parts below this path made atomic; the same type after an error.
 #[cycle(upgrading)]
 pub(crate) fn upgraded<T: Types>(
     built: &mut T,
@@ -16,7 +16,7 @@ pub(crate) fn upgraded<T: Types>(
     depth: u32,
     failed: &mut Failure,
 ) -> TypeHandle {
-    // what is copied after that would be of no use, and more than what may be made
+    // what were copied after that would be unused, and over the budget
     if failed.first.is_some() {
         return handle;
     }
@@ -57,7 +57,7 @@ pub(crate) fn upgraded<T: Types>(
     }
 }
 
-// The same of what a type is made of, of which this place is.
+// The same for the inner part of a type, at this path.
 #[cycle(upgrading)]
 fn upgrade<T: Types>(
     built: &mut T,
@@ -83,8 +83,7 @@ fn upgrade<T: Types>(
     }
 }
 
-// The elements that are the part inside of the one at this place, if they are: of an array in an array of resources, which are
-// built as one.
+// The elements below the part at this path, of an array in an array of resources, which are built as one array.
 fn elements_in(reading: &Reading, place: u32) -> Option<u32> {
     let Some(inside) = reading.uses.atomics.first(place) else {
         return None;
@@ -95,7 +94,7 @@ fn elements_in(reading: &Reading, place: u32) -> Option<u32> {
     }
 }
 
-// The same of the members of a struct, of which this is the first part that is changed.
+// The same for the members of a struct; this is the first part that changes.
 #[cycle(upgrading)]
 fn upgrade_members<T: Types>(
     built: &mut T,
@@ -131,5 +130,5 @@ fn upgrade_members<T: Types>(
     }
 }
 
-// How many parts of one value may be atomic; there are no more in the paths.
+// The most atomic parts of one value.
 const MAX_PARTS: u32 = 255;

@@ -24,16 +24,16 @@ use std::collections::BTreeMap;
 /// The handle of a global variable.
 pub type GlobalHandle = Handle<key::GlobalVariable>;
 
-/// What goes between stages by a variable.
+/// What a variable passes between stages.
 #[derive(Clone, Copy)]
 pub struct Varying {
-    /// What binds it, if it is not a struct of bound members.
+    /// Its binding, unless it is a struct of bound members.
     pub binding: Option<Binding>,
-    /// The component of its location that is its first, where that is said.
+    /// The first component of its location, if given.
     pub component: Option<u32>,
-    /// The mask of a subgroup's invocations that it is.
+    /// Which mask of a subgroup's invocations it is.
     pub mask: Option<SubgroupMask>,
-    /// The type that an entry point takes or gives it as.
+    /// Its type as an argument or a result of an entry point.
     pub ty: TypeHandle,
 }
 
@@ -42,49 +42,49 @@ pub struct Varying {
 pub struct Variable {
     /// Its id.
     pub id: u32,
-    /// The one that is built.
+    /// The global variable built for it.
     pub handle: GlobalHandle,
     /// The type of its value.
     pub ty: u32,
-    /// The type that is built for it.
+    /// The type built for it.
     pub built: TypeHandle,
     /// Its storage class.
     pub class: u32,
-    /// The sampler beside it, of an image with a sampler.
+    /// The sampler variable that belongs to a combined image and sampler.
     pub sampler: Option<GlobalHandle>,
-    /// The image that it is.
+    /// Its image, if it is one.
     pub image: Option<ImageUse>,
-    /// What goes between stages by it.
+    /// What it passes between stages.
     pub varying: Option<Varying>,
-    /// What a mesh stage gives by it.
+    /// The mesh output that it is.
     pub mesh: Option<MeshPart>,
 }
 
-/// What a mesh stage gives by a variable.
+/// A mesh output held by a variable.
 #[derive(Clone, Copy)]
 pub struct MeshPart {
-    /// Whether it is of each primitive, and not of each vertex.
+    /// Whether it is per primitive, and not per vertex.
     pub of_primitive: bool,
-    /// The place of its first member among those of all such variables.
+    /// The index of its first member among those of all mesh outputs.
     pub first: u32,
 }
 
-/// Where the global variables of a module are built.
+/// Builds the global variables of a module.
 pub trait Variables {
     /// A variable.
     fn add(&mut self, variable: GlobalVariable, span: Span) -> Result<GlobalHandle, SpirvError>;
 }
 
-/// What each id of a global variable is.
+/// The global variables by id.
 #[derive(Drop)]
 pub struct KnownVariables {
     // in order
     all: Vec<Variable>,
-    // for each id its place in that order and one, or 0
+    // by id: its index in that order plus 1, or 0
     places: Vec<u32>,
-    // those that no id of the module is
+    // those without an id in the module
     hidden: Vec<Variable>,
-    // of what a mesh stage gives the members of vertices and primitives that its variables are
+    // the members of vertices and primitives that mesh outputs are
     members: Vec<MeshMember>,
 }
 
@@ -102,7 +102,7 @@ impl KnownVariables {
         None
     }
 
-    // None, with ids below the bound.
+    // An empty table for ids below the bound.
     pub(crate) fn new(alloc: Global, bound: usize, failed: &mut Failure) -> KnownVariables {
         KnownVariables {
             all: Vec::new(alloc),
@@ -112,7 +112,7 @@ impl KnownVariables {
         }
     }
 
-    // The variable of a draft, as which this was built, with the sampler beside it.
+    // The variable built from a draft, with its sampler.
     fn add(
         &mut self,
         draft: &Draft,
@@ -137,7 +137,7 @@ impl KnownVariables {
         self.set_last(id);
     }
 
-    // An id is of the last variable.
+    // Gives an id to the last variable.
     fn set_last(&mut self, id: u32) {
         let place = u32::try_from(self.all.len()).unwrap_or(u32::MAX);
         if let Some(at) = self.places.get_mut(id as usize) {
@@ -145,7 +145,7 @@ impl KnownVariables {
         }
     }
 
-    // A variable that no id of the module is.
+    // Adds a variable without an id in the module.
     fn hide(&mut self, id: u32, handle: GlobalHandle, built: TypeHandle, failed: &mut Failure) {
         let variable = Variable {
             id,
@@ -161,12 +161,12 @@ impl KnownVariables {
         failed.push(&mut self.hidden, variable);
     }
 
-    /// How many members of vertices and primitives variables are.
+    /// The number of members of vertices and primitives that are variables.
     pub fn next_member(&self) -> u32 {
         u32::try_from(self.members.len()).unwrap_or(u32::MAX)
     }
 
-    /// The member of a vertex or a primitive at this place among all that variables are.
+    /// The member of a vertex or a primitive at this index.
     pub fn mesh_member(&self, place: u32) -> Option<MeshMember> {
         self.members.get(place as usize).copied()
     }
@@ -176,7 +176,7 @@ impl KnownVariables {
         failed.push(&mut self.members, member);
     }
 
-    /// A variable of this type by which a mesh stage gives this.
+    /// Adds a variable of this type for a mesh output.
     pub fn add_output(
         &mut self,
         id: u32,
@@ -200,7 +200,7 @@ impl KnownVariables {
         self.set_last(id);
     }
 
-    /// All that a mesh stage gives is in this variable, of this type.
+    /// Sets the variable that holds all mesh outputs, and its type.
     pub fn place_outputs(&mut self, handle: GlobalHandle, built: TypeHandle, failed: &mut Failure) {
         for variable in &mut self.all {
             if variable.mesh.is_some() {
@@ -211,15 +211,15 @@ impl KnownVariables {
     }
 }
 
-// Which bindings are taken.
+// The bindings in use.
 #[derive(Drop)]
 pub(crate) struct Bindings {
-    // for each group the one after the last that is
+    // by group: the binding after the last one in use
     free: BTreeMap<u32, u32>,
 }
 
 impl Bindings {
-    // Those that the variables of a module take.
+    // The bindings that the variables of a module use.
     pub(crate) fn of(alloc: Global, listing: &Listing, failed: &mut Failure) -> Bindings {
         let mut all = Bindings {
             free: BTreeMap::new(alloc),
@@ -236,7 +236,7 @@ impl Bindings {
         all
     }
 
-    // A binding of a group is taken: this one, or the next that no variable takes.
+    // Takes a binding of a group: this one, or the next free one.
     fn take(&mut self, group: u32, wanted: Option<u32>, failed: &mut Failure) -> u32 {
         let free = self.free.get(&group).copied().unwrap_or(0);
         let binding = wanted.unwrap_or(free);
@@ -247,7 +247,7 @@ impl Bindings {
         binding
     }
 
-    // The sampler beside an image, at a binding that is free.
+    // The sampler variable of a combined image and sampler, at a free binding.
     fn sampler_beside(
         &mut self,
         reading: &Reading,
@@ -269,7 +269,7 @@ impl Bindings {
     }
 }
 
-// A variable that is being built.
+// A variable under construction.
 #[derive(Clone, Copy)]
 pub(crate) struct Draft {
     pub instruction: Instruction,
@@ -280,14 +280,14 @@ pub(crate) struct Draft {
     pub used: Use,
 }
 
-// As what it is built, but for its name and what it begins as.
+// The variable, without name and initial value.
 #[derive(Clone, Copy)]
 pub(crate) struct Built {
     pub ty: TypeHandle,
     pub space: AddressSpace,
     pub decorations: MemoryDecorations,
     pub binding: Option<ResourceBinding>,
-    // the image that it is, and the type of the sampler beside it
+    // its image, and the type of its sampler
     pub image: Option<ImageUse>,
     pub sampler: Option<TypeHandle>,
     pub varying: Option<Varying>,
@@ -307,7 +307,7 @@ impl Built {
         }
     }
 
-    // The variable that is built, with this name, which begins as this.
+    // The finished variable, with this name and initial value.
     fn global(&self, name: Option<String>, init: Option<ExpressionHandle>) -> GlobalVariable {
         GlobalVariable {
             name,
@@ -321,7 +321,7 @@ impl Built {
 }
 
 impl Draft {
-    // What a variable is declared as.
+    // The declaration of a variable.
     fn of(
         reading: &Reading,
         types: &TypeTable,
@@ -353,7 +353,7 @@ impl Draft {
         })
     }
 
-    // Its elements, where it is an array; of arrays of resources all of them together.
+    // Its elements, of an array; of nested arrays of resources, of all of them together.
     fn elements(&self, types: &TypeTable) -> Option<Resources> {
         match (types.resources(self.ty), self.shape) {
             (Some(all), _) => Some(all),
@@ -362,7 +362,7 @@ impl Draft {
         }
     }
 
-    // This image as it is used.
+    // The image with the class in which it is used.
     fn image_use(&self, shape: ImageShape) -> ImageUse {
         let mut access = StorageAccess(0);
         if shape.format.is_some() {
@@ -377,7 +377,7 @@ impl Draft {
 }
 
 impl<T: Types, C: Constants, V: Variables> Declarations<T, C, V> {
-    // What entry points say to functions, or functions to them: a variable of so many words that no id of the module is.
+    // A variable of this many words by which entry points and functions pass values, without an id in the module.
     pub(crate) fn add_hidden(&mut self, id: u32, size: VectorSize, failed: &mut Failure) {
         let words = vector_type(&mut self.built, Some(size), Scalar::U32);
         let ty = failed.take(words, Handle::at(0));
@@ -387,7 +387,7 @@ impl<T: Types, C: Constants, V: Variables> Declarations<T, C, V> {
         self.variables.hide(id, handle, ty, failed);
     }
 
-    // A variable as it is declared.
+    // Builds a declared variable.
     pub(crate) fn declare_variable(
         &mut self,
         reading: &Reading,
@@ -399,7 +399,7 @@ impl<T: Types, C: Constants, V: Variables> Declarations<T, C, V> {
         let demands = &mut self.demands;
         let draft = Draft::of(reading, types, instruction, &mut failed);
         let of_mesh = reading.scan.is_of_mesh(instruction.id);
-        // a local of the function that names it, or what a mesh stage gives
+        // a local of the function that names it, or a mesh output
         if matches!(draft.shape, Shape::RayQuery)
             || of_mesh && draft.class == numbers::CLASS_OUTPUT
         {
@@ -427,7 +427,7 @@ impl<T: Types, C: Constants, V: Variables> Declarations<T, C, V> {
         failed.answer(())
     }
 
-    // The variable of a draft, with the sampler beside it.
+    // Builds the variable of a draft, with its sampler.
     fn add_variable(
         &mut self,
         reading: &Reading,
@@ -487,7 +487,7 @@ fn handle_of<T: Types>(
     variable
 }
 
-// The type of a resource, or of an array of so many.
+// The type of a resource, or of an array of this many.
 fn resource_type<T: Types>(
     built: &mut T,
     inner: TypeInner,
@@ -520,7 +520,7 @@ fn plain_of<T: Types>(
     }
     let whole = variable.ty;
     match reading.uses.atomics.of(instruction.id) {
-        // members of structs have other places than in the paths
+        // members of structs have other indexes than in the paths
         Some(_) if types.splits() => {
             failed.fail(instruction.unsupported_by(Feature::AtomicOfNoNumber));
         }
@@ -532,8 +532,7 @@ fn plain_of<T: Types>(
     variable
 }
 
-// The same but for the parts of it that are atomic, and how many it is an array of where it is one of buffers: an array of
-// blocks is an array of bindings.
+// The same with its atomic parts, and the length of an array of buffers, because an array of blocks is an array of bindings.
 fn memory_of(
     reading: &Reading,
     types: &TypeTable,
@@ -575,19 +574,19 @@ fn memory_of(
     (variable, size)
 }
 
-// What a variable is that is an image, a sampler or both, an acceleration structure, or an array of those.
+// A variable that is an image, a sampler or both, an acceleration structure, or an array of those.
 #[derive(Clone, Copy)]
 struct Resource {
     image: Option<ImageUse>,
-    // whether it is an image with a sampler
+    // whether it is a combined image and sampler
     combined: bool,
     // whether it is an acceleration structure
     structure: bool,
-    // how many there are, of an array
+    // the length of an array
     size: Option<ArraySize>,
 }
 
-// What such a variable is.
+// Describes such a variable.
 fn resource_of(
     types: &TypeTable,
     demands: &mut Demands,
@@ -630,7 +629,7 @@ fn resource_of(
     }
 }
 
-// How many steps a part of a variable may lie deep (universal limit of the standard).
+// The greatest depth of a part of a variable (universal limit of the standard).
 const MAX_STEPS: u32 = 255;
 
 /// The name of the sampler beside an image.
@@ -646,7 +645,7 @@ pub fn sampler_name(alloc: Global, listing: &Listing, id: u32) -> Result<String,
     }
 }
 
-// A storage buffer of this block, or of an array of those: its accesses, and what is said of its memory.
+// A storage buffer of this block, or of an array of those: its accesses, and the decorations of its memory.
 fn store(
     types: &TypeTable,
     demands: &mut Demands,

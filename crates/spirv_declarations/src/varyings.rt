@@ -1,4 +1,4 @@
-// What goes between stages.
+// Inputs and outputs of stages.
 
 use crate::variables::{Built, Draft, Varying};
 use ir_arena::handle::Handle;
@@ -12,7 +12,7 @@ use spirv_tables::{Decorated, Demands, is_unsigned, with_default};
 use spirv_types::{Reading, Shape, TypeHandle, TypeTable, Types, insert, span_of};
 use spirv_words::{Failure, Feature, Malformed, SpirvError, Unsupported};
 
-// An input or an output: a private variable, and what an entry point takes or gives it as.
+// An input or an output: a private variable, and its form as an argument or a result of an entry point.
 pub(crate) fn varying_of<T: Types>(
     reading: &Reading,
     types: &TypeTable,
@@ -50,7 +50,7 @@ pub(crate) fn varying_of<T: Types>(
     variable
 }
 
-// What binds it. A mask of a subgroup's invocations, an input of four words, is computed of the number of this one.
+// Its binding. A mask of a subgroup's invocations, an input of four words, is computed from this invocation's index.
 fn bound_as(
     reading: &Reading,
     demands: &mut Demands,
@@ -76,7 +76,7 @@ fn bound_as(
     if said.built_in == Some(numbers::BUILT_IN_INSTANCE_ID)
         && reading.scan.is_of_hit(draft.instruction.id)
     {
-        // of what a ray hits there is no first instance
+        // a ray stage has no first instance
         said.built_in = Some(numbers::BUILT_IN_INSTANCE_INDEX);
     }
     if let Some(number) = said.foreign_built_in() {
@@ -86,8 +86,7 @@ fn bound_as(
     said.bound(demands)
 }
 
-// What the type is made of that it is taken as, where that is another one: of a signed built-in without its sign, of a mask a
-// word.
+// The scalar or vector of the type in which it is taken, where that differs: unsigned for a signed built-in, a word for a mask.
 fn argument_of(
     demands: &mut Demands,
     draft: &Draft,
@@ -112,7 +111,7 @@ fn argument_of(
     }
 }
 
-// What a variable begins as, if that is said, or it is an output.
+// The initial value of a variable, if given, or if it is an output.
 pub(crate) fn initial<T: Types, C: Constants>(
     reading: &Reading,
     types: &TypeTable,
@@ -139,7 +138,7 @@ pub(crate) fn initial<T: Types, C: Constants>(
     Some(failed.take(init, Handle::at(0)))
 }
 
-// The initializer of a struct that was built anew, put together again.
+// The initializer of a rebuilt struct, reassembled.
 fn given<C: Constants>(
     reading: &Reading,
     constants: &mut ConstantTable<C>,
@@ -164,7 +163,7 @@ fn given<C: Constants>(
     constants.add(init, span_of(&draft.instruction))
 }
 
-/// The kind of the scalars that a type is made of, where it is a number or a vector.
+/// The scalar kind of a number or a vector.
 pub fn scalar_kind(inner: Option<&TypeInner>) -> Option<ScalarKind> {
     match inner {
         Some(TypeInner::Scalar(scalar) | TypeInner::Vector { scalar, .. }) => Some(scalar.kind),
@@ -172,7 +171,7 @@ pub fn scalar_kind(inner: Option<&TypeInner>) -> Option<ScalarKind> {
     }
 }
 
-// The struct of a block that goes between stages.
+// The struct of an interface block.
 fn bound_struct<T: Types>(
     reading: &Reading,
     types: &TypeTable,
@@ -200,7 +199,7 @@ fn bound_struct<T: Types>(
     }
 }
 
-// Gives each member of such a block its binding: locations are counted on from the block's.
+// Gives each member of an interface block its binding: locations continue from the block's.
 fn bind_members<T: Types>(
     reading: &Reading,
     types: &TypeTable,
@@ -234,7 +233,7 @@ fn bind_members<T: Types>(
     }
 }
 
-/// What is said of a member of a block between stages, or of its variable.
+/// The decorations of a member of an interface block, or of its variable.
 pub fn between(reading: &Reading, variable: &Decorated, block: u32, place: u32) -> Decorated {
     let mut said = Decorated::of(&reading.listing, block, Some(place));
     said.flat |= variable.flat;
@@ -245,7 +244,7 @@ pub fn between(reading: &Reading, variable: &Decorated, block: u32, place: u32) 
     said
 }
 
-/// How many locations a member of a block takes.
+/// The number of locations that a member of a block takes.
 pub fn locations_of(types: &TypeTable, block: u32, place: u32) -> u32 {
     let ty = match types.member(block, place) {
         Some(member) => member.ty,

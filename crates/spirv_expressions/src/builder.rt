@@ -1,4 +1,4 @@
-// What expressions are made with.
+// The interface through which expressions are made.
 
 use ir_arena::handle::Handle;
 use ir_arena::span::Span;
@@ -8,7 +8,7 @@ use spirv_types::{ImageShape, MatrixShape, MemberShape, Shape, Stored, TypeHandl
 use spirv_words::{Instruction, Malformed, SpirvError};
 use std::alloc::Global;
 
-/// The handle of an expression of the function that is built.
+/// The handle of an expression of the function under construction.
 pub type Value = Handle<key::Expression>;
 
 /// An image, as an operand.
@@ -16,40 +16,40 @@ pub type Value = Handle<key::Expression>;
 pub struct ImageValue {
     /// The image.
     pub value: Value,
-    /// As it is declared.
+    /// Its declaration.
     pub shape: ImageShape,
-    /// Its class, as it is used.
+    /// The class in which it is used.
     pub class: ImageClass,
 }
 
-/// What expressions are written into. What is wrong first is kept: after that nothing more is written, and what its calls answer
-/// is of no use.
+/// The writer that expressions go to. It records the first error; after that it writes nothing, and what its methods return must not be
+/// used.
 pub trait Emits {
-    /// This is wrong. It is kept where nothing was before.
+    /// Records this error, unless there was one before.
     fn fail(&mut self, error: SpirvError);
 
-    /// An expression that is computed here.
+    /// Adds an expression that is evaluated here.
     fn compute(&mut self, expression: Expression, span: Span) -> Value;
 
-    /// An expression that is always there, or that a statement gives.
+    /// Adds an expression that is always in scope, or the result of a statement.
     fn place(&mut self, expression: Expression, span: Span) -> Value;
 }
 
-/// A function that is being built.
+/// A function under construction.
 pub trait Builder: Emits {
     /// The allocator.
     fn alloc(&self) -> Global;
 
-    /// Whether something was wrong.
+    /// Whether there was an error.
     fn has_failed(&self) -> bool;
 
-    /// The operand of an instruction at this place, after its results, if there is one.
+    /// The operand of an instruction at this index, after its results, if there is one.
     fn given(&self, operation: &Instruction, place: usize) -> Option<u32>;
 
-    /// How many operands it has.
+    /// The number of its operands.
     fn given_count(&self, operation: &Instruction) -> usize;
 
-    /// What a type is.
+    /// The shape of a type.
     fn shape(&self, ty: u32) -> Shape;
 
     /// The type of the part of a value at this index.
@@ -58,10 +58,10 @@ pub trait Builder: Emits {
     /// The type of an id.
     fn type_of(&self, id: u32) -> u32;
 
-    /// The type that is built for one.
+    /// The IR type of a type.
     fn built(&mut self, ty: u32, operation: &Instruction) -> TypeHandle;
 
-    /// The type of a vector, of a scalar where there is no size.
+    /// The type of a vector, or of a scalar where there is no size.
     fn vector(&mut self, size: Option<VectorSize>, scalar: Scalar) -> TypeHandle;
 
     /// The type that a matrix is stored as.
@@ -73,7 +73,7 @@ pub trait Builder: Emits {
     /// Whether an id is of a constant, and not of a specialization constant.
     fn is_constant(&self, id: u32) -> bool;
 
-    /// The value of a constant whole number, or of a float that is 0.
+    /// The value of a constant integer, or of a float that is 0.
     fn constant(&self, id: u32) -> Option<i64>;
 
     /// The value of an id.
@@ -85,30 +85,30 @@ pub trait Builder: Emits {
     /// The sampler of an id.
     fn sampler(&mut self, id: u32, operation: &Instruction) -> Value;
 
-    /// An expression that is computed here.
+    /// Adds an expression that is evaluated here.
     fn emit(&mut self, expression: Expression, operation: &Instruction) -> Value;
 
     /// A literal.
     fn literal(&mut self, literal: Literal, operation: &Instruction) -> Value;
 }
 
-/// An expression that is not made.
+/// A placeholder for an expression, after an error.
 pub fn no_value() -> Value {
     Handle::at(0)
 }
 
-/// The type of what is not made.
+/// A placeholder for a type, after an error.
 pub fn no_type() -> TypeHandle {
     Handle::at(0)
 }
 
-/// A value that is not made, since this is wrong.
+/// Records this error, and returns a placeholder.
 pub fn refuse<E: Emits>(builder: &mut E, error: SpirvError) -> Value {
     builder.fail(error);
     no_value()
 }
 
-/// The operand at this place; where it is missing, 0.
+/// The operand at this index; where it is missing, 0.
 pub fn need<B: Builder>(builder: &mut B, operation: &Instruction, place: usize) -> u32 {
     match builder.given(operation, place) {
         Some(word) => word,
@@ -119,26 +119,26 @@ pub fn need<B: Builder>(builder: &mut B, operation: &Instruction, place: usize) 
     }
 }
 
-/// One more in a list.
+/// Pushes an item, or records that there is no memory.
 pub fn keep<E: Emits, T: Drop>(builder: &mut E, list: &mut Vec<T>, item: T) {
     if list.push(item).is_err() {
         builder.fail(SpirvError::Memory);
     }
 }
 
-/// The value of the operand at this place.
+/// The value of the operand at this index.
 pub fn operand<B: Builder>(builder: &mut B, operation: &Instruction, place: usize) -> Value {
     let id = need(builder, operation, place);
     builder.value(id, operation)
 }
 
-/// What the type of the operand at this place is.
+/// The shape of the type of the operand at this index.
 pub fn operand_shape<B: Builder>(builder: &mut B, operation: &Instruction, place: usize) -> Shape {
     let id = need(builder, operation, place);
     builder.shape(builder.type_of(id))
 }
 
-/// The scalar of a type of numbers.
+/// The scalar of a numeric type.
 pub fn scalar_of<B: Builder>(builder: &mut B, shape: &Shape, operation: &Instruction) -> Scalar {
     match shape.scalar() {
         Some(scalar) => scalar,
@@ -155,7 +155,7 @@ pub fn result_scalar<B: Builder>(builder: &mut B, operation: &Instruction) -> Sc
     scalar_of(builder, &shape, operation)
 }
 
-/// The scalar of the operand at this place.
+/// The scalar of the operand at this index.
 pub fn operand_scalar<B: Builder>(
     builder: &mut B,
     operation: &Instruction,
@@ -165,7 +165,7 @@ pub fn operand_scalar<B: Builder>(
     scalar_of(builder, &shape, operation)
 }
 
-/// A value that is put together of others as this type.
+/// Composes a value of this type.
 pub fn compose<B: Builder>(
     builder: &mut B,
     operation: &Instruction,
@@ -175,7 +175,7 @@ pub fn compose<B: Builder>(
     builder.emit(Expression::Compose { ty, components }, operation)
 }
 
-/// A value of the result's type that is put together of others.
+/// Composes a value of the result's type.
 pub fn compose_result<B: Builder>(
     builder: &mut B,
     operation: &Instruction,
@@ -185,7 +185,7 @@ pub fn compose_result<B: Builder>(
     compose(builder, operation, ty, components)
 }
 
-/// A value of the result's type that is put together of two others.
+/// Composes a value of the result's type from two others.
 pub fn compose_pair<B: Builder>(
     builder: &mut B,
     operation: &Instruction,
@@ -222,7 +222,7 @@ pub fn binary<B: Builder>(
     builder.emit(Expression::Binary { op, left, right }, operation)
 }
 
-/// One value where a condition holds, else another.
+/// Selects one of two values by a condition.
 pub fn select<B: Builder>(
     builder: &mut B,
     operation: &Instruction,
@@ -277,7 +277,7 @@ pub fn convert<B: Builder>(
     )
 }
 
-/// A value of this kind as one of another, bit for bit.
+/// Bitcasts a value of this kind to another kind.
 pub fn as_kind<B: Builder>(
     builder: &mut B,
     operation: &Instruction,
@@ -292,7 +292,7 @@ pub fn as_kind<B: Builder>(
     }
 }
 
-/// The operand at this place with this sign.
+/// The operand at this index, bitcast to this signedness.
 pub fn signed<B: Builder>(
     builder: &mut B,
     operation: &Instruction,
@@ -314,7 +314,7 @@ pub fn part_of<B: Builder>(
     builder.emit(Expression::AccessIndex { base, index }, operation)
 }
 
-/// How many components a value of this shape has.
+/// The number of components of a value of this shape.
 pub fn component_count(shape: Shape) -> u32 {
     match shape {
         Shape::Vector { size, .. } => u32::from(size),

@@ -12,10 +12,10 @@ use spirv_numbers::ops;
 use spirv_types::{MatrixShape, MemberShape, Shape, Stored, vector_size};
 use spirv_words::{Feature, Instruction, Malformed, SpirvError};
 
-// How many parts a value may have that is put together anew.
+// The most parts of a value that is rebuilt part by part.
 const MAX_PARTS: u32 = 1024;
 
-/// What an operation on composites is, if it is one.
+/// Translates an operation on composites; `None` for other operations.
 pub fn composite<B: Builder>(builder: &mut B, operation: &Instruction) -> Option<Value> {
     let value = match operation.opcode {
         ops::COMPOSITE_EXTRACT => extract(builder, operation),
@@ -35,10 +35,10 @@ pub fn composite<B: Builder>(builder: &mut B, operation: &Instruction) -> Option
     Some(value)
 }
 
-// How deep types may nest that are copied part by part.
+// The deepest nesting of types copied part by part.
 const MAX_DEPTH: u32 = 16;
 
-// A value of one type as one of another that is made of the same, part by part.
+// `OpCopyLogical`: converts a value part by part to another type of the same structure.
 fn copy_logical<B: Builder>(
     builder: &mut B,
     operation: &Instruction,
@@ -72,7 +72,7 @@ fn copy_logical<B: Builder>(
     compose(builder, operation, ty, components)
 }
 
-// How a matrix is wanted that is a member of a struct.
+// The form of a matrix that is a member of a struct.
 #[derive(Clone, Copy)]
 enum Form {
     // as the IR has it
@@ -101,14 +101,14 @@ fn part_as<B: Builder>(
                 Form::Plain => plain_array(builder, operation, value, part.ty, stored),
                 Form::Stored => None,
             };
-            // arrays of matrices are put together as the IR has them alone
+            // arrays of matrices are composed as the IR has them alone
             let error = stored.unsupported(operation, Feature::RowMajorStruct);
             given_or_refused(builder, plain, error)
         }
     }
 }
 
-// The value, or none since this is wrong.
+// The value, or the recorded error.
 fn given_or_refused<B: Builder>(builder: &mut B, value: Option<Value>, error: SpirvError) -> Value {
     match value {
         Some(value) => value,
@@ -168,7 +168,7 @@ fn plain_member<B: Builder>(
     part_as(builder, operation, member, part, Form::Plain)
 }
 
-// One more member of a struct that is put together, as it is stored: of a matrix that is split each column or row.
+// Adds a member of a struct under composition, as stored: of a split matrix each column or row.
 fn keep_member<B: Builder>(
     builder: &mut B,
     operation: &Instruction,
@@ -280,7 +280,7 @@ pub fn relaid_matrix<B: Builder>(
     repacked(builder, operation, value, matrix, unstrided, stored)
 }
 
-// The columns of a matrix or its rows, put together as what it is stored as.
+// The columns or rows of a matrix, composed as the type in which it is stored.
 fn repacked<B: Builder>(
     builder: &mut B,
     operation: &Instruction,
@@ -331,7 +331,7 @@ pub fn packed_line<B: Builder>(
     compose(builder, operation, ty, components)
 }
 
-/// So many parts of a value in order, from this one on.
+/// This many parts of a value in order, from this one on.
 pub fn parts_from<B: Builder>(
     builder: &mut B,
     operation: &Instruction,
@@ -361,7 +361,7 @@ fn transposed<B: Builder>(
     call(builder, operation, MathFunction::Transpose, value, none)
 }
 
-// A value of all its parts; a vector may be given as smaller ones.
+// `OpCompositeConstruct`: a value of all its parts; a vector may be given in smaller vectors.
 fn construct<B: Builder>(builder: &mut B, operation: &Instruction) -> Value {
     let ty = operation.ty;
     let is_struct = matches!(builder.shape(ty), Shape::Struct { .. });
@@ -380,7 +380,7 @@ fn construct<B: Builder>(builder: &mut B, operation: &Instruction) -> Value {
     compose_result(builder, operation, components)
 }
 
-// Refuses structs whose matrices are stored otherwise than as the IR has them.
+// Refuses structs whose matrices are not stored as the IR has them.
 fn refuse_relaid<B: Builder>(builder: &mut B, operation: &Instruction, ty: u32) {
     let Shape::Struct { count, .. } = builder.shape(ty) else {
         return;
@@ -397,7 +397,7 @@ fn refuse_relaid<B: Builder>(builder: &mut B, operation: &Instruction, ty: u32) 
     }
 }
 
-// How many parts a value of a type has; none where something was wrong.
+// The number of parts of a value of a type; 0 after an error.
 fn count_parts<B: Builder>(builder: &mut B, operation: &Instruction, ty: u32) -> u32 {
     let count = match builder.shape(ty) {
         Shape::Vector { size, .. } => u32::from(size),
@@ -418,7 +418,7 @@ fn count_parts<B: Builder>(builder: &mut B, operation: &Instruction, ty: u32) ->
     if builder.has_failed() { 0 } else { count }
 }
 
-// A value around the part that is replaced.
+// A composite around the part being replaced.
 #[derive(Clone, Copy)]
 struct Around {
     value: Value,
@@ -426,7 +426,7 @@ struct Around {
     index: u32,
 }
 
-// A value of which a part is another: from the outside in the values around the part, and then back.
+// `OpCompositeInsert`: extracts the composites around the part from the outside in, and composes them again.
 fn insert<B: Builder>(builder: &mut B, operation: &Instruction) -> Value {
     let mut value = operand(builder, operation, 1);
     let mut ty = operation.ty;
@@ -469,7 +469,7 @@ fn replace<B: Builder>(
     compose(builder, operation, ty, components)
 }
 
-// How many components the vector of this shape has.
+// The number of components of a vector of this shape.
 fn size_of<B: Builder>(builder: &mut B, operation: &Instruction, shape: &Shape) -> u32 {
     match *shape {
         Shape::Vector { size, .. } => u32::from(size),
@@ -480,7 +480,7 @@ fn size_of<B: Builder>(builder: &mut B, operation: &Instruction, shape: &Shape) 
     }
 }
 
-// Components of two vectors: a swizzle where all are of one, else put together.
+// `OpVectorShuffle`: a swizzle where all components come from one vector, else a composition.
 fn shuffle<B: Builder>(builder: &mut B, operation: &Instruction) -> Value {
     let left = need(builder, operation, 0);
     let right = need(builder, operation, 1);
@@ -512,7 +512,7 @@ fn shuffle<B: Builder>(builder: &mut B, operation: &Instruction) -> Value {
     mix(builder, operation, &indexes, split)
 }
 
-// Which component a word of a shuffle means; the first where it may be any, and one of the first vector where both are one.
+// The component that a word of a shuffle means: the first where it is undefined, and one of the first vector where both are the same.
 fn index_of(word: u32, split: u32, is_one: bool) -> u32 {
     let index = if word == u32::MAX { 0 } else { word };
     if is_one && index < split.saturating_mul(2) {
@@ -546,13 +546,13 @@ fn swizzle<B: Builder>(
     builder.emit(swizzle, operation)
 }
 
-// The component at a place of the indexes, x after the last one.
+// The component at a position of the indexes, x after the last one.
 fn letter(indexes: &[u32], offset: u32, place: usize) -> SwizzleComponent {
     let index = indexes.get(place).copied().unwrap_or(offset);
     SwizzleComponent::from_index(index.saturating_sub(offset))
 }
 
-// Components of two vectors, put together.
+// Composes components of two vectors.
 fn mix<B: Builder>(builder: &mut B, operation: &Instruction, indexes: &[u32], split: u32) -> Value {
     let left = operand(builder, operation, 0);
     let right = operand(builder, operation, 1);
@@ -594,7 +594,7 @@ fn is_index<B: Builder>(
     binary(builder, operation, BinaryOperator::Equal, index, right)
 }
 
-// A component at an index that is a value: chosen among all.
+// `OpVectorExtractDynamic`: a component at a dynamic index.
 fn extract_dynamic<B: Builder>(builder: &mut B, operation: &Instruction) -> Value {
     let shape = operand_shape(builder, operation, 0);
     let size = size_of(builder, operation, &shape);
@@ -610,7 +610,7 @@ fn extract_dynamic<B: Builder>(builder: &mut B, operation: &Instruction) -> Valu
     chosen
 }
 
-// A vector of which a component at an index that is a value is another.
+// `OpVectorInsertDynamic`: a vector with the component at a dynamic index replaced.
 fn insert_dynamic<B: Builder>(builder: &mut B, operation: &Instruction) -> Value {
     let shape = builder.shape(operation.ty);
     let size = size_of(builder, operation, &shape);

@@ -1,4 +1,4 @@
-//! Expressions of SPIR-V in the IR, by families, whatever function they are built in.
+//! Expressions of SPIR-V in the IR, by families, generic over the function under construction.
 #![tactic(auto)]
 
 mod builder;

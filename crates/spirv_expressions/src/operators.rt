@@ -23,7 +23,7 @@ static RELATIONS: [(u16, RelationalFunction); 4] = [
     (ops::IS_INF, RelationalFunction::IsInf),
 ];
 
-// Along what a derivative is taken, and how, if the opcode is one.
+// The axis and control of a derivative; `None` for other opcodes.
 fn derivative(opcode: u16) -> Option<(DerivativeAxis, DerivativeControl)> {
     let axis = match opcode {
         ops::D_PDX | ops::D_PDX_FINE | ops::D_PDX_COARSE => DerivativeAxis::X,
@@ -39,7 +39,7 @@ fn derivative(opcode: u16) -> Option<(DerivativeAxis, DerivativeControl)> {
     Some((axis, ctrl))
 }
 
-/// What an operation of numbers or truth values is, if it is one.
+/// Translates an operation on numbers or bools; `None` for other operations.
 pub fn arithmetic<B: Builder>(builder: &mut B, operation: &Instruction) -> Option<Value> {
     let opcode = operation.opcode;
     if let Some(op) = find_operator(&PLAIN, opcode) {
@@ -74,7 +74,7 @@ pub fn arithmetic<B: Builder>(builder: &mut B, operation: &Instruction) -> Optio
     other(builder, operation)
 }
 
-// An operation that stands in no table.
+// An operation that is in none of the tables.
 fn other<B: Builder>(builder: &mut B, operation: &Instruction) -> Option<Value> {
     let value = match operation.opcode {
         ops::S_NEGATE | ops::F_NEGATE => negate(builder, operation),
@@ -108,7 +108,7 @@ fn other<B: Builder>(builder: &mut B, operation: &Instruction) -> Option<Value> 
     Some(value)
 }
 
-// Operations of bits, and products with a function of their own.
+// Operations on bits, and products that are functions of the IR.
 fn bits<B: Builder>(builder: &mut B, operation: &Instruction) -> Option<Value> {
     let value = match operation.opcode {
         ops::DOT => of_two(builder, operation, MathFunction::Dot),
@@ -151,7 +151,7 @@ fn plain<B: Builder>(builder: &mut B, operation: &Instruction, op: BinaryOperato
     binary(builder, operation, op, left, right)
 }
 
-// An operator of truth values; of vectors it is that of their bits.
+// An operator on bools; on vectors the bitwise one.
 fn logic<B: Builder>(builder: &mut B, operation: &Instruction, op: BinaryOperator) -> Value {
     let is_vector = matches!(builder.shape(operation.ty), Shape::Vector { .. });
     let op = match op {
@@ -162,13 +162,13 @@ fn logic<B: Builder>(builder: &mut B, operation: &Instruction, op: BinaryOperato
     plain(builder, operation, op)
 }
 
-// Truth values, each the other one.
+// The negation of bools.
 fn inverse<B: Builder>(builder: &mut B, operation: &Instruction, expr: Value) -> Value {
     let op = UnaryOperator::LogicalNot;
     builder.emit(Expression::Unary { op, expr }, operation)
 }
 
-// Whether one float is less or greater than another; where one of them is no number, it is neither.
+// Whether one float is less or greater than another; with a NaN it is neither.
 fn are_apart<B: Builder>(builder: &mut B, operation: &Instruction) -> Value {
     let less = plain(builder, operation, BinaryOperator::Less);
     let greater = plain(builder, operation, BinaryOperator::Greater);
@@ -176,7 +176,7 @@ fn are_apart<B: Builder>(builder: &mut B, operation: &Instruction) -> Value {
     binary(builder, operation, op, less, greater)
 }
 
-// An operator whose operands get this sign, or that of the result.
+// An operator with operands of this signedness, or that of the result.
 fn integer<B: Builder>(
     builder: &mut B,
     operation: &Instruction,
@@ -191,7 +191,7 @@ fn integer<B: Builder>(
     as_kind(builder, operation, value, kind, to)
 }
 
-// A comparison whose operands get this sign, or that of the left one.
+// A comparison of operands of this signedness, or that of the left one.
 fn comparison<B: Builder>(
     builder: &mut B,
     operation: &Instruction,
@@ -207,7 +207,7 @@ fn comparison<B: Builder>(
     binary(builder, operation, op, left, right)
 }
 
-// A shift of a value with this sign, or that of the result, by an unsigned count.
+// A shift of a value of this signedness, or that of the result, by an unsigned count.
 fn shift<B: Builder>(
     builder: &mut B,
     operation: &Instruction,
@@ -222,14 +222,14 @@ fn shift<B: Builder>(
     as_kind(builder, operation, shifted, kind, scalar.kind)
 }
 
-// The operand at this place as a word without a sign, which a count of bits is.
+// The operand at this index as `u32`, the type of a shift count.
 fn bit_count<B: Builder>(builder: &mut B, operation: &Instruction, place: usize) -> Value {
     let value = operand(builder, operation, place);
     let from = operand_scalar(builder, operation, place);
     resized(builder, operation, value, from, Scalar::U32)
 }
 
-// The negative; of an unsigned value by way of the signed one.
+// The negation; of an unsigned value by way of the signed type.
 fn negate<B: Builder>(builder: &mut B, operation: &Instruction) -> Value {
     let scalar = result_scalar(builder, operation);
     let kind = match scalar.kind {
@@ -253,7 +253,7 @@ fn float_modulo<B: Builder>(builder: &mut B, operation: &Instruction) -> Value {
     binary(builder, operation, BinaryOperator::Subtract, x, whole)
 }
 
-// A number, in as many components as the operands have.
+// A number, with as many components as the operands.
 fn in_each<B: Builder>(builder: &mut B, operation: &Instruction, number: Option<Literal>) -> Value {
     let Some(literal) = number else {
         return refuse(builder, operation.malformed(Malformed::WrongType));
@@ -263,7 +263,7 @@ fn in_each<B: Builder>(builder: &mut B, operation: &Instruction, number: Option<
     splat(builder, operation, size, value)
 }
 
-// The remainder with the sign of the divisor: x % y, and y more where that has another sign and is not 0.
+// The remainder with the sign of the divisor: x % y, plus y where the remainder is not 0 and has the other sign.
 fn signed_modulo<B: Builder>(builder: &mut B, operation: &Instruction) -> Value {
     let to = result_scalar(builder, operation);
     let kind = ScalarKind::Sint;
@@ -284,7 +284,7 @@ fn signed_modulo<B: Builder>(builder: &mut B, operation: &Instruction) -> Value 
     as_kind(builder, operation, value, kind, to.kind)
 }
 
-// A sum or a difference without signs, and whether it went over, as a struct of both.
+// An unsigned sum or difference and its carry or borrow, as a struct.
 fn with_carry<B: Builder>(builder: &mut B, operation: &Instruction, op: BinaryOperator) -> Value {
     let kind = ScalarKind::Uint;
     let scalar = operand_scalar(builder, operation, 0);
@@ -306,7 +306,7 @@ fn with_carry<B: Builder>(builder: &mut B, operation: &Instruction, op: BinaryOp
     compose_pair(builder, operation, value, carried)
 }
 
-// A count or a reversal of bits, as the result's type.
+// A bit count or a bit reversal, in the result's type.
 fn counted<B: Builder>(builder: &mut B, operation: &Instruction, fun: MathFunction) -> Value {
     let from = operand_scalar(builder, operation, 0);
     let to = result_scalar(builder, operation);
@@ -314,7 +314,7 @@ fn counted<B: Builder>(builder: &mut B, operation: &Instruction, fun: MathFuncti
     resized(builder, operation, value, from, to)
 }
 
-/// A value of a scalar as one of another.
+/// Converts a value from one scalar to another.
 pub fn resized<B: Builder>(
     builder: &mut B,
     operation: &Instruction,
@@ -329,7 +329,7 @@ pub fn resized<B: Builder>(
     }
 }
 
-// Some bits of a value, with or without a sign.
+// A bit field of a value, signed or unsigned.
 fn extract_bits<B: Builder>(builder: &mut B, operation: &Instruction, kind: ScalarKind) -> Value {
     let to = result_scalar(builder, operation);
     let base = signed(builder, operation, 0, kind);

@@ -7,7 +7,7 @@ use ir_types::Expression;
 use spirv_types::TypeHandle;
 use std::alloc::Global;
 
-/// Words that are computed with this span.
+/// Computes words with this span.
 #[derive(Clone, Copy)]
 pub struct Words {
     /// The allocator.
@@ -33,7 +33,7 @@ impl Words {
         body.compute(Expression::Binary { op, left, right }, self.span)
     }
 
-    // Four times the same word.
+    // A vector of four equal words.
     fn four<E: Emits>(&self, body: &mut E, value: Value) -> Value {
         let size = VectorSize::Quad;
         body.compute(Expression::Splat { size, value }, self.span)
@@ -64,7 +64,7 @@ impl Words {
         body.compute(Expression::Compose { ty, components }, self.span)
     }
 
-    /// The mask of all invocations below one, four words of this type: the words before that of its bit are full, and of that one the bits below.
+    /// The mask of all invocations below one, in four words of this type.
     pub fn below<E: Emits>(&self, body: &mut E, ty: TypeHandle, at: Value) -> Value {
         let five = self.word(body, 5);
         let last = self.word(body, 31);

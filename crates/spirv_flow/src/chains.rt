@@ -17,7 +17,7 @@ pub struct Part {
 }
 
 impl Part {
-    // No part.
+    // The error that there is no such part.
     pub(crate) const NONE: Part = Part {
         from: 0,
         member: None,
@@ -25,7 +25,7 @@ impl Part {
     };
 }
 
-/// The operand at this place; where it is missing, 0.
+/// The operand at this index; where it is missing, 0.
 pub(crate) fn need(
     listing: &Listing,
     instruction: &Instruction,
@@ -41,7 +41,7 @@ pub(crate) fn need(
     }
 }
 
-/// The value of a constant whole number, its low 32 bits.
+/// The low 32 bits of a constant integer.
 pub fn constant_word(listing: &Listing, id: u32) -> Option<u32> {
     let constant = listing.defined(id);
     match constant.opcode {
@@ -86,12 +86,12 @@ pub fn part_at(
     }
 }
 
-/// Whether the instruction makes a pointer of another one.
+/// Whether the instruction makes a pointer from another one.
 pub fn is_chain(opcode: u16) -> bool {
     matches!(opcode, ops::ACCESS_CHAIN | ops::IN_BOUNDS_ACCESS_CHAIN)
 }
 
-/// Whether an extended instruction only speaks of the source.
+/// Whether an extended instruction is debug information.
 pub fn is_debug(listing: &Listing, instruction: &Instruction) -> bool {
     let Some(id) = listing.operand(instruction, 0) else {
         return false;

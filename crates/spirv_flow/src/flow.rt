@@ -1,4 +1,4 @@
-// What the functions of a module do, in order.
+// The control flow of a module's functions, in order.
 
 use crate::kept::Kept;
 use crate::order::Order;
@@ -7,21 +7,21 @@ use spirv_steps::{Blocks, FunctionSteps, Steps, steps_of};
 use spirv_words::{Failure, Listing, SpirvError};
 use std::alloc::Global;
 
-/// What a module's functions do, as it is known before they are translated.
+/// What is known of a module's functions before they are translated.
 pub struct Flow {
     /// Their blocks.
     pub blocks: Blocks,
     /// Their order.
     pub order: Order,
-    /// What they do, with the scopes of blocks.
+    /// Their steps, with the scopes of blocks.
     pub steps: Steps,
     /// The steps of each function, callees first.
     pub functions: Vec<FunctionSteps>,
-    /// Which values are kept in locals.
+    /// The values that are stored in locals.
     pub kept: Kept,
 }
 
-// Written out, so that its lists are freed in a call of this crate wherever it is let go.
+// Written out, so that a drop anywhere is a call into this crate.
 impl Drop for Flow {
     fn drop(self) {
         let Flow {
@@ -34,7 +34,7 @@ impl Drop for Flow {
     }
 }
 
-/// What variables and arguments of a module are used for, and what its functions do.
+/// How variables and arguments of a module are used, and the steps of its functions.
 pub fn flow_of(alloc: Global, listing: &Listing) -> Result<(Uses, Flow), SpirvError> {
     let mut failed = Failure::NONE;
     let blocks = Blocks::of_module(alloc, listing, &mut failed);

@@ -1,4 +1,4 @@
-// Which values are used where the scope of their block does not reach.
+// Values that are used outside the scope of their block.
 
 use crate::chains::{is_chain, need};
 use spirv_numbers::ops;
@@ -6,15 +6,15 @@ use spirv_steps::{Block, Blocks, Scopes};
 use spirv_words::{Failure, Feature, Groups, Instruction, Listing, as_word, number_at};
 use std::alloc::Global;
 
-// How many steps a pointer may have from its variable (universal limit of the standard).
+// The most access steps from a variable to a pointer (universal limit of the standard).
 const MAX_STEPS: usize = 255;
 
-/// A value that comes into a block from one that goes there (`OpPhi`).
+/// An incoming value of an `OpPhi`.
 #[derive(Clone, Copy)]
 pub struct Incoming {
-    /// What it becomes.
+    /// The `OpPhi`.
     pub phi: u32,
-    /// What it is.
+    /// Its representation.
     pub value: u32,
 }
 
@@ -27,18 +27,18 @@ impl Incoming {
 #[derive(Clone, Copy)]
 struct Known {
     kept: bool,
-    // the scope of the block whose instructions define it and one, or 0
+    // the scope of its defining block plus 1, or 0
     scope: u32,
 }
 
 impl Known {
-    // No value that is kept.
+    // No values.
     const NOTHING: Known = Known {
         kept: false,
         scope: 0,
     };
 
-    // Whether it is defined in a block whose scope does not reach this one.
+    // Whether it is defined in a block whose scope does not include this one.
     fn is_out(&self, scopes: &Scopes, scope: u32) -> bool {
         match self.scope.checked_sub(1) {
             Some(defined) => !scopes.reaches(defined, scope),
@@ -47,13 +47,13 @@ impl Known {
     }
 }
 
-/// The values that are kept in locals.
+/// The values that are stored in locals.
 #[derive(Drop)]
 pub struct Kept {
     known: Vec<Known>,
-    /// What comes from blocks into others.
+    /// Incoming values of `OpPhi`s.
     pub incoming: Vec<Incoming>,
-    // for each block which of these come from it
+    // by block: its outgoing values
     from: Groups,
 }
 
@@ -82,7 +82,7 @@ impl Kept {
         kept
     }
 
-    // What all blocks use.
+    // Collects what all blocks use.
     fn use_all(
         &mut self,
         listing: &Listing,
@@ -105,25 +105,25 @@ impl Kept {
         }
     }
 
-    /// Whether a value is kept in a local.
+    /// Whether a value is stored in a local.
     pub fn is_kept(&self, id: u32) -> bool {
         let known = self.known.get(id as usize).copied();
         known.unwrap_or(Known::NOTHING).kept
     }
 
-    /// What comes from a block into others, by its places in the list.
+    /// The outgoing values of a block, by index.
     pub fn from_block(&self, block: u32) -> &[u32] {
         self.from.of(block as usize)
     }
 
-    /// What goes from a block at this place among all that does.
+    /// The outgoing value at this index.
     pub fn incoming_at(&self, block: u32, place: usize) -> Option<Incoming> {
         let item = self.from_block(block).get(place)?;
         self.incoming.get(*item as usize).copied()
     }
 }
 
-// What the instructions of a block use, its end included.
+// Collects what the instructions of a block use, its terminator included.
 fn use_in_block(
     known: &mut [Known],
     listing: &Listing,
@@ -142,8 +142,7 @@ fn use_in_block(
     }
 }
 
-// An id is used: where the scope of its definition does not reach, it is kept, and a pointer is made there anew out of what
-// its steps name.
+// Notes the use of an id: outside of its scope a value is stored in a local, and a pointer is rebuilt from the ids of its steps.
 fn use_id(
     known: &mut [Known],
     listing: &Listing,
@@ -181,14 +180,14 @@ fn use_id(
     failed.fail(pointer.unsupported_by(Feature::LongPointer));
 }
 
-// Keeps what is used where the scope of its definition does not reach.
+// Marks what is used outside of its scope.
 fn keep(known: &mut [Known], scopes: &Scopes, scope: u32, id: u32) {
     if let Some(known) = known.get_mut(id as usize) {
         known.kept |= known.is_out(scopes, scope);
     }
 }
 
-// Whether the instruction gives an image, a sampler or an acceleration structure that lies where its first operand points.
+// Whether the result is an image, a sampler or an acceleration structure that the first operand points to.
 fn gives_handle(listing: &Listing, made: &Instruction) -> bool {
     let ty = listing.defined(made.ty).opcode;
     let is_handle = matches!(
@@ -201,7 +200,7 @@ fn gives_handle(listing: &Listing, made: &Instruction) -> bool {
     is_handle && matches!(made.opcode, ops::LOAD | ops::IMAGE)
 }
 
-// Writes down for each id the scope of the block that defines it.
+// Records for each id the scope of its defining block.
 fn define(listing: &Listing, blocks: &Blocks, scopes: &Scopes, known: &mut [Known]) {
     let mut number = 0u32;
     for block in &blocks.blocks {
@@ -218,8 +217,7 @@ fn define(listing: &Listing, blocks: &Blocks, scopes: &Scopes, known: &mut [Know
     }
 }
 
-// Adds what comes from the blocks of all functions into others, and the block from which each comes with its place among
-// them.
+// Adds the incoming values of all functions, each with its block and index.
 fn add_comings(
     listing: &Listing,
     blocks: &Blocks,

@@ -1,5 +1,5 @@
-//! What is known of a SPIR-V module's functions before they are translated: their order, what variables are used for, which
-//! values outlive the scope of their block.
+//! What is known of a SPIR-V module's functions before they are translated: their order, how variables are used, which values outlive the
+//! scope of their block.
 #![tactic(auto)]
 
 mod chains;

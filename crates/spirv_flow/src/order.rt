@@ -1,4 +1,4 @@
-// Functions in an order in which each stands after those that it calls.
+// Functions ordered so that each comes after those that it calls.
 
 use spirv_numbers::ops;
 use spirv_steps::Blocks;
@@ -7,30 +7,30 @@ use spirv_words::{
 };
 use std::alloc::Global;
 
-// The place of a function that is begun and not ended.
+// The mark of a function that has begun and not ended.
 const OPEN: u32 = u32::MAX;
 
-/// The functions of a module in order, and where each stands in it.
+/// The functions of a module in order, and the position of each.
 #[derive(Drop)]
 pub struct Order {
     /// The functions by their numbers in the module, callees first.
     pub functions: Vec<u32>,
-    // for each id of a function its place in that order and one, or 0
+    // by id of a function: its position in that order plus 1, or 0
     places: Vec<u32>,
 }
 
-// Goes through functions and what they call.
+// A walk over functions and their calls.
 #[derive(Drop)]
 struct Visit {
-    // for each id the number of the function that it is and one, or 0
+    // by id: the index of the function plus 1, or 0
     numbers: Vec<u32>,
-    // functions that come next, the last first, each with the instruction where it goes on, or 0 where it begins
+    // a stack of functions, each with the instruction where it continues, or 0 at its start
     next: Vec<(u32, u32)>,
     order: Order,
 }
 
 impl Order {
-    /// The order of a module's functions. One that calls itself, through others or not, is not translated.
+    /// The order of a module's functions. Recursion is not translated.
     pub fn of_module(
         alloc: Global,
         listing: &Listing,
@@ -50,14 +50,14 @@ impl Order {
         order
     }
 
-    /// The place in the order of the function with this id.
+    /// The position of the function with this id.
     pub fn place_of(&self, id: u32) -> Option<u32> {
         number_at(&self.places, id).checked_sub(1)
     }
 }
 
 impl Visit {
-    // Takes all functions to the order, each after those that it calls.
+    // Orders all functions, each after those that it calls.
     fn visit_all(&mut self, listing: &Listing, blocks: &Blocks, failed: &mut Failure) {
         let mut number = as_word(blocks.functions.len());
         for function in blocks.functions.iter().rev() {
@@ -75,7 +75,7 @@ impl Visit {
         }
     }
 
-    // Goes on with a function from this instruction to its next call, or ends it.
+    // Continues a function from this instruction to its next call, or ends it.
     fn step(
         &mut self,
         listing: &Listing,
@@ -113,7 +113,7 @@ impl Visit {
     }
 }
 
-// The number of the function that is called; none has the greatest.
+// The index of the callee; the greatest number if there is none.
 fn callee_of(listing: &Listing, numbers: &[u32], call: &Instruction, failed: &mut Failure) -> u32 {
     let what = match listing.operand(call, 0) {
         Some(id) => match number_at(numbers, id).checked_sub(1) {

@@ -1,31 +1,30 @@
-// Which parts of variables are changed atomically.
+// The parts of variables that atomic operations use.
 
 use crate::chains::{Part, is_chain, need, part_at, pointee};
 use spirv_numbers::ops;
 use spirv_words::{Failure, Feature, Instruction, Listing, as_word, number_at, set_number};
 use std::alloc::Global;
 
-// How many steps a pointer may have from its variable (universal limit of the standard), and how many parts of one value may be
-// atomic.
+// The most access steps from a variable to a pointer (universal limit of the standard), and the most atomic parts of one value.
 const MAX_STEPS: usize = 255;
 
-// How many parts may be looked at for each word, to find those that are changed.
+// The most parts visited for each word of the module.
 const PARTS_A_WORD: usize = 64;
 
 /// A part of a variable: the variable itself, a member of a struct, or the elements of an array.
 #[derive(Clone, Copy)]
 pub struct PathPart {
-    /// Which member; `None` for elements, and for a variable itself.
+    /// The index of the member; `None` for elements, and for a variable itself.
     pub member: Option<u32>,
-    /// Whether it is what is changed.
+    /// Whether it is atomic itself.
     pub is_atomic: bool,
-    // the first of its parts, and the next part of what it is one of, each by place and one
+    // its first child and its next sibling, each index plus 1
     first: u32,
     next: u32,
 }
 
 impl PathPart {
-    // One without parts.
+    // A part without children.
     const NEW: PathPart = PathPart {
         member: None,
         is_atomic: false,
@@ -34,13 +33,13 @@ impl PathPart {
     };
 }
 
-/// The parts of variables that are changed atomically, each variable with its id.
+/// The atomic parts of variables, each variable with its id.
 #[derive(Drop)]
 pub struct Paths {
     parts: Vec<PathPart>,
-    // for each id of a variable its place and one, or 0
+    // by id of a variable: its index plus 1, or 0
     variables: Vec<u32>,
-    // how many parts may still be looked at
+    // the parts that may still be visited
     left: usize,
 }
 
@@ -54,7 +53,7 @@ impl Paths {
         }
     }
 
-    /// Whether a part of this variable is changed.
+    /// Whether a part of this variable is atomic.
     pub fn has(&self, variable: u32) -> bool {
         self.of(variable).is_some()
     }
@@ -64,27 +63,27 @@ impl Paths {
         number_at(&self.variables, variable).checked_sub(1)
     }
 
-    /// The part at this place.
+    /// The part at this index.
     pub fn part(&self, place: u32) -> Option<PathPart> {
         self.parts.get(place as usize).copied()
     }
 
-    /// The first part inside the one at this place.
+    /// The first child of the part at this index.
     pub fn first(&self, place: u32) -> Option<u32> {
         self.at(place).first.checked_sub(1)
     }
 
-    /// The part that is inside of the same as this one, after it.
+    /// The next sibling of this part.
     pub fn next(&self, place: u32) -> Option<u32> {
         self.at(place).next.checked_sub(1)
     }
 
-    // The part at this place; one without parts where there is none.
+    // The part at this index; one without children where there is none.
     fn at(&self, place: u32) -> PathPart {
         self.part(place).unwrap_or(PathPart::NEW)
     }
 
-    // The part inside another, which is made where there is none.
+    // The child of a part, added where there is none.
     fn inside(
         &mut self,
         place: u32,
@@ -124,7 +123,7 @@ impl Paths {
         place
     }
 
-    /// The part of a variable that a pointer leads to is changed atomically.
+    /// Marks the part of a variable that a pointer leads to as atomic.
     pub fn add(
         &mut self,
         listing: &Listing,

@@ -1,4 +1,4 @@
-// What variables and arguments are used for.
+// How variables and arguments are used.
 
 use crate::chains::{Part, is_chain, need, part_at, pointee};
 use crate::order::Order;
@@ -8,7 +8,7 @@ use spirv_steps::Blocks;
 use spirv_words::{Failure, Feature, Instruction, Listing};
 use std::alloc::Global;
 
-/// What a variable or an argument is used for.
+/// How a variable or an argument is used.
 #[derive(Clone, Copy, PartialEq, Eq)]
 pub struct Use {
     /// It is sampled with a comparison.
@@ -20,7 +20,7 @@ pub struct Use {
 }
 
 impl Use {
-    /// For nothing.
+    /// No use.
     pub const NONE: Use = Use {
         compared: false,
         sampled: false,
@@ -31,12 +31,12 @@ impl Use {
 // What is known of an id.
 #[derive(Clone, Copy)]
 struct Known {
-    // the variable or argument that it leads from, or 0
+    // the variable or argument at its root, or 0
     root: u32,
     used: Use,
-    // of a parameter the variable or argument that every call passes for it; 0 for none, or where they differ `DIFFERENT`
+    // of a parameter: the variable or argument that every call passes; 0 for none, `DIFFERENT` where calls differ
     passed: u32,
-    // it is a function that launches mesh workgroups
+    // whether it is a function that launches mesh workgroups
     emits: bool,
 }
 
@@ -53,49 +53,49 @@ impl Known {
 // An argument of a call.
 #[derive(Clone, Copy)]
 struct Passed {
-    // the place of the call
+    // the index of the call
     call: u32,
     argument: u32,
-    // the place of the parameter for which it is passed
+    // the index of its parameter
     parameter: u32,
 }
 
-/// What the variables and arguments of a module are used for.
+/// How the variables and arguments of a module are used.
 #[derive(Drop)]
 pub struct Uses {
     known: Vec<Known>,
-    // the built-ins that an access chain touches in a block, each as the bit of its number modulo 64
+    // the built-ins that access chains into blocks use, each as the bit of its number modulo 64
     touched: u64,
-    /// What is changed atomically.
+    /// The atomic parts.
     pub atomics: Paths,
-    /// Whether functions need to know the number of the invocation in its subgroup and the subgroup's size.
+    /// Whether functions need the invocation's index in its subgroup and the subgroup's size.
     pub numbered: bool,
-    /// Whether functions need to know the place of the fragment.
+    /// Whether functions need the fragment's position.
     pub placed: bool,
 }
 
 // More than one variable.
 const DIFFERENT: u32 = u32::MAX;
 
-// How many calls a variable may be passed through.
+// The most calls through which a variable is traced.
 const MAX_CALLS: usize = 255;
 
-/// The id of the variable of these two numbers, which no id of a module is.
+/// An id of no module, for the variable of these two numbers.
 pub const SUBGROUP_NUMBERS: u32 = 0;
 
-/// The id of the variable of the fragment's place, which no id of a module is: each is below the bound, which is a word.
+/// An id of no module, for the variable of the fragment's position: an id of a module is below the bound, which is a word.
 pub const FRAGMENT_PLACE: u32 = u32::MAX;
 
-/// The id of the variable of how many mesh workgroups a task stage launches, which no table of a module has a place for.
+/// An id of no module, for the variable of the mesh workgroups that a task stage launches.
 pub const MESH_TASKS: u32 = u32::MAX - 1;
 
-/// The id of the variable of what a mesh stage gives, which no table of a module has a place for.
+/// An id of no module, for the variable of all mesh outputs.
 pub const MESH_OUTPUTS: u32 = u32::MAX - 2;
 
 /// The dimension of attachments (section 3.8).
 pub const DIM_SUBPASS_DATA: u32 = 6;
 
-// Operations on sets of a subgroup's invocations that depend on its size or on which invocation it is.
+// Operations on ballots that depend on the subgroup's size or on the invocation's index.
 const INVERSE_BALLOT: u16 = 340;
 
 const BALLOT_BIT_COUNT: u16 = 342;
@@ -105,7 +105,7 @@ const BALLOT_FIND_MSB: u16 = 344;
 // The operation over the values of each cluster (section 3.29).
 const CLUSTERED_REDUCE: u32 = 3;
 
-// Whether the instruction leads from the variable from which its first operand does.
+// Whether the result has the same root variable as the first operand.
 fn leads_on(opcode: u16) -> bool {
     let leads = matches!(
         opcode,
@@ -139,7 +139,7 @@ fn samples(opcode: u16) -> Option<bool> {
     }
 }
 
-// Whether an operation of a subgroup needs to know which invocation it is, or how many there are.
+// Whether a subgroup operation needs the invocation's index or the subgroup's size.
 fn is_numbered(listing: &Listing, instruction: &Instruction) -> bool {
     match instruction.opcode {
         INVERSE_BALLOT | BALLOT_BIT_COUNT..=BALLOT_FIND_MSB => true,
@@ -150,7 +150,7 @@ fn is_numbered(listing: &Listing, instruction: &Instruction) -> bool {
     }
 }
 
-// Whether the image that is read is an attachment.
+// Whether the image read is an input attachment.
 fn reads_attachment(listing: &Listing, read: &Instruction) -> bool {
     let Some(image) = listing.operand(read, 0) else {
         return false;
@@ -159,9 +159,9 @@ fn reads_attachment(listing: &Listing, read: &Instruction) -> bool {
     ty.opcode == ops::TYPE_IMAGE && listing.operand(&ty, 1) == Some(DIM_SUBPASS_DATA)
 }
 
-// The built-in that a decoration says of a member, if it says one.
+// The built-in with which a member is decorated.
 fn built_in(listing: &Listing, decoration: &Instruction) -> Option<u32> {
-    // a group's decorations speak of no member
+    // a group decorates no member
     let after = if decoration.opcode == ops::MEMBER_DECORATE {
         2
     } else {
@@ -187,7 +187,7 @@ fn takes_image(listing: &Listing, parameter: &Instruction) -> bool {
 }
 
 impl Uses {
-    /// What the functions do, callees first.
+    /// Collects the uses of all functions, callees first.
     pub fn of_module(
         alloc: Global,
         listing: &Listing,
@@ -209,7 +209,7 @@ impl Uses {
         uses
     }
 
-    // What all instructions of functions do. Adds what their calls pass.
+    // Collects the uses of all instructions, and the arguments of calls.
     fn take_all(
         &mut self,
         listing: &Listing,
@@ -230,15 +230,14 @@ impl Uses {
         }
     }
 
-    // A function launches mesh workgroups.
+    // Notes that a function launches mesh workgroups.
     fn set_emits(&mut self, function: u32) {
         if let Some(known) = self.known.get_mut(function as usize) {
             known.emits = true;
         }
     }
 
-    // What is passed from function to function, callers last: an image that is sampled with a comparison somewhere is one of
-    // depths wherever it is passed to, and no other may be passed there.
+    // Propagates uses through calls, callers last: an image sampled with a comparison anywhere is a depth image wherever it is passed.
     fn pass_on(&mut self, listing: &Listing, calls: &[Passed], failed: &mut Failure) {
         for passed in calls.iter().rev() {
             let parameter = listing.at(passed.parameter);
@@ -261,12 +260,12 @@ impl Uses {
         }
     }
 
-    // Whether what an id leads from is sampled with a comparison.
+    // Whether the root of an id is sampled with a comparison.
     fn is_compared(&self, id: u32) -> bool {
         self.of(self.root(id)).compared
     }
 
-    /// The variable or argument from which an id leads.
+    /// The variable or argument at the root of an id.
     pub fn root(&self, id: u32) -> u32 {
         match self.known(id).root {
             0 => id,
@@ -274,7 +273,7 @@ impl Uses {
         }
     }
 
-    /// The variable of the module that every call passes for a parameter, be it by way of other functions, if there is one.
+    /// The global variable that every call passes for a parameter, directly or through other functions.
     pub fn always_passed(&self, listing: &Listing, parameter: u32) -> Option<u32> {
         let mut at = parameter;
         for _ in 0..MAX_CALLS {
@@ -293,17 +292,17 @@ impl Uses {
         known.unwrap_or(Known::NOTHING)
     }
 
-    /// What a variable or an argument is used for.
+    /// How a variable or an argument is used.
     pub fn of(&self, id: u32) -> Use {
         self.known(id).used
     }
 
-    /// Whether a member of a block with this built-in may be touched.
+    /// Whether a block member with this built-in may be used.
     pub fn touches(&self, built_in: u32) -> bool {
         self.touched & (1u64 << (built_in % 64)) != 0
     }
 
-    // What one instruction does.
+    // Collects the uses of one instruction.
     fn take(
         &mut self,
         listing: &Listing,
@@ -332,7 +331,7 @@ impl Uses {
         }
     }
 
-    // The members of blocks that an access chain goes through.
+    // Notes the block members that an access chain goes through.
     fn touch(&mut self, listing: &Listing, chain: &Instruction, failed: &mut Failure) {
         let base = need(listing, chain, 0, failed);
         let Some(mut ty) = pointee(listing, listing.defined(base).ty) else {
@@ -351,7 +350,7 @@ impl Uses {
         }
     }
 
-    // Adds what it is used for to the root of an id.
+    // Adds a use to the root of an id.
     fn add(&mut self, id: u32, more: Use) {
         let root = self.root(id);
         if let Some(known) = self.known.get_mut(root as usize) {
@@ -383,7 +382,7 @@ impl Uses {
         }
     }
 
-    // What the arguments of a call are used for in the callee, whose parameters stand after its `OpFunction`.
+    // Adds the callee's uses of its parameters to the arguments of a call; parameters follow its `OpFunction`.
     fn call(
         &mut self,
         listing: &Listing,
@@ -394,7 +393,7 @@ impl Uses {
         let call = listing.at(place);
         let callee = need(listing, &call, 0, failed);
         if self.known(callee).emits {
-            // it would end the caller, too
+            // it ends the caller, too
             failed.fail(call.unsupported_by(Feature::EmitInCallee));
         }
         let mut at = listing.place_of(callee).unwrap_or(u32::MAX);
@@ -417,7 +416,7 @@ impl Uses {
         }
     }
 
-    // A call passes this for a parameter.
+    // Notes an argument of a call for a parameter.
     fn pass(&mut self, parameter: u32, argument: u32) {
         if let Some(known) = self.known.get_mut(parameter as usize) {
             let differs = known.passed != 0 && known.passed != argument;
@@ -425,7 +424,7 @@ impl Uses {
         }
     }
 
-    // An atomic operation on a texel or on a part of a variable.
+    // Notes an atomic operation on a texel or on a part of a variable.
     fn change(&mut self, listing: &Listing, atomic: &Instruction, failed: &mut Failure) {
         let pointer = need(listing, atomic, 0, failed);
         let texel = listing.defined(pointer);

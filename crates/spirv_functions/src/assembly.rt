@@ -102,7 +102,7 @@ fn case_at<L: FunctionBuilder>(lowering: &mut L, place: u32) -> Case {
 }
 
 impl Assembly {
-    // Takes a step. Answers the next one.
+    // Takes a step. Returns the next one.
     fn take<L: FunctionBuilder>(&mut self, lowering: &mut L, at: u32) -> u32 {
         let next = at.saturating_add(1);
         let Some(step) = lowering.flow().steps.steps.get(at as usize).copied() else {
@@ -275,7 +275,7 @@ impl Assembly {
         keep(lowering, &mut self.frames, Frame::Switch(open));
     }
 
-    // Goes on with the next case of the innermost switch, or ends it. Answers the next step.
+    // Goes on with the next case of the innermost switch, or ends it. Returns the next step.
     fn next_case<L: FunctionBuilder>(&mut self, lowering: &mut L, after: u32) -> u32 {
         let Some(Frame::Switch(open)) = self.frames.last().copied() else {
             return after;
@@ -304,7 +304,7 @@ impl Assembly {
         self.end_switch(lowering, &open)
     }
 
-    // Ends the case whose body was lowered. Answers the next step.
+    // Ends the case whose body was lowered. Returns the next step.
     fn end_case<L: FunctionBuilder>(&mut self, lowering: &mut L, after: u32) -> u32 {
         let Some(Frame::Switch(open)) = self.frames.last().copied() else {
             lowering.fail(unbalanced());
@@ -383,7 +383,7 @@ fn push<L: FunctionBuilder>(lowering: &mut L, statement: Statement) {
     lowering.add(statement, &Instruction::NONE)
 }
 
-// The instructions of a block, and what goes from it into others. Answers the operand of its end.
+// The instructions of a block, and what goes from it into others. Returns the operand of its end.
 fn lower_block<L: FunctionBuilder>(lowering: &mut L, number: u32) -> Option<Value> {
     let flow = lowering.flow();
     let scope = flow.steps.scopes.of_block(number).unwrap_or(0);

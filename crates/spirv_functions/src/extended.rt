@@ -43,7 +43,7 @@ fn function<L: FunctionBuilder>(
     number: u32,
 ) -> Option<Value> {
     if number == PACK_DOUBLE_2X32 || number == UNPACK_DOUBLE_2X32 {
-        // the words are put together as one number
+        // the words are composed as one number
         lowering.require(Capabilities::SHADER_INT64);
         return Some(cast(lowering, operation, 2));
     }

@@ -99,7 +99,7 @@ pub fn is_group(opcode: u16) -> bool {
     )
 }
 
-/// Does an operation of a subgroup.
+/// Translates a subgroup operation.
 pub fn group<L: FunctionBuilder>(lowering: &mut L, operation: &Instruction) {
     match operation.opcode {
         BALLOT_KHR => return ballot(lowering, operation, 0),
@@ -131,7 +131,7 @@ pub fn group<L: FunctionBuilder>(lowering: &mut L, operation: &Instruction) {
     }
 }
 
-// The value of the invocation with a number that all have alike.
+// The value of the invocation with this uniform index.
 fn read_invocation<L: FunctionBuilder>(lowering: &mut L, operation: &Instruction) {
     lowering.require_operations(SubgroupOperationSet::SHUFFLE);
     let argument = operand(lowering, operation, 0);
@@ -139,7 +139,7 @@ fn read_invocation<L: FunctionBuilder>(lowering: &mut L, operation: &Instruction
     gather_by(lowering, operation, GatherMode::Shuffle(index), argument);
 }
 
-// Which invocations have a predicate, the operand at this place.
+// The ballot of the predicate at this operand index.
 fn ballot<L: FunctionBuilder>(lowering: &mut L, operation: &Instruction, place: usize) {
     lowering.require_operations(SubgroupOperationSet::BALLOT);
     let predicate = Some(operand(lowering, operation, place));
@@ -160,7 +160,7 @@ fn first_value<L: FunctionBuilder>(lowering: &mut L, operation: &Instruction) {
     lowering.define(operation, value)
 }
 
-// A value of this type as the first invocation has it.
+// The first invocation's value of this type.
 fn broadcast_first<L: FunctionBuilder>(
     lowering: &mut L,
     operation: &Instruction,
@@ -178,7 +178,7 @@ fn broadcast_first<L: FunctionBuilder>(
     first
 }
 
-// Truth values as the numbers 1 and 0, since no truth values are taken from other invocations.
+// Bools as the numbers 1 and 0, because no bools can be read from other invocations.
 fn numbers_of<L: FunctionBuilder>(
     lowering: &mut L,
     operation: &Instruction,
@@ -192,7 +192,7 @@ fn numbers_of<L: FunctionBuilder>(
     select(lowering, operation, condition, accept, reject)
 }
 
-// Whether all invocations have the same value, the operand at this place: that of the first one.
+// Whether the operand at this index is equal in all invocations: equal to that of the first one.
 fn all_equal<L: FunctionBuilder>(lowering: &mut L, operation: &Instruction, place: usize) {
     let id = need(lowering, operation, place);
     let ty = lowering.type_of(id);
@@ -215,7 +215,7 @@ fn all_equal<L: FunctionBuilder>(lowering: &mut L, operation: &Instruction, plac
     vote_on(lowering, operation, SubgroupOperation::All, equal);
 }
 
-// Whether no active invocation comes before: the sum of ones over those before is 0.
+// Whether no active invocation comes before: the exclusive sum of ones is 0.
 fn elect<L: FunctionBuilder>(lowering: &mut L, operation: &Instruction) {
     lowering.require_operations(SubgroupOperationSet::ARITHMETIC);
     let argument = lowering.literal(Literal::U32(1), operation);
@@ -233,7 +233,7 @@ fn elect<L: FunctionBuilder>(lowering: &mut L, operation: &Instruction) {
     lowering.define(operation, value)
 }
 
-// The result of an operation of a subgroup.
+// The result of a subgroup operation.
 fn result_of<L: FunctionBuilder>(
     lowering: &mut L,
     operation: &Instruction,
@@ -242,7 +242,7 @@ fn result_of<L: FunctionBuilder>(
     lowering.always(Expression::SubgroupOperationResult { ty }, operation)
 }
 
-// A vote on the operand at this place.
+// A vote with the operand at this index.
 fn vote<L: FunctionBuilder>(
     lowering: &mut L,
     operation: &Instruction,
@@ -253,7 +253,7 @@ fn vote<L: FunctionBuilder>(
     vote_on(lowering, operation, op, argument)
 }
 
-// A vote on a value.
+// A vote with a value.
 fn vote_on<L: FunctionBuilder>(
     lowering: &mut L,
     operation: &Instruction,
@@ -273,7 +273,7 @@ fn vote_on<L: FunctionBuilder>(
     lowering.define(operation, value)
 }
 
-// An operation over all values of a subgroup, over those before, or over those of a cluster.
+// A reduction, a scan, or a clustered reduction.
 fn collective<L: FunctionBuilder>(
     lowering: &mut L,
     operation: &Instruction,
@@ -320,7 +320,7 @@ fn typed<L: FunctionBuilder>(
     lowering.vector(size, of_kind)
 }
 
-// The same over the values of a cluster.
+// The clustered reduction.
 fn over_cluster<L: FunctionBuilder>(
     lowering: &mut L,
     operation: &Instruction,
@@ -339,7 +339,7 @@ fn over_cluster<L: FunctionBuilder>(
     lowering.define(operation, value)
 }
 
-// The same over truth values, as numbers.
+// The same on bools, as numbers.
 fn truths_over_cluster<L: FunctionBuilder>(
     lowering: &mut L,
     operation: &Instruction,
@@ -385,7 +385,7 @@ fn gather_by<L: FunctionBuilder>(
     lowering.define(operation, value)
 }
 
-// Whether the instruction gives a value of another invocation.
+// Whether the instruction reads a value of another invocation.
 fn is_gather(opcode: u16) -> bool {
     matches!(
         opcode,
@@ -400,7 +400,7 @@ fn is_gather(opcode: u16) -> bool {
     )
 }
 
-// Of which invocation the value is.
+// The index of the invocation whose value is read.
 fn gather_mode<L: FunctionBuilder>(lowering: &mut L, operation: &Instruction) -> GatherMode {
     let opcode = operation.opcode;
     if opcode == ops::GROUP_NON_UNIFORM_BROADCAST_FIRST {
@@ -420,7 +420,7 @@ fn gather_mode<L: FunctionBuilder>(lowering: &mut L, operation: &Instruction) ->
     }
 }
 
-// A value that is taken from an invocation that is no constant, and that all have alike, is exchanged.
+// A value read from an invocation with a uniform index that is no constant becomes a shuffle.
 fn broadcast_mode<L: FunctionBuilder>(
     lowering: &mut L,
     operation: &Instruction,
@@ -434,7 +434,7 @@ fn broadcast_mode<L: FunctionBuilder>(
     GatherMode::Shuffle(index)
 }
 
-// Along what values of a quad are exchanged.
+// The direction of a quad swap.
 fn direction<L: FunctionBuilder>(lowering: &mut L, operation: &Instruction) -> Direction {
     let id = need(lowering, operation, 2);
     match lowering.constant(id) {

@@ -1,4 +1,4 @@
-// What an instruction of a block does.
+// Translates an instruction of a block.
 
 use crate::extended::extended;
 use crate::groups::{barrier, group, is_group};
@@ -12,12 +12,12 @@ use spirv_numbers::ops;
 use spirv_operations::{FunctionBuilder, atomic, call_function, memory, phi_local, store_texel};
 use spirv_words::Instruction;
 
-// The first and the last of what is read of a ray query.
+// The first and the last opcode that reads a ray query.
 const GET_RAY_T_MIN: u16 = 6016;
 
 const GET_WORLD_TO_OBJECT: u16 = 6032;
 
-/// Does what an instruction does.
+/// Translates an instruction.
 pub fn lower<L: FunctionBuilder>(lowering: &mut L, operation: &Instruction) {
     match operation.opcode {
         ops::NOP | ops::LINE | ops::NO_LINE | ops::SELECTION_MERGE | ops::LOOP_MERGE => {}
@@ -49,7 +49,7 @@ pub fn lower<L: FunctionBuilder>(lowering: &mut L, operation: &Instruction) {
     }
 }
 
-// The value of an instruction that only computes, if it is one.
+// The value of an instruction without effects; `None` for others.
 fn computed<L: FunctionBuilder>(lowering: &mut L, operation: &Instruction) -> Option<Value> {
     if let Some(value) = composite(lowering, operation) {
         return Some(value);

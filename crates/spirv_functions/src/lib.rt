@@ -1,4 +1,4 @@
-//! What the blocks and the instructions of a SPIR-V function become, whatever function they are built in.
+//! Translates the blocks and instructions of a SPIR-V function, generic over the function under construction.
 #![tactic(auto)]
 
 mod assembly;

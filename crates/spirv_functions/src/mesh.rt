@@ -1,4 +1,4 @@
-// How much task and mesh stages give (of the extension mesh_shader).
+// The counts that task and mesh stages set (extension mesh_shader).
 
 use ir_blocks::Statement;
 use ir_kinds::{Scalar, VectorSize};
@@ -7,12 +7,12 @@ use spirv_flow::{MESH_OUTPUTS, MESH_TASKS};
 use spirv_operations::FunctionBuilder;
 use spirv_words::Instruction;
 
-// The members of what a mesh stage gives that say how many vertices and primitives there are.
+// The members of a mesh output with the numbers of vertices and primitives.
 const VERTEX_COUNT: u32 = 2;
 
 const PRIMITIVE_COUNT: u32 = 3;
 
-/// Says how many vertices and primitives there are.
+/// Sets the numbers of vertices and primitives.
 pub fn set_outputs<L: FunctionBuilder>(lowering: &mut L, operation: &Instruction) {
     let outputs = lowering.pointer(MESH_OUTPUTS, operation);
     for (place, member) in [(0, VERTEX_COUNT), (1, PRIMITIVE_COUNT)] {
@@ -23,7 +23,7 @@ pub fn set_outputs<L: FunctionBuilder>(lowering: &mut L, operation: &Instruction
     }
 }
 
-/// Says how many workgroups of mesh stages are launched, each of three ways.
+/// Sets the number of mesh workgroups to launch, in three dimensions.
 pub fn emit_tasks<L: FunctionBuilder>(lowering: &mut L, operation: &Instruction) {
     let mut components = Vec::new(lowering.alloc());
     for place in 0..3 {

@@ -10,10 +10,10 @@ use spirv_operations::FunctionBuilder;
 use spirv_types::{Shape, span_of};
 use spirv_words::{Feature, Instruction};
 
-/// Does what an instruction does with a ray query.
+/// Translates an instruction on a ray query.
 pub fn ray_query<L: FunctionBuilder>(lowering: &mut L, operation: &Instruction) {
     let query = query_of(lowering, operation);
-    // the types that queries give are to be there
+    // the result types of queries must exist
     let _ = lowering.rays();
     let fun = match operation.opcode {
         ops::RAY_QUERY_INITIALIZE => {
@@ -43,7 +43,7 @@ pub fn ray_query<L: FunctionBuilder>(lowering: &mut L, operation: &Instruction) 
     lowering.add(Statement::RayQuery { query, fun }, operation);
 }
 
-// The query: a local variable, or a private one that no other function names, which is made a local.
+// The query: a local variable, or a private one used in this function alone, which becomes a local.
 fn query_of<L: FunctionBuilder>(lowering: &mut L, operation: &Instruction) -> Value {
     let id = need(lowering, operation, 0);
     if let Some(local) = lowering.named_before(id) {
@@ -73,8 +73,8 @@ fn query_of<L: FunctionBuilder>(lowering: &mut L, operation: &Instruction) -> Va
     }
 }
 
-// What a ray is traced in, the operand at this place, and the ray: after that its flags and its mask, at another place its origin,
-// where hits begin to count, its direction and where they cease to.
+// The acceleration structure at an operand index, and the ray: its flags and mask after it, and from another index on its origin, the least
+// distance of a hit, its direction and the greatest distance.
 fn ray_of<L: FunctionBuilder>(
     lowering: &mut L,
     operation: &Instruction,
@@ -99,7 +99,7 @@ fn ray_of<L: FunctionBuilder>(
     (traced_in, compose(lowering, operation, ty, components))
 }
 
-/// Traces a ray, in the one way that the IR has: to the first shaders of those that a host binds.
+/// `OpTraceRayKHR` in the one form that the IR has: without offset, stride and miss index.
 pub fn trace_ray<L: FunctionBuilder>(lowering: &mut L, operation: &Instruction) {
     for place in [3usize, 4, 5] {
         let id = need(lowering, operation, place);

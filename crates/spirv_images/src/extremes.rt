@@ -1,4 +1,4 @@
-// The least and the greatest of numbers.
+// Minimum, maximum and median of numbers.
 
 use ir_kinds::{BinaryOperator, MathFunction, ScalarKind};
 use spirv_expressions::{
@@ -6,15 +6,14 @@ use spirv_expressions::{
 };
 use spirv_words::Instruction;
 
-// Functions of GLSL.std.450 for which what is no number doesn't count.
+// Functions of GLSL.std.450 that ignore NaN.
 const N_MIN: u32 = 79;
 
 const N_MAX: u32 = 80;
 
 const N_CLAMP: u32 = 81;
 
-/// The least or the greatest of two floats, or one between two others, of which any that is no number doesn't count, by the
-/// number of a function of GLSL.std.450.
+/// `NMin`, `NMax` or `NClamp` of floats, which ignore NaN, by the number of the function in GLSL.std.450.
 pub fn of_numbers<B: Builder>(
     builder: &mut B,
     operation: &Instruction,
@@ -35,7 +34,7 @@ pub fn of_numbers<B: Builder>(
     Some(either(builder, operation, BinaryOperator::Less, value, most))
 }
 
-// The second of two floats where this holds between it and the first, or the first is no number; else the first.
+// The second of two floats where this relation holds between it and the first, or where the first is NaN; else the first.
 fn either<B: Builder>(
     builder: &mut B,
     operation: &Instruction,
@@ -49,8 +48,8 @@ fn either<B: Builder>(
     select(builder, operation, is_number, chosen, y)
 }
 
-/// The least, the greatest or the middle one of three numbers, by the number of an instruction of the set
-/// SPV_AMD_shader_trinary_minmax: those of each kind follow each other as floats, unsigned and signed.
+/// Minimum, maximum or median of three numbers, by an instruction of SPV_AMD_shader_trinary_minmax: each has three forms in a row, for
+/// floats, unsigned and signed integers.
 pub fn trinary<B: Builder>(builder: &mut B, operation: &Instruction, number: u32) -> Option<Value> {
     let kind = match number.checked_rem(3) {
         Some(1) => ScalarKind::Float,

@@ -7,7 +7,7 @@ use spirv_expressions::{
 };
 use spirv_words::{Instruction, Unsupported};
 
-// The functions by their numbers, with the sign that their arguments get.
+// The functions by their numbers, with the signedness of their arguments.
 static FUNCTIONS: [(u32, MathFunction, Option<ScalarKind>); 68] = [
     (1, MathFunction::Round, None),
     (2, MathFunction::Round, None),
@@ -79,7 +79,7 @@ static FUNCTIONS: [(u32, MathFunction, Option<ScalarKind>); 68] = [
     (75, MathFunction::FirstLeadingBit, Some(ScalarKind::Uint)),
 ];
 
-// The function with this number, and the sign that its arguments get.
+// The function with this number, and the signedness of its arguments.
 fn function(number: u32) -> Option<(MathFunction, Option<ScalarKind>)> {
     for row in &FUNCTIONS {
         if row.0 == number {
@@ -89,7 +89,7 @@ fn function(number: u32) -> Option<(MathFunction, Option<ScalarKind>)> {
     None
 }
 
-// The argument at this place after the first, if there is one.
+// The argument at this index after the first, if there is one.
 fn argument<B: Builder>(
     builder: &mut B,
     operation: &Instruction,
@@ -124,7 +124,7 @@ fn exponent<B: Builder>(
     }
 }
 
-// Whether the function puts floats into a word.
+// Whether the function packs floats into a word.
 fn packs(number: u32) -> bool {
     54 <= number && number <= 58
 }

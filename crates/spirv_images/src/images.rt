@@ -16,7 +16,7 @@ use spirv_numbers::ops;
 use spirv_types::Shape;
 use spirv_words::{Feature, Instruction};
 
-/// What an operation on an image is, if it is one.
+/// Translates an operation on an image; `None` for other operations.
 pub fn image_operation<B: Builder>(builder: &mut B, operation: &Instruction) -> Option<Value> {
     let value = match operation.opcode {
         ops::IMAGE_SAMPLE_IMPLICIT_LOD..=ops::IMAGE_SAMPLE_PROJ_DREF_EXPLICIT_LOD
@@ -44,7 +44,7 @@ fn compares(opcode: u16) -> bool {
     )
 }
 
-// Whether the coordinate is divided by its last component.
+// Whether the coordinate is projective.
 fn projects(opcode: u16) -> bool {
     matches!(
         opcode,
@@ -52,7 +52,7 @@ fn projects(opcode: u16) -> bool {
     )
 }
 
-// The component that a gather takes.
+// The component of a gather.
 fn gathered<B: Builder>(builder: &mut B, operation: &Instruction) -> Option<SwizzleComponent> {
     match operation.opcode {
         ops::IMAGE_DREF_GATHER => Some(SwizzleComponent::X),
@@ -105,7 +105,7 @@ fn sample<B: Builder>(builder: &mut B, operation: &Instruction) -> Value {
     value
 }
 
-// A depth as the vector that the result is, if it is one.
+// A depth in the result's type, which may be a vector.
 fn filled<B: Builder>(builder: &mut B, operation: &Instruction, value: Value) -> Value {
     let size = match builder.shape(operation.ty) {
         Shape::Vector { .. } => Some(VectorSize::Quad),
@@ -114,12 +114,12 @@ fn filled<B: Builder>(builder: &mut B, operation: &Instruction, value: Value) ->
     splat(builder, operation, size, value)
 }
 
-// Whether an image is of depths, as it is used.
+// Whether an image is used as a depth image.
 fn is_depth(image: &ImageValue) -> bool {
     matches!(image.class, ImageClass::Depth { .. })
 }
 
-// The value of an operand that may be missing.
+// The value of an optional operand.
 fn value_of<B: Builder>(
     builder: &mut B,
     operation: &Instruction,
@@ -138,7 +138,7 @@ fn reference<B: Builder>(builder: &mut B, operation: &Instruction, at: &Coordina
     }
 }
 
-// The level that is sampled.
+// The sampled level of detail.
 fn level_of<B: Builder>(
     builder: &mut B,
     operation: &Instruction,
@@ -207,7 +207,7 @@ fn fetch<B: Builder>(builder: &mut B, operation: &Instruction) -> Value {
     narrowed(builder, operation, value)
 }
 
-// The coordinate with this offset, which gets its sign.
+// The coordinate plus this offset, converted to its signedness.
 fn moved_by<B: Builder>(
     builder: &mut B,
     operation: &Instruction,
@@ -221,7 +221,7 @@ fn moved_by<B: Builder>(
     binary(builder, operation, BinaryOperator::Add, coordinate, right)
 }
 
-// The coordinate counted from the place of the fragment.
+// The coordinate relative to the fragment's position.
 fn at_fragment<B: Builder>(builder: &mut B, operation: &Instruction, coordinate: Value) -> Value {
     let pointer = builder.value(FRAGMENT_PLACE, operation);
     let place = builder.emit(Expression::Load { pointer }, operation);
@@ -230,7 +230,7 @@ fn at_fragment<B: Builder>(builder: &mut B, operation: &Instruction, coordinate:
     binary(builder, operation, BinaryOperator::Add, place, coordinate)
 }
 
-// The level that is fetched: the finest where none is named.
+// The fetched level of detail: 0 where none is given.
 fn fetched_level<B: Builder>(
     builder: &mut B,
     operation: &Instruction,
@@ -247,7 +247,7 @@ fn fetched_level<B: Builder>(
     }
 }
 
-// As many of four components as the result has.
+// The first of four components, as many as the result has.
 fn narrowed<B: Builder>(builder: &mut B, operation: &Instruction, vector: Value) -> Value {
     match builder.shape(operation.ty) {
         Shape::Scalar(_) => part_of(builder, operation, vector, 0),
@@ -264,7 +264,7 @@ fn narrowed<B: Builder>(builder: &mut B, operation: &Instruction, vector: Value)
     }
 }
 
-// A question to an image.
+// An image query.
 fn ask<B: Builder>(
     builder: &mut B,
     operation: &Instruction,
@@ -278,7 +278,7 @@ fn ask<B: Builder>(
     builder.emit(query, operation)
 }
 
-// The answer with the sign of the result.
+// The result of a query, in the result's signedness.
 fn answered<B: Builder>(builder: &mut B, operation: &Instruction, value: Value) -> Value {
     if result_scalar(builder, operation).kind == ScalarKind::Sint {
         convert(builder, operation, value, ScalarKind::Sint, Some(4))
@@ -294,7 +294,7 @@ fn query<B: Builder>(builder: &mut B, operation: &Instruction, query: ImageQuery
     answered(builder, operation, value)
 }
 
-// The size of an image, and how many layers it has after that.
+// The size of an image, followed by its number of layers.
 fn size<B: Builder>(builder: &mut B, operation: &Instruction, has_level: bool) -> Value {
     let id = need(builder, operation, 0);
     let image = builder.image(id, operation);

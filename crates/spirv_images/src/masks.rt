@@ -1,14 +1,14 @@
-// The operands of images that a mask names (section 3.14).
+// Image operands, as given by a mask (section 3.14).
 
 use spirv_expressions::{Builder, need};
 use spirv_words::{Feature, Instruction};
 
-/// The operands of images, by the ids of their values.
+/// Image operands, by the ids of their values.
 #[derive(Clone, Copy)]
 pub struct ImageOperands {
-    /// What is added to the level.
+    /// The bias of the level of detail.
     pub bias: Option<u32>,
-    /// The level.
+    /// The level of detail.
     pub level: Option<u32>,
     /// The derivatives along x and y.
     pub gradient: Option<(u32, u32)>,
@@ -34,7 +34,7 @@ const SAMPLE: u32 = 64;
 
 const MIN_LOD: u32 = 128;
 
-// The operand at this place, if the mask has this bit; the place is then the next one.
+// The operand at this index, if the mask has this bit; then advances the index.
 fn taken<B: Builder>(
     builder: &mut B,
     operation: &Instruction,
@@ -49,7 +49,7 @@ fn taken<B: Builder>(
     Some(id)
 }
 
-/// The operands after the mask at this place.
+/// The operands after the mask at this index.
 pub fn image_operands<B: Builder>(
     builder: &mut B,
     operation: &Instruction,

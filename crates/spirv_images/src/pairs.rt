@@ -1,4 +1,4 @@
-// The structs that some expressions give.
+// The predeclared result structs of some expressions.
 
 use ir_kinds::{PredeclaredType, Scalar, VectorSize};
 
@@ -13,7 +13,7 @@ pub struct Pair {
     pub offset: u32,
 }
 
-// What a float is split into: a fraction and what this is, whose widest part has scalars of so many bytes.
+// The result of `modf` or `frexp`: a fraction and a second part, with the size in bytes of the wider scalar.
 fn split(
     size: Option<VectorSize>,
     scalar: Scalar,
@@ -28,7 +28,7 @@ fn split(
     }
 }
 
-/// The struct that an expression gives.
+/// The result struct of an expression.
 pub fn pair_of(of: PredeclaredType) -> Pair {
     match of {
         PredeclaredType::AtomicCompareExchangeWeakResult(scalar) => Pair {

@@ -1,4 +1,4 @@
-// Where an image is sampled or a texel lies.
+// The coordinate of a sample or a texel.
 
 use ir_kinds::{BinaryOperator, ImageDimension, MathFunction, Scalar, ScalarKind};
 use ir_types::ArraySize;
@@ -9,18 +9,18 @@ use spirv_expressions::{
 use spirv_types::{Shape, vector_size};
 use spirv_words::{Feature, Instruction, Malformed};
 
-/// Where an image is sampled or a texel lies.
+/// The coordinate of a sample or a texel.
 #[derive(Clone, Copy)]
 pub struct Coordinates {
-    /// Within a layer.
+    /// The coordinate within a layer.
     pub coordinate: Value,
     /// The layer.
     pub layer: Option<Value>,
-    /// By what the coordinate was divided.
+    /// The divisor of a projective coordinate.
     pub divisor: Option<Value>,
 }
 
-/// How many components a coordinate has.
+/// The number of components of a coordinate.
 pub fn coordinate_count(dim: ImageDimension) -> u32 {
     match dim {
         ImageDimension::D1 => 1,
@@ -29,7 +29,7 @@ pub fn coordinate_count(dim: ImageDimension) -> u32 {
     }
 }
 
-/// The coordinate and the layer out of what SPIR-V passes as one vector, which is the value of this id.
+/// Splits SPIR-V's one coordinate vector, the value of this id, into coordinate and layer.
 pub fn read_coordinates<B: Builder>(
     builder: &mut B,
     operation: &Instruction,
@@ -75,7 +75,7 @@ pub fn read_coordinates<B: Builder>(
     }
 }
 
-// The layer, which is the component at this index, as a whole number: the nearest one.
+// The layer: the component at this index, rounded to an integer.
 fn layer_of<B: Builder>(
     builder: &mut B,
     operation: &Instruction,
@@ -133,7 +133,7 @@ pub fn widened<B: Builder>(builder: &mut B, operation: &Instruction, place: usiz
     compose(builder, operation, ty, components)
 }
 
-/// How many resources an array has, in which there may be others.
+/// The number of resources of an array, nested arrays included.
 pub fn count_resources<B: Builder>(builder: &B, ty: u32) -> Option<u32> {
     let mut at = ty;
     let mut count = None;
@@ -153,5 +153,5 @@ pub fn count_resources<B: Builder>(builder: &B, ty: u32) -> Option<u32> {
     None
 }
 
-// How deep arrays may nest (universal limit of the standard).
+// The deepest nesting of arrays (universal limit of the standard).
 const MAX_DEPTH: usize = 255;

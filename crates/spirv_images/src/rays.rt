@@ -1,5 +1,4 @@
-// Ray queries: the structs that they begin with and find, and what is found (the extensions ray_query and
-// ray_tracing_position_fetch).
+// Ray queries: the structs of their input and output (extensions ray_query and ray_tracing_position_fetch).
 
 use ir_arena::handle::Handle;
 use ir_arena::span::Span;
@@ -11,18 +10,18 @@ use spirv_types::{TypeHandle, Types, insert, vector_type};
 use spirv_words::{Failure, Instruction, SpirvError};
 use std::alloc::{AllocError, Global};
 
-/// The types of rays, of a module that has queries of them.
+/// The types for ray queries.
 #[derive(Clone, Copy)]
 pub struct RayTypes {
-    /// What a query begins with.
+    /// The ray descriptor.
     pub descriptor: Option<TypeHandle>,
-    /// What it finds.
+    /// The intersection.
     pub intersection: Option<TypeHandle>,
-    /// The vertices that it hits.
+    /// The vertex positions of a hit.
     pub vertices: Option<TypeHandle>,
 }
 
-// A member: its name, how many components it has, of what kind, and where it lies, in bytes.
+// A member: its name, number of components, scalar, and offset in bytes.
 type Row = (&'static str, Option<VectorSize>, Scalar, u32);
 
 static DESCRIPTOR: [Row; 6] = [
@@ -34,7 +33,7 @@ static DESCRIPTOR: [Row; 6] = [
     ("dir", Some(VectorSize::Tri), Scalar::F32, 32),
 ];
 
-// Those of four components are matrices of four columns with three each.
+// Members of four components are matrices of four columns with three rows.
 static INTERSECTION: [Row; 11] = [
     ("kind", None, Scalar::U32, 0),
     ("t", None, Scalar::F32, 4),
@@ -57,7 +56,7 @@ impl RayTypes {
         vertices: None,
     };
 
-    /// They are built.
+    /// Builds them.
     pub fn of<T: Types>(alloc: Global, built: &mut T, failed: &mut Failure) -> RayTypes {
         let descriptor = struct_of(alloc, built, "RayDesc", &DESCRIPTOR, 48, failed);
         let found = struct_of(alloc, built, "RayIntersection", &INTERSECTION, 176, failed);
@@ -127,8 +126,7 @@ fn struct_of<T: Types>(
     failed.take(made, Handle::at(0))
 }
 
-// Instructions that read a member of an intersection: those from the distance to whether the front is hit follow each other as
-// the members do.
+// Instructions that read a member of an intersection, in the order of the members from the distance to the front face.
 const GET_T: u16 = 6018;
 
 const GET_FRONT_FACE: u16 = 6025;
@@ -148,7 +146,7 @@ fn member_of(opcode: u16) -> Option<u32> {
     }
 }
 
-/// What an instruction reads of a query, if it does: of the candidate, for which its second operand is 0, or of what is committed (1).
+/// What an instruction reads of a query: of the candidate (its second operand is 0) or the committed intersection (1).
 pub fn found<B: Builder>(builder: &mut B, operation: &Instruction, query: Value) -> Option<Value> {
     let id = builder.given(operation, 1)?;
     let committed = match builder.constant(id) {
@@ -165,7 +163,7 @@ pub fn found<B: Builder>(builder: &mut B, operation: &Instruction, query: Value)
     let whole = builder.emit(whole, operation);
     let mut value = part_of(builder, operation, whole, member);
     if member == 0 && !committed {
-        // a triangle is 1 and a box 3, where SPIR-V has 0 and 1
+        // a triangle is 1 and a box 3 in the IR, 0 and 1 in SPIR-V
         let one = builder.literal(Literal::U32(1), operation);
         value = binary(builder, operation, BinaryOperator::ShiftRight, value, one);
     }

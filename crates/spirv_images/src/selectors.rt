@@ -1,10 +1,10 @@
-// On what switches choose, which is a word in the IR.
+// Selectors of switches, which have 32 bits in the IR.
 
 use ir_kinds::{BinaryOperator, Literal, Scalar, ScalarKind};
 use spirv_expressions::{Builder, Value, binary, convert, need, operand_scalar, select};
 use spirv_words::Instruction;
 
-/// The selector of a switch out of its value, and whether its cases are signed.
+/// The selector of a switch, and whether its cases are signed.
 pub fn selector_of<B: Builder>(
     builder: &mut B,
     operation: &Instruction,
@@ -22,7 +22,7 @@ pub fn selector_of<B: Builder>(
     }
 }
 
-// The place of a value of two words among those of the cases, and one that none has where it is none of them.
+// The index of a 64-bit selector among the cases; an index of none where it matches no case.
 fn place_of<B: Builder>(
     builder: &mut B,
     operation: &Instruction,
@@ -46,7 +46,7 @@ fn place_of<B: Builder>(
     chosen
 }
 
-// A value of two words, the lower one first.
+// A 64-bit value of two words, the lower one first.
 fn literal_of(low: u32, high: u32, scalar: Scalar) -> Literal {
     let bits = u64::from(high) << 32 | u64::from(low);
     if scalar.kind == ScalarKind::Sint {

@@ -15,7 +15,7 @@ const U_MUL_EXTENDED: u16 = 151;
 
 const S_MUL_EXTENDED: u16 = 152;
 
-/// What a conversion that keeps the bits is, or a product of two words, if it is one.
+/// Translates a bitcast or an extended product; `None` for other operations.
 pub fn wide<B: Builder>(builder: &mut B, operation: &Instruction) -> Option<Value> {
     let value = match operation.opcode {
         ops::BITCAST => cast(builder, operation, 0),
@@ -26,7 +26,7 @@ pub fn wide<B: Builder>(builder: &mut B, operation: &Instruction) -> Option<Valu
     Some(value)
 }
 
-// Conversions that keep the value, with the kind that their operand gets and that of what they give.
+// Conversions of values, with the kinds of operand and result.
 static CONVERSIONS: [(u16, ScalarKind, ScalarKind); 7] = [
     (ops::CONVERT_F_TO_U, ScalarKind::Float, ScalarKind::Uint),
     (ops::CONVERT_F_TO_S, ScalarKind::Float, ScalarKind::Sint),
@@ -37,7 +37,7 @@ static CONVERSIONS: [(u16, ScalarKind, ScalarKind); 7] = [
     (ops::F_CONVERT, ScalarKind::Float, ScalarKind::Float),
 ];
 
-/// What a conversion that keeps the value is, if it is one: the signs are those of the operation, whatever the types have.
+/// Translates a conversion of a value; `None` for other operations. Signedness is that of the operation, whatever the types have.
 pub fn conversion<B: Builder>(builder: &mut B, operation: &Instruction) -> Option<Value> {
     for row in &CONVERSIONS {
         if row.0 == operation.opcode {
@@ -47,7 +47,7 @@ pub fn conversion<B: Builder>(builder: &mut B, operation: &Instruction) -> Optio
     None
 }
 
-// The operand with this kind as a value of that one, which then gets the sign of the result.
+// The operand, taken as the first kind, converted to the second and then to the signedness of the result.
 fn converted<B: Builder>(
     builder: &mut B,
     operation: &Instruction,
@@ -60,7 +60,7 @@ fn converted<B: Builder>(
     as_kind(builder, operation, made, gives, to.kind)
 }
 
-// A value shifted by so many bits.
+// A value shifted by this many bits.
 fn shifted<B: Builder>(
     builder: &mut B,
     operation: &Instruction,
@@ -75,7 +75,7 @@ fn shifted<B: Builder>(
     binary(builder, operation, op, value, count)
 }
 
-// An operand whose bits are taken: its value, what each component is, and how many there are.
+// The operand of a bitcast: its value, scalar and number of components.
 #[derive(Clone, Copy)]
 struct Bits {
     value: Value,
@@ -83,7 +83,7 @@ struct Bits {
     count: u32,
 }
 
-// The component at this place, as the unsigned number that its bits are.
+// The component at this index, bitcast to an unsigned integer.
 fn bits_at<B: Builder>(builder: &mut B, operation: &Instruction, from: &Bits, place: u32) -> Value {
     let mut part = from.value;
     if from.count > 1 {
@@ -92,7 +92,7 @@ fn bits_at<B: Builder>(builder: &mut B, operation: &Instruction, from: &Bits, pl
     as_kind(builder, operation, part, from.scalar.kind, ScalarKind::Uint)
 }
 
-// How often one width is in another.
+// The quotient of two widths.
 fn times_in(wide: u8, narrow: u8) -> u32 {
     match wide.checked_div(narrow) {
         Some(times) => u32::from(times),
@@ -100,7 +100,7 @@ fn times_in(wide: u8, narrow: u8) -> u32 {
     }
 }
 
-// So many components of an operand, from one on, as one wide number: the first has the lowest bits.
+// This many components of an operand, from one on, as one wide integer: the first has the lowest bits.
 fn joined<B: Builder>(
     builder: &mut B,
     operation: &Instruction,
@@ -129,7 +129,7 @@ fn joined<B: Builder>(
     }
 }
 
-// The part at a place of a wide number, counted from the lowest bits.
+// The part at an index of a wide integer, from the lowest bits on.
 fn part_at<B: Builder>(
     builder: &mut B,
     operation: &Instruction,
@@ -143,7 +143,7 @@ fn part_at<B: Builder>(
     as_kind(builder, operation, narrow, ScalarKind::Uint, to.kind)
 }
 
-/// The bits of the operand at this place as those of the result's type, of scalars of the same width or of another one.
+/// Bitcasts the operand at this index to the result's type, with scalars of the same width or another one.
 pub fn cast<B: Builder>(builder: &mut B, operation: &Instruction, place: usize) -> Value {
     let to = result_scalar(builder, operation);
     let scalar = operand_scalar(builder, operation, place);
@@ -167,7 +167,7 @@ pub fn cast<B: Builder>(builder: &mut B, operation: &Instruction, place: usize) 
     }
 }
 
-// The components of the result, each out of several of the operand.
+// The components of the result, each composed of several of the operand.
 fn widened<B: Builder>(
     builder: &mut B,
     operation: &Instruction,
@@ -183,7 +183,7 @@ fn widened<B: Builder>(
     components
 }
 
-// The components of the result, several out of each of the operand.
+// The components of the result, several for each one of the operand.
 fn narrowed<B: Builder>(
     builder: &mut B,
     operation: &Instruction,
@@ -202,7 +202,7 @@ fn narrowed<B: Builder>(
     components
 }
 
-// A constant of as many components as the operands have.
+// A constant with as many components as the operands.
 fn constant<B: Builder>(
     builder: &mut B,
     operation: &Instruction,
@@ -259,7 +259,7 @@ fn upper<B: Builder>(
     last
 }
 
-// The value with this number.
+// The value with this index.
 fn numbered(values: &[Value; 20], number: u8) -> Value {
     values
         .get(usize::from(number))
@@ -267,7 +267,7 @@ fn numbered(values: &[Value; 20], number: u8) -> Value {
         .unwrap_or(no_value())
 }
 
-// A word where another one is negative, else 0.
+// A word if another one is negative, else 0.
 fn where_negative<B: Builder>(
     builder: &mut B,
     operation: &Instruction,
@@ -282,7 +282,7 @@ fn where_negative<B: Builder>(
     binary(builder, operation, BinaryOperator::And, all, word)
 }
 
-// The product of two words as a struct of its lower and its upper word.
+// The extended product of two words, as a struct of its lower and upper word.
 fn product<B: Builder>(builder: &mut B, operation: &Instruction, is_signed: bool) -> Value {
     let scalar = operand_scalar(builder, operation, 0);
     if scalar.width != 4 {

@@ -1,5 +1,4 @@
-//! What goes between the stages of SPIR-V modules: how entry points are executed, the variables that they take and give with the
-//! locations that these share, and what a mesh stage gives.
+//! The interfaces of SPIR-V entry points: execution modes, input and output variables with shared locations, and mesh outputs.
 #![tactic(auto)]
 
 mod located;

@@ -1,4 +1,4 @@
-// The variables that an entry point takes and gives, and the locations that they share, each with some of the components.
+// The input and output variables of an entry point, and the locations that they share by components.
 
 use crate::varyings::{Located, common_kind, located_type};
 use ir_kinds::{
@@ -10,16 +10,16 @@ use spirv_types::Types;
 use spirv_words::{Failure, Listing, SpirvError, Unsupported};
 use std::alloc::Global;
 
-/// A variable that an entry point takes or gives.
+/// An input or output variable of an entry point.
 #[derive(Clone, Copy)]
 pub struct Port {
     /// The variable.
     pub variable: Variable,
-    /// What goes between stages by it.
+    /// What it passes between stages.
     pub varying: Varying,
-    /// The kind of its scalars, as it is taken or given.
+    /// The scalar kind in which it is passed.
     pub kind: Option<ScalarKind>,
-    // what it is, of a number or a vector, or an array of those
+    // its shape, if it is a number, a vector, or an array of those
     located: Option<Located>,
     // the first word of its instruction
     word: u32,
@@ -44,7 +44,7 @@ pub fn ports_of<T: Types>(
     ports
 }
 
-// The variable with this id, if it goes between stages and is of this storage class.
+// The input or output variable with this id, if it has this storage class.
 fn port_of<T: Types>(
     listing: &Listing,
     variables: &KnownVariables,
@@ -76,24 +76,24 @@ fn port_of<T: Types>(
 pub struct Place {
     /// The location.
     pub location: u32,
-    /// The source of a blend and one, or 0 where there is none.
+    /// The blend source plus 1, or 0 where there is none.
     pub blend: u32,
 }
 
-/// The part of a location that is a variable's, or an element's of an array.
+/// The part of a location that a variable or an element of an array occupies.
 #[derive(Clone, Copy)]
 pub struct Piece {
     /// The location.
     pub place: Place,
-    /// The first of its components.
+    /// Its first component.
     pub component: u32,
-    /// How many it has, of a vector.
+    /// Number of components, of a vector.
     pub size: Option<VectorSize>,
-    /// What a component is.
+    /// The scalar of a component.
     pub scalar: Scalar,
     /// Its interpolation.
     pub interpolation: Option<Interpolation>,
-    /// Where it is found.
+    /// Where it is.
     pub sampling: Option<Sampling>,
     /// The id of the variable.
     pub id: u32,
@@ -101,17 +101,17 @@ pub struct Piece {
     word: u32,
     /// The variable.
     pub variable: GlobalHandle,
-    /// Which element of it.
+    /// The index of the element.
     pub element: Option<u32>,
 }
 
 impl Piece {
-    /// How many components it has.
+    /// Number of components.
     pub fn count(&self) -> u32 {
         self.size.map_or(1, u32::from)
     }
 
-    /// What binds the whole location.
+    /// The binding of the whole location.
     pub fn binding(&self) -> Binding {
         Binding::Location {
             location: self.place.location,
@@ -122,7 +122,7 @@ impl Piece {
         }
     }
 
-    /// Its components of the whole location.
+    /// Its components within the whole location.
     pub fn pattern(&self) -> [SwizzleComponent; 4] {
         let first = self.component;
         [
@@ -135,7 +135,7 @@ impl Piece {
 }
 
 impl Port {
-    /// The part of a location that it begins with, if it is at one and has parts.
+    /// Its first part of a location, if it has a location and is made of such parts.
     pub fn piece(&self) -> Option<Piece> {
         let located = self.located?;
         let Some(
@@ -155,7 +155,7 @@ impl Port {
             None => 0,
         };
         let component = self.varying.component.unwrap_or(0);
-        // a number of 64 bits has two components
+        // a 64-bit number takes two components
         if located.scalar.width == 8 || blend > MAX_BLEND || component > MAX_COMPONENT {
             return None;
         }
@@ -173,7 +173,7 @@ impl Port {
         })
     }
 
-    // Adds the part of a location that it is, or one for each element; at most so many in all.
+    // Adds its part of a location, or one for each element; at most this many in all.
     fn add_pieces(&self, most: usize, pieces: &mut Vec<Piece>, failed: &mut Failure) {
         let Some(first) = self.piece() else {
             if self.varying.component.is_some() {
@@ -203,13 +203,13 @@ impl Port {
     }
 }
 
-// Why the parts of a location are not translated, of the variable whose instruction begins at this word.
+// The error for parts of a location that are not translated, at the word of the variable's instruction.
 fn refusal(word: u32) -> SpirvError {
     let what = Unsupported::Decoration(numbers::DECORATION_COMPONENT);
     SpirvError::unsupported(what, word)
 }
 
-/// The parts of locations that these are, at most so many, in order; none where they share no location.
+/// The parts of locations of these variables, at most this many, in order; none where no location is shared.
 pub fn pieces_of(alloc: Global, ports: &[Port], most: usize, failed: &mut Failure) -> Vec<Piece> {
     let mut pieces = Vec::new(alloc);
     let mut shares = false;
@@ -227,16 +227,16 @@ pub fn pieces_of(alloc: Global, ports: &[Port], most: usize, failed: &mut Failur
     in_order(alloc, &pieces, failed)
 }
 
-// The last source of a blend, and one.
+// The last blend source plus 1.
 const MAX_BLEND: u32 = 3;
 
 // The last component of a location.
 const MAX_COMPONENT: u32 = 3;
 
-/// How many parts of locations an entry point may take or give that shares some.
+/// The most parts of locations of an entry point with shared locations.
 pub const MAX_PIECES: u64 = 65536;
 
-// Where a part stands among all: by location, source and component, and then by its number.
+// The sort key of a part: location, blend source, component, and then its index.
 fn key_of(piece: &Piece, number: u64) -> u64 {
     let place = u64::from(piece.place.location)
         .saturating_mul(4)
@@ -266,24 +266,24 @@ fn in_order(alloc: Global, pieces: &[Piece], failed: &mut Failure) -> Vec<Piece>
     sorted
 }
 
-/// A location that is taken or given whole.
+/// A whole location, as it is passed.
 #[derive(Clone, Copy)]
 pub struct Whole {
-    /// The place of its first part.
+    /// The index of its first part.
     pub start: usize,
-    /// The place after that of its last part.
+    /// The index after its last part.
     pub end: usize,
     /// Its first part.
     pub first: Piece,
-    /// What a component is.
+    /// The scalar of a component.
     pub scalar: Scalar,
-    /// How many components it has.
+    /// Number of components.
     pub count: u32,
-    // which of its components a part has
+    // the components that parts have
     taken: [bool; 4],
 }
 
-/// The locations that these are parts of, in order.
+/// The locations of these parts, in order.
 pub fn wholes_of(alloc: Global, pieces: &[Piece], failed: &mut Failure) -> Vec<Whole> {
     let mut wholes = Vec::new(alloc);
     let mut at = 0usize;
@@ -302,7 +302,7 @@ pub fn wholes_of(alloc: Global, pieces: &[Piece], failed: &mut Failure) -> Vec<W
 }
 
 impl Whole {
-    // The location of the part at this place, and whether its parts are alike and no two have the same component.
+    // The location of the part at this index, and whether its parts have equal types and disjoint components.
     fn at(pieces: &[Piece], start: usize, first: &Piece) -> (Whole, bool) {
         let mut whole = Whole {
             start,
@@ -323,17 +323,17 @@ impl Whole {
         (whole, is_whole)
     }
 
-    /// Why it is not translated where it is not.
+    /// The error where it is not translated.
     pub fn refusal(&self) -> SpirvError {
         refusal(self.first.word)
     }
 
-    /// Its parts, out of all in order.
+    /// Its parts, from all of them in order.
     pub fn parts<'a>(&self, pieces: &'a [Piece]) -> &'a [Piece] {
         pieces.get(self.start..self.end).unwrap_or(&[])
     }
 
-    // One part more; answers whether it may be.
+    // One part more; returns whether it may be.
     fn add(&mut self, piece: &Piece) -> bool {
         let end = piece.component.saturating_add(piece.count());
         for component in piece.component..end {

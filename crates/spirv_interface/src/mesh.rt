@@ -1,5 +1,5 @@
-// What a mesh stage gives: a struct in the memory of the workgroup, with an array of vertices and one of primitives. What it gives
-// by a variable is a member of each vertex or of each primitive, and by a block several of them.
+// Mesh outputs: a struct in workgroup memory, with an array of vertices and one of primitives. An output variable becomes a member of each
+// vertex or primitive, and a block several of them.
 
 use ir_arena::handle::Handle;
 use ir_arena::span::Span;
@@ -19,26 +19,26 @@ use spirv_types::{Reading, Shape, TypeHandle, Types, insert, span_of, vector_typ
 use spirv_words::{Failure, Feature, Instruction, Listing, SpirvError, Unsupported, text_length};
 use std::alloc::Global;
 
-// The members of a struct that is put together, and how it lies in memory so far.
+// The members of a struct that is composed, and how it lies in memory so far.
 #[derive(Drop)]
 struct Members {
     all: Vec<StructMember>,
     layout: Layout,
-    // how many members and words of names there may still be
+    // the members and words of names that may still be made
     budget: Budget,
 }
 
-// What is given of all vertices or primitives.
+// The output of all vertices or primitives.
 #[derive(Clone, Copy)]
 struct GivenArray {
-    // the type of what is given of one
+    // the element type
     element: TypeHandle,
     ty: TypeHandle,
     layout: Layout,
 }
 
 impl Members {
-    // None, in a module of so many words.
+    // None yet, in a module of this many words.
     fn new(alloc: Global, words: usize) -> Members {
         Members {
             all: Vec::new(alloc),
@@ -47,7 +47,7 @@ impl Members {
         }
     }
 
-    // A member more, after those that are there; answers its index.
+    // A member more, after those that are there; returns its index.
     fn add(
         &mut self,
         name: Option<String>,
@@ -74,7 +74,7 @@ impl Members {
         u32::try_from(index).unwrap_or(u32::MAX)
     }
 
-    // Whether one of them says which vertices a primitive has.
+    // Whether one of them has the vertex indices of a primitive.
     fn has_index(&self) -> bool {
         for member in &self.all {
             if let Some(
@@ -89,7 +89,7 @@ impl Members {
         false
     }
 
-    // A member more that says so, which the IR requires, also where nothing is stored into it.
+    // Adds the member for the vertex indices, which the IR requires even where nothing is stored into it.
     fn add_index<T: Types>(
         &mut self,
         built: &mut T,
@@ -111,7 +111,7 @@ impl Members {
         self.add(None, ty, binding, &layout, span, failed);
     }
 
-    // The struct of them, and how it lies in memory.
+    // The struct of the members, and its layout.
     fn finish<T: Types>(
         self,
         built: &mut T,
@@ -132,7 +132,7 @@ impl Members {
         (insert(built, inner, span_of(entry), failed), layout)
     }
 
-    // An array of so many structs of them.
+    // An array of this many structs of them.
     fn finish_array<T: Types>(
         self,
         built: &mut T,
@@ -166,7 +166,7 @@ fn named(alloc: Global, text: &str, failed: &mut Failure) -> Option<String> {
     }
 }
 
-// What primitives are, and how many vertices and primitives are given at most.
+// The topology of primitives, and the most vertices and primitives of an output.
 fn most_of(
     listing: &Listing,
     entry: &Instruction,
@@ -192,7 +192,7 @@ fn most_of(
     (topology, vertices, primitives)
 }
 
-// The one mesh stage, if there is one.
+// The only mesh stage, if there is one.
 fn mesh_entry(listing: &Listing, failed: &mut Failure) -> Option<Instruction> {
     let mut found = None;
     for place in &listing.parts.entry_points {
@@ -207,7 +207,7 @@ fn mesh_entry(listing: &Listing, failed: &mut Failure) -> Option<Instruction> {
     found
 }
 
-// Whether what is said speaks of primitives.
+// Whether a decoration is `PerPrimitiveEXT`.
 fn is_of_primitive(said: &Decorated) -> bool {
     said.per_primitive
         || matches!(
@@ -226,15 +226,15 @@ fn is_of_primitive(said: &Decorated) -> bool {
 #[derive(Clone, Copy)]
 struct Output {
     instruction: Instruction,
-    // what is said of it
+    // its decorations
     said: Decorated,
-    // the type of what is given of each vertex or primitive
+    // its type for each vertex or primitive
     ty: u32,
     shape: Shape,
 }
 
 impl Output {
-    // What is given by a variable.
+    // The output of a variable.
     fn of(
         reading: &Reading,
         declared: &Declared,
@@ -266,7 +266,7 @@ impl Output {
         }
     }
 
-    // The member of a block at this place, of which this is said.
+    // The member of a block at this index, with these decorations.
     fn member(&self, declared: &Declared, said: Decorated, place: u32) -> Output {
         let ty = match declared.types.member(self.ty, place) {
             Some(member) => member.ty,
@@ -280,7 +280,7 @@ impl Output {
         }
     }
 
-    // What binds it.
+    // Its binding.
     fn binding(&self, demands: &mut Demands, failed: &mut Failure) -> Option<Binding> {
         let binding = with_default(self.said.bound(demands), self.shape.kind());
         if binding.is_none() {
@@ -294,7 +294,7 @@ impl Output {
         binding
     }
 
-    // Whether it is signed in SPIR-V alone.
+    // Whether it is signed in SPIR-V but not in the IR.
     fn is_signed_alone(&self, binding: &Binding) -> bool {
         self.shape.kind() == Some(ScalarKind::Sint)
             && matches!(binding, Binding::BuiltIn(built_in) if is_unsigned(*built_in))
@@ -309,14 +309,14 @@ fn pointee_of(declared: &Declared, variable: &Instruction) -> u32 {
     }
 }
 
-// What a mesh stage gives of each vertex and of each primitive.
+// The outputs of a mesh stage per vertex and per primitive.
 #[derive(Drop)]
 struct Given {
     vertex: Members,
     primitive: Members,
 }
 
-/// What the mesh stage of a module gives, if there is one: the variable that holds it is built.
+/// Builds the variable that holds all outputs of the module's mesh stage, if there is one.
 pub fn declare_mesh<T: Types, V: Variables>(
     reading: &Reading,
     declared: &mut Declared,
@@ -343,7 +343,7 @@ pub fn declare_mesh<T: Types, V: Variables>(
 }
 
 impl Given {
-    // What is given by a variable.
+    // The output of a variable.
     fn take<T: Types>(
         &mut self,
         reading: &Reading,
@@ -385,7 +385,7 @@ impl Given {
             .add_output(instruction.id, ty, whole, part, failed);
     }
 
-    // The variable that holds all of it.
+    // The variable that holds all outputs.
     fn finish<T: Types, V: Variables>(
         self,
         reading: &Reading,
@@ -426,7 +426,7 @@ impl Given {
     }
 }
 
-// The module has a mesh stage whose primitives are these.
+// Notes that the module has a mesh stage with this topology.
 fn ask_for(demands: &mut Demands, topology: MeshOutputTopology) {
     demands.ask(Capabilities::MESH_SHADER);
     if topology == MeshOutputTopology::Points {
@@ -434,7 +434,7 @@ fn ask_for(demands: &mut Demands, topology: MeshOutputTopology) {
     }
 }
 
-// The type of all that is given.
+// The type of all outputs.
 fn outputs_type<T: Types>(
     alloc: Global,
     built: &mut T,
@@ -466,7 +466,7 @@ fn outputs_type<T: Types>(
     ty
 }
 
-// The variable that holds all that is given.
+// The variable that holds all outputs.
 fn outputs_of(alloc: Global, ty: TypeHandle, failed: &mut Failure) -> GlobalVariable {
     GlobalVariable {
         name: named(alloc, "mesh_outputs", failed),
@@ -479,7 +479,7 @@ fn outputs_of(alloc: Global, ty: TypeHandle, failed: &mut Failure) -> GlobalVari
 }
 
 impl Members {
-    // What is given by the members of a block.
+    // The outputs of the members of a block.
     fn take_block<T: Types>(
         &mut self,
         reading: &Reading,
@@ -515,7 +515,7 @@ impl Members {
         }
     }
 
-    // What is given by a variable that is no block, or by a member of a block.
+    // The output of a variable that is no block, or of a member of a block.
     fn take<T: Types>(
         &mut self,
         declared: &mut Declared,

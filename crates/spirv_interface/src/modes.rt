@@ -1,4 +1,4 @@
-// How entry points are executed (sections 3.3 and 3.6).
+// Execution models and modes of entry points (sections 3.3 and 3.6).
 
 use ir_flags::Capabilities;
 use ir_kinds::{EarlyDepthTest, ShaderStage};
@@ -7,12 +7,12 @@ use spirv_numbers::{numbers, ops};
 use spirv_tables::Decorated;
 use spirv_words::{Failure, Feature, Instruction, Listing, Unsupported};
 
-/// How an entry point is executed.
+/// The execution modes of an entry point.
 #[derive(Clone, Copy)]
 pub struct Modes {
-    /// When depth is tested.
+    /// Its early depth test.
     pub early: Option<EarlyDepthTest>,
-    /// How many invocations a workgroup has.
+    /// The size of its workgroup.
     pub size: [u32; 3],
 }
 
@@ -35,7 +35,7 @@ pub fn stage_of(listing: &Listing, entry: &Instruction, failed: &mut Failure) ->
     }
 }
 
-// The size of workgroups that the operands from this place on say, each as a constant or as it is.
+// The workgroup size in the operands from this index on, each an id of a constant or a literal.
 fn read_size(
     listing: &Listing,
     declared: &Declared,
@@ -63,7 +63,7 @@ fn read_size(
     size
 }
 
-/// The size of workgroups that a constant of the module says, if one is decorated so.
+/// The workgroup size given by the constant with the built-in `WorkgroupSize`, if there is one.
 pub fn decorated_size(
     listing: &Listing,
     declared: &Declared,
@@ -85,7 +85,7 @@ pub fn decorated_size(
     None
 }
 
-/// How the entry point with this function is executed.
+/// The execution modes of the entry point with this function.
 pub fn modes_of(
     listing: &Listing,
     declared: &mut Declared,

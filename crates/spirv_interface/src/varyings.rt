@@ -1,4 +1,4 @@
-// What goes between stages, as entry points take and give it.
+// Inputs and outputs, as entry points pass them.
 
 use ir_kinds::{Scalar, ScalarKind, VectorSize};
 use ir_types::{ArraySize, StructMember, TypeInner};
@@ -7,15 +7,15 @@ use spirv_types::{TypeHandle, Types};
 /// A number or a vector, or an array of those.
 #[derive(Clone, Copy)]
 pub struct Located {
-    /// How many elements, of an array.
+    /// Number of elements, of an array.
     pub count: Option<u32>,
-    /// How many components each has, of a vector.
+    /// Number of components of each, of a vector.
     pub size: Option<VectorSize>,
-    /// What a component is.
+    /// The scalar of a component.
     pub scalar: Scalar,
 }
 
-/// What a type is that is a number or a vector, or an array of those.
+/// The shape of a number, a vector, or an array of those; `None` for other types.
 pub fn located_type<T: Types>(built: &T, ty: TypeHandle) -> Option<Located> {
     let inner = built.inner(ty)?;
     let (one, count) = match inner {
@@ -38,7 +38,7 @@ pub fn located_type<T: Types>(built: &T, ty: TypeHandle) -> Option<Located> {
     })
 }
 
-/// The members of a struct that is built; none of what is no struct.
+/// The members of a struct of the IR; none of another type.
 pub fn members_of<T: Types>(built: &T, ty: TypeHandle) -> &[StructMember] {
     match built.inner(ty) {
         Some(TypeInner::Struct { members, .. }) => members.as_slice(),
@@ -46,8 +46,8 @@ pub fn members_of<T: Types>(built: &T, ty: TypeHandle) -> &[StructMember] {
     }
 }
 
-/// What the components of a location are that has components of these two kinds: bit for bit the same, which a float and an
-/// integer only are where they are flat.
+/// What the components of a location are that has components of these two kinds: bitcast the same, which a float and an integer only are
+/// where they are flat.
 pub fn common_kind(kind: ScalarKind, other: ScalarKind, is_flat: bool) -> Option<ScalarKind> {
     if kind == other || is_integer(kind) && is_integer(other) {
         return Some(kind);

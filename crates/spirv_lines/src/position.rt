@@ -1,4 +1,4 @@
-// Where instructions are.
+// Positions of instructions.
 
 use crate::said::said_of;
 use spirv_words::{Listing, SpirvError, list, read_text};
@@ -14,10 +14,10 @@ pub struct Line {
     pub number: u32,
 }
 
-/// Where an instruction is.
+/// The position of an instruction.
 #[derive(Drop)]
 pub enum Position {
-    /// The line that it comes from.
+    /// The line of its source.
     Source(Line),
     /// Its first byte in the module, counted from 0, where no line is said: as `spirv-dis --offsets` has it.
     Module(u32),

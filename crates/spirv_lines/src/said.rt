@@ -1,10 +1,10 @@
-// What a module says of the lines that its instructions come from.
+// Debug lines of a module.
 
 use spirv_flow::constant_word;
 use spirv_numbers::ops;
 use spirv_words::{Instruction, Listing, starts_text};
 
-/// A line that is said: the id of the text with the name of its file, and its number, counted from 1.
+/// A debug line: the id of its file's name, and its number, counted from 1.
 #[derive(Clone, Copy)]
 pub(crate) struct Said {
     /// The id of an `OpString`.
@@ -13,7 +13,7 @@ pub(crate) struct Said {
     pub line: u32,
 }
 
-// The instructions of NonSemantic.Shader.DebugInfo.100 that say lines.
+// The instructions of NonSemantic.Shader.DebugInfo.100 that set lines.
 const DEBUG_GLOBAL_VARIABLE: u32 = 18;
 
 const DEBUG_SOURCE: u32 = 35;
@@ -22,7 +22,7 @@ const DEBUG_LINE: u32 = 103;
 
 const DEBUG_NO_LINE: u32 = 104;
 
-// The number of an instruction that speaks of the source, where it is one.
+// The number of an instruction of the debug information set.
 fn debug_number(listing: &Listing, instruction: &Instruction) -> Option<u32> {
     if instruction.opcode != ops::EXT_INST {
         return None;
@@ -39,7 +39,7 @@ fn debug_number(listing: &Listing, instruction: &Instruction) -> Option<u32> {
     }
 }
 
-// The line in a source at these places of the operands.
+// The debug line at these operand indexes.
 fn said_at(
     listing: &Listing,
     instruction: &Instruction,
@@ -56,7 +56,7 @@ fn said_at(
     })
 }
 
-// Whether a block ends with the instruction, and with it what is said of lines.
+// Whether the instruction ends a block, and so the scope of the current line.
 fn ends_block(opcode: u16) -> bool {
     matches!(
         opcode,
@@ -64,7 +64,7 @@ fn ends_block(opcode: u16) -> bool {
     )
 }
 
-// What is said of lines after an instruction, with what was said before it.
+// The current line after an instruction, given the one before it.
 fn after(listing: &Listing, instruction: &Instruction, before: Option<Said>) -> Option<Said> {
     match instruction.opcode {
         ops::LINE => Some(Said {
@@ -82,7 +82,7 @@ fn after(listing: &Listing, instruction: &Instruction, before: Option<Said>) -> 
     }
 }
 
-// The line of a variable of the module, as it is said of it.
+// The line of a global variable, from its own debug information.
 fn of_variable(listing: &Listing, id: u32) -> Option<Said> {
     for place in &listing.parts.declarations {
         let instruction = listing.at(*place);
@@ -95,8 +95,8 @@ fn of_variable(listing: &Listing, id: u32) -> Option<Said> {
     None
 }
 
-/// The line that the instruction comes from which begins at this word, as the module says it: by what stands before it in its
-/// block, or of a variable of the module by what is said of that.
+/// The source line of the instruction that begins at this word: the current line of its block, or for a global variable that of its debug
+/// information.
 pub(crate) fn said_of(listing: &Listing, word: u32) -> Option<Said> {
     let mut said = None;
     for instruction in &listing.instructions {

@@ -1,6 +1,6 @@
-//! The names of numbers, for errors to tell.
+//! The names of numbers, for the texts of errors.
 
-// The name that stands after a number in a text of numbers and names; empty where it has none.
+// The name after a number in a text of numbers and names; empty where it has none.
 fn name_in(names: &'static str, number: u32) -> &'static str {
     let mut found = false;
     for word in names.split_ascii_whitespace() {
@@ -189,7 +189,7 @@ const MATH_FUNCTIONS: &str = "\
     72 Refract 73 FindILsb 74 FindSMsb 75 FindUMsb 76 InterpolateAtCentroid 77 InterpolateAtSample \
     78 InterpolateAtOffset 79 NMin 80 NMax 81 NClamp";
 
-/// Numbers that have names.
+/// Kinds of numbers with names.
 #[derive(Clone, Copy)]
 pub enum Names {
     /// Opcodes, without `Op`.

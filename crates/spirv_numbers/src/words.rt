@@ -15,12 +15,12 @@ const MAGIC: u32 = 0x0723_0203;
 // How many words a header has.
 const HEADER: usize = 5;
 
-/// In which order the bytes of a word stand.
+/// The order of a word's bytes.
 #[derive(Clone, Copy, PartialEq, Eq)]
 pub enum ByteOrder {
-    /// The lowest first.
+    /// Little-endian.
     Little,
-    /// The highest first.
+    /// Big-endian.
     Big,
 }
 
@@ -31,7 +31,7 @@ pub enum WordsError {
     Memory,
     /// There are more bytes than are read.
     TooLong,
-    /// The bytes are no whole words, or fewer than a header has.
+    /// The length is no multiple of 4, or less than that of a header.
     Length,
     /// The first word is not that of SPIR-V, in either order of bytes.
     Magic,

@@ -11,7 +11,7 @@ use spirv_numbers::ops;
 use spirv_types::Shape;
 use spirv_words::{Feature, Instruction, Malformed};
 
-// What the opcode does to values of this kind, if it can be said: the least and the greatest of values go by the sign of their type.
+// The atomic function of an opcode on values of this kind, if the IR has one: minimum and maximum have the signedness of the type.
 fn function(opcode: u16, kind: ScalarKind) -> Option<AtomicFunction> {
     let is_signed = kind == ScalarKind::Sint;
     let fun = match opcode {
@@ -30,7 +30,7 @@ fn function(opcode: u16, kind: ScalarKind) -> Option<AtomicFunction> {
     Some(fun)
 }
 
-/// Does an atomic operation.
+/// Translates an atomic operation.
 pub fn atomic<L: FunctionBuilder>(lowering: &mut L, operation: &Instruction) {
     let id = need(lowering, operation, 0);
     if let Slot::Texel { image, coordinate } = lowering.slot(id) {
@@ -57,7 +57,7 @@ pub fn atomic<L: FunctionBuilder>(lowering: &mut L, operation: &Instruction) {
     }
 }
 
-// Exchanges what a pointer points to where it equals another value.
+// A compare-exchange.
 fn compare<L: FunctionBuilder>(
     lowering: &mut L,
     operation: &Instruction,
@@ -87,7 +87,7 @@ fn compare<L: FunctionBuilder>(
     lowering.define(operation, old)
 }
 
-// Changes what a pointer points to.
+// A read-modify-write operation.
 fn change<L: FunctionBuilder>(
     lowering: &mut L,
     operation: &Instruction,
@@ -116,7 +116,7 @@ fn change<L: FunctionBuilder>(
     lowering.define(operation, old)
 }
 
-// By what a value is changed: 1 where the instruction does not say it.
+// The operand of the operation: 1 for increment and decrement.
 fn argument<L: FunctionBuilder>(
     lowering: &mut L,
     operation: &Instruction,
@@ -130,7 +130,7 @@ fn argument<L: FunctionBuilder>(
     }
 }
 
-// Changes a texel at a coordinate. The IR gives no result for it.
+// An atomic operation on a texel, which has no result in the IR.
 fn change_texel<L: FunctionBuilder>(
     lowering: &mut L,
     operation: &Instruction,
@@ -156,7 +156,7 @@ fn change_texel<L: FunctionBuilder>(
     lowering.add(change, operation)
 }
 
-// Operands of an image that only say how memory is ordered.
+// Image operands that only order memory.
 const ORDERING: u32 = 0x7f00;
 
 /// Stores a texel.

@@ -1,4 +1,4 @@
-// What operations change of the function that is built.
+// The interface through which operations change the function under construction.
 
 use ir_arena::span::Span;
 use ir_blocks::{Block, Statement};
@@ -11,7 +11,7 @@ use spirv_images::RayTypes;
 use spirv_types::{ImageShape, ImageUse, MeshMember, Reading, Stored, TypeHandle};
 use spirv_words::Instruction;
 
-/// What an id is in the function that is built.
+/// The meaning of an id in the function under construction.
 #[derive(Clone, Copy)]
 pub enum Slot {
     /// Nothing yet.
@@ -20,12 +20,12 @@ pub enum Slot {
     Value {
         /// The expression.
         value: Value,
-        /// The scope in which it is; `None` where it is always there.
+        /// Its scope; `None` where it is always in scope.
         scope: Option<u32>,
-        /// The local in which it is kept.
+        /// The local in which it is stored.
         local: Option<Value>,
     },
-    /// A pointer, an image or a sampler, by its place among the pointers.
+    /// A pointer, an image or a sampler, by its index among the pointers.
     Pointer(u32),
     /// An image with a sampler.
     Pair {
@@ -54,47 +54,47 @@ pub enum PointerStep {
     Dynamic(u32),
 }
 
-/// What a pointer is of what a mesh stage gives.
+/// How a pointer relates to mesh outputs.
 #[derive(Clone, Copy)]
 pub enum MeshPlace {
-    /// Nothing of it, or what it points to is there as it is.
+    /// Not at all, or its pointee is represented as it is.
     Plain,
-    /// What is given by a variable, of all vertices or primitives or of one: the place of its first member among those of all.
+    /// An output variable, of all vertices or primitives or of one: the index of its first member among those of all.
     Members(u32),
-    /// A member that is signed in SPIR-V alone.
+    /// A member that is signed in SPIR-V but not in the IR.
     Unsigned,
 }
 
 /// A pointer, an image or a sampler.
 #[derive(Clone, Copy)]
 pub struct Pointer {
-    /// The pointer from which it goes on.
+    /// The pointer that it extends.
     pub base: Option<u32>,
-    /// The step from there.
+    /// The access step.
     pub step: PointerStep,
-    /// The expression that was made for it last.
+    /// Its last expression.
     pub value: Value,
-    /// The scope of that one; `None` where it is always there.
+    /// The scope of that expression; `None` where it is always in scope.
     pub scope: Option<u32>,
-    /// The type to which it points.
+    /// The type of its pointee.
     pub ty: u32,
-    /// The image that it is.
+    /// Its image, if it is one.
     pub image: Option<ImageUse>,
-    /// How the matrices to which it leads are stored.
+    /// How matrices in its pointee are stored.
     pub stored: Stored,
-    /// It is this column of the matrix to which it leads, which is stored row by row.
+    /// The column, for a pointer to a column of a row-major matrix.
     pub column: Option<PointerStep>,
-    /// It is a matrix whose columns or rows are members of the struct to which it leads, of which this is the first.
+    /// The first member, for a matrix split into members of its struct.
     pub split: Option<u32>,
-    /// It is an array in an array of resources, which has so many of them: its step is none yet, but counts so many.
+    /// The number of resources, for an inner array of an array of resources, whose step is combined with the next one.
     pub resources: Option<u32>,
-    /// The type that was built for it in place of its own.
+    /// The type built in place of its own.
     pub rebuilt: Option<TypeHandle>,
-    /// What it is of what a mesh stage gives.
+    /// How it relates to mesh outputs.
     pub mesh: MeshPlace,
 }
 
-/// A pointer that is always there, to a value of this type.
+/// A pointer that is always in scope, to a value of this type.
 pub fn root(value: Value, ty: u32) -> Pointer {
     Pointer {
         base: None,
@@ -134,12 +134,12 @@ pub const NO_IMAGE: ImageUse = ImageUse {
     },
 };
 
-/// A function that is being built, with its statements, and with what its ids are.
+/// A function under construction, with its statements and the meaning of its ids.
 pub trait FunctionBuilder: Builder {
-    /// The module that is read.
+    /// The module.
     fn reading(&self) -> &Reading;
 
-    /// What its functions do.
+    /// The control flow of its functions.
     fn flow(&self) -> &Flow;
 
     /// The name of an id, if it has one.
@@ -148,31 +148,31 @@ pub trait FunctionBuilder: Builder {
     /// Whether an id is of a constant or of a specialization constant.
     fn is_known(&self, id: u32) -> bool;
 
-    /// What an id is.
+    /// The meaning of an id.
     fn slot(&self, id: u32) -> Slot;
 
-    /// An id is this.
+    /// Sets the meaning of an id.
     fn set(&mut self, id: u32, slot: Slot);
 
-    /// What a variable or a pointer is; a variable is named where it was not before.
+    /// The pointer of an id; a variable gets its expression at its first use.
     fn resolve(&mut self, id: u32, operation: &Instruction) -> Slot;
 
-    /// The place of the pointer that an id is.
+    /// The index of an id's pointer.
     fn pointer(&mut self, id: u32, operation: &Instruction) -> u32;
 
-    /// The pointer at a place.
+    /// The pointer at an index.
     fn pointer_at(&mut self, place: u32, operation: &Instruction) -> Pointer;
 
-    /// A pointer more; answers its place.
+    /// A pointer more; returns its place.
     fn add_pointer(&mut self, pointer: Pointer) -> u32;
 
-    /// The expression of a pointer, made anew where the one that it has is not in scope.
+    /// The expression of a pointer, made again where the last one is not in scope.
     fn way(&mut self, place: u32, operation: &Instruction) -> Value;
 
     /// A part of a value or of what a pointer points to.
     fn step(&mut self, base: Value, step: PointerStep, operation: &Instruction) -> Value;
 
-    /// The same from what a pointer points to, which may be an array in an array of resources.
+    /// The same for the pointee of a pointer, possibly an inner array of an array of resources.
     fn step_from(
         &mut self,
         place: u32,
@@ -181,43 +181,43 @@ pub trait FunctionBuilder: Builder {
         operation: &Instruction,
     ) -> Value;
 
-    /// The member of a vertex or a primitive at this place among all that a mesh stage gives.
+    /// The member of a vertex or a primitive at this index among all mesh outputs.
     fn mesh_member(&self, place: u32) -> Option<MeshMember>;
 
-    /// The scope that is built.
+    /// The current scope.
     fn scope(&self) -> u32;
 
-    /// What comes now is in this scope.
+    /// Sets the current scope.
     fn enter(&mut self, scope: u32);
 
-    /// The result of an instruction is this value; one that outlives its scope is kept in a local.
+    /// Sets the value of an instruction's result; one that outlives its scope is stored in a local.
     fn define(&mut self, operation: &Instruction, value: Value);
 
-    /// An expression that is always there.
+    /// Adds an expression that is always in scope.
     fn always(&mut self, expression: Expression, operation: &Instruction) -> Value;
 
-    /// The expression that an id was named as before in the function that is built.
+    /// The expression already made for an id in this function.
     fn named_before(&self, id: u32) -> Option<Value>;
 
-    /// Whether an id was named in some function.
+    /// Whether an id has an expression in some function.
     fn is_named(&self, id: u32) -> bool;
 
-    /// An id is named as this expression in the function that is built.
+    /// Sets the expression of an id in this function.
     fn set_named(&mut self, id: u32, value: Value);
 
-    /// The struct that an expression gives, which is built once.
+    /// The result struct of an expression, built once.
     fn predeclared(&mut self, of: PredeclaredType) -> TypeHandle;
 
-    /// The types of rays, which are built once.
+    /// The types for ray queries, built once.
     fn rays(&mut self) -> RayTypes;
 
-    /// The module uses this.
+    /// Notes a capability that the module uses.
     fn require(&mut self, capability: Capabilities);
 
-    /// The module uses these operations of subgroups.
+    /// Notes subgroup operations that the module uses.
     fn require_operations(&mut self, operations: SubgroupOperationSet);
 
-    /// A local of this type; answers the pointer to it.
+    /// Adds a local variable of this type, and returns the pointer to it.
     fn local(
         &mut self,
         name: Option<String>,
@@ -226,7 +226,7 @@ pub trait FunctionBuilder: Builder {
         span: Span,
     ) -> Value;
 
-    /// A statement in the innermost block.
+    /// Appends a statement to the innermost block.
     fn add(&mut self, statement: Statement, operation: &Instruction);
 
     /// Opens a block.
@@ -235,6 +235,6 @@ pub trait FunctionBuilder: Builder {
     /// Closes the innermost block.
     fn close(&mut self) -> Block;
 
-    /// Emits what no statement emits yet.
+    /// Emits the expressions that no statement has emitted yet.
     fn flush(&mut self);
 }

@@ -8,7 +8,7 @@ use spirv_expressions::{Value, keep, need, refuse};
 use spirv_types::Shape;
 use spirv_words::{Feature, Instruction, Malformed};
 
-/// A call of a function, which stands before this one.
+/// A call of a function that was built before.
 pub fn call_function<L: FunctionBuilder>(lowering: &mut L, operation: &Instruction) {
     let mut arguments = Vec::new(lowering.alloc());
     for place in 1..lowering.given_count(operation) {
@@ -50,7 +50,7 @@ pub fn call_function<L: FunctionBuilder>(lowering: &mut L, operation: &Instructi
     lowering.define(operation, value)
 }
 
-// What is passed for an argument: an image with a sampler as two.
+// The values passed for an argument: two for a combined image and sampler.
 fn argument<L: FunctionBuilder>(
     lowering: &mut L,
     id: u32,
@@ -77,7 +77,7 @@ fn argument<L: FunctionBuilder>(
     }
 }
 
-// Whether an argument is an array of resources, which the callee names itself.
+// Whether an argument is an array of resources, which the callee accesses as a global variable.
 fn is_resources<L: FunctionBuilder>(lowering: &L, id: u32) -> bool {
     match lowering.shape(lowering.type_of(id)) {
         Shape::Pointer { to, .. } => {

@@ -1,5 +1,5 @@
-//! Operations of SPIR-V that are statements, or that change what ids are: memory, calls, atomics; whatever function they are
-//! built in. And what its ids are, with its pointers.
+//! Operations of SPIR-V that are statements or give ids a meaning: memory, calls, atomics; generic over the function under construction.
+//! And the table of ids and pointers.
 #![tactic(auto)]
 
 mod atomics;

@@ -1,4 +1,4 @@
-// What the ids of a function are, and its pointers.
+// The meaning of a function's ids, and its pointers.
 
 use crate::builder::{Pointer, Slot};
 use ir_kinds::PredeclaredType;
@@ -16,23 +16,23 @@ pub struct Special {
     pub ty: TypeHandle,
 }
 
-/// What the ids of a function are, and its pointers.
+/// The meaning of a function's ids, and its pointers.
 #[derive(Drop)]
 pub struct Names {
     slots: Vec<Slot>,
     pointers: Vec<Pointer>,
-    // for each id of a constant or a variable the function in which it was named last, and its expression there
+    // by id of a constant or a variable: the last function that used it, and its expression there
     named: Vec<Option<(u32, Value)>>,
-    // the same of the samplers beside images
+    // the same for the samplers of combined images and samplers
     samplers: Vec<Option<(u32, Value)>>,
-    // the structs that expressions give, of all functions
+    // the result structs of expressions, of all functions
     special: Vec<Special>,
-    // the function that is built, counted from 1
+    // the current function, counted from 1
     function: u32,
 }
 
 impl Names {
-    /// None, with ids below the bound.
+    /// An empty table for ids below the bound.
     pub fn new(alloc: Global, bound: usize, failed: &mut Failure) -> Names {
         Names {
             slots: failed.table(alloc, Slot::Nothing, bound),
@@ -50,7 +50,7 @@ impl Names {
         self.pointers.clear();
     }
 
-    /// What an id is.
+    /// The meaning of an id.
     pub fn slot(&self, id: u32) -> Slot {
         match self.slots.get(id as usize) {
             Some(slot) => *slot,
@@ -58,19 +58,19 @@ impl Names {
         }
     }
 
-    /// An id is this.
+    /// Sets the meaning of an id.
     pub fn set(&mut self, id: u32, slot: Slot) {
         if let Some(place) = self.slots.get_mut(id as usize) {
             *place = slot;
         }
     }
 
-    /// The expression that an id was named as before in the function that is built.
+    /// The expression already made for an id in this function.
     pub fn named(&self, id: u32) -> Option<Value> {
         in_function(&self.named, id, self.function)
     }
 
-    /// Whether an id was named in some function.
+    /// Whether an id has an expression in some function.
     pub fn is_named(&self, id: u32) -> bool {
         match self.named.get(id as usize) {
             Some(named) => named.is_some(),
@@ -78,26 +78,26 @@ impl Names {
         }
     }
 
-    /// An id is named as this expression in the function that is built.
+    /// Sets the expression of an id in this function.
     pub fn set_named(&mut self, id: u32, value: Value) {
         if let Some(place) = self.named.get_mut(id as usize) {
             *place = Some((self.function, value));
         }
     }
 
-    /// The same of the sampler beside an image.
+    /// The same for the sampler of a combined image and sampler.
     pub fn sampler(&self, id: u32) -> Option<Value> {
         in_function(&self.samplers, id, self.function)
     }
 
-    /// The sampler beside an image is named as this expression in the function that is built.
+    /// Sets the expression of the sampler of a combined image and sampler in this function.
     pub fn set_sampler(&mut self, id: u32, value: Value) {
         if let Some(place) = self.samplers.get_mut(id as usize) {
             *place = Some((self.function, value));
         }
     }
 
-    /// The pointer at a place.
+    /// The pointer at an index.
     pub fn pointer(&self, place: u32) -> Option<Pointer> {
         match self.pointers.get(place as usize) {
             Some(pointer) => Some(*pointer),
@@ -105,7 +105,7 @@ impl Names {
         }
     }
 
-    /// The expression of the pointer at a place is this one, which is in this scope.
+    /// Sets the expression and scope of the pointer at an index.
     pub fn renew(&mut self, place: u32, value: Value, scope: Option<u32>) {
         if let Some(pointer) = self.pointers.get_mut(place as usize) {
             pointer.value = value;
@@ -113,8 +113,8 @@ impl Names {
         }
     }
 
-    /// A pointer more, to a variable for which this type was built, if one was; answers its place. The type stands among the
-    /// parameters, since the check has to know of its parts where a pointer is put into a list.
+    /// A pointer more, to a variable for which this type was built, if one was; returns its place. The type stands among the parameters,
+    /// since the check has to know of its parts where a pointer is put into a list.
     pub fn add(
         &mut self,
         pointer: Pointer,
@@ -143,7 +143,7 @@ impl Names {
         Ok(())
     }
 
-    /// The structs that expressions give.
+    /// The result structs of expressions.
     pub fn finish(self) -> Vec<Special> {
         let Names {
             slots,

@@ -1,4 +1,4 @@
-// Pointers: a variable and steps from it.
+// Pointers: a variable and access steps.
 
 use crate::builder::{FunctionBuilder, MeshPlace, Pointer, PointerStep, Slot};
 use ir_blocks::Statement;
@@ -12,7 +12,7 @@ use spirv_images::count_resources;
 use spirv_types::{MatrixShape, MemberShape, MeshMember, Shape, Stored, TypeHandle};
 use spirv_words::{Feature, Instruction, Malformed, Unsupported};
 
-// The pointer that is a step on, to this part.
+// The pointer one step further, to this part.
 fn go_on<L: FunctionBuilder>(
     lowering: &mut L,
     place: u32,
@@ -67,7 +67,7 @@ fn follow_given<L: FunctionBuilder>(
     go_to_member(lowering, element, first, part, operation)
 }
 
-// The pointer to the member of a vertex or a primitive at this place among all that a mesh stage gives.
+// The pointer to the member of a vertex or a primitive at this index among all mesh outputs.
 fn go_to_member<L: FunctionBuilder>(
     lowering: &mut L,
     from: u32,
@@ -89,7 +89,7 @@ fn go_to_member<L: FunctionBuilder>(
     lowering.add_pointer(unsigned)
 }
 
-// The value of a number that is signed in SPIR-V alone, as one of this kind.
+// Converts a number that is signed in SPIR-V but not in the IR to this kind.
 fn as_given<L: FunctionBuilder>(
     lowering: &mut L,
     pointer: &Pointer,
@@ -117,7 +117,7 @@ fn as_given<L: FunctionBuilder>(
     }
 }
 
-// The step that an index of an access chain is.
+// The access step for an index of an access chain.
 fn index_step<L: FunctionBuilder>(
     lowering: &mut L,
     ty: u32,
@@ -226,7 +226,7 @@ fn line_step<L: FunctionBuilder>(
     }
 }
 
-// An operation of a matrix whose columns or rows are members of its struct is not translated.
+// The error for an operation on a matrix split into members of its struct.
 fn refuse_split<L: FunctionBuilder>(lowering: &mut L, pointer: &Pointer, operation: &Instruction) {
     let what = Unsupported::MatrixStride(pointer.stored.stride);
     lowering.fail(operation.unsupported_as(what));
@@ -289,7 +289,7 @@ fn follow_all<L: FunctionBuilder>(
     at
 }
 
-/// What a pointer points to.
+/// `OpLoad`.
 pub fn load<L: FunctionBuilder>(lowering: &mut L, place: u32, operation: &Instruction) -> Value {
     let from = lowering.pointer_at(place, operation);
     let pointer = lowering.way(place, operation);
@@ -334,7 +334,7 @@ fn load_array<L: FunctionBuilder>(
     }
 }
 
-// A matrix whose columns or rows are members of a struct, put together of them.
+// A matrix whose columns or rows are members of a struct, composed of them.
 fn load_split<L: FunctionBuilder>(
     lowering: &mut L,
     block: Value,
@@ -357,7 +357,7 @@ fn load_split<L: FunctionBuilder>(
     plain_matrix(lowering, operation, whole, &matrix, pointer.stored)
 }
 
-// The size of a vector, and what a component is.
+// The size and the scalar of a vector.
 fn vector_of(shape: &Shape) -> Option<(VectorSize, Scalar)> {
     match *shape {
         Shape::Vector { size, scalar, .. } => Some((size, scalar)),
@@ -365,7 +365,7 @@ fn vector_of(shape: &Shape) -> Option<(VectorSize, Scalar)> {
     }
 }
 
-// Refuses arrays of matrices that are stored otherwise than as the IR has them.
+// Refuses arrays of matrices that are not stored as the IR has them.
 fn refuse_arrays<L: FunctionBuilder>(
     lowering: &mut L,
     operation: &Instruction,
@@ -404,7 +404,7 @@ fn load_column<L: FunctionBuilder>(
     compose(lowering, operation, ty, components)
 }
 
-// How many members a struct has that was built anew for a variable.
+// The number of members of a struct that was rebuilt for a variable.
 fn rebuilt_parts<L: FunctionBuilder>(lowering: &L, pointer: &Pointer) -> Option<u32> {
     let _ = pointer.rebuilt?;
     match lowering.shape(pointer.ty) {
@@ -413,7 +413,7 @@ fn rebuilt_parts<L: FunctionBuilder>(lowering: &L, pointer: &Pointer) -> Option<
     }
 }
 
-// The members of a struct, put together as another type.
+// The members of a struct, composed as another type.
 fn compose_again<L: FunctionBuilder>(
     lowering: &mut L,
     base: Value,
@@ -432,7 +432,7 @@ fn compose_again<L: FunctionBuilder>(
     compose(lowering, operation, ty, components)
 }
 
-// The value as it is stored into what a pointer points to.
+// The value in the form in which a pointer's pointee stores it.
 fn stored_value<L: FunctionBuilder>(
     lowering: &mut L,
     to: &Pointer,

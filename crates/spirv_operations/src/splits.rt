@@ -1,4 +1,4 @@
-// Functions of GLSL.std.450 that give two values.
+// Functions of GLSL.std.450 with two results.
 
 use crate::builder::FunctionBuilder;
 use crate::pointers::store_into;
@@ -17,7 +17,7 @@ const FREXP: u32 = 51;
 
 const FREXP_STRUCT: u32 = 52;
 
-/// The value of a function that splits a float, if the number is of one; the operands begin with the set and the number.
+/// The value of `Modf` or `Frexp`; `None` for other numbers. The operands begin with the set and the number.
 pub fn split<L: FunctionBuilder>(
     lowering: &mut L,
     operation: &Instruction,
@@ -49,7 +49,7 @@ pub fn split<L: FunctionBuilder>(
     Some(first)
 }
 
-// Both values as the struct that is the result.
+// Both values as the result struct.
 fn as_struct<L: FunctionBuilder>(
     lowering: &mut L,
     operation: &Instruction,
@@ -69,7 +69,7 @@ fn as_struct<L: FunctionBuilder>(
     compose_result(lowering, operation, components)
 }
 
-// The second value into what a pointer points to.
+// Stores the second value through a pointer.
 fn store_second<L: FunctionBuilder>(
     lowering: &mut L,
     operation: &Instruction,

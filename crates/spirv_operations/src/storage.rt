@@ -1,4 +1,4 @@
-// Memory, and what leads to images (sections 3.52.8 and 3.52.10).
+// Memory, and pointers to images (sections 3.52.8 and 3.52.10).
 
 use crate::builder::{FunctionBuilder, PointerStep, Slot, root};
 use crate::pointers::{chain, load, store_into};
@@ -11,7 +11,7 @@ use spirv_types::{Shape, span_of};
 use spirv_words::{Feature, Instruction, Malformed, SpirvError};
 use std::alloc::AllocError;
 
-/// Does an operation on memory, if it is one.
+/// Translates an operation on memory; returns false for other operations.
 pub fn memory<L: FunctionBuilder>(lowering: &mut L, operation: &Instruction) -> bool {
     match operation.opcode {
         ops::VARIABLE => declare_local(lowering, operation),
@@ -68,7 +68,7 @@ fn declare_local<L: FunctionBuilder>(lowering: &mut L, operation: &Instruction) 
     lowering.set(instruction.id, Slot::Pointer(place));
 }
 
-// What a pointer points to; an image, a sampler or an array of those stays what it is.
+// Loads through a pointer; an image, a sampler or an array of those stays a pointer.
 fn load_value<L: FunctionBuilder>(lowering: &mut L, operation: &Instruction) {
     let id = operation.id;
     let shape = lowering.shape(operation.ty);
@@ -105,7 +105,7 @@ fn is_resource<L: FunctionBuilder>(lowering: &L, shape: &Shape) -> bool {
     }
 }
 
-// A value into what a pointer points to.
+// Stores a value through a pointer.
 fn store<L: FunctionBuilder>(lowering: &mut L, operation: &Instruction) {
     let to = need(lowering, operation, 0);
     let Slot::Pointer(place) = lowering.resolve(to, operation) else {
@@ -120,7 +120,7 @@ fn store<L: FunctionBuilder>(lowering: &mut L, operation: &Instruction) {
     }
 }
 
-// A column of a matrix that is stored row by row: number by number.
+// Stores a column of a row-major matrix, component by component.
 fn store_column<L: FunctionBuilder>(
     lowering: &mut L,
     operation: &Instruction,
@@ -140,7 +140,7 @@ fn store_column<L: FunctionBuilder>(
     }
 }
 
-// What one pointer points to, into what another does.
+// `OpCopyMemory`.
 fn copy_memory<L: FunctionBuilder>(lowering: &mut L, operation: &Instruction) {
     let from = need(lowering, operation, 1);
     let from = lowering.pointer(from, operation);
@@ -150,7 +150,7 @@ fn copy_memory<L: FunctionBuilder>(lowering: &mut L, operation: &Instruction) {
     store_into(lowering, to, value, operation);
 }
 
-// The same as another id.
+// An alias of another id.
 fn copy_object<L: FunctionBuilder>(lowering: &mut L, operation: &Instruction) {
     let id = need(lowering, operation, 0);
     let shape = lowering.shape(lowering.type_of(id));
@@ -163,7 +163,7 @@ fn copy_object<L: FunctionBuilder>(lowering: &mut L, operation: &Instruction) {
     lowering.define(operation, value)
 }
 
-// How many elements the last member of a block has.
+// `OpArrayLength`.
 fn array_length<L: FunctionBuilder>(lowering: &mut L, operation: &Instruction) {
     let id = need(lowering, operation, 0);
     let member = need(lowering, operation, 1);
@@ -188,7 +188,7 @@ fn combine<L: FunctionBuilder>(lowering: &mut L, operation: &Instruction) {
     lowering.set(operation.id, Slot::Pair { image, sampler });
 }
 
-// A value that may be any.
+// An undefined value.
 fn undefined<L: FunctionBuilder>(lowering: &mut L, operation: &Instruction) {
     let ty = lowering.built(operation.ty, operation);
     let value = lowering.always(Expression::ZeroValue(ty), operation);
@@ -216,7 +216,7 @@ pub fn made_name<L: FunctionBuilder>(
     }
 }
 
-/// The local that an `OpPhi` is; made where it is named first.
+/// The local of an `OpPhi`, made at its first use.
 pub fn phi_local<L: FunctionBuilder>(lowering: &mut L, phi: u32, operation: &Instruction) -> Value {
     if let Some(local) = lowering.named_before(phi) {
         return local;

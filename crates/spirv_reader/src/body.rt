@@ -1,4 +1,4 @@
-// A function's expressions, locals and statements, as they come.
+// Collects a function's expressions, locals and statements.
 
 use ir_arena::arena::Arena;
 use ir_arena::range::Range;
@@ -13,7 +13,7 @@ use spirv_words::SpirvError;
 use std::alloc::Global;
 use std::mem;
 
-/// A function's expressions, locals and statements, as they come, and the functions before it.
+/// Collects a function's expressions, locals and statements, and the functions before it.
 #[derive(Drop)]
 pub struct Body {
     alloc: Global,
@@ -22,17 +22,17 @@ pub struct Body {
     locals: Arena<LocalVariable, key::LocalVariable>,
     // the blocks that are open, the innermost last
     open: Vec<Block>,
-    // the first expression that no statement emits yet, and the spans from it on
+    // the first expression not emitted yet, and the spans from it on
     start: Option<u32>,
     span: Span,
-    // how much may still be made
+    // the remaining budget
     budget: Budget,
-    // what was wrong first
+    // the first error
     failure: Option<SpirvError>,
 }
 
 impl Body {
-    /// One with nothing in it, in which so much may be made.
+    /// An empty one with this budget.
     pub fn new(alloc: Global, budget: Budget) -> Body {
         Body {
             alloc,
@@ -62,7 +62,7 @@ impl Body {
         }
     }
 
-    /// How much may still be made.
+    /// The remaining budget.
     pub fn budget(&self) -> Budget {
         self.budget
     }
@@ -71,7 +71,7 @@ impl Body {
         u32::try_from(self.expressions.len()).unwrap_or(u32::MAX)
     }
 
-    // A statement in the innermost block.
+    // Appends a statement to the innermost block.
     fn push(&mut self, statement: Statement, span: Span) {
         match self.open.last_mut() {
             Some(block) if self.failure.is_none() => {
@@ -83,7 +83,7 @@ impl Body {
         }
     }
 
-    // What was written, as a function.
+    // The collected function.
     fn take(
         &mut self,
         name: Option<String>,

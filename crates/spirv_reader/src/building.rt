@@ -1,4 +1,4 @@
-// Where the types, constants and variables of a module are built: its arenas.
+// The arenas of a module, in which types, constants and variables are built.
 
 use ir_arena::arena::Arena;
 use ir_arena::handle::Handle;
@@ -17,7 +17,7 @@ use std::alloc::Global;
 pub struct BuiltTypes {
     /// The types.
     pub arena: UniqueArena<IrType, key::IrType>,
-    /// How much of them there may still be.
+    /// The remaining budget for types.
     pub budget: Budget,
 }
 
@@ -59,7 +59,7 @@ pub struct BuiltConstants {
     pub overrides: Arena<Override, key::Override>,
     /// The expressions of the module.
     pub expressions: Arena<Expression, key::Expression>,
-    /// How many of these there may still be.
+    /// The remaining budget for global expressions.
     pub budget: Budget,
 }
 

@@ -1,4 +1,4 @@
-// Entry points: functions that take and give what goes between stages, and call those of SPIR-V.
+// Entry points: functions that take inputs as arguments, return outputs, and call SPIR-V's function.
 
 use crate::body::Body;
 use ir_arena::handle::{Handle, NonMaxU32};
@@ -24,7 +24,7 @@ use spirv_words::{
 };
 use std::alloc::Global;
 
-// An entry point that is being built.
+// An entry point under construction.
 #[derive(Clone, Copy)]
 pub(crate) struct Entry {
     pub alloc: Global,
@@ -35,7 +35,7 @@ pub(crate) struct Entry {
     mesh: Option<MeshStageInfo>,
 }
 
-// Where something is that an entry point gives.
+// Where an output is stored.
 #[derive(Clone, Copy)]
 enum From {
     // what this points to
@@ -44,7 +44,7 @@ enum From {
     Location(Whole),
 }
 
-// Something that an entry point gives.
+// An output.
 #[derive(Clone, Copy)]
 struct Given {
     from: From,
@@ -55,10 +55,10 @@ struct Given {
 // The bytes of a struct that is only given (as naga's front end has it).
 const SPAN: u32 = 65535;
 
-// How many parts of locations there may be for each variable, where some are shared.
+// The most parts of locations for each variable, where locations are shared.
 const PIECES_A_VARIABLE: usize = 16;
 
-/// All entry points in order, until something is wrong.
+/// All entry points in order, up to the first error.
 pub fn lower_entries<T: Types>(
     reading: &Reading,
     order: &Order,
@@ -153,7 +153,7 @@ impl Entry {
         }
     }
 
-    // The function that stores what it is given, calls another, and returns what that has stored.
+    // The wrapper function: stores its arguments, calls SPIR-V's function, and returns the outputs.
     fn wrap<T: Types>(
         &self,
         listing: &Listing,
@@ -256,7 +256,7 @@ impl Entry {
         arguments
     }
 
-    // Stores what is computed of the number of the invocation in its subgroup and of the subgroup's size.
+    // Stores what is computed from the invocation's index in its subgroup and the subgroup's size.
     fn take_subgroup<T: Types, W: Writing>(
         &self,
         variables: &KnownVariables,
@@ -307,7 +307,7 @@ impl Entry {
         }
     }
 
-    // Stores an argument; one that is signed in SPIR-V alone is converted.
+    // Stores an argument; one that is signed in SPIR-V but not in the IR is converted.
     fn store_input<W: Writing>(&self, body: &mut W, port: &Port, number: u32) {
         let mut value = body.place(Expression::FunctionArgument(number), self.span);
         if port.varying.ty != port.variable.built {
@@ -322,7 +322,7 @@ impl Entry {
         body.statement(Statement::Store { pointer, value }, self.span);
     }
 
-    // Returns what the outputs give.
+    // Returns the outputs.
     fn give_outputs<T: Types, W: Writing>(
         &self,
         listing: &Listing,
@@ -362,7 +362,7 @@ impl Entry {
         self.give(built, body, &pieces, &given, members)
     }
 
-    // What an output gives, with the members that it is in a struct of all.
+    // An output, as members of the result struct.
     fn find_output<T: Types, W: Writing>(
         &self,
         built: &T,
@@ -401,7 +401,7 @@ impl Entry {
         }
     }
 
-    // What the bound members of a struct give.
+    // The outputs of a struct's bound members.
     fn find_members<T: Types, W: Writing>(
         &self,
         built: &T,
@@ -431,7 +431,7 @@ impl Entry {
         }
     }
 
-    // Returns what is given: one value as it is, several as a struct.
+    // Returns the outputs: one value as it is, several as a struct.
     fn give<T: Types, W: Writing>(
         &self,
         built: &mut T,
@@ -473,7 +473,7 @@ impl Entry {
     }
 }
 
-// What a task stage hands on to mesh stages, and they are handed on, of the variables of an interface.
+// The task payload among the variables of an interface.
 fn payload_of(variables: &KnownVariables, interface: &[u32]) -> Option<GlobalHandle> {
     for id in interface {
         match variables.of(*id) {
@@ -486,7 +486,7 @@ fn payload_of(variables: &KnownVariables, interface: &[u32]) -> Option<GlobalHan
     None
 }
 
-// A member of the struct that is given.
+// A member of the result struct.
 fn member(
     name: Option<String>,
     ty: TypeHandle,

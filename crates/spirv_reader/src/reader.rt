@@ -34,7 +34,7 @@ pub fn read_spirv(alloc: Global, bytes: &[u8]) -> Result<Document, SpirvError>
     read_module(reading, flow, KeyedState::of_bytes(bytes))
 }
 
-// The same of a module whose words are sorted out.
+// The same for a module with a listing.
 fn read_module(reading: Reading, flow: Flow, key: KeyedState) -> Result<Document, SpirvError>
     ensures { IfOk result (λ d. MakesSixChecks d.settings.flags) }
 {
@@ -76,7 +76,7 @@ fn read_module(reading: Reading, flow: Flow, key: KeyedState) -> Result<Document
     failed.answer(document_of(alloc, read, constants, variables))
 }
 
-// What was read of a module beside its constants and variables.
+// The parts of a module, except constants and variables.
 #[derive(Drop)]
 struct Read {
     demands: Demands,
@@ -86,7 +86,7 @@ struct Read {
     entries: Vec<EntryPoint>,
 }
 
-// The structs that the expressions of functions give.
+// The result structs of the functions' expressions.
 fn special_of(alloc: Global, all: &[Special], failed: &mut Failure) -> SpecialTypes {
     let mut special = SpecialTypes::new(alloc);
     for each in all {
@@ -97,7 +97,7 @@ fn special_of(alloc: Global, all: &[Special], failed: &mut Failure) -> SpecialTy
     special
 }
 
-// What a module declares, its functions, the structs that their expressions give, and its entry points.
+// Reads the declarations of a module, its functions with their result structs, and its entry points.
 fn read_functions(
     module: ReadModule,
     types: BuiltTypes,

@@ -14,7 +14,7 @@ fn part_of(listing: &Listing, id: u32, index: u32) -> Option<u32> {
     }
 }
 
-// The type that the indexes of an instruction from this place on lead to, from this one.
+// The type that the indexes of an instruction from this index on lead to, from this one.
 fn end_of(listing: &Listing, instruction: &Instruction, from: u32, place: usize) -> Option<u32> {
     let mut at = from;
     for index in listing.operands_from(instruction, place) {
@@ -113,7 +113,7 @@ fn columns_of(listing: &Listing, id: u32) -> Option<Columns> {
     }
 }
 
-// The columns of the operand at this place.
+// The columns of the operand at this index.
 fn columns_at(listing: &Listing, instruction: &Instruction, place: usize) -> Option<Columns> {
     columns_of(listing, type_at(listing, instruction, place))
 }

@@ -1,4 +1,4 @@
-// Numbers and truth values, and vectors of them, by their types.
+// Numbers and bools, and vectors of them, by their types.
 
 use spirv_numbers::ops;
 use spirv_words::{Instruction, Listing, Malformed};
@@ -6,7 +6,7 @@ use spirv_words::{Instruction, Listing, Malformed};
 /// What scalars are.
 #[derive(Clone, Copy, PartialEq, Eq)]
 pub(crate) enum Class {
-    /// Truth values.
+    /// Bools.
     Bool,
     /// Integers, with a sign or without one.
     Int,
@@ -19,13 +19,13 @@ pub(crate) enum Class {
 pub(crate) struct Kind {
     /// What each scalar is.
     pub class: Class,
-    /// How many bits it has; 0 of a truth value.
+    /// How many bits it has; 0 of a bool.
     pub width: u32,
     /// How many there are.
     pub count: u32,
 }
 
-/// What a type is.
+/// The shape of a type.
 #[derive(Clone, Copy, PartialEq, Eq)]
 pub(crate) enum Of {
     /// A scalar or a vector.
@@ -76,13 +76,13 @@ pub(crate) fn kind_of(listing: &Listing, id: u32) -> Of {
     }
 }
 
-/// The type of the value that the operand at this place is; 0 where there is none.
+/// The type of the value that the operand at this index is; 0 where there is none.
 pub(crate) fn type_at(listing: &Listing, instruction: &Instruction, place: usize) -> u32 {
     let id = listing.operand(instruction, place).unwrap_or(0);
     listing.defined(id).ty
 }
 
-/// What the operand at this place is.
+/// What the operand at this index is.
 pub(crate) fn kind_at(listing: &Listing, instruction: &Instruction, place: usize) -> Of {
     kind_of(listing, type_at(listing, instruction, place))
 }

@@ -44,7 +44,7 @@ fn said_of(listing: &Listing, id: u32, member: Option<u32>) -> Said {
     };
     for place in listing.decorations(id, member) {
         let instruction = listing.at(*place);
-        // a group's decorations speak of no member
+        // a group decorates no member
         let after = if instruction.opcode == ops::MEMBER_DECORATE {
             2
         } else {

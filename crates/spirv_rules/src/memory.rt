@@ -5,7 +5,7 @@ use spirv_flow::{part_at, pointee};
 use spirv_numbers::ops;
 use spirv_words::{Instruction, Listing, Malformed};
 
-// The type that the operand at this place points to.
+// The type that the operand at this index points to.
 fn pointee_at(listing: &Listing, instruction: &Instruction, place: usize) -> Option<u32> {
     pointee(listing, type_at(listing, instruction, place))
 }
@@ -72,7 +72,7 @@ fn wrong_choice(listing: &Listing, instruction: &Instruction) -> Wrong {
     }
 }
 
-// The type of what the operand at this place is or gives, where it is defined.
+// The type of what the operand at this index is or gives, where it is defined.
 fn typed(listing: &Listing, instruction: &Instruction, place: usize) -> Option<u32> {
     match type_at(listing, instruction, place) {
         0 => None,

@@ -1,4 +1,4 @@
-// Operations on numbers and truth values, component by component (sections 3.52.11 and 3.52.13 to 3.52.16).
+// Operations on numbers and bools, component by component (sections 3.52.11 and 3.52.13 to 3.52.16).
 
 use crate::kinds::{Class, Kind, Of, Wrong, is_of, kind_at, kind_of};
 use spirv_numbers::ops;
@@ -71,7 +71,7 @@ impl Row {
         }
     }
 
-    /// What is wrong with the result of an instruction and with its operands from this place on, which are all of one width.
+    /// What is wrong with the result of an instruction and with its operands from this index on, which are all of one width.
     pub(crate) fn wrong(&self, listing: &Listing, instruction: &Instruction, from: usize) -> Wrong {
         let result = kind_of(listing, instruction.ty);
         if !is_of(result, self.given, None, self.count()) {
@@ -129,8 +129,8 @@ fn row_of(opcode: u16) -> Option<Row> {
     }
 }
 
-// What is wrong with an operation on bits whose operand at this place is as its result, and whose last ones say places: each is
-// one integer, or one for each component where `counted`.
+// What is wrong with an operation on bits whose operand at this index is as its result, and whose last ones say places: each is one
+// integer, or one for each component where `counted`.
 fn wrong_bits(listing: &Listing, instruction: &Instruction, places: usize, counted: bool) -> Wrong {
     let Of::Kind(result) = kind_of(listing, instruction.ty) else {
         return Some(Malformed::ResultType);
@@ -173,7 +173,7 @@ fn wrong_cast(listing: &Listing, instruction: &Instruction) -> Wrong {
     }
 }
 
-/// What is wrong with an operation on numbers or truth values.
+/// What is wrong with an operation on numbers or bools.
 pub(crate) fn wrong_numbers(listing: &Listing, instruction: &Instruction) -> Wrong {
     match instruction.opcode {
         ops::SHIFT_RIGHT_LOGICAL..=ops::SHIFT_LEFT_LOGICAL => {

@@ -94,8 +94,7 @@ impl Blocks {
         all
     }
 
-    // Takes one more instruction, inside of the block that is open or outside of blocks. Answers the block that is open
-    // after it.
+    // Takes one more instruction, inside of the block that is open or outside of blocks. Returns the block that is open after it.
     fn take(
         &mut self,
         open: Option<Block>,

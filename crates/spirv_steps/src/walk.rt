@@ -92,7 +92,7 @@ struct Walk {
 // The block where the walk goes on; none where a path ends.
 type Next = Option<u32>;
 
-/// Walks these functions of a module. Answers its blocks, and the steps of all and of each.
+/// Walks these functions of a module. Returns its blocks, and the steps of all and of each.
 pub fn steps_of(
     alloc: Global,
     listing: &Listing,

@@ -5,7 +5,7 @@ use ir_kinds::{Scalar, ScalarKind, StorageFormat};
 use spirv_numbers::ops;
 use spirv_words::{Instruction, Listing, SpirvError, Unsupported};
 
-/// The scalar of a type of numbers.
+/// The scalar of a numeric type.
 pub fn scalar_type(listing: &Listing, instruction: &Instruction) -> Result<Scalar, SpirvError> {
     let bits = match listing.need(instruction, 0) {
         Ok(bits) => bits,

@@ -90,7 +90,7 @@ impl Decorated {
         let mut all = Decorated::NOTHING;
         for place in listing.decorations(id, member) {
             let instruction = listing.at(*place);
-            // a group's decorations speak of no member
+            // a group decorates no member
             let after = if instruction.opcode == ops::MEMBER_DECORATE {
                 2
             } else {
@@ -202,7 +202,7 @@ impl Decorated {
         }
     }
 
-    /// The mask of a subgroup's invocations that it is.
+    /// Which mask of a subgroup's invocations it is.
     pub fn mask(&self) -> Option<SubgroupMask> {
         subgroup_mask(self.built_in?)
     }

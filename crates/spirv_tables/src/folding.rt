@@ -1,4 +1,4 @@
-// What operations on constants of whole numbers and truth values give.
+// What operations on constants of integers and bools give.
 
 use crate::literals::{literal, value_of};
 use ir_kinds::{Scalar, ScalarKind};
@@ -48,8 +48,8 @@ fn signed_of(value: i64, scalar: Scalar) -> i64 {
     }
 }
 
-/// What an operation gives as a value of this scalar, where it can be computed here. The values are of whole numbers or truth
-/// values, the first two of the second scalar.
+/// What an operation gives as a value of this scalar, where it can be computed here. The values are of integers or bools, the first two of
+/// the second scalar.
 pub fn folded(opcode: u16, to: Scalar, from: Scalar, values: [i64; 3]) -> Option<i64> {
     let [first, second, third] = values;
     let pair = Pair {
@@ -100,7 +100,7 @@ fn compared(opcode: u16, pair: &Pair) -> Option<bool> {
     Some(holds)
 }
 
-// What an operation of whole numbers gives, its low bits.
+// What an operation of integers gives, its low bits.
 fn combined(opcode: u16, pair: &Pair) -> Option<u64> {
     match opcode {
         ops::I_ADD => Some(pair.left.wrapping_add(pair.right)),

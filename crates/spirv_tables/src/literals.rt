@@ -20,7 +20,7 @@ pub fn literal(scalar: Scalar, bits: u64) -> Option<Literal> {
     }
 }
 
-/// The value of a literal that is a whole number or a truth value, or a float without any bit, which is 0.
+/// The value of a literal that is an integer or a bool, or a float without any bit, which is 0.
 pub fn value_of(literal: Literal) -> Option<i64> {
     match literal {
         Literal::I16(value) => Some(i64::from(value)),

@@ -5,7 +5,7 @@
 pub struct MeshMember {
     /// The index of the member, if it is given.
     pub index: Option<u32>,
-    /// Whether it is signed in SPIR-V alone.
+    /// Whether it is signed in SPIR-V but not in the IR.
     pub unsigned: bool,
 }
 

@@ -35,7 +35,7 @@ pub static UNORDERED: [(u16, BinaryOperator); 5] = [
     (ops::F_UNORD_GREATER_THAN_EQUAL, BinaryOperator::Less),
 ];
 
-/// Operations of truth values.
+/// Operations of bools.
 pub static LOGIC: [(u16, BinaryOperator); 4] = [
     (ops::LOGICAL_EQUAL, BinaryOperator::Equal),
     (ops::LOGICAL_NOT_EQUAL, BinaryOperator::NotEqual),

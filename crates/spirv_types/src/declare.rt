@@ -27,7 +27,7 @@ pub struct Reading {
     pub scan: Scan,
 }
 
-// Written out, so that it is freed in a call of this crate wherever it is let go.
+// Written out, so that a drop anywhere is a call into this crate.
 impl Drop for Reading {
     fn drop(self) {
         let Reading {
@@ -305,11 +305,11 @@ fn refused(error: SpirvError, failed: &mut Failure) -> Shape {
 pub struct Resources {
     /// The type of one.
     pub element: u32,
-    /// How many.
+    /// Number of parts.
     pub size: ArraySize,
 }
 
-// How deep arrays may nest (universal limit of the standard).
+// The deepest nesting of arrays (universal limit of the standard).
 const MAX_DEPTH: usize = 255;
 
 // How many elements arrays in an array have together, where that is known.

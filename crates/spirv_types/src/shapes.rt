@@ -34,7 +34,7 @@ pub struct ImageShape {
 pub struct ImageUse {
     /// The image as it is declared.
     pub shape: ImageShape,
-    /// Its class, as it is used.
+    /// The class in which it is used.
     pub class: ImageClass,
 }
 
@@ -71,18 +71,18 @@ impl MemberMemory {
     }
 }
 
-/// What a type is.
+/// The shape of a type.
 #[derive(Clone, Copy)]
 pub enum Shape {
     /// No type.
     Nothing,
     /// No value.
     Void,
-    /// A number or a truth value.
+    /// A number or a bool.
     Scalar(Scalar),
     /// Scalars in a row.
     Vector {
-        /// How many.
+        /// Number of parts.
         size: VectorSize,
         /// What each is.
         scalar: Scalar,
@@ -114,7 +114,7 @@ pub enum Shape {
     Array {
         /// The type of one.
         element: u32,
-        /// How many.
+        /// Number of parts.
         size: ArraySize,
         /// Whether they are resources.
         binding: bool,
@@ -123,7 +123,7 @@ pub enum Shape {
     Struct {
         /// The first of them.
         first: u32,
-        /// How many.
+        /// Number of parts.
         count: u32,
         /// What is said of the memory of each.
         memory: MemberMemory,

@@ -21,7 +21,7 @@ pub trait Types {
     fn copy(&self, alloc: Global, ty: TypeHandle) -> Result<Option<IrType>, SpirvError>;
 }
 
-/// The type of a vector, of a scalar where there is no size.
+/// The type of a vector, or of a scalar where there is no size.
 pub fn vector_type<T: Types>(
     built: &mut T,
     size: Option<VectorSize>,
@@ -78,7 +78,7 @@ pub struct TypeTable {
 }
 
 impl TypeTable {
-    /// None, with ids below the bound.
+    /// An empty table for ids below the bound.
     pub fn new(alloc: Global, bound: usize, failed: &mut Failure) -> TypeTable {
         TypeTable {
             entries: failed.table(alloc, NOTHING, bound),
@@ -94,7 +94,7 @@ impl TypeTable {
         }
     }
 
-    /// What a type is.
+    /// The shape of a type.
     pub fn shape(&self, id: u32) -> Shape {
         self.entry(id).shape
     }

@@ -11,7 +11,7 @@ use thiserror::Error;
 /// What is wrong with words that are no SPIR-V.
 #[derive(Clone, Copy)]
 pub enum Malformed {
-    /// The bytes are no whole words, or fewer than a header has.
+    /// The length is no multiple of 4, or less than that of a header.
     Length,
     /// There are more bytes than are read.
     TooLong,
@@ -128,7 +128,7 @@ pub enum SpirvError {
     /// The module says what can't be said in the IR, or what is not translated.
     #[error("unsupported: {what} at word {word}")]
     Unsupported {
-        /// What it is.
+        /// Its representation.
         what: Unsupported,
         /// The first word of its instruction, counted from 0.
         word: u32,
@@ -196,7 +196,7 @@ impl Failure {
     /// Nothing was wrong so far.
     pub const NONE: Failure = Failure { first: None };
 
-    /// This is wrong. It is kept where nothing was before.
+    /// Records this error, unless there was one before.
     pub fn fail(&mut self, error: SpirvError) {
         if self.first.is_none() {
             self.first = Some(error);
@@ -225,7 +225,7 @@ impl Failure {
         }
     }
 
-    /// One more in a list.
+    /// Pushes an item, or records that there is no memory.
     pub fn push<T: Drop>(&mut self, list: &mut Vec<T>, item: T) {
         if list.push(item).is_err() {
             self.fail(SpirvError::Memory);

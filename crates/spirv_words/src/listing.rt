@@ -45,7 +45,7 @@ impl Instruction {
         end: 0,
     };
 
-    /// It is not translated.
+    /// The error that this is not translated.
     pub fn unsupported(&self) -> SpirvError {
         self.unsupported_as(Unsupported::Instruction(self.opcode))
     }
@@ -86,7 +86,7 @@ pub struct Listing {
     modes: Groups,
 }
 
-// Written out, so that its lists are freed in a call of this crate wherever it is let go.
+// Written out, so that a drop anywhere is a call into this crate.
 impl Drop for Listing {
     fn drop(self) {
         let Listing {
@@ -429,17 +429,17 @@ impl Listing {
         self.words.get(place).unwrap_or(&[])
     }
 
-    /// The operand at this place, if the instruction has so many.
+    /// The operand at this index, if the instruction has so many.
     pub fn operand(&self, instruction: &Instruction, place: usize) -> Option<u32> {
         self.operands(instruction).get(place).copied()
     }
 
-    /// The operands of an instruction from this place on.
+    /// The operands of an instruction from this index on.
     pub fn operands_from(&self, instruction: &Instruction, place: usize) -> &[u32] {
         self.operands(instruction).get(place..).unwrap_or(&[])
     }
 
-    /// The operand at this place, which the instruction has to have.
+    /// The operand at this index, which the instruction has to have.
     pub fn need(&self, instruction: &Instruction, place: usize) -> Result<u32, SpirvError> {
         match self.operand(instruction, place) {
             Some(word) => Ok(word),

@@ -51,7 +51,7 @@ pub enum Feature {
     DeepCopy,
     /// OpCompositeExtract of an array of row-major matrices.
     ExtractOfRowMajor,
-    /// A struct with row-major matrices put together.
+    /// A struct with row-major matrices composed.
     RowMajorStruct,
     /// OpCompositeInsert into more than 1024 parts.
     LargeInsert,
