@@ -78,13 +78,15 @@ fn declare(
         .append(variable(ty, space), Span::UNDEFINED)
 }
 
-/// Puts the parts of the shader into a module: a number of 32 bits in this space, a function that does nothing, and an entry
-/// point that stores into the one and calls the other. Answers the variable.
+/// Puts the parts of the shader into a module: a global expression, a number of 32 bits in this space, a function that does nothing,
+/// and an entry point that stores into the variable and calls the function. Returns the variable.
 pub fn build(
     alloc: Global,
     module: &mut Module,
     space: AddressSpace,
 ) -> Result<Handle<key::GlobalVariable>, AllocError> {
+    let one = Expression::Literal(Literal::U32(1));
+    module.global_expressions.append(one, Span::UNDEFINED)?;
     let target = declare(module, space)?;
     let callee = module
         .functions

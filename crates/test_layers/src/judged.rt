@@ -1,14 +1,18 @@
 //! What each layer says of a module.
 
-use function_validator::laws::entry_depth_bound;
-use function_validator::{RealLower, Validator};
+use function_validator::laws::{
+    Leaf, accepted_is_laid, buffer_leaves, entry_depth_bound, made_for_accepted,
+};
+use function_validator::{MeshInfo, RealLower, Validator};
+use module_validator::laws::order_gives_expressions;
 use module_validator::{
-    ImmediateSlots, ModuleInfo, ModuleValidator, Settings, validate_compose,
+    ImmediateSlots, ModuleInfo, ModuleValidator, Settings, TypeFlags, validate_compose,
     validate_module_handles,
 };
-use shader_ir::{Literal, Module, Refusal, Scalar};
+use shader_ir::{Handle, Literal, Module, Refusal, Scalar, TypeInner, key};
 use shader_typing::{
-    arities_match, callees_precede, filter_parents_precede, handles_in_range, operands_precede,
+    TypeResolution, arities_match, callees_precede, filter_parents_precede, handles_in_range,
+    operands_precede, process_const_expression,
 };
 use std::alloc::{AllocError, Global};
 
@@ -50,6 +54,137 @@ pub fn accepts_items(
     let mut validator = ModuleValidator::new(alloc, settings.flags, settings.capabilities);
     let answer = validator.validate(module);
     freeing(freeing(is_accepted(&answer), answer), validator)
+}
+
+/// Whether they do, and the functions of the module are accepted over the layer that is made of what they keep. The error is out
+/// of memory.
+pub fn accepts_functions(
+    alloc: Global,
+    settings: Settings,
+    module: &Module,
+) -> Result<bool, AllocError> {
+    made_for_accepted();
+    let mut items = ModuleValidator::new(alloc, settings.flags, settings.capabilities);
+    match items.validate(module) {
+        Ok(info) => {
+            let lower = RealLower::new(info);
+            let mut validator = Validator::new(alloc, lower, settings.flags, settings.capabilities);
+            let answer = validator.validate_functions(module);
+            freeing(freeing(is_accepted(&answer), answer), validator)
+        }
+        Err(Refusal::Fault(_)) => Ok(false),
+        Err(Refusal::Memory(error)) => Err(error),
+    }
+}
+
+/// The leaves of a variable, where the steps up to overrides accept the module. The error is out of memory.
+pub fn leaves_of(
+    alloc: Global,
+    settings: Settings,
+    module: &Module,
+    global: Handle<key::GlobalVariable>,
+) -> Result<Option<Vec<Leaf>>, AllocError> {
+    accepted_is_laid();
+    let mut items = ModuleValidator::new(alloc, settings.flags, settings.capabilities);
+    match items.validate(module) {
+        Ok(info) => {
+            drop(info);
+            match module.global_variables.check_contains_handle(global) {
+                Ok(()) => match buffer_leaves(alloc, module, global) {
+                    Ok(leaves) => Ok(Some(leaves)),
+                    Err(error) => Err(error),
+                },
+                Err(_) => Ok(None),
+            }
+        }
+        Err(Refusal::Fault(_)) => Ok(None),
+        Err(Refusal::Memory(error)) => Err(error),
+    }
+}
+
+/// Whether the first global expression is a number of 32 bits without a sign, as the typing of global expressions has it.
+pub fn begins_with_number(alloc: Global, module: &Module) -> bool {
+    order_gives_expressions();
+    if validate_module_handles(module).is_err() {
+        return false;
+    }
+    match module.global_expressions.iter().next() {
+        Some((handle, _)) if handle.index() == 0 => {
+            let answer = process_const_expression(alloc, module, handle, &[]);
+            let is_number = match &answer {
+                Ok(TypeResolution::Value(TypeInner::Scalar(scalar))) => *scalar == Scalar::U32,
+                _ => false,
+            };
+            freeing(is_number, answer)
+        }
+        _ => false,
+    }
+}
+
+/// Whether a variable holds what a mesh shader gives.
+pub fn is_mesh_output(alloc: Global, module: &Module, global: Handle<key::GlobalVariable>) -> bool {
+    match module.global_variables.check_contains_handle(global) {
+        Ok(()) => {
+            let (_, _, error) = module.analyze_mesh_shader_info(alloc, global);
+            freeing(error.is_none(), error)
+        }
+        Err(_) => false,
+    }
+}
+
+/// What all steps keep of a module.
+#[derive(Clone, Copy)]
+pub struct Kept {
+    /// How many of its types may be in a buffer.
+    pub shareable: usize,
+    /// How many expressions its functions have.
+    pub expressions: usize,
+    /// How many of its functions use each global variable in each way in which the first one does.
+    pub dominating: usize,
+}
+
+/// What is kept of a module that all steps accept. The error is out of memory.
+pub fn kept_of(
+    alloc: Global,
+    settings: Settings,
+    module: &Module,
+) -> Result<Option<Kept>, AllocError> {
+    let lower = RealLower::new(ModuleInfo::new(alloc));
+    let mut validator = Validator::new(alloc, lower, settings.flags, settings.capabilities);
+    let answer = validator.validate(module);
+    let kept = match &answer {
+        Ok(info) => Ok(Some(counted(info, module))),
+        Err(Refusal::Fault(_)) => Ok(None),
+        Err(Refusal::Memory(_)) => Err(AllocError),
+    };
+    freeing(freeing(kept, answer), validator)
+}
+
+// Counts what is kept of a module.
+fn counted(info: &ModuleInfo, module: &Module) -> Kept {
+    let mut kept = Kept {
+        shareable: 0,
+        expressions: 0,
+        dominating: 0,
+    };
+    for (handle, _) in module.types.iter() {
+        if handle.index() < info.types().len()
+            && info
+                .type_info(handle)
+                .flags
+                .contains(TypeFlags::HOST_SHAREABLE)
+        {
+            kept.shareable = kept.shareable.saturating_add(1);
+        }
+    }
+    for function in info.functions() {
+        kept.expressions = kept.expressions.saturating_add(function.expression_count());
+        if let Some(first) = info.functions().first() {
+            let dominates = function.dominates_global_use(first);
+            kept.dominating = kept.dominating.saturating_add(usize::from(dominates));
+        }
+    }
+    kept
 }
 
 /// Whether all steps accept the module. The error is out of memory.

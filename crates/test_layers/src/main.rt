@@ -8,7 +8,11 @@ mod judged;
 
 use anyhow::Result;
 use built::build;
-use judged::{accepts, accepts_items, depth_of, is_in_order, smaller_answers};
+use function_validator::laws::Leaf;
+use judged::{
+    Kept, accepts, accepts_functions, accepts_items, begins_with_number, depth_of, freeing,
+    is_in_order, is_mesh_output, kept_of, leaves_of, smaller_answers,
+};
 use module_validator::Settings;
 use shader_ir::{
     AddressSpace, Capabilities, Module, ShaderStages, StorageAccess, SubgroupOperationSet,
@@ -24,6 +28,21 @@ struct Said {
     whole: bool,
     depth: usize,
     smaller: (bool, bool, bool, u64),
+    functions: bool,
+    begins_with_number: bool,
+    is_mesh_output: bool,
+    leaf: Option<(u64, u64, u64)>,
+    kept: Option<Kept>,
+}
+
+// Where the first of these leaves lies, how long it is, and its alignment, in bytes.
+fn first_of(leaves: Option<Vec<Leaf>>) -> Option<(u64, u64, u64)> {
+    let leaves = leaves?;
+    let first = match leaves.first() {
+        Some(leaf) => Some((leaf.first, leaf.len, leaf.alignment)),
+        None => None,
+    };
+    freeing(first, leaves)
 }
 
 // Asks all of them of a module with a variable in a space.
@@ -34,13 +53,18 @@ fn ask(alloc: Global, module: &mut Module, space: AddressSpace) -> Result<Said, 
         subgroup_stages: ShaderStages(0),
         subgroup_operations: SubgroupOperationSet(0),
     };
-    build(alloc, module, space)?;
+    let variable = build(alloc, module, space)?;
     Ok(Said {
         in_order: is_in_order(module),
         items: accepts_items(alloc, settings, module)?,
         whole: accepts(alloc, settings, module)?,
         depth: depth_of(module),
         smaller: smaller_answers(alloc, settings, module),
+        functions: accepts_functions(alloc, settings, module)?,
+        begins_with_number: begins_with_number(alloc, module),
+        is_mesh_output: is_mesh_output(alloc, module, variable),
+        leaf: first_of(leaves_of(alloc, settings, module, variable)?),
+        kept: kept_of(alloc, settings, module)?,
     })
 }
 
@@ -56,6 +80,19 @@ fn print(rt: &HostRuntime, space: AddressSpace) -> Result<()> {
     )?;
     let (half, literal, composed, immediate) = said.smaller;
     println!(rt; "f16 {half}, literal {literal}, composed {composed}, immediate data {immediate}")?;
+    println!(rt;
+        "functions {}, begins with a number {}, mesh output {}",
+        said.functions, said.begins_with_number, said.is_mesh_output
+    )?;
+    if let Some((offset, length, alignment)) = said.leaf {
+        println!(rt; "leaf at {offset}, length {length}, alignment {alignment}")?;
+    }
+    if let Some(kept) = said.kept {
+        println!(rt;
+            "shareable types {}, expressions of functions {}, functions with the uses of the first {}",
+            kept.shareable, kept.expressions, kept.dominating
+        )?;
+    }
     Ok(())
 }
 
