@@ -1,4 +1,4 @@
-//! Values in memory that are changed atomically.
+//! Atomic operations on memory.
 
 ghost use Rattle.std.specs.Prelude.{◌≡◌, ◌↔◌, IsTrue, MatchResult, IfSome, Some, None, option_and_then, option_map, slice_get};
 ghost use Rattle.ir_types.specs.judged.ExpressionPlain.{expression_view};
@@ -28,7 +28,7 @@ use typing_forms::Form;
 
 // ---- what is changed
 
-// The scalar of an atomic, and the space in which it lies.
+// The scalar of an atomic, and its address space.
 #[derive(Clone, Copy)]
 struct Changed {
     scalar: Scalar,
@@ -67,7 +67,7 @@ fn atomic_at<C: StatementContext>(context: &C, ty: Handle<key::IrType>) -> Optio
     }
 }
 
-// The atomic that a pointer leads to.
+// The atomic that a pointer points to.
 fn changed_by<C: StatementContext>(context: &C, pointer: &Form) -> Option<Changed>
     ensures scalar { option_map (λ x. x.scalar) result ≡ changed_scalar (C.seen context.now).m.types pointer.now }
     ensures space { IfSome result (λ x. pointer_space pointer.now ≡ Some x.space) }
@@ -94,7 +94,7 @@ fn changed_by<C: StatementContext>(context: &C, pointer: &Form) -> Option<Change
     }
 }
 
-/// The scalar of the atomic that a pointer leads to.
+/// The scalar of the atomic that a pointer points to.
 pub(crate) fn changed_scalar<C: StatementContext>(context: &C, pointer: &Form) -> Option<Scalar>
     ensures { result ≡ changed_scalar (C.seen context.now).m.types pointer.now }
 {
@@ -149,7 +149,7 @@ fn is_in_storage(pointer: &Form) -> bool
     }
 }
 
-/// Whether what stays is the least or the greatest.
+/// Whether the operation is a minimum or a maximum.
 pub(crate) const fn is_extremum(fun: &AtomicFunction) -> bool
     ensures { IsTrue result ↔ IsMinOrMax fun.now }
 {
@@ -164,7 +164,7 @@ pub(crate) const fn is_extremum(fun: &AtomicFunction) -> bool
     }
 }
 
-// Whether what stays in a storage buffer is the least or the greatest, and nothing is answered.
+// Whether the operation is a minimum or a maximum in a storage buffer, without a result.
 fn is_kept_extremum(
     pointer: &Form,
     fun: &AtomicFunction,
@@ -175,7 +175,7 @@ fn is_kept_extremum(
     is_extremum(fun) && is_in_storage(pointer) && answer.is_none()
 }
 
-// Whether an integer of eight bytes may be changed so.
+// Whether this operation is allowed on a 64-bit integer.
 fn check_wide(
     capabilities: Capabilities,
     pointer: &Form,
@@ -198,7 +198,7 @@ fn check_wide(
     Ok(())
 }
 
-// Whether this is done with floats.
+// Whether the operation is allowed on floats.
 const fn is_done_with_floats(fun: &AtomicFunction) -> bool
     ensures { IsTrue result ↔ IsDoneWithFloats fun.now }
 {
@@ -216,7 +216,7 @@ const fn is_done_with_floats(fun: &AtomicFunction) -> bool
     }
 }
 
-// Whether a float of four bytes in a space may be changed so.
+// Whether this operation is allowed on an `f32` in a space.
 fn check_float(
     capabilities: Capabilities,
     pointer: &Form,
@@ -240,7 +240,7 @@ fn check_float(
     Ok(())
 }
 
-// Whether the scalar of an atomic may be changed so.
+// Whether this operation is allowed on the scalar of an atomic.
 #[tactic(auto, using(crate::proofs::Scalars::wide_allows, crate::proofs::Scalars::float_allows, crate::proofs::Scalars::others_allow))]
 fn check_scalar(
     capabilities: Capabilities,
@@ -271,14 +271,14 @@ fn check_scalar(
 
 // ---- what is answered
 
-// What the result of an atomic operation declares.
+// The type that an `AtomicResult` declares.
 #[derive(Clone, Copy)]
 struct DeclaredAnswer {
     ty: Handle<key::IrType>,
     comparison: bool,
 }
 
-// What the answer that an expression is declares.
+// The declaration of an `AtomicResult`; `None` for other expressions.
 fn declared_answer(expression: &Expression) -> Option<DeclaredAnswer>
     ensures { option_map answer_view result ≡ declared_answer (expression_view expression.now) }
 {
@@ -301,7 +301,7 @@ fn declared_at<C: StatementContext>(
     }
 }
 
-// Whether what an exchange that compares answers has this scalar.
+// Whether the result type of a compare-exchange has this scalar.
 fn is_exchange_of<C: StatementContext>(context: &C, ty: Handle<key::IrType>, scalar: Scalar) -> bool
     ensures { IsTrue result
         ↔ IsExchangeOf (λ old. old ≡ Form.Scalar scalar) (C.seen context.now).m.types (inner_at (C.seen context.now).m.types ty) }
@@ -312,7 +312,7 @@ fn is_exchange_of<C: StatementContext>(context: &C, ty: Handle<key::IrType>, sca
     }
 }
 
-// Whether the answer is the scalar that was there.
+// Whether the result is the old value.
 fn check_plain<C: StatementContext>(
     context: &C,
     scalar: Scalar,
@@ -332,7 +332,7 @@ fn check_plain<C: StatementContext>(
     Ok(())
 }
 
-// Whether the answer is the scalar that was there, and whether it was replaced.
+// Whether the result is the struct of a compare-exchange: the old value, and whether it was replaced.
 fn check_exchange<C: StatementContext>(
     context: &C,
     scalar: Scalar,
@@ -356,7 +356,7 @@ fn check_exchange<C: StatementContext>(
     Ok(())
 }
 
-// What a value is compared with before it is replaced.
+// The comparand of a compare-exchange.
 const fn compared(fun: &AtomicFunction) -> Option<Handle<key::Expression>>
     ensures { result ≡ comparand fun.now }
 {
@@ -372,7 +372,7 @@ const fn compared(fun: &AtomicFunction) -> Option<Handle<key::Expression>>
     }
 }
 
-// Whether nothing need be answered.
+// Whether the operation may have no result.
 const fn may_be_unanswered(fun: &AtomicFunction) -> bool
     ensures { IsTrue result ↔ MayOmitResult fun.now }
 {
@@ -391,7 +391,7 @@ const fn may_be_unanswered(fun: &AtomicFunction) -> bool
     }
 }
 
-// Whether an expression is the answer of this.
+// Whether an expression is the result of this operation.
 fn check_result<C: StatementContext>(
     context: &C,
     scalar: Scalar,
@@ -417,7 +417,7 @@ fn check_result<C: StatementContext>(
     }
 }
 
-// Whether this is answered so.
+// Whether the operation has this result.
 fn check_answer<C: StatementContext>(
     context: &C,
     scalar: Scalar,
@@ -442,7 +442,7 @@ fn check_answer<C: StatementContext>(
 
 // ---- the whole
 
-// Whether the scalar of an atomic is changed by a value.
+// Whether a value is an operand for the scalar of an atomic.
 fn check_change<C: StatementContext>(
     context: &C,
     pointer: Handle<key::Expression>,

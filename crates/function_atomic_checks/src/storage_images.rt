@@ -1,4 +1,4 @@
-//! Texels that are written, and texels that are changed atomically.
+//! Stores to images, and atomic operations on texels.
 
 ghost use Rattle.std.specs.Prelude.{◌≡◌, ◌↔◌, IsTrue, MatchResult, MatchOption, IfOk, Some, option_and_then, option_map};
 ghost use Rattle.ir_kinds.specs.declared.images.StorageFormat.TheVariants.{R32Sint, R32Uint, R64Uint};
@@ -54,7 +54,7 @@ const fn resource_of(of: Form) -> Option<Handle<key::IrType>>
     }
 }
 
-// The image of which the elements of a type are.
+// The image type of the elements of an array type.
 fn written_element<C: StatementContext>(
     context: &C,
     ty: Handle<key::IrType>,
@@ -96,7 +96,7 @@ fn written_image<C: StatementContext>(
     }
 }
 
-// The image that a type is, or an array of such.
+// The image of a type, or of an array of images.
 fn image_type_in<C: StatementContext>(context: &C, ty: Handle<key::IrType>) -> Option<ImageType>
     ensures { result ≡ image_type_in (C.seen context.now).m.types (form_of_type (C.seen context.now).m.types ty) (resource_of (form_of_type (C.seen context.now).m.types ty)) }
 {
@@ -106,7 +106,7 @@ fn image_type_in<C: StatementContext>(context: &C, ty: Handle<key::IrType>) -> O
     }
 }
 
-// The image whose texels are changed atomically.
+// The image of an atomic operation on texels.
 fn changed_image<C: StatementContext>(
     context: &C,
     image: Handle<key::Expression>,
@@ -126,7 +126,7 @@ fn changed_image<C: StatementContext>(
 
 // ---- the texel
 
-// Whether a texel with a number each way has a layer exactly where the image has several.
+// Whether a coordinate has an array index exactly where the image is arrayed.
 fn check_layer<C: StatementContext>(
     context: &C,
     image_type: &ImageType,
@@ -157,7 +157,7 @@ fn check_layer<C: StatementContext>(
     }
 }
 
-// Whether an image has a texel there.
+// Whether a coordinate fits an image.
 fn check_texel<C: StatementContext>(
     context: &C,
     image_type: &ImageType,
@@ -187,7 +187,7 @@ const fn format_of(class: ImageClass) -> Option<StorageFormat>
     }
 }
 
-// Whether a texel is written where an image has one. The answer is the image's format, where the value is no texel of it.
+// Whether the coordinate of a store fits the image. Returns the image's format, where the value is no texel of it.
 #[tactic(auto, using(crate::proofs::Formats::texel_written))]
 fn check_written<C: StatementContext>(
     context: &C,
@@ -224,7 +224,7 @@ fn check_written<C: StatementContext>(
 
 // ---- types of values, as they are reported
 
-// What a matrix of either kind is made of.
+// The `TypeInner` of a matrix.
 const fn matrix_inner(of: &Form) -> Option<TypeInner>
     ensures { option_map inner_view result ≡ matrix_inner of.now }
 {
@@ -265,7 +265,7 @@ const fn matrix_inner(of: &Form) -> Option<TypeInner>
     }
 }
 
-// What a pointer to a scalar or a vector is made of.
+// The `TypeInner` of a pointer to a scalar or a vector.
 const fn value_pointer_inner(
     size: Option<VectorSize>,
     scalar: Scalar,
@@ -280,7 +280,7 @@ const fn value_pointer_inner(
     }
 }
 
-// What an image is made of.
+// The `TypeInner` of an image.
 const fn image_inner(dim: ImageDimension, arrayed: bool, class: ImageClass) -> TypeInner
     ensures { inner_view result ≡ plain (Image dim arrayed class) }
 {
@@ -291,7 +291,7 @@ const fn image_inner(dim: ImageDimension, arrayed: bool, class: ImageClass) -> T
     }
 }
 
-// What the type at a handle is made of, in memory of its own.
+// A copy of the `TypeInner` of the type at a handle.
 fn copied_inner<C: StatementContext>(
     alloc: Global,
     context: &C,
@@ -308,7 +308,7 @@ fn copied_inner<C: StatementContext>(
     }
 }
 
-// What a type is made of, in memory of its own, if it is one.
+// The `TypeInner` of a form, in memory of its own, if it is a type.
 fn inner_of_form<C: StatementContext>(
     alloc: Global,
     context: &C,
@@ -344,7 +344,7 @@ fn inner_of_form<C: StatementContext>(
     }
 }
 
-// That a value is no texel of a format.
+// The error of a value that is no texel of a format.
 fn value_error<C: StatementContext>(
     alloc: Global,
     context: &C,
@@ -405,7 +405,7 @@ pub fn check_image_store<C: StatementContext>(
 
 // ---- texels that are changed atomically
 
-// Whether this is done at texels.
+// Whether the operation is allowed on texels.
 const fn is_done_at_texels(fun: &AtomicFunction) -> bool
     ensures { IsTrue result ↔ IsDoneAtTexels fun.now }
 {
@@ -420,7 +420,7 @@ const fn is_done_at_texels(fun: &AtomicFunction) -> bool
     }
 }
 
-// Whether texels of eight bytes may be changed so.
+// Whether this operation is allowed on 64-bit texels.
 #[tactic(auto, using(crate::proofs::Formats::wide_allowed))]
 fn check_wide(capabilities: Capabilities, fun: &AtomicFunction) -> Result<(), FunctionError>
     ensures { MatchResult result (λ _. FormatAllows capabilities fun.now R64Uint) (IsFormatFault capabilities fun.now R64Uint) }
@@ -434,7 +434,7 @@ fn check_wide(capabilities: Capabilities, fun: &AtomicFunction) -> Result<(), Fu
     Ok(())
 }
 
-// Whether texels of four bytes may be changed so.
+// Whether this operation is allowed on 32-bit texels.
 #[tactic(auto, using(crate::proofs::Formats::unsigned_allowed, crate::proofs::Formats::signed_allowed))]
 fn check_narrow(capabilities: Capabilities, fun: &AtomicFunction) -> Result<(), FunctionError>
     ensures unsigned { MatchResult result (λ _. FormatAllows capabilities fun.now R32Uint) (IsFormatFault capabilities fun.now R32Uint) }
@@ -449,7 +449,7 @@ fn check_narrow(capabilities: Capabilities, fun: &AtomicFunction) -> Result<(), 
     Ok(())
 }
 
-// Whether texels of a format may be changed so.
+// Whether this operation is allowed on texels of a format.
 fn check_format(
     capabilities: Capabilities,
     format: StorageFormat,
@@ -505,7 +505,7 @@ fn check_format(
     }
 }
 
-// Whether texels of a storage image may be changed so by a value.
+// Whether this operation with a value is allowed on a storage image.
 fn check_storage<C: StatementContext>(
     context: &C,
     format: StorageFormat,
@@ -534,7 +534,7 @@ fn check_storage<C: StatementContext>(
     }
 }
 
-// Whether texels of an image of a class may be changed so by a value.
+// Whether this operation with a value is allowed on an image of a class.
 fn check_changed<C: StatementContext>(
     context: &C,
     class: ImageClass,

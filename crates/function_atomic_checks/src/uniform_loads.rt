@@ -1,4 +1,4 @@
-//! Values of workgroup memory that a whole workgroup loads together.
+//! Uniform loads of workgroup memory.
 
 ghost use Rattle.std.specs.Prelude.{◌≡◌, ◌↔◌, IsTrue, MatchResult, Some, IsSomeAnd};
 ghost use Rattle.function_atomic_checks.specs.UniformLoads.{loaded_at, IsUniformLoadFault};
@@ -40,7 +40,7 @@ const fn is_in_workgroup(pointer: &Form) -> bool
     }
 }
 
-// The type that an expression, which denotes the answer, declares.
+// The type that a `WorkGroupUniformLoadResult` declares.
 fn loaded_type(expression: &Expression) -> Option<Handle<key::IrType>>
     ensures { result ≡ loaded_type (expression_view expression.now) }
 {
@@ -85,7 +85,7 @@ fn workgroup_pointer<C: StatementContext>(context: &C, ty: Handle<key::IrType>) 
     }
 }
 
-// Whether a pointer leads to an atomic of a type.
+// Whether a pointer points to an atomic of a type.
 fn leads_to_atomic<C: StatementContext>(
     context: &C,
     pointer: &Form,
@@ -100,7 +100,7 @@ fn leads_to_atomic<C: StatementContext>(
     }
 }
 
-// Whether a pointer leads to a type, or to an atomic of it.
+// Whether a pointer points to a type, or to an atomic of it.
 fn leads_to<C: StatementContext>(context: &C, pointer: &Form, ty: Handle<key::IrType>) -> bool
     ensures { IsTrue result ↔ LeadsTo (C.seen context.now).m.types pointer.now ty }
 {

@@ -3,7 +3,7 @@
 ghost use Rattle.std.specs.Prelude.{◌≡◌};
 ghost use Rattle.function_body_checks.specs.Allowed.{view_of};
 
-/// How a statement leaves its block where it may not. It is small, as what each statement is answered, where an error of
+/// How a statement leaves its block where that is not allowed. It is small because it is returned for each statement, which an error of
 /// functions is not.
 #[derive(Clone, Copy)]
 pub enum Wrong {
@@ -15,8 +15,8 @@ pub enum Wrong {
     Return,
 }
 
-/// How a statement may leave its block at a place: by the nearest loop or switch around it, and whether a continuing part lies
-/// between (naga's `ControlFlowAbility`).
+/// How a statement may leave its block: by the nearest loop or switch around it, and whether it is in a continuing part (naga's
+/// `ControlFlowAbility`).
 #[derive(Clone, Copy, Debug, PartialEq, Eq)]
 pub struct Allowed {
     pub breaks: bool,
@@ -35,7 +35,7 @@ impl Allowed {
         returns: true,
     };
 
-    /// In a case of a switch that stands at this place.
+    /// Inside a case of a switch that occurs here.
     pub fn in_case(self) -> Allowed
         ensures { view_of result ≡ inside (case_at 0) (view_of self) }
     {
@@ -45,7 +45,7 @@ impl Allowed {
         }
     }
 
-    /// In the body of a loop that stands at this place.
+    /// Inside the body of a loop that occurs here.
     pub fn in_loop(self) -> Allowed
         ensures { view_of result ≡ inside loop_body (view_of self) }
     {
@@ -56,7 +56,7 @@ impl Allowed {
         }
     }
 
-    /// In the continuing part of a loop that stands at this place.
+    /// Inside the continuing part of a loop that occurs here.
     pub fn in_continuing(self) -> Allowed
         ensures { view_of result ≡ inside loop_continuing (view_of self) }
     {

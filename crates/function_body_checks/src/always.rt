@@ -31,7 +31,7 @@ impl PlaceTest for AlwaysKnown<'_> {
     }
 }
 
-// For each expression of a function the first from it on that is in scope everywhere. The error is out of memory.
+// For each expression of a function the first one, from it on, that is in scope everywhere. The error is out of memory.
 pub(crate) fn next_always(alloc: Global, function: &Function) -> Result<Vec<u32>, AllocError>
     ensures { IfOk result (λ next. AreAlways (function_view function.now) next.items) }
 {
@@ -39,12 +39,12 @@ pub(crate) fn next_always(alloc: Global, function: &Function) -> Result<Vec<u32>
     next_passing(alloc, function.expressions.len(), &test)
 }
 
-/// A function, and what is found once for all of its body.
+/// A function, with what is computed once for its whole body.
 #[derive(Drop)]
 pub struct Outline<'a> {
     /// The function.
     pub function: &'a Function,
-    /// Whether statements may answer by expressions.
+    /// Whether results of statements are required.
     pub asked: bool,
     /// For each of its expressions the first from it on that is in scope everywhere.
     pub always: &'a [u32],

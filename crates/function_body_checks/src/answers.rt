@@ -1,4 +1,4 @@
-//! By what calls and atomic operations answer.
+//! Results of calls and atomic operations.
 
 ghost use Rattle.std.specs.Prelude.{◌≡◌, ℕ, Bool, List, IfErr, OnOk, Some};
 ghost use Rattle.ir_blocks.specs.judged.Places.{statement as spot};
@@ -13,7 +13,7 @@ use ir_arena::handle::Handle;
 use ir_items::{Statement, key};
 use typing_references::callee_of;
 
-// By what a call or an atomic operation answers.
+// The result of a call or an atomic operation.
 fn answer_of(statement: &Statement) -> Option<Handle<key::Expression>>
     ensures { result ≡ answer_of (statement_view statement.now) }
 {
@@ -45,7 +45,7 @@ fn answer_of(statement: &Statement) -> Option<Handle<key::Expression>>
     }
 }
 
-// The fault of an answer that is that of another statement.
+// The fault of a result that another statement has as well.
 fn populated(statement: &Statement, handle: Handle<key::Expression>) -> ScopeError
     ensures { (asked : Bool) (answered : List ℕ) → answer_of (statement_view statement.now) ≡ Some handle → IsAgain asked answered handle
         → IfFault result (λ e. (f : PlainFunction) (scope : List ℕ) → IsFaultHere f asked (spot (statement_view statement.now)) scope answered e) }
@@ -59,7 +59,7 @@ fn populated(statement: &Statement, handle: Handle<key::Expression>) -> ScopeErr
     }
 }
 
-/// Notes by what a statement answers, if it does: answers have to be required, and it must be the first that answers by it.
+/// Notes a statement's result, if it has one: results must be required, and no earlier statement may have this one.
 pub fn note_answer(
     asked: bool,
     answered: &mut ExpressionList,

@@ -1,4 +1,4 @@
-//! What statements bring into scope.
+//! The expressions that statements introduce into scope.
 
 ghost use Rattle.std.specs.Prelude.{◌≡◌, ◌++◌, ℕ, Bool, List, All, Contains, IfErr, IfNone, IfOk, IfSome, OnOk, option_to_list};
 ghost use Rattle.ir_arena.specs.judged.Handles.{handles_between};
@@ -19,7 +19,7 @@ use ir_items::{Function, Statement, key};
 use std::alloc::AllocError;
 use typing_references::{callee_of, range_of, result_of};
 
-// Brings an expression into scope, and answers whether it was not there. The error is out of memory.
+// Introduces an expression, and returns whether it was not in scope. The error is out of memory.
 #[tactic(auto, using(crate::proofs::Tables::reported_known, crate::proofs::Tables::reported_unknown, crate::proofs::Tables::added_known))]
 fn bring_one(
     function: &Function,
@@ -53,8 +53,7 @@ fn first_known(
     None
 }
 
-// Brings a range into scope, and answers the first of it that is there already: only then is the range gone over. The error is
-// out of memory.
+// Introduces a range, and returns the first of it that is already in scope: only then is the range walked. The error is out of memory.
 fn bring_range(
     outline: &Outline<'_>,
     scope: &mut ExpressionList,
@@ -71,7 +70,7 @@ fn bring_range(
     Ok(first_known(outline.function, scope, range))
 }
 
-// Brings into scope what denotes the result of a statement, and answers whether that was there already.
+// Introduces the result expression of a statement, and returns whether it was already in scope.
 fn bring_result(
     function: &Function,
     scope: &mut ExpressionList,
@@ -89,7 +88,7 @@ fn bring_result(
     }
 }
 
-// Brings into scope what a statement does, and answers the first that is there already. The error is out of memory.
+// Introduces what a statement introduces, and returns the first that is already in scope. The error is out of memory.
 #[tactic(auto, using(crate::proofs::Tables::emitted, crate::proofs::Tables::resulting))]
 fn bring_all(
     outline: &Outline<'_>,
@@ -118,7 +117,7 @@ fn known_already(statement: &Statement, handle: Handle<key::Expression>) -> Scop
     }
 }
 
-/// Brings into scope what a statement does, what stands inside it aside. None of it may be there already.
+/// Introduces what a statement itself introduces, without its inner blocks. None of it may be in scope already.
 pub fn bring(
     outline: &Outline<'_>,
     scope: &mut ExpressionList,

@@ -4,22 +4,22 @@ use ir_arena::handle::Handle;
 use ir_types::key;
 use std::alloc::AllocError;
 
-/// Why a walk over a body stops: there is no memory, or a statement has a fault. It is small, as what each statement is
-/// answered, where an error of functions is not.
+/// Why a walk over a body stops: out of memory, or the fault of a statement. It is small because it is returned for each statement, which
+/// an error of functions is not.
 #[derive(Clone, Copy)]
 pub enum ScopeError {
-    /// A growth was refused.
+    /// Memory was refused.
     Memory(AllocError),
     /// An operand is not in scope.
     Unknown(Handle<key::Expression>),
-    /// What is passed to a function at a place is not in scope.
+    /// An argument of a call is not in scope.
     UnknownArgument {
         /// The function.
         function: Handle<key::Function>,
-        /// The place.
+        /// The index of the argument.
         index: usize,
     },
-    /// What is brought into scope is there already.
+    /// An introduced expression is already in scope.
     Known(Handle<key::Expression>),
     /// The result of a call is in scope already.
     KnownResult {
@@ -28,7 +28,7 @@ pub enum ScopeError {
         /// The expression.
         answer: Handle<key::Expression>,
     },
-    /// A call answers by what is answered by already, or where no answers are required.
+    /// A call has the result of another statement, or has one where none is required.
     Answered {
         /// The function that is called.
         function: Handle<key::Function>,

@@ -1,8 +1,8 @@
 //! A law of the faults of scope.
 ghost use Rattle.function_body_checks.specs.Laws.{FaultsRefute};
 
-/// A function with a fault of scope uses what is not in scope, brings what is, answers by one expression twice, or answers where
-/// no answer is required.
+/// A function with a fault of scope uses what is not in scope, introduces what is, has one result twice, or has a result where none is
+/// required.
 pub fn faults_refute()
     ensures { FaultsRefute }
 {}

@@ -35,7 +35,7 @@ impl Model for ExpressionList {
     ghost invariant = { λ l. AreListed l.members l.ranges.items l.count };
 }
 
-// Frees the last range, or of as much of it as goes beyond so many, and answers how many are left.
+// Frees the last range, or its part beyond this count, and returns how many are left.
 fn cut_last(
     members: &mut RangeSet,
     ranges: &mut Vec<Range<key::Expression>>,
@@ -92,14 +92,14 @@ impl ExpressionList {
         self.members.contains(handle.index())
     }
 
-    /// Adds an expression, and answers whether it was none of them. The error is out of memory.
+    /// Adds an expression, and returns whether it was none of them. The error is out of memory.
     pub fn insert(&mut self, handle: Handle<key::Expression>) -> Result<bool, AllocError>
         ensures { IfOk result (IsAdded self.old self.new handle) }
     {
         self.insert_range(Range::new_from_bounds(handle, handle))
     }
 
-    /// Adds a range of expressions, and answers whether none of them was there; else none is added. The error is out of memory.
+    /// Adds a range of expressions, and returns whether none of them was there; else adds none. The error is out of memory.
     pub fn insert_range(&mut self, range: Range<key::Expression>) -> Result<bool, AllocError>
         ensures { IfOk result (AreAdded self.old self.new (handles_between range)) }
     {
@@ -115,7 +115,7 @@ impl ExpressionList {
         Ok(true)
     }
 
-    /// Lets go all but the first so many.
+    /// Drops all but the first `count`.
     pub fn cut(&mut self, count: usize)
         ensures { self.new ≡ take count self.old }
     {

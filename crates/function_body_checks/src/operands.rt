@@ -1,4 +1,4 @@
-//! What statements use that has to be in scope.
+//! The operands of statements that must be in scope.
 
 ghost use Rattle.std.specs.Prelude.{◌≡◌, slice_get};
 ghost use Rattle.ir_blocks.specs.found.View.{statement_view};
@@ -53,7 +53,7 @@ pub fn is_known(
     is_held(scope, handle) || is_always_known(function, handle)
 }
 
-// Whether an operand is looked up where scope is strict or isn't.
+// Whether an operand must be in scope, under strict scope or not.
 fn is_looked_up(strict: bool, scoping: Scoping) -> bool
     ensures { result ≡ is_looked_up strict scoping }
 {

@@ -19,7 +19,7 @@ use ir_blocks::plain_operation;
 use ir_items::{Block, Statement, SwitchCase, key};
 use ir_places::{Part, Step, Trail};
 
-// What the statement at an index uses, what stands inside it aside.
+// The operands of the statement at an index, without its inner blocks.
 #[tactic(auto, using(crate::proofs::Walks::here_wrong))]
 fn check_used(
     outline: &Outline<'_>,
@@ -61,7 +61,7 @@ fn check_condition(
     }
 }
 
-// The statement at an index, which holds no others.
+// The statement at an index, which has no inner blocks.
 #[tactic(auto, using(crate::proofs::Walks::here_wrong))]
 fn check_own(
     outline: &Outline<'_>,
@@ -84,8 +84,8 @@ fn check_own(
     }
 }
 
-/// Whether the statements of a block, and those inside them, use what is in scope, bring what is not, and answer once. What the
-/// block's own statements bring stays in scope.
+/// Whether the statements of a block, at any depth, use what is in scope, introduce what is not, and have results of their own. What the
+/// block's own statements introduce stays in scope.
 #[cycle(walk)]
 pub fn check_block(
     outline: &Outline<'_>,
@@ -128,7 +128,7 @@ fn check_part(
     }
 }
 
-// The same of a block after whose end nothing of it is in scope.
+// The same for a block whose introductions end with it.
 #[cycle(walk)]
 fn check_inner(
     outline: &Outline<'_>,
@@ -170,7 +170,7 @@ fn check_cases(
     Ok(())
 }
 
-// The same of a statement and of what stands inside it. What it brings itself stays in scope.
+// The same for a statement with its inner blocks. What it introduces itself stays in scope.
 #[cycle(walk)]
 fn check_statement(
     outline: &Outline<'_>,

@@ -30,7 +30,7 @@ use ir_types::with_span::WithSpan;
 use std::alloc::{AllocError, Global};
 use typing_errors::{AtomicError, CallError, ExpressionError, FunctionError};
 
-// Nothing is in scope, and nothing has been answered by. The error is out of memory.
+// An empty scope, without results. The error is out of memory.
 fn beginning(alloc: Global, count: usize) -> Result<Carried, AllocError>
     ensures scope { IfOk result (λ c. c.scope ≡ []) }
     ensures answered { IfOk result (λ c. c.answered ≡ []) }
@@ -54,7 +54,7 @@ fn refused_call(
     Refusal::Fault(WithSpan::new(alloc, error))
 }
 
-// The refusal that tells an error.
+// The refusal for an error.
 fn refused(alloc: Global, error: ScopeError) -> Refusal<FunctionError>
     ensures { (flags : ValidationFlags) (f : PlainFunction) (p : Place) → IfFault error (λ e. IsScopeFaultAt flags f e p) → IsScopeRefusalAt flags f result p }
 {
@@ -85,7 +85,7 @@ fn refused(alloc: Global, error: ScopeError) -> Refusal<FunctionError>
     }
 }
 
-// Whether statements may answer by expressions.
+// Whether results of statements are required.
 fn requires_results(flags: ValidationFlags) -> bool
     ensures { IsTrue result ↔ Has flags.0 EXPRESSIONS.0 }
 {

@@ -1,4 +1,4 @@
-//! What a statement itself uses, brings into scope and answers by.
+//! What a statement itself uses, introduces and has as its result.
 
 ghost use Rattle.std.specs.Prelude.{◌≡◌, ◌++◌, ℕ, Bool, List, All, IfErr, IfNone, IfSome, OnOk, Some, option_to_list};
 ghost use Rattle.ir_blocks.specs.judged.Places.{statement as spot, loop_condition};
@@ -20,14 +20,14 @@ use ir_blocks::plain_operation;
 use ir_items::{Function, Statement, key};
 use typing_references::callee_of;
 
-/// What a walk over a body carries: the expressions in scope, and those by which calls and atomic operations have answered.
+/// The state of a walk over a body: the expressions in scope, and the results of calls and atomic operations so far.
 #[derive(Drop)]
 pub struct Carried {
     pub scope: ExpressionList,
     pub answered: ExpressionList,
 }
 
-// What is passed where a statement is a call.
+// The arguments of a call; none for other statements.
 fn arguments_of(statement: &Statement) -> &[Handle<key::Expression>]
     ensures { (function : ℕ) → statement_callee (statement_view statement.now) ≡ Some function → result.now ≡ statement_checked (statement_view statement.now) }
 {
@@ -46,7 +46,7 @@ fn arguments_of(statement: &Statement) -> &[Handle<key::Expression>]
     }
 }
 
-// What is wrong with what a call passes.
+// The error of a call's arguments.
 #[tactic(auto, using(crate::proofs::Tables::all_placed, crate::proofs::Tables::not_placed))]
 fn argument_error(
     function: &Function,
@@ -66,7 +66,7 @@ fn argument_error(
     }
 }
 
-// What is wrong with the operands of a statement.
+// The error of a statement's operands.
 #[tactic(auto, using(crate::proofs::Tables::all_known, crate::proofs::Tables::not_known))]
 fn operand_error(
     function: &Function,
@@ -85,7 +85,7 @@ fn operand_error(
     }
 }
 
-/// Whether what a statement uses is in scope, what stands inside it aside, and a loop's condition.
+/// Whether a statement's operands are in scope, without its inner blocks and a loop's condition.
 pub fn check_used(
     function: &Function,
     asked: bool,
@@ -124,7 +124,7 @@ pub fn check_condition(
     }
 }
 
-/// What a statement that holds no others uses, brings into scope and answers by.
+/// Checks a statement without inner blocks: its operands, introductions and result.
 #[tactic(auto, using(crate::proofs::Tables::noted, crate::proofs::Tables::fine))]
 pub fn check_own(
     outline: &Outline<'_>,

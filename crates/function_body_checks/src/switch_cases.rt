@@ -15,7 +15,7 @@ use std::alloc::{AllocError, Global};
 use std::collections::BTreeSet;
 use typing_errors::FunctionError;
 
-// Whether a kind of scalar is one of integers with a sign.
+// Whether a scalar kind is `Sint`.
 const fn is_signed(kind: ScalarKind) -> bool
     ensures { IsTrue result ↔ (kind ≡ Sint) }
 {
@@ -29,7 +29,7 @@ const fn is_signed(kind: ScalarKind) -> bool
     }
 }
 
-// Whether a kind of scalar is one of integers without a sign.
+// Whether a scalar kind is `Uint`.
 const fn is_unsigned(kind: ScalarKind) -> bool
     ensures { IsTrue result ↔ (kind ≡ Uint) }
 {
@@ -65,7 +65,7 @@ const fn value_key(value: SwitchValue) -> (u8, i64)
     }
 }
 
-// That a value stands twice.
+// The error of a value that occurs twice.
 const fn repeated(kind: ScalarKind, value: SwitchValue) -> FunctionError
     ensures { (values : List Value) → OccursTwice values value → IsValueFault kind values result }
 {
@@ -75,7 +75,7 @@ const fn repeated(kind: ScalarKind, value: SwitchValue) -> FunctionError
     }
 }
 
-// What is wrong with the values by themselves, of the first case where something is. The error is out of memory.
+// The error of the first case whose value is wrong. The error is out of memory.
 fn values_fault(
     alloc: Global,
     kind: ScalarKind,

@@ -1,4 +1,4 @@
-//! What connects an entry point with other stages and with hosts.
+//! The interface of an entry point: with other stages, and with hosts.
 
 ghost use Rattle.std.specs.Prelude.{◌≡◌, ◌<◌, ◌↔◌, IfSome, IsTrue, MatchResult, OnOk, length};
 ghost use Rattle.function_entry_checks.specs.Faults.{IsRefusedFor};

@@ -1,4 +1,4 @@
-//! What the rules of entry points may look at.
+//! The context of the rules of entry points.
 
 ghost use Rattle.std.specs.Prelude.{◌≡◌};
 ghost use Rattle.function_entries.specs.Contexts.{IsKnown, varying_context};
@@ -10,7 +10,7 @@ use ir_items::{EntryPoint, Module};
 use spec_interface::Direction;
 use typing_layout::TypeInfo;
 
-/// What the rules of entry points may look at.
+/// The context of the rules of entry points.
 #[derive(Clone, Copy)]
 pub struct EntryContext<'a> {
     /// The checks that are made.
@@ -25,7 +25,7 @@ pub struct EntryContext<'a> {
     pub entry: &'a EntryPoint,
 }
 
-/// What the rules of varyings may look at that go this way.
+/// The context of the rules of varyings in this direction.
 pub(crate) fn varying_context<'a>(
     context: &EntryContext<'a>,
     direction: Direction,

@@ -19,7 +19,7 @@ use spec_interface::{MeshParts, members_at, parts_of, topology_at};
 use std::alloc::{AllocError, Global};
 use std::collections::BTreeMap;
 
-/// What is known of what mesh shaders give: the parts of outputs, and what primitives are, by their types.
+/// What is known of mesh outputs by type: their members, and topologies of primitives.
 #[derive(Drop)]
 pub(crate) struct KnownMeshes {
     parts: BTreeMap<u32, MeshParts>,
@@ -42,7 +42,7 @@ fn parts_at(module: &Module, ty: Handle<key::IrType>) -> Option<MeshParts>
 }
 
 impl KnownMeshes {
-    // Nothing is known. It takes no memory.
+    // Empty. It takes no memory.
     fn new(alloc: Global) -> KnownMeshes
         ensures { (types : List PlainType) → AreMeshesKnown types result }
     {
@@ -104,8 +104,7 @@ impl KnownMeshes {
     }
 }
 
-/// What is known of the interfaces of a module's entry points. It is begun once for all of them and grows with each that is
-/// checked.
+/// What is known of the interfaces of a module's entry points: shared by all of them, and extended by each check.
 #[derive(Drop)]
 pub struct KnownInterfaces {
     pub(crate) varyings: KnownTypes,
@@ -113,7 +112,7 @@ pub struct KnownInterfaces {
 }
 
 impl KnownInterfaces {
-    /// Nothing is known. It takes no memory.
+    /// Empty. It takes no memory.
     pub fn new(alloc: Global) -> KnownInterfaces
         ensures { (flags : ValidationFlags) (capabilities : Capabilities) (types : List PlainType) → AreInterfacesKnown flags capabilities types result }
     {

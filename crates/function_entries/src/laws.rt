@@ -2,14 +2,14 @@
 
 ghost use Rattle.function_entries.specs.Laws.{StageFaultRefutes, PayloadFaultRefutes, ConnectionFaultRefutes, OneImplied};
 
-/// An entry point is not as it should be in a part with which something is wrong.
+/// A fault of an entry point refutes the rule of that part.
 pub fn fault_refutes()
     ensures stage { StageFaultRefutes }
     ensures payload { PayloadFaultRefutes }
     ensures connections { ConnectionFaultRefutes }
 {}
 
-/// A variable implies one thing at most of a mesh shader.
+/// A variable implies at most one `MeshStageInfo`.
 pub fn one_implied()
     ensures { OneImplied }
 {}

@@ -1,4 +1,4 @@
-//! What the outputs of mesh shaders imply.
+//! What the output variable of a mesh shader implies.
 
 ghost use Rattle.std.specs.Prelude.{◌<◌, ◌≡◌, [], MatchOption, None, length, slice_index_or};
 ghost use Rattle.function_entries.specs.MeshFaults.{IsImpliedFault};
@@ -15,15 +15,14 @@ use ir_types::key;
 use ir_types::with_span::WithSpan;
 use std::alloc::Global;
 
-/// What is implied of a mesh shader, with the overrides that say how many vertices and how many primitives there are at most, and
-/// what is wrong, if something is.
+/// The implied `MeshStageInfo`, the overrides of the most vertices and the most primitives, and the error, if any.
 pub type MeshAnalysis = (
     MeshStageInfo,
     [Option<Handle<key::Override>>; 2],
     Option<WithSpan<EntryPointError>>,
 );
 
-/// What the outputs of mesh shaders imply.
+/// What the output variable of a mesh shader implies.
 pub trait MeshInfo {
     /// The module that has the variables.
     ghost module_of: { Self → PlainModule };

@@ -1,4 +1,4 @@
-//! What a mesh shader gives, by the variable that holds it.
+//! Mesh outputs, by their variable.
 
 ghost use Rattle.std.specs.Prelude.{◌≡◌, ◌∷◌, ◌<◌, ◌↔◌, [], ℕ, IsTrue, List, MatchOption, MatchResult, OnOk, Option, None, Some, length, map};
 ghost use Rattle.function_entry_checks.specs.Faults.{IsRefusedFor};
@@ -28,18 +28,18 @@ use std::alloc::Global;
 use typing_forms::laws::form_equality;
 use typing_forms::{Form, form_of_type};
 
-/// What an array holds.
+/// The elements of an array.
 #[derive(Clone, Copy)]
 pub(crate) struct Held {
     /// The type of its elements.
     element: Handle<key::IrType>,
-    /// How many there are at most; 0 where an override says so.
+    /// The most elements; 0 where an override gives it.
     most: u32,
-    /// The override that says so.
+    /// The override that gives it.
     by: Option<Handle<key::Override>>,
 }
 
-/// What the vertices and the primitives are.
+/// The types of vertices and primitives.
 #[derive(Clone, Copy)]
 pub(crate) struct Fields {
     vertices: Held,
@@ -49,15 +49,15 @@ pub(crate) struct Fields {
 /// What an output implies.
 #[derive(Clone, Copy)]
 pub(crate) struct Implied {
-    /// What is given, no override said.
+    /// The implied info, without overrides.
     pub(crate) info: MeshStageInfo,
-    /// The override that says how many vertices there are at most.
+    /// The override of the most vertices.
     pub(crate) vertices_by: Option<Handle<key::Override>>,
-    /// The override that says how many primitives there are at most.
+    /// The override of the most primitives.
     pub(crate) primitives_by: Option<Handle<key::Override>>,
 }
 
-// The members of the struct that a variable is.
+// The members of a variable's struct.
 fn variable_members(
     module: &Module,
     variable: Handle<key::GlobalVariable>,
@@ -70,7 +70,7 @@ fn variable_members(
     members_at(module, module.global_variables[variable].ty)
 }
 
-// Whether a type is that of a number of things.
+// Whether a type is that of a count: `u32`.
 fn is_count(module: &Module, ty: Handle<key::IrType>) -> bool
     ensures { IsTrue result ↔ IsCount (module_view «module».now).types ty }
 {
@@ -302,7 +302,7 @@ fn override_of(expression: &Expression) -> Option<Handle<key::Override>>
     }
 }
 
-// Whether a global expression that says how many there are, where it is an override, is the one that is implied.
+// Whether the global expression of a count is the implied override, where it is an override.
 fn is_said_by(
     module: &Module,
     given: Option<Handle<key::Expression>>,
@@ -322,7 +322,7 @@ fn is_said_by(
     }
 }
 
-// Whether two say the same of a mesh shader, overrides and the variable aside.
+// Whether two infos are equal, overrides and the variable aside.
 fn is_same(implied: &MeshStageInfo, said: &MeshStageInfo) -> bool
     ensures { IsTrue result ↔ AreSame implied.now said.now }
 {
@@ -333,7 +333,7 @@ fn is_same(implied: &MeshStageInfo, said: &MeshStageInfo) -> bool
         && implied.primitive_output_type == said.primitive_output_type
 }
 
-// Whether what is said of a mesh shader is what its output implies, which is this.
+// Whether the declared info is this implied one.
 fn check_implied(
     module: &Module,
     mesh: &MeshStageInfo,

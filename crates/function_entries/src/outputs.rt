@@ -1,4 +1,4 @@
-//! Whether a mesh shader gives what it may.
+//! Whether a mesh shader's output is allowed.
 
 ghost use Rattle.std.specs.Prelude.{◌≡◌, ◌<◌, MatchResult, OnOk, length};
 ghost use Rattle.function_entry_checks.specs.Faults.{IsRefusedFor};
@@ -30,7 +30,7 @@ use ir_types::with_span::WithSpan;
 use spec_interface::{Direction, is_workgroup, space_at};
 use std::alloc::Global;
 
-// Whether the output of a mesh shader is memory of its workgroup.
+// Whether a mesh output is in workgroup memory.
 fn check_space(module: &Module, mesh: &MeshStageInfo) -> Result<(), EntryPointError>
     requires { mesh.now.output_variable < length (module_view «module».now).globals }
     ensures { MatchResult result
@@ -44,7 +44,7 @@ fn check_space(module: &Module, mesh: &MeshStageInfo) -> Result<(), EntryPointEr
     }
 }
 
-// Whether points may be given, where primitives are points.
+// Whether points are allowed, where primitives are points.
 fn check_points(capabilities: Capabilities, mesh: &MeshStageInfo) -> Result<(), EntryPointError>
     ensures { MatchResult result
         (λ _. mesh.now.topology ≡ Points → Has capabilities.0 MESH_SHADER_POINT_TOPOLOGY.0)
@@ -87,7 +87,7 @@ fn check_own(
     }
 }
 
-// Whether a mesh shader may give vertices of a type, which have a position.
+// Whether a mesh shader may have vertices of a type, which requires a position.
 fn check_vertices(
     alloc: Global,
     context: &EntryContext<'_>,

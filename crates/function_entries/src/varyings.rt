@@ -1,4 +1,4 @@
-//! What an entry point is given and gives.
+//! The arguments and the result of an entry point.
 
 ghost use Rattle.std.specs.Prelude.{◌≡◌, ◌⊎◌, ◌↔◌, IsSome, IsTrue, MatchResult, OnOk, false, min};
 ghost use Rattle.function_entry_checks.specs.Faults.{IsRefusedFor};
@@ -26,7 +26,7 @@ use std::alloc::Global;
 use typing_forms::laws::form_equality;
 use typing_forms::{Form, form_of_type};
 
-// An index as a number of four bytes, as far as it goes.
+// An index as `u32`, saturating.
 const fn short(index: usize) -> u32
     ensures { result ≡ min index 4294967295 }
 {

@@ -1,4 +1,4 @@
-//! Spans with what stands there.
+//! Spans with labels.
 
 ghost use Rattle.std.specs.Prelude.{◌≡◌, IfErr, IfOk, codes};
 ghost use Rattle.function_errors.specs.Labels.{item_text, labelled};
@@ -8,7 +8,7 @@ use ir_arena::span::Span;
 use ir_types::with_span::WithSpan;
 use std::alloc::AllocFailed;
 
-/// What stands at a span.
+/// The item at a span.
 #[derive(Clone, Copy, PartialEq, Eq, Debug)]
 pub enum Item {
     /// A type.
@@ -30,7 +30,7 @@ pub enum Item {
 }
 
 impl Item {
-    /// What stands there, in words.
+    /// The label's text.
     pub fn text(self) -> &'static str
         ensures { result.now ≡ item_text self }
     {
@@ -47,12 +47,12 @@ impl Item {
     }
 }
 
-/// A part of the source, and what stands there.
+/// A span of the source, with the item there.
 #[derive(Clone, Copy, PartialEq, Eq, Debug)]
 pub struct Label {
-    /// Where it stands, which may be unknown.
+    /// The span, which may be unknown.
     pub span: Span,
-    /// What stands there.
+    /// The item.
     pub item: Item,
 }
 

@@ -1,4 +1,4 @@
-//! What an error of a function speaks of.
+//! The subject of an error of a function.
 
 ghost use Rattle.std.specs.Prelude.{◌≡◌};
 ghost use Rattle.function_errors.specs.Subjects.{expression_if, of_expression_error, of_call_error, of_atomic_error, of_subgroup_error, subject_of};
@@ -7,14 +7,14 @@ use ir_arena::handle::Handle;
 use ir_types::key;
 use typing_errors::{AtomicError, CallError, ExpressionError, FunctionError, SubgroupError};
 
-/// What an error of a function speaks of.
+/// The subject of an error of a function.
 #[derive(Clone, Copy, PartialEq, Eq, Debug)]
 pub enum Subject {
     /// An expression of the function.
     Expression(Handle<key::Expression>),
     /// A local variable of the function.
     LocalVariable(Handle<key::LocalVariable>),
-    /// Nothing that has a place of its own: the function itself.
+    /// The function itself.
     Nothing,
 }
 

@@ -1,4 +1,4 @@
-//! What denotes the results of statements.
+//! Result expressions of statements.
 
 ghost use Rattle.std.specs.Prelude.{◌≡◌, ◌↔◌, IsTrue, MatchResult, Some, true, slice_get};
 ghost use Rattle.function_interface.specs.Answered.{Stands, AllAnswered, IsUnansweredFault};
@@ -51,7 +51,7 @@ const fn stands_for_answer(expression: &Expression) -> bool
     }
 }
 
-// Whether an expression has been answered, where it denotes an answer.
+// Whether an expression is the result of a statement, where it is a result expression.
 fn is_answered(expression: &Expression, answered: &[bool], index: usize) -> bool
     ensures { IsTrue result ↔ (Stands (expression_view expression.now) → slice_get answered.now index ≡ Some true) }
 {

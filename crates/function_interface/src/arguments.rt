@@ -1,4 +1,4 @@
-//! What a function is given.
+//! The arguments of a function.
 
 ghost use Rattle.std.specs.Prelude.{◌≡◌, ◌↔◌, Bool, IfOk, IsTrue, MatchResult};
 ghost use Rattle.function_interface.specs.Arguments.{IsArgumentFault, IsArgumentsFault, IsNamed};
@@ -21,18 +21,18 @@ use std::alloc::{AllocError, Global};
 use typing_errors::FunctionError;
 use typing_layout::TypeInfo;
 
-// Why a function may not be given something.
+// Why an argument is refused.
 #[derive(Clone, Copy)]
 pub(crate) enum ArgumentFault {
-    // It points into this space.
+    // A pointer into this space.
     Space(AddressSpace),
-    // Functions take no values of its type.
+    // No argument can have its type.
     Type,
-    // It is bound, and the function is no entry point.
+    // It has a binding, and the function is no entry point.
     Binding,
 }
 
-// Whether functions are given pointers into a space.
+// Whether pointers into a space may be arguments.
 const fn is_given(space: AddressSpace) -> bool
     ensures { IsTrue result ↔ IsGiven space }
 {
@@ -49,7 +49,7 @@ const fn is_given(space: AddressSpace) -> bool
     }
 }
 
-// Whether a function may be given something.
+// Whether an argument is allowed.
 fn check_argument(
     context: &BlockContext<'_>,
     infos: &[TypeInfo],
@@ -75,7 +75,7 @@ fn check_argument(
     Ok(())
 }
 
-// The error of what a function may not be given.
+// The error of a refused argument.
 fn error_of(
     alloc: Global,
     index: usize,

@@ -12,7 +12,7 @@ use typing_infos::FunctionInfo;
 /// Stages that are noted in what is kept of functions (`available_stages` of naga's `FunctionInfo`).
 #[derive(Clone, Copy)]
 pub struct NotedStages<'a>(
-    /// What is kept of each.
+    /// The info of each.
     pub &'a [FunctionInfo],
 );
 

@@ -1,4 +1,4 @@
-//! What types may be used for.
+//! Uses of types.
 
 ghost use Rattle.std.specs.Prelude.{◌↔◌, IsTrue, List};
 ghost use Rattle.function_interface.specs.Reported.{AreReported};

@@ -25,7 +25,7 @@ use std::alloc::Global;
 use typing_errors::{FunctionError, LocalVariableError};
 use typing_layout::TypeInfo;
 
-// Whether the value of an expression is known before the shader runs.
+// Whether an expression is constant or an override.
 fn is_known(context: &BlockContext<'_>, handle: Handle<key::Expression>) -> bool
     requires { IsKnown context.now }
     ensures { IsTrue result ↔ (IsOfKind (context_view context.now).f.expressions handle Const ⊎ IsOfKind (context_view context.now).f.expressions handle Override) }
@@ -34,7 +34,7 @@ fn is_known(context: &BlockContext<'_>, handle: Handle<key::Expression>) -> bool
         && context.kinds.is_const_or_override(handle)
 }
 
-// Whether a variable of a type may begin as an expression.
+// Whether a variable of a type may have this initializer.
 fn check_begin(
     context: &BlockContext<'_>,
     ty: Handle<key::IrType>,

@@ -38,7 +38,7 @@ use typing_layout::TypeInfo;
 /// What types the expressions of a module's functions, analyses its functions, and reports on its types. The rules of functions
 /// depend on it and on nothing that it does: over any such layer they are the same, read with what the layer says.
 pub trait Lower {
-    /// What is kept of a function.
+    /// The info of a function.
     type Info: Drop;
 
     /// The layer was made for the module.

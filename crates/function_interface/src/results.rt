@@ -1,4 +1,4 @@
-//! What a function answers.
+//! The result of a function.
 
 ghost use Rattle.std.specs.Prelude.{IfSome, MatchResult};
 ghost use Rattle.function_interface.specs.Results.{IsResultFault};

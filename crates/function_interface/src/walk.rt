@@ -13,9 +13,9 @@ use ir_blocks::{Block, Statement, SwitchCase, plain_operation};
 use ir_flags::ShaderStages;
 use module_context::CalleeStages;
 
-// Which stages may run a statement, what stands inside it aside. The walk is the same whatever they are.
+// Which stages may run a statement, without its inner blocks. The walk is generic over them.
 trait RunBy {
-    // They, as bits.
+    // The stages, as bits.
     ghost runs: { Self → PlainStatement → ℕ };
 
     fn stages(&self, statement: &Statement) -> ShaderStages
@@ -39,7 +39,7 @@ impl<C: CalleeStages> RunBy for StatementStages<'_, C> {
     }
 }
 
-// What is left of some stages by the statements of a block, at any depth.
+// The stages that may run all statements of a block, at any depth, out of these.
 #[cycle(walk)]
 fn left_in<R: RunBy>(rule: &R, stages: ShaderStages, block: &Block) -> ShaderStages
     ensures { result.0 ≡ left_in (R.runs rule.now) stages.0 (block_view block.now) }
@@ -53,7 +53,7 @@ fn left_in<R: RunBy>(rule: &R, stages: ShaderStages, block: &Block) -> ShaderSta
     left
 }
 
-// What is left by what stands inside a statement.
+// The stages that may run the inner blocks of a statement, out of these.
 #[cycle(walk)]
 fn left_within<R: RunBy>(rule: &R, stages: ShaderStages, statement: &Statement) -> ShaderStages
     ensures { result.0 ≡ left_within (R.runs rule.now) stages.0 (statement_view statement.now) }

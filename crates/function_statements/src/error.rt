@@ -6,7 +6,7 @@ use typing_errors::FunctionError;
 /// There is no memory, or a statement has a fault.
 #[derive(Drop)]
 pub enum StatementError {
-    /// A growth was refused.
+    /// Memory was refused.
     Memory(AllocError),
     /// What is wrong.
     Fault(FunctionError),

@@ -1,4 +1,4 @@
-//! Laws of the checks of what follows rays.
+//! Laws of the checks of ray operations.
 ghost use Rattle.function_statements.specs.OperationLaws.{FaultsRefute};
 
 /// What is done with a ray query, or a ray that is traced, with a fault does not meet its rule, and payloads with a fault are not

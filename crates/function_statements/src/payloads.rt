@@ -1,4 +1,4 @@
-//! The types of the payloads of the rays that a function traces.
+//! Payload types of the rays that a function traces.
 
 ghost use Rattle.std.specs.Prelude.{◌≡◌, ◌≢◌, ℕ, Option as Maybe, option_map, MatchResult};
 ghost use Rattle.std.specs.Option.{MatchOption};

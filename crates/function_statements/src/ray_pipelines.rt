@@ -1,4 +1,4 @@
-//! Rays that a pipeline traces.
+//! Rays traced by a pipeline.
 
 ghost use Rattle.std.specs.Prelude.{◌↔◌, IsTrue, MatchResult};
 ghost use Rattle.function_statements.specs.RayPipelines.{IsPayload, IsPayloadFault, IsTraceFault, IsRayPipelineFault};
@@ -39,7 +39,7 @@ fn is_payload<C: StatementContext>(context: &C, payload: Handle<key::Expression>
     }
 }
 
-// Why an expression is no payload.
+// The error of an expression that is no payload.
 fn payload_error<C: StatementContext>(
     context: &C,
     payload: Handle<key::Expression>,

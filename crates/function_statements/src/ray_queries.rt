@@ -1,4 +1,4 @@
-//! What is done with ray queries.
+//! Operations on ray queries.
 
 ghost use Rattle.std.specs.Prelude.{◌≡◌, ◌↔◌, IsTrue, MatchResult, option_map, slice_get};
 ghost use Rattle.ir_blocks.specs.declared.operations.RayQueryFunction.TheVariants.{Initialize};
@@ -66,7 +66,7 @@ const fn gives_vertices(asked: bool, given: bool) -> bool
     !asked || given
 }
 
-// Whether a query begins in a structure that serves it, with what describes a ray.
+// Whether a query begins with a suitable acceleration structure and a ray descriptor.
 fn check_start<C: StatementContext>(
     context: &C,
     query: Handle<key::Expression>,
@@ -106,7 +106,7 @@ fn is_distance(of: Form) -> bool
     }
 }
 
-// Whether this may be done with a query.
+// Whether an operation on a query is allowed.
 fn check_step<C: StatementContext>(
     context: &C,
     query: Handle<key::Expression>,

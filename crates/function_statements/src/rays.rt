@@ -1,4 +1,4 @@
-//! What rays are traced in, and what describes them.
+//! Acceleration structures and ray descriptors.
 
 ghost use Rattle.std.specs.Prelude.{◌≡◌, ◌↔◌, IsTrue, Some};
 ghost use Rattle.spec_statements.specs.judged.RayQueries.{structure_of, IsMadeAs, IsRayDescriptor};

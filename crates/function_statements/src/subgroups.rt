@@ -25,7 +25,7 @@ use typing_forms::Form;
 
 // ---- what is needed
 
-// What is needed for an operation over a subgroup.
+// The operation set that a collective operation needs.
 const fn collective_needs(op: SubgroupOperation) -> SubgroupOperationSet
     ensures { result ≡ collective_needs op }
 {
@@ -41,7 +41,7 @@ const fn collective_needs(op: SubgroupOperation) -> SubgroupOperationSet
     }
 }
 
-// What is needed to take values from other invocations.
+// The operation set that a gather needs.
 const fn gather_needs(mode: &GatherMode) -> SubgroupOperationSet
     ensures { result ≡ gather_needs mode.now }
 {
@@ -55,7 +55,7 @@ const fn gather_needs(mode: &GatherMode) -> SubgroupOperationSet
     }
 }
 
-// Whether subgroups may be used, and so.
+// Whether an operation of a subgroup is allowed.
 fn check_operation<C: StatementContext>(
     context: &C,
     needed: SubgroupOperationSet,
@@ -98,7 +98,7 @@ fn answered_at<C: StatementContext>(
     }
 }
 
-// Whether an answer is of the argument's type.
+// Whether a result has the argument's type.
 fn answers_as<C: StatementContext>(
     context: &C,
     argument: Handle<key::Expression>,
@@ -114,7 +114,7 @@ fn answers_as<C: StatementContext>(
 
 // ---- ballots
 
-// Whether a ballot of subgroups that may be used is by a truth value, if it is by any.
+// Whether the predicate of an allowed ballot is a bool or absent.
 fn check_predicate<C: StatementContext>(
     context: &C,
     predicate: &Option<Handle<key::Expression>>,
@@ -169,7 +169,7 @@ const fn is_number(kind: ScalarKind) -> bool
     }
 }
 
-// Whether an operation takes so many of a scalar.
+// Whether an operation takes values of this shape.
 fn takes_shape(op: SubgroupOperation, shape: Shape, scalar: Scalar) -> bool
     ensures { IsTrue result ↔ TakesShape op shape scalar }
 {
@@ -197,7 +197,7 @@ fn takes(op: SubgroupOperation, of: Form) -> bool
     }
 }
 
-// Whether scans are of an operation.
+// Whether an operation has scans.
 const fn is_scanned(op: SubgroupOperation) -> bool
     ensures { IsTrue result ↔ IsScanned op }
 {
@@ -213,7 +213,7 @@ const fn is_scanned(op: SubgroupOperation) -> bool
     }
 }
 
-// Whether an operation goes over these invocations.
+// Whether an operation has this collective mode.
 const fn goes_over(collective_op: CollectiveOperation, op: SubgroupOperation) -> bool
     ensures { IsTrue result ↔ GoesOver collective_op op }
 {
@@ -223,7 +223,7 @@ const fn goes_over(collective_op: CollectiveOperation, op: SubgroupOperation) ->
     }
 }
 
-// Whether an operation that may be used takes its argument, goes over these invocations and is answered so.
+// Whether an allowed operation has a suitable argument, collective mode and result.
 fn check_collected<C: StatementContext>(
     context: &C,
     op: SubgroupOperation,
@@ -275,7 +275,7 @@ pub fn check_collective<C: StatementContext>(
 
 // ---- gathers
 
-// The index of the invocation that values are taken from.
+// The index of the invocation that is read.
 const fn gather_index(mode: &GatherMode) -> Option<Handle<key::Expression>>
     ensures { result ≡ gather_index mode.now }
 {
@@ -307,7 +307,7 @@ fn bad_index<C: StatementContext>(context: &C, mode: &GatherMode) -> Option<Hand
     }
 }
 
-// The index, where it should be known as the module is written and is not.
+// The index, where it must be constant and is not.
 fn unknown_index<C: StatementContext>(
     context: &C,
     mode: &GatherMode,
@@ -333,7 +333,7 @@ fn unknown_index<C: StatementContext>(
     }
 }
 
-// Whether values of a type are taken from other invocations: scalars and vectors of numbers.
+// Whether values of a type can be gathered: scalars and vectors of numbers.
 fn is_gathered(of: Form) -> bool
     ensures { IsTrue result ↔ IsMadeOf IsScalarOrVector IsSubgroupNumber of }
 {
@@ -343,7 +343,7 @@ fn is_gathered(of: Form) -> bool
     }
 }
 
-// Whether values may be taken so, where this may be done at all.
+// Whether an allowed gather is correct.
 fn check_gathered<C: StatementContext>(
     context: &C,
     mode: &GatherMode,

@@ -1,4 +1,4 @@
-//! The kinds of what denotes answers.
+//! The kinds of result expressions.
 
 ghost use Rattle.std.specs.Prelude.{◌≡◌, ℕ, List, IfErr, OnOk, slice_get};
 ghost use Rattle.ir_blocks.specs.judged.Places.{statement as spot};
@@ -12,10 +12,10 @@ use crate::error::StrictError;
 use ir_arena::handle::Handle;
 use ir_items::{Expression, Function, RayQueryFunction, Statement, key};
 
-// What denotes the answers of a statement, where they are to be of a kind of their own.
+// The result expressions of a statement that must have a kind of their own.
 #[derive(Clone, Copy)]
 struct Answers {
-    // That of a `Proceed`.
+    // The result of a `Proceed`.
     proceed: Option<Handle<key::Expression>>,
     // That of a ballot.
     ballot: Option<Handle<key::Expression>>,
@@ -27,7 +27,7 @@ const NONE: Answers = Answers {
     ballot: None,
 };
 
-// What denotes the answer of a step of a ray query, where that is a `Proceed`.
+// The result of an operation on a ray query, if it is a `Proceed`.
 fn proceed_of(fun: &RayQueryFunction) -> Option<Handle<key::Expression>>
     ensures { result ≡ ray_result fun.now }
 {
@@ -40,7 +40,7 @@ fn proceed_of(fun: &RayQueryFunction) -> Option<Handle<key::Expression>>
     }
 }
 
-// What denotes the answers of a statement.
+// The result expressions of a statement.
 fn answers_of(statement: &Statement) -> Answers
     ensures proceed { result.proceed ≡ proceeds_by (statement_view statement.now) }
     ensures ballot { result.ballot ≡ ballots_by (statement_view statement.now) }
@@ -78,7 +78,7 @@ fn answers_of(statement: &Statement) -> Answers
     }
 }
 
-// Whether the expression at a handle denotes the answer of a `Proceed`.
+// Whether the expression at a handle is a `RayQueryProceedResult`.
 #[tactic(auto, using(typing_references::proofs::Entries::entries))]
 fn is_proceed_result(function: &Function, handle: Handle<key::Expression>) -> bool
     ensures { result ≡ is_proceed (slice_get (function_view function.now).expressions handle) }
@@ -89,7 +89,7 @@ fn is_proceed_result(function: &Function, handle: Handle<key::Expression>) -> bo
     }
 }
 
-// The same of a ballot.
+// The same for a ballot.
 #[tactic(auto, using(typing_references::proofs::Entries::entries))]
 fn is_ballot_result(function: &Function, handle: Handle<key::Expression>) -> bool
     ensures { result ≡ is_ballot (slice_get (function_view function.now).expressions handle) }
@@ -100,7 +100,7 @@ fn is_ballot_result(function: &Function, handle: Handle<key::Expression>) -> boo
     }
 }
 
-/// Whether what denotes the answer of a `Proceed` or of a ballot is of its own kind.
+/// Whether the result of a `Proceed` or of a ballot has its own kind.
 pub fn check_answer(function: &Function, statement: &Statement) -> Result<(), StrictError>
     ensures kind { OnOk result (AnswerKindOK (function_view function.now) (statement_view statement.now)) }
     ensures fault { IfErr result (λ r. IfFault r (λ e. (sure : List ℕ) → IsFaultHere (function_view function.now) (spot (statement_view statement.now)) sure e)) }

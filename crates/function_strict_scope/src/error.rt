@@ -4,24 +4,24 @@ use ir_arena::handle::Handle;
 use ir_types::key;
 use std::alloc::AllocError;
 
-/// Why a walk over a body stops: there is no memory, or a statement has a fault. It is small, as what each statement is
-/// answered, where an error of functions is not.
+/// Why a walk over a body stops: out of memory, or the fault of a statement. It is small because it is returned for each statement, which
+/// an error of functions is not.
 #[derive(Clone, Copy)]
 pub enum StrictError {
-    /// A growth was refused.
+    /// Memory was refused.
     Memory(AllocError),
     /// An operand is not in scope.
     Unknown(Handle<key::Expression>),
-    /// What is passed to a function at a place is not in scope.
+    /// An argument of a call is not in scope.
     UnknownArgument {
         /// The function.
         function: Handle<key::Function>,
-        /// The place.
+        /// The index of the argument.
         index: usize,
     },
-    /// What is brought into scope is there already. It is so only where the scope of the body is not in order.
+    /// An introduced expression is already in scope. This occurs only where the scope check fails.
     Known(Handle<key::Expression>),
-    /// What denotes the answer of a `Proceed` or of a ballot is of another kind.
+    /// The result of a `Proceed` or of a ballot has another kind.
     OtherAnswer(Handle<key::Expression>),
 }
 

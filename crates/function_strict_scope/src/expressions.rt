@@ -13,7 +13,7 @@ use spec_expressions::{Scoping, Slot};
 use std::alloc::AllocError;
 use typing_references::{OperandUser, with_operands};
 
-// Adds these to a list.
+// Appends these to a list.
 fn add_all(
     list: &mut Vec<Handle<key::Expression>>,
     handles: &[Handle<key::Expression>],
@@ -26,7 +26,7 @@ fn add_all(
     Ok(())
 }
 
-// Adds those of these that are given.
+// Appends those of these that are present.
 fn add_slots(list: &mut Vec<Handle<key::Expression>>, slots: &[Slot]) -> Result<(), AllocError>
     ensures { OnOk result (list.new.items ≡ list.old.items ++ handles_of (these slots.now)) }
 {

@@ -21,7 +21,7 @@ use ir_types::with_span::WithSpan;
 use std::alloc::Global;
 use typing_errors::{CallError, ExpressionError, FunctionError};
 
-// The refusal that tells an error.
+// The refusal for an error.
 fn refused(alloc: Global, error: StrictError) -> Refusal<FunctionError>
     ensures { (f : PlainFunction) (p : Place) → IfFault error (λ e. IsStrictFaultAt f e p) → IsStrictRefusalAt f result p }
 {

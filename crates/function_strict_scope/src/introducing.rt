@@ -1,4 +1,4 @@
-//! What statements bring into scope.
+//! The expressions that statements introduce into scope.
 
 ghost use Rattle.std.specs.Prelude.{◌≡◌, ◌∷◌, ◌++◌, [], true, false, All, IfErr, IfOk, OnOk, slice_get};
 ghost use Rattle.ir_arena.specs.judged.Handles.{handles_between};
@@ -21,7 +21,7 @@ use ir_items::{Function, Statement, key};
 use std::alloc::{AllocError, Global};
 use typing_references::{range_of, result_of};
 
-// Brings an expression into scope after the others.
+// Introduces an expression after the others.
 fn add(sure: &mut ExpressionList, handle: Handle<key::Expression>) -> Result<(), StrictError>
     ensures added { OnOk result (sure.new ≡ sure.old ++ handle ∷ []) }
     ensures fault { IfErr result (λ r. IfFault r (λ e. (f : PlainFunction) → IsFaultOfNew f sure.old [] (handle ∷ []) e)) }
@@ -67,7 +67,7 @@ fn check_operands(
     }
 }
 
-// Emits a range: of each expression in turn the operands are in scope, and it comes into scope after the others.
+// Emits a range: checks that each expression's operands are in scope, and introduces it.
 fn emit_each(
     function: &Function,
     sure: &mut ExpressionList,
@@ -86,7 +86,7 @@ fn emit_each(
     Ok(())
 }
 
-// Emits a range where it is seen of the whole of it that this may be, and answers whether it did.
+// Emits a range as a whole where the index shows that this is allowed, and returns whether it did.
 fn emit_whole(
     sure: &mut ExpressionList,
     live: &LiveOperands,
@@ -124,7 +124,7 @@ fn emit_range(
     Ok(())
 }
 
-// Brings what a statement answers by into scope.
+// Introduces the result of a statement.
 fn add_result(
     sure: &mut ExpressionList,
     live: &mut LiveOperands,
@@ -139,7 +139,7 @@ fn add_result(
     Ok(())
 }
 
-/// Brings into scope what a statement does, what stands inside it aside. The operands of what is emitted are in scope.
+/// Introduces what a statement itself introduces, without its inner blocks, and checks the operands of what it emits.
 pub fn introduce(
     function: &Function,
     sure: &mut ExpressionList,

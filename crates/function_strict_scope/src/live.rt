@@ -20,7 +20,7 @@ use ir_arena::range::Range;
 use ir_types::key;
 use std::alloc::Global;
 
-/// Which operands of a function's expressions are in scope.
+/// An index of the operands of a function's expressions, by whether they are in scope.
 #[derive(Drop)]
 pub struct LiveOperands {
     /// Whether all operands are in the index. Where they are not, it tells nothing.
@@ -48,7 +48,7 @@ pub fn has_all(live: &LiveOperands, range: Range<key::Expression>) -> bool
     }
 }
 
-/// A range comes into scope.
+/// Introduces a range.
 #[tactic(auto, using(crate::proofs::LiveLemmas::follows_nothing))]
 pub fn bring(live: &mut LiveOperands, range: Range<key::Expression>)
     ensures { (f : PlainFunction) (sure : List ℕ) → Follows f live.old sure → Follows f live.new (sure ++ handles_between range) }
@@ -67,8 +67,8 @@ pub fn bring(live: &mut LiveOperands, range: Range<key::Expression>)
     }
 }
 
-// The last range leaves the scope, in which so many expressions are, of which so many have to stay. It answers how many are
-// left, or that the index tells nothing any more.
+// The last range leaves the scope, in which so many expressions are, of which so many have to stay. Returns how many are left, or that the
+// index tells nothing any more.
 #[tactic(auto, using(crate::proofs::LiveLemmas::follows_nothing))]
 fn drop_last(live: &mut LiveOperands, many: usize, count: usize) -> usize
     requires { count < many }
@@ -97,7 +97,7 @@ fn drop_last(live: &mut LiveOperands, many: usize, count: usize) -> usize
     }
 }
 
-/// All leave the scope but the first so many.
+/// Drops all but the first `count` from scope.
 pub fn cut(live: &mut LiveOperands, sure: &mut ExpressionList, count: usize)
     ensures cut { sure.new ≡ take count sure.old }
     ensures live { (f : PlainFunction) → Follows f live.old sure.old → Follows f live.new sure.new }

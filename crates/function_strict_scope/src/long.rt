@@ -1,13 +1,13 @@
-//! How much a body emits.
+//! The number of expressions that a body emits.
 
 use ir_arena::range::Range;
 use ir_blocks::plain_operation;
 use ir_items::{Block, Function, Statement, SwitchCase, key};
 
-// How often an expression may be emitted before the operands of all of them are put into an index.
+// The average number of emissions of an expression above which the index of operands is built.
 const OFTEN: usize = 8;
 
-// How many expressions there are in a range.
+// The length of a range.
 fn range_len(range: &Range<key::Expression>) -> usize {
     let bounds = range.index_range();
     bounds.end.saturating_sub(bounds.start) as usize

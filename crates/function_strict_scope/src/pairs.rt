@@ -37,8 +37,8 @@ fn is_always_known(function: &Function, handle: Handle<key::Expression>) -> bool
     }
 }
 
-// Puts an operand beside the expression at a place, unless it is in scope everywhere. It answers whether it stands before the
-// expression then. The error is out of memory.
+// Puts an operand beside the expression at a place, unless it is in scope everywhere. It returns whether it stands before the expression
+// then. The error is out of memory.
 fn add_operand(
     pairs: &mut Pairs,
     function: &Function,
@@ -67,7 +67,7 @@ fn both(first: bool, second: bool) -> bool
     first && second
 }
 
-// The same of each of some operands. It answers whether all of these stand before the expression.
+// The same of each of some operands. It returns whether all of these stand before the expression.
 fn add_operands(
     pairs: &mut Pairs,
     function: &Function,

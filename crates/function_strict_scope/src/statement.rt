@@ -1,4 +1,4 @@
-//! What is required of a statement itself.
+//! The rule of a statement itself.
 
 ghost use Rattle.std.specs.Prelude.{◌≡◌, ◌++◌, ℕ, All, IfErr, IfNone, IfSome, OnOk, Some};
 ghost use Rattle.ir_blocks.specs.judged.Places.{statement as spot, loop_condition};
@@ -21,7 +21,7 @@ use ir_blocks::plain_operation;
 use ir_items::{Function, Statement, key};
 use typing_references::callee_of;
 
-// What is passed where a statement is a call.
+// The arguments of a call; none for other statements.
 fn arguments_of(statement: &Statement) -> &[Handle<key::Expression>]
     ensures { (function : ℕ) → statement_callee (statement_view statement.now) ≡ Some function → result.now ≡ statement_needed (statement_view statement.now) }
 {
@@ -40,7 +40,7 @@ fn arguments_of(statement: &Statement) -> &[Handle<key::Expression>]
     }
 }
 
-// What is wrong with what a call passes.
+// The error of a call's arguments.
 #[tactic(auto, using(function_body_checks::proofs::Tables::all_placed, function_body_checks::proofs::Tables::not_placed))]
 fn argument_error(
     function: &Function,
@@ -60,7 +60,7 @@ fn argument_error(
     }
 }
 
-// What is wrong with the operands of a statement.
+// The error of a statement's operands.
 #[tactic(auto, using(function_body_checks::proofs::Tables::all_known, function_body_checks::proofs::Tables::not_known))]
 fn operand_error(
     function: &Function,
@@ -116,7 +116,7 @@ pub fn check_condition(
     }
 }
 
-/// Whether a statement that holds no others meets what is required, which brings into scope what it does.
+/// Whether a statement without inner blocks meets the rule; introduces what it introduces.
 pub fn check_own(
     function: &Function,
     sure: &mut ExpressionList,

@@ -19,7 +19,7 @@ use ir_blocks::plain_operation;
 use ir_items::{Block, Function, Statement, SwitchCase};
 use ir_places::{Part, Step, Trail};
 
-// Where more than what is left has come into scope, lets it go.
+// Drops what was introduced beyond what is left.
 fn cut_after(live: &mut LiveOperands, sure: &mut ExpressionList, left: Option<usize>)
     ensures cut { sure.new ≡ cut_to left sure.old }
     ensures live { (f : PlainFunction) → Follows f live.old sure.old → Follows f live.new sure.new }
@@ -45,9 +45,9 @@ fn either(first: bool, second: bool) -> bool
     first || second
 }
 
-/// Whether the statements of a block, and those inside them, meet what is required. What the block's own statements bring stays in
-/// scope. It answers how many expressions are in scope after the first of its statements that holds a continue of the loop
-/// around the block, if one does: no continue may skip these.
+/// Whether the statements of a block, and those inside them, meet what is required. What the block's own statements bring stays in scope.
+/// Returns how many expressions are in scope after the first of its statements that holds a continue of the loop around the block, if one
+/// does: no continue may skip these.
 #[cycle(walk)]
 pub fn check_block(
     function: &Function,
@@ -98,7 +98,7 @@ fn check_part(
     }
 }
 
-// The same of a block after whose end nothing of it is in scope. It answers whether a continue of the loop around it stands in it.
+// The same of a block after whose end nothing of it is in scope. It returns whether a continue of the loop around it stands in it.
 #[cycle(walk)]
 fn check_inner(
     function: &Function,

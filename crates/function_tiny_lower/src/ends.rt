@@ -1,4 +1,4 @@
-//! Whether a function may end the fragment.
+//! Whether a function may run `Kill`.
 
 ghost use Rattle.std.specs.Prelude.{◌≡◌, is_some, map, slice_get};
 ghost use Rattle.ir_items.specs.found.View.{function_view};
@@ -22,7 +22,7 @@ fn may_end(callees: &[TinyInfo], function: Handle<key::Function>) -> bool
     }
 }
 
-// Statements that end it, themselves or by a function that they call.
+// Statements that run `Kill`, directly or in a callee.
 #[derive(Drop)]
 struct Ends<'a> {
     callees: &'a [TinyInfo],

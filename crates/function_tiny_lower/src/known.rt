@@ -11,7 +11,7 @@ use ir_types::{Expression, key};
 /// An expression of a kind that the layer knows.
 #[derive(Clone, Copy)]
 pub(crate) enum Known {
-    /// A value that is written.
+    /// A literal.
     Literal(Literal),
     /// The zero of a type.
     ZeroValue(Handle<key::IrType>),
@@ -37,9 +37,9 @@ pub(crate) enum Known {
     Select {
         /// The condition.
         condition: Handle<key::Expression>,
-        /// What is taken where it holds.
+        /// The value if it is true.
         accept: Handle<key::Expression>,
-        /// What is taken where it doesn't.
+        /// The value if it is false.
         reject: Handle<key::Expression>,
     },
     /// The result of a call of this function.

@@ -60,7 +60,7 @@ fn answer_of(module: &Module, function: Handle<key::Function>) -> Option<Functio
     }
 }
 
-/// The type of what a function answers.
+/// The type of a function's result.
 pub(crate) fn answer_type(module: &Module, function: Handle<key::Function>) -> Option<ValueType>
     ensures { result ≡ answer_type (module_view «module».now).types (slice_get (module_view «module».now).functions function) }
 {

@@ -1,4 +1,4 @@
-//! The types of all expressions of a function.
+//! The types of a function's expressions.
 
 ghost use Rattle.std.specs.Prelude.{◌≡◌, Some, IfErr, IfOk, map};
 ghost use Rattle.function_interface.specs.Analysis.{IsRefusedFor};

@@ -13,7 +13,7 @@ use typing_forms::{Form, TypeResolution};
 pub(crate) enum ValueType {
     /// An unsigned integer of four bytes.
     U32,
-    /// A truth value.
+    /// `bool`.
     Bool,
     /// A float of four bytes.
     F32,
@@ -108,7 +108,7 @@ fn scalar_of(ty: ValueType) -> Scalar
     }
 }
 
-/// How it is reported.
+/// Its `TypeResolution`.
 pub(crate) fn resolution_of(ty: ValueType) -> TypeResolution
     ensures { result ≡ resolution_of ty }
 {

@@ -1,4 +1,4 @@
-//! One built-in value.
+//! Built-in values.
 
 ghost use Rattle.std.specs.Prelude.{◌≡◌, ◌≤◌, ◌↔◌, ◌⊎◌, ℕ, IfOk, IfSome, IsTrue, MatchOption, MatchResult};
 ghost use Rattle.ir_flags.specs.Sets.{Has};
@@ -30,11 +30,11 @@ use typing_forms::{Form, form_of_type, inner_of};
 pub(crate) enum RowFault {
     // This capability is missing.
     Capability(Capabilities),
-    // Workgroups are no rows.
+    // Workgroups have more than one dimension.
     Rows,
-    // It does not go this way at this stage.
+    // It has another direction at this stage.
     Stage,
-    // It is of another type.
+    // It has another type.
     Type,
 }
 
@@ -104,14 +104,14 @@ fn check_need(context: &VaryingContext<'_>, row: &BuiltInRow) -> Result<(), RowF
     }
 }
 
-/// Whether workgroups have one invocation in all ways but the first.
+/// Whether workgroups are one-dimensional.
 pub fn are_rows(sizes: [u32; 3]) -> bool
     ensures { IsTrue result ↔ IsLinearWorkgroup sizes }
 {
     sizes[1] <= 1 && sizes[2] <= 1
 }
 
-/// Whether no task hands a mesh shader a payload.
+/// Whether a mesh shader has no task payload.
 pub fn is_ahead(context: &VaryingContext<'_>) -> bool
     ensures { IsTrue result ↔ HasNoTaskPayload (context_view context.now) }
 {

@@ -1,4 +1,4 @@
-//! What the rules of varyings may look at.
+//! The context of the rules of varyings.
 
 use ir_arena::handle::Handle;
 use ir_flags::{Capabilities, ValidationFlags};
@@ -21,10 +21,10 @@ pub struct VaryingContext<'a> {
     pub infos: &'a [TypeInfo],
     /// The entry point's stage.
     pub stage: ShaderStage,
-    /// How many invocations its workgroups have, each way.
+    /// The size of its workgroups, in invocations.
     pub workgroup_size: [u32; 3],
     /// The variable that a task shader hands to mesh shaders.
     pub task_payload: Option<Handle<key::GlobalVariable>>,
-    /// Which way the varyings go.
+    /// The direction of the varyings.
     pub direction: Direction,
 }

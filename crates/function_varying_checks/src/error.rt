@@ -1,4 +1,4 @@
-//! Why a varying is refused.
+//! The errors of varyings.
 
 use ir_arena::handle::Handle;
 use ir_flags::Capabilities;
@@ -10,10 +10,10 @@ use thiserror::Error;
 /// Why a varying is refused (naga's `VaryingError`).
 #[derive(Clone, PartialEq, Debug, Drop, Error)]
 pub enum VaryingError {
-    /// No varying is of the type.
+    /// Varyings can't have this type.
     #[error("type {0:?} cannot be the type of a varying")]
     InvalidType(Handle<key::IrType>),
-    /// Values of the type don't go from one stage to the next.
+    /// Values of this type can't be passed between stages.
     #[error("type {0:?} cannot be passed between stages: only numeric scalars and vectors can")]
     NotIOShareableType(Handle<key::IrType>),
     /// A value is found so at the stage that is named alone.
@@ -120,7 +120,7 @@ pub enum VaryingError {
 /// Why the varyings of an entry point are refused.
 #[derive(Drop)]
 pub enum VaryingRefusal {
-    /// A growth was refused.
+    /// Memory was refused.
     Memory(AllocError),
     /// A varying is refused.
     Fault {

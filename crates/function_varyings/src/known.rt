@@ -23,7 +23,7 @@ use spec_interface::{Direction, Varying};
 use std::alloc::{AllocError, Global};
 use std::collections::BTreeSet;
 
-/// What varyings show.
+/// What is read of varyings.
 #[derive(Clone, Copy)]
 pub struct Shown {
     /// A position is among them.
@@ -123,7 +123,7 @@ fn way_of(context: &VaryingContext<'_>) -> Way
     }
 }
 
-// What varyings show.
+// What is read of varyings.
 fn shown_by(varyings: &[Varying]) -> Shown
     ensures { IsShownBy varyings.now result }
 {
@@ -274,8 +274,8 @@ impl KnownTypes {
         }
     }
 
-    // Takes what the members of a type take, and answers whether an entry point may be given them, and nothing of it was taken
-    // before. The error is out of memory.
+    // Takes what the members of a type take, and returns whether an entry point may be given them, and nothing of it was taken before. The
+    // error is out of memory.
     fn take_type(
         &mut self,
         alloc: Global,

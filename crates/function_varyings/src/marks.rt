@@ -130,7 +130,7 @@ fn mark_of(flags: ValidationFlags, bound: &Bound) -> Option<u64>
     }
 }
 
-// How many there are, as a number of four bytes as far as it goes.
+// A count as `u32`, saturating.
 const fn short(count: usize) -> u32
     ensures { result ≡ min count 4294967295 }
 {
@@ -268,7 +268,7 @@ fn add_part(
 }
 
 impl Marks {
-    /// Nothing is known. It takes no memory.
+    /// Empty. It takes no memory.
     pub(crate) fn new(alloc: Global) -> Marks
         ensures { (flags : ValidationFlags) (types : List PlainType) → AreMarksOf flags types result }
     {
@@ -303,7 +303,7 @@ impl Marks {
         }
     }
 
-    /// Takes what the members of a type take, and answers whether none of it was taken before. The error is out of memory.
+    /// Takes what the members of a type take, and returns whether none of it was taken before. The error is out of memory.
     pub(crate) fn take_members(
         &mut self,
         alloc: Global,
@@ -323,7 +323,7 @@ impl Marks {
         Ok(free)
     }
 
-    /// Takes what varyings take, each by itself, and answers whether none of it was taken before. The error is out of memory.
+    /// Takes what varyings take, each by itself, and returns whether none of it was taken before. The error is out of memory.
     pub(crate) fn take_each(
         &mut self,
         flags: ValidationFlags,
@@ -346,8 +346,7 @@ impl Marks {
     }
 }
 
-// Takes the numbers of a word, and answers whether none of them was taken before. Where there is no room for it, it answers that
-// one was.
+// Takes the numbers of a word, and returns whether none of them was taken before. Where there is no room for it, it answers that one was.
 fn take_word(taken: &mut Vec<u64>, word: Word) -> bool
     ensures still { KeepsBits taken.old.items taken.new.items }
     ensures free { IsTrue result → (n : ℕ) → IsIn word n → (has_bit taken.new.items n ≡ true) × (has_bit taken.old.items n ≡ false) }
@@ -363,7 +362,7 @@ fn take_word(taken: &mut Vec<u64>, word: Word) -> bool
     true
 }
 
-// Takes the numbers of some words, and answers whether none of them was taken before.
+// Takes the numbers of some words, and returns whether none of them was taken before.
 fn take_words(taken: &mut Vec<u64>, words: &[Word], part: Part) -> bool
     requires { part.end ≤ length words.now }
     ensures still { KeepsBits taken.old.items taken.new.items }
@@ -396,7 +395,7 @@ fn make_room(taken: &mut Vec<u64>, words: &[Word], part: Part) -> Result<(), All
     Ok(())
 }
 
-// Takes the numbers of some words, and answers whether none of them was taken before. The error is out of memory.
+// Takes the numbers of some words, and returns whether none of them was taken before. The error is out of memory.
 fn take_part(taken: &mut Vec<u64>, words: &[Word], part: Part) -> Result<bool, AllocError>
     requires { part.end ≤ length words.now }
     ensures still { OnOk result (KeepsBits taken.old.items taken.new.items) }
@@ -406,7 +405,7 @@ fn take_part(taken: &mut Vec<u64>, words: &[Word], part: Part) -> Result<bool, A
     Ok(take_words(taken, words, part))
 }
 
-// Takes what a varying takes, and answers whether it was not taken before. The error is out of memory.
+// Takes what a varying takes, and returns whether it was not taken before. The error is out of memory.
 fn take_one(
     numbers: &mut BTreeMap<u64, u32>,
     flags: ValidationFlags,

@@ -1,4 +1,4 @@
-//! What varyings show.
+//! What is read of varyings.
 
 ghost use Rattle.std.specs.Prelude.{◌≡◌, ◌↔◌, ◌≤◌, IsTrue, Some, length};
 ghost use Rattle.spec_interface.specs.judged.Varyings.{HasBlendSources, HasBuiltIn, built_in_of, canonical, location_of};

@@ -82,7 +82,7 @@ fn unbound_fault(flags: ValidationFlags) -> Option<VaryingError>
     }
 }
 
-// A place as a number of four bytes, as far as it goes.
+// An index as `u32`, saturating.
 const fn short(place: usize) -> u32
     ensures { result ≡ min place 4294967295 }
 {
@@ -145,7 +145,7 @@ fn built_in_again(varyings: &[Varying], place: usize) -> Option<BuiltIn>
     }
 }
 
-// Notes the location that is taken at a place, and answers it where it is taken before. The error is out of memory.
+// Notes the location that is taken at a place, and returns it where it is taken before. The error is out of memory.
 fn note_location(
     noted: &mut BTreeSet<u32>,
     varyings: &[Varying],

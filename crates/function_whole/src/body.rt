@@ -29,10 +29,10 @@ use ir_types::with_span::WithSpan;
 use std::alloc::Global;
 use typing_errors::FunctionError;
 
-/// What is found of a body.
+/// The result of checking a body.
 #[derive(Drop)]
 pub(crate) struct BodyFound {
-    /// By what its calls and its atomic operations answer.
+    /// The results of its calls and atomic operations.
     pub answered: ExpressionList,
     /// The type of the payloads of all functions so far, if one has any.
     pub held: Option<Handle<key::IrType>>,

@@ -30,7 +30,7 @@ use ir_types::with_span::WithSpan;
 use std::alloc::Global;
 use typing_errors::FunctionError;
 
-/// What is found of a function that is accepted.
+/// The result of checking an accepted function.
 #[derive(Clone, Copy)]
 pub(crate) struct Met {
     /// The stages that may run it.

@@ -15,7 +15,7 @@ use ir_types::key;
 use spec_expressions::GlobalUse;
 use std::alloc::{AllocError, Global};
 
-// How an entry point uses its payload.
+// The uses of an entry point's payload.
 const fn own_payload_use(stage: ShaderStage) -> GlobalUse
     ensures { result ≡ own_payload_use stage }
 {
@@ -32,7 +32,7 @@ const fn own_payload_use(stage: ShaderStage) -> GlobalUse
     }
 }
 
-// The variable that holds what a mesh shader gives.
+// The output variable of a mesh shader.
 fn mesh_output(entry: &EntryPoint) -> Option<Handle<key::GlobalVariable>>
     ensures { result ≡ mesh_output (entry_view entry.now) }
 {

@@ -33,7 +33,7 @@ use std::alloc::Global;
 use typing_errors::FunctionError;
 use typing_layout::ExpressionKindTracker;
 
-/// What is kept of a function that is accepted.
+/// The info of an accepted function.
 #[derive(Drop)]
 pub struct Validated<I> {
     /// What the layer keeps of it, with the stages that may run it noted.
@@ -105,7 +105,7 @@ fn judge<L: Lower>(
     }
 }
 
-// What is kept, with the stages noted.
+// The info, with the stages noted.
 fn noted<L: Lower>(lower: &L, info: L::Info, met: Met) -> Validated<L::Info>
     ensures stages { (L.noted lower.now result.info).0 ≡ bit_and (L.noted lower.now info).0 met.stages.0 }
     ensures uses { (g k : ℕ) → HasUseBit (L.summary lower.now result.info).uses g k ↔ HasUseBit (L.summary lower.now info).uses g k }
