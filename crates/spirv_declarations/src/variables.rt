@@ -60,7 +60,7 @@ pub struct Variable {
     pub mesh: Option<MeshPart>,
 }
 
-/// A mesh output held by a variable.
+/// The mesh output that a variable is.
 #[derive(Clone, Copy)]
 pub struct MeshPart {
     /// Whether it is per primitive, and not per vertex.
