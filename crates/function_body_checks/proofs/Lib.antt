@@ -8,5 +8,3 @@ pub mod FaultLaws
 pub mod Refuted
 mod ControlPlaces
 pub mod ControlRefuted
-pub mod CaseLists
-pub mod CaseLemmas

@@ -6,5 +6,3 @@ pub mod Laws
 pub mod Allowed
 pub mod ControlFaults
 pub mod ControlLaws
-pub mod Cases
-pub mod CaseValues

@@ -1,11 +1,9 @@
-//! What is required of a whole body, over and above the rule of each statement.
+//! The rules of a whole body, in addition to the rule of each statement.
 //!
-//! Whether what the statements of a function use is in scope, what they bring into scope is not there already, and each call
-//! and each atomic operation answers by an expression of its own.
+//! Whether the operands of a function's statements are in scope, what they introduce is not in scope yet, and each call and each
+//! atomic operation has a result of its own.
 //!
-//! Whether each statement of a body that leaves its block may do so where it occurs: breaks, continues and returns.
-//!
-//! Whether the values of the cases of a switch differ, one is the default, and the last case doesn't fall through.
+//! Whether each break, continue and return is allowed where it occurs.
 #![tactic(auto)]
 
 mod allowed;
@@ -22,10 +20,8 @@ mod operands;
 mod scope;
 mod scope_function;
 mod statement;
-mod switch_cases;
 
 pub use control_function::check_control;
 pub use list::ExpressionList;
 pub use operands::{is_known, unknown_operand, unknown_place};
 pub use scope_function::check_scope;
-pub use switch_cases::cases_fault;

@@ -1,6 +1,8 @@
 pub mod View
 pub mod Barriers
 pub mod Calls
+pub mod Cases
+pub mod CaseValues
 pub mod Conditions
 pub mod CooperativeStores
 pub mod Descriptors

@@ -1,5 +1,5 @@
-//! Whether statements meet the rules of their kinds: barriers, stores, calls, choices and what is emitted; and what these
-//! checks look at beside what those of expressions do (`CheckContext` of `module_context`).
+//! Whether statements meet the rules of their kinds: barriers, stores, calls, conditions, cases of switches and `Emit`; and the context
+//! of these checks, in addition to that of expressions (`CheckContext` of `module_context`).
 #![tactic(auto)]
 
 mod barriers;
@@ -13,6 +13,7 @@ pub mod laws;
 mod pointers;
 mod returns;
 mod stores;
+mod switch_cases;
 mod variables;
 
 pub use barriers::check_barrier;
@@ -25,4 +26,5 @@ pub use emits::check_emit;
 pub use pointers::{base_at, pointer_space};
 pub use returns::check_return;
 pub use stores::check_store;
+pub use switch_cases::cases_fault;
 pub use variables::{accessed_at, named_at, variable_at};

@@ -13,7 +13,7 @@ use Rattle.ir_kinds.specs.declared.values.SwitchValue.TheVariants.{Default}
 use Rattle.spec_statements.specs.judged.BlockContext.{BlockContext, form_at}
 use Rattle.spec_statements.specs.judged.Switches.{case_values, CasesOK, SwitchOK}
 use Rattle.function_statements.specs.SwitchLaws.{FaultsRefute}
-use Rattle.function_body_checks.specs.Cases.{OccursTwice, IsValueFault, IsEndFault, IsCaseFault}
+use Rattle.function_statement_checks.specs.Cases.{OccursTwice, IsValueFault, IsEndFault, IsCaseFault}
 use Rattle.function_statements.specs.Switches.{IsSwitchFault}
 
 twice_refuted : (values : List SwitchValue) (v : SwitchValue) → OccursTwice values v → AllPairs (λ x y. x ≢ y) values → ⊥

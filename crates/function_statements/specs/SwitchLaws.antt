@@ -5,7 +5,7 @@ use Rattle.ir_blocks.specs.judged.Plain.{PlainCases}
 use Rattle.ir_kinds.specs.declared.scalars.ScalarKind.{ScalarKind}
 use Rattle.spec_statements.specs.judged.BlockContext.{BlockContext, form_at}
 use Rattle.spec_statements.specs.judged.Switches.{CasesOK, SwitchOK}
-use Rattle.function_body_checks.specs.Cases.{IsCaseFault}
+use Rattle.function_statement_checks.specs.Cases.{IsCaseFault}
 use Rattle.function_statements.specs.Switches.{IsSwitchFault}
 
 -- What refutes the rules.

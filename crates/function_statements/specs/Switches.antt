@@ -1,6 +1,6 @@
 -- What is wrong with a switch.
 use Rattle.std.specs.Prelude.{◌≡◌, ◌⊎◌, ℕ, [], IsSomeAnd}
-use Rattle.function_body_checks.specs.Cases.{IsCaseFault}
+use Rattle.function_statement_checks.specs.Cases.{IsCaseFault}
 use Rattle.typing_errors.specs.declared.error.FunctionError.{FunctionError}
 use Rattle.typing_errors.specs.declared.error.FunctionError.TheVariants as error
 use Rattle.ir_blocks.specs.judged.Plain.{PlainCases}

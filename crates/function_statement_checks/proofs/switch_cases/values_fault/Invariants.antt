@@ -3,8 +3,8 @@ use Rattle.std.specs.List.{AllPairs}
 use Rattle.std.specs.BTreeSet.{contains}
 use Rattle.ir_kinds.specs.declared.values.SwitchValue.{SwitchValue}
 use Rattle.spec_statements.specs.judged.Switches.{FitsKind}
-use Rattle.function_body_checks.proofs.CaseLemmas.{key_cmp, value_of, has_key}
-use Rattle.function_body_checks.proofs.switch_cases.values_fault.Given as goal
+use Rattle.function_statement_checks.proofs.CaseLemmas.{key_cmp, value_of, has_key}
+use Rattle.function_statement_checks.proofs.switch_cases.values_fault.Given as goal
 
 -- the set has the keys of the values so far, which differ and are of the kind
 abbrev pub invariant-loop-case : goal.invariant-loop-case

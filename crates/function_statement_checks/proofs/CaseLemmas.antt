@@ -18,9 +18,9 @@ use Rattle.ir_kinds.specs.declared.scalars.ScalarKind.{ScalarKind}
 use Rattle.ir_kinds.specs.declared.values.SwitchValue.{SwitchValue}
 use Rattle.ir_kinds.specs.declared.values.SwitchValue.TheVariants.{I32, U32, Default}
 use Rattle.spec_statements.specs.judged.Switches.{case_values, FitsKind}
-use Rattle.function_body_checks.specs.Cases.{OccursTwice, AreApart}
-use Rattle.function_body_checks.specs.CaseValues.{value_key}
-use Rattle.function_body_checks.proofs.CaseLists.{contains_cons, contains_first, contains_later, image_at, image_before}
+use Rattle.function_statement_checks.specs.Cases.{OccursTwice, AreApart}
+use Rattle.function_statement_checks.specs.CaseValues.{value_key}
+use Rattle.function_statement_checks.proofs.CaseLists.{contains_cons, contains_first, contains_later, image_at, image_before}
 
 -- ---- keys
 

@@ -1,8 +1,8 @@
 use Rattle.std.proofs.Common.{◌≢◌, Contains, true≢false, refl, sym, subst, arith}
 use Rattle.ir_kinds.specs.declared.values.SwitchValue.TheVariants.{Default}
-use Rattle.function_body_checks.proofs.CaseLemmas.{value_of, held_at, held_all}
-use Rattle.function_body_checks.proofs.CaseLists.{each_more}
-use Rattle.function_body_checks.proofs.switch_cases.has_default.Goals as goal
+use Rattle.function_statement_checks.proofs.CaseLemmas.{value_of, held_at, held_all}
+use Rattle.function_statement_checks.proofs.CaseLists.{each_more}
+use Rattle.function_statement_checks.proofs.switch_cases.has_default.Goals as goal
 
 pub loop-case-init : goal.loop-case-init
 loop-case-init c = λ v held. absurd (let lt = held.1 in omega arith)

@@ -1,10 +1,10 @@
 use Rattle.std.proofs.Common.{◌≡◌, Bool, true, false, not, Contains, map, take, true≢false, refl, sym, ◌∙◌, arith}
 use Rattle.std.specs.BTreeSet.{contains}
 use Rattle.spec_statements.specs.judged.Switches.{FitsKind}
-use Rattle.function_body_checks.specs.CaseValues.{value_key}
-use Rattle.function_body_checks.proofs.CaseLemmas.{key_cmp, value_of, held, found, more_keys, held_at, all_apart, stands_twice}
-use Rattle.function_body_checks.proofs.CaseLists.{distinct_more, each_more}
-use Rattle.function_body_checks.proofs.switch_cases.values_fault.Goals as goal
+use Rattle.function_statement_checks.specs.CaseValues.{value_key}
+use Rattle.function_statement_checks.proofs.CaseLemmas.{key_cmp, value_of, held, found, more_keys, held_at, all_apart, stands_twice}
+use Rattle.function_statement_checks.proofs.CaseLists.{distinct_more, each_more}
+use Rattle.function_statement_checks.proofs.switch_cases.values_fault.Goals as goal
 
 not_false : (b : Bool) → false ≡ not b → b ≡ true
 not_false true e = refl

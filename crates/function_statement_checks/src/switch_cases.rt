@@ -6,8 +6,8 @@ ghost use Rattle.ir_kinds.specs.declared.scalars.ScalarKind.TheVariants.{Sint, U
 ghost use Rattle.ir_kinds.specs.declared.values.SwitchValue.{SwitchValue as Value};
 ghost use Rattle.ir_kinds.specs.declared.values.SwitchValue.TheVariants.{Default};
 ghost use Rattle.spec_statements.specs.judged.Switches.{case_values, FitsKind, falls_at_end, CasesOK};
-ghost use Rattle.function_body_checks.specs.Cases.{OccursTwice, IsValueFault, AreApart, IsCaseFault};
-ghost use Rattle.function_body_checks.specs.CaseValues.{value_key};
+ghost use Rattle.function_statement_checks.specs.Cases.{OccursTwice, IsValueFault, AreApart, IsCaseFault};
+ghost use Rattle.function_statement_checks.specs.CaseValues.{value_key};
 
 use ir_blocks::SwitchCase;
 use ir_kinds::{ScalarKind, SwitchValue};
