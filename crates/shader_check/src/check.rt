@@ -6,7 +6,7 @@ ghost use Rattle.check_ports.specs.Sink.{AppendsFront, WritesAll, WritingFails, 
 ghost use Rattle.check_ports.specs.Source.{has_failed as source_failed, reader_of, AreReads, ReadingFails};
 ghost use Rattle.check_ports.specs.declared.source.TheConstants.{MAX_CALLS};
 ghost use Rattle.shader_check.specs.declared.check.TheConstants.{MAX_TAKEN};
-ghost use Rattle.shader_check.specs.judged.Theorem.{verdict_of, Answers, AnswersInCalls, BreaksOff, BreaksOffInCalls};
+ghost use Rattle.shader_check.specs.judged.Theorem.{verdict_of, Answers, AnswersInCalls, BreaksOff, BreaksOffInCalls, ReadsSome};
 ghost use Rattle.shader_check.specs.judged.Theorem.{status_of, message_of};
 
 use crate::judge::judge;
@@ -103,9 +103,9 @@ fn write_text<W: WriteCall>(sink: &mut Sink<W>, text: &[u8]) -> Result<(), Fault
 ///
 /// Every [`std::io::Read`] is a [`ReadCall`], and every [`std::io::Write`] a [`WriteCall`].
 ///
-/// It requires that no call of the reader or of the writer has failed before. [`Fault::Memory`] is what a
-/// refused allocation comes to, which no clause says, [`Fault::Read`] where a call of the reader failed or 33554434 calls brought no end, and
-/// [`Fault::Write`] where a call of the writer failed, was interrupted or took nothing.
+/// It requires that no call of the reader or of the writer has failed before. [`Fault::Memory`] comes only where memory was refused, which
+/// no clause says; `memory_calls` says what was read till then. [`Fault::Read`] comes where a call of the reader failed or 33554434 calls
+/// brought no end, and [`Fault::Write`] where a call of the writer failed, was interrupted or took nothing.
 pub fn check_document<R: ReadCall, W: WriteCall>(
     alloc: Global,
     source: &mut Source<R>,
@@ -131,6 +131,8 @@ pub fn check_document<R: ReadCall, W: WriteCall>(
     // The same of the calls that were made, whatever the reader and the writer are.
     ensures ok_calls { IfOk result (AnswersInCalls R.reads (reader_of source.old)
         (reader_of source.new) W.writes (writer_of sink.old) (writer_of sink.new)) }
+    ensures memory_calls { result ≡ Err Fault.Memory → ReadsSome R.reads (reader_of source.old)
+        (reader_of source.new) }
     ensures read_calls { result ≡ Err Fault.Read → ReadingFails R.reads (reader_of source.old)
         (reader_of source.new) MAX_TAKEN MAX_CALLS }
     ensures write_calls { result ≡ Err Fault.Write → BreaksOffInCalls R.reads (reader_of source.old)

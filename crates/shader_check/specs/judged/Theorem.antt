@@ -1,10 +1,10 @@
 -- The theorem of the program: the text that is expected for bytes, what is promised of it, and what a check reads, writes and answers.
 -- `check_document` and `outcome` are contracted over these words.
-use Rattle.std.specs.Prelude.{◌≡◌, ◌↔◌, ℕ, List, [], ◌++◌, Bool, Option, Some, IfSome, IsTrue, Result, Ok, Err, codes, nat_eq, slice_get}
+use Rattle.std.specs.Prelude.{◌≡◌, ◌↔◌, ◌⊎◌, ℕ, List, [], ◌++◌, Bool, Option, Some, IfSome, IsTrue, Result, Ok, Err, codes, nat_eq, slice_get}
 use Rattle.std.specs.List.{starts_with}
 use Rattle.std.specs.Io.KnownBytes.{Appends}
 use Rattle.check_ports.specs.Calls.{Call}
-use Rattle.check_ports.specs.Source.{TakesAll, ReadsAll}
+use Rattle.check_ports.specs.Source.{TakesAll, ReadsAll, ReadingStops}
 use Rattle.check_ports.specs.Sink.{AppendsFront, WritesAll, WritingFails}
 use Rattle.check_ports.specs.declared.source.TheConstants.{MAX_CALLS}
 use Rattle.check_ports.specs.declared.source.TakeError.{TakeError}
@@ -161,6 +161,10 @@ pub record BreaksOffInCalls {R W : Type 0} (reads : R → R → Call → Type 0)
   pub text : List ℕ
   pub expected : IsExpectedForCalls reads reader reader' text
   pub written : WritingFails writes writer writer' text
+
+-- Where memory was refused: the last call of the reader gave bytes that found no room, or all that is read was read.
+abbrev pub ReadsSome : {R : Type 0} (reads : R → R → Call → Type 0) (reader reader' : R) → Type 0
+ReadsSome reads reader reader' = ReadingStops reads reader reader' MAX_TAKEN MAX_CALLS ⊎ ((given : List ℕ) × ReadsAll reads reader reader' MAX_TAKEN MAX_CALLS given)
 
 -- ---- faults, the status and the message
 
