@@ -102,22 +102,26 @@ pub fn leaves_of(
     }
 }
 
+// Whether the type of an expression is a number of 32 bits without a sign.
+fn is_number<E>(answer: &Result<TypeResolution, E>) -> bool {
+    match answer {
+        Ok(TypeResolution::Value(TypeInner::Scalar(scalar))) => *scalar == Scalar::U32,
+        _ => false,
+    }
+}
+
 /// Whether the first global expression is a number of 32 bits without a sign, as the typing of global expressions has it.
 pub fn begins_with_number(alloc: Global, module: &Module) -> bool {
     order_gives_expressions();
-    if validate_module_handles(module).is_err() {
-        return false;
-    }
-    match module.global_expressions.iter().next() {
-        Some((handle, _)) if handle.index() == 0 => {
-            let answer = process_const_expression(alloc, module, handle, &[]);
-            let is_number = match &answer {
-                Ok(TypeResolution::Value(TypeInner::Scalar(scalar))) => *scalar == Scalar::U32,
-                _ => false,
-            };
-            freeing(is_number, answer)
-        }
-        _ => false,
+    match validate_module_handles(module) {
+        Ok(()) => match module.global_expressions.iter().next() {
+            Some((handle, _)) if handle.index() == 0 => {
+                let answer = process_const_expression(alloc, module, handle, &[]);
+                freeing(is_number(&answer), answer)
+            }
+            _ => false,
+        },
+        Err(_) => false,
     }
 }
 
@@ -169,10 +173,7 @@ fn counted(info: &ModuleInfo, module: &Module) -> Kept {
     };
     for (handle, _) in module.types.iter() {
         if handle.index() < info.types().len()
-            && info
-                .type_info(handle)
-                .flags
-                .contains(TypeFlags::HOST_SHAREABLE)
+            && info.type_info(handle).flags.0 & TypeFlags::HOST_SHAREABLE.0 != 0
         {
             kept.shareable = kept.shareable.saturating_add(1);
         }
