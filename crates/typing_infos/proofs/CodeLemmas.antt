@@ -35,7 +35,7 @@ tied c = λ i. ordering_then (tied_itself nat_cmp_total c.0 i) (tied_itself nat_
 pub codes_tie : (p q : SamplingPair) → is_eq (code_cmp (code_of p) (code_of q)) ≡ pair_eq q p
 codes_tie p q = both_ways (is_eq (code_cmp (code_of p) (code_of q))) (pair_eq q p)
     (λ e. let same : p ≡ q = exact_code p q (exact_pairs nat_cmp nat_cmp exact_unsigned exact_unsigned (code_of p) (code_of q) (equal_by (code_cmp (code_of p) (code_of q)) e)) in
-      subst (λ z. pair_eq z p ≡ true) same (pair_self p))
+    subst (λ z. pair_eq z p ≡ true) same (pair_self p))
     (λ e. subst (λ z. is_eq (code_cmp (code_of z) (code_of q)) ≡ true) (pair_same q p e) (ap is_eq (tied (code_of q))))
 
 last : (a b : Bool) → cond a true b ≡ (b || (a || false))

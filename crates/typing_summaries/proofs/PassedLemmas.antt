@@ -190,7 +190,7 @@ module _ (k : Known) (pairs : List SamplingPair) (arguments : List ℕ) (marks :
       → t ≡ pass_all_up k.expressions arguments pairs t
   adds_nothing joined t all there settled =
       let same : parts_of (global_or_argument k.expressions) (marks_of there.0.pairs.items) arguments ≡ there.0.parts.items =
-          ap (λ z. parts_of (global_or_argument k.expressions) (marks_of z) arguments) there.2 ∙ (sym by_marks ∙ sym there.3) in
+      ap (λ z. parts_of (global_or_argument k.expressions) (marks_of z) arguments) there.2 ∙ (sym by_marks ∙ sym there.3) in
       let covers : IsCovered k.expressions arguments pairs t.pairs = subst (λ z. IsCovered k.expressions arguments z t.pairs) there.2 (all there.0 there.1 arguments same) in
       sym (all_stay k.expressions arguments pairs t covers (λ q among. elim settled [
         | inl w ↦ inl w
@@ -209,7 +209,7 @@ module _ (k : Known) (pairs : List SamplingPair) (arguments : List ℕ) (marks :
       | inl is ↦
           let own : q.pairs.items ≡ pairs = ap (λ z. z.pairs.items) (sym is) ∙ is_pairs in
           let alike : parts_of (global_or_argument k.expressions) (marks_of pairs) arguments ≡ parts_of (global_or_argument k.expressions) (marks_of pairs) others =
-              sym by_marks ∙ (sym is_parts ∙ (ap (λ z. z.parts.items) is ∙ (sym same ∙ ap (λ z. parts_of (global_or_argument k.expressions) (marks_of z) others) own))) in
+          sym by_marks ∙ (sym is_parts ∙ (ap (λ z. z.parts.items) is ∙ (sym same ∙ ap (λ z. parts_of (global_or_argument k.expressions) (marks_of z) others) own))) in
           subst (λ z. IsCovered k.expressions others z (pass_all_up k.expressions arguments pairs t).pairs) (sym own)
           (covered_same k.expressions pairs arguments others (pass_all_up k.expressions arguments pairs t).pairs alike (covered k.expressions arguments pairs t))
       | inr none ↦ elim none [ ]
