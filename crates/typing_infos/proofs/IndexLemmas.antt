@@ -1,7 +1,11 @@
--- Values are put into a table one after the other.
+-- The codes of values are put into a set one after the other.
 use Rattle.std.proofs.Common.{◌≡◌, ℕ, zero, suc, ◌+◌, ◌<◌, ◌≤◌, Bool, true, false, cond, ◌||◌, List, [], ◌∷◌, length, drop, get_or, refl, sym, ap, ◌∙◌, subst, arith}
-use Rattle.std.specs.Cmp.{IsEquivalence}
+use Rattle.std.specs.BTreeSet.{BTreeSet, contains}
 use Rattle.std.specs.List.{list_any}
+use Rattle.std.specs.Ordering.{is_eq}
+use Rattle.spec_expressions.specs.judged.Pairs.{SamplingPair, pair_eq}
+use Rattle.typing_infos.proofs.CodeLemmas.{codes_tie}
+use Rattle.typing_infos.specs.Codes.{code_of, code_cmp, IsIndexOf}
 
 or_false : (b : Bool) → (b || false) ≡ b
 or_false true = refl
@@ -13,33 +17,36 @@ put true false r = refl
 put false true r = refl
 put false false r = refl
 
-module _ {T : Type 0} (eq : T → T → Bool) (laws : IsEquivalence eq) where
-  at_place : (values : List T) (i : ℕ) (x q : T) → i < length values → x ≡ get_or values i x → list_any (eq q) (drop i values) ≡ (eq q x || list_any (eq q) (drop (suc i) values))
-  at_place [] i x q lt is = absurd (omega (arith, lt))
-  at_place (v ∷ values) zero x q lt is = ap (λ z. eq q z || list_any (eq q) values) (sym is)
-  at_place (v ∷ values) (suc i) x q lt is = at_place values i x q (omega (arith, lt)) is
+at_place : (values : List SamplingPair) (i : ℕ) (x q : SamplingPair) → i < length values → x ≡ get_or values i x → list_any (pair_eq q) (drop i values) ≡ (pair_eq q x || list_any (pair_eq q) (drop (suc i) values))
+at_place [] i x q lt is = absurd (omega (arith, lt))
+at_place (v ∷ values) zero x q lt is = ap (λ z. pair_eq q z || list_any (pair_eq q) values) (sym is)
+at_place (v ∷ values) (suc i) x q lt is = at_place values i x q (omega (arith, lt)) is
 
-  -- what the keys have, or those from this place on
-  abbrev pub AreAll : (keys values : List T) → ℕ → Type 0
-  AreAll keys values i = (q : T) → (list_any (eq q) keys || list_any (eq q) (drop i values)) ≡ list_any (eq q) values
+-- what the codes have, or the values from this place on
+abbrev pub AreAll : (codes : BTreeSet (ℕ × ℕ)) → (values : List SamplingPair) → ℕ → Type 0
+AreAll codes values i = (q : SamplingPair) → (contains code_cmp codes (code_of q) || list_any (pair_eq q) (drop i values)) ≡ list_any (pair_eq q) values
 
-  -- one more value is put into the table
-  pub one_put : (old new values : List T) (i j : ℕ) (x : T) → j ≡ suc i → i < length values → x ≡ get_or values i x → ((q : T) → list_any (eq q) new ≡ cond (eq x q) true (list_any (eq q) old))
-      → AreAll old values i → AreAll new values j
-  one_put old new values i j x next lt is puts all = λ q.
-      let rest = list_any (eq q) (drop (suc i) values) in
-      (λ k. puts q k || list_any (eq q) (drop (next k) values))
-      ∙ (ap (λ a. cond a true (list_any (eq q) old) || rest) (laws.symm x q)
-      ∙ (put (eq q x) (list_any (eq q) old) rest
-      ∙ (ap (λ b. list_any (eq q) old || b) (sym (at_place values i x q lt is))
-      ∙ all q)))
+-- the code of one more value is put in
+pub one_put : (old new : BTreeSet (ℕ × ℕ)) (values : List SamplingPair) (i j : ℕ) (x : SamplingPair) → j ≡ suc i → i < length values → x ≡ get_or values i x
+    → ((c : ℕ × ℕ) → contains code_cmp new c ≡ cond (is_eq (code_cmp (code_of x) c)) true (contains code_cmp old c))
+    → AreAll old values i → AreAll new values j
+one_put old new values i j x next lt is puts all = λ q.
+    let rest = list_any (pair_eq q) (drop (suc i) values) in
+    let had = contains code_cmp old (code_of q) in
+    (λ k. puts (code_of q) k || list_any (pair_eq q) (drop (next k) values))
+    ∙ (ap (λ a. cond a true had || rest) (codes_tie x q)
+    ∙ (put (pair_eq q x) had rest
+    ∙ (ap (λ b. had || b) (sym (at_place values i x q lt is))
+    ∙ all q)))
 
-  drop_all : (values : List T) (i : ℕ) → length values ≤ i → drop i values ≡ []
-  drop_all [] zero le = refl
-  drop_all [] (suc i) le = refl
-  drop_all (v ∷ values) zero le = absurd (omega (arith, le))
-  drop_all (v ∷ values) (suc i) le = drop_all values i (omega (arith, le))
+drop_all : (values : List SamplingPair) (i : ℕ) → length values ≤ i → drop i values ≡ []
+drop_all [] zero le = refl
+drop_all [] (suc i) le = refl
+drop_all (v ∷ values) zero le = absurd (omega (arith, le))
+drop_all (v ∷ values) (suc i) le = drop_all values i (omega (arith, le))
 
-  -- all are put
-  pub all_put : (keys values : List T) (i : ℕ) → length values ≤ i → AreAll keys values i → (q : T) → list_any (eq q) keys ≡ list_any (eq q) values
-  all_put keys values i le all = λ q. sym (ap (λ l. list_any (eq q) keys || list_any (eq q) l) (drop_all values i le) ∙ or_false (list_any (eq q) keys)) ∙ all q
+-- all are put
+pub all_put : (codes : BTreeSet (ℕ × ℕ)) (values : List SamplingPair) (i : ℕ) → length values ≤ i → AreAll codes values i → IsIndexOf codes values
+all_put codes values i le all = λ q.
+    let had = contains code_cmp codes (code_of q) in
+    sym (ap (λ l. had || list_any (pair_eq q) l) (drop_all values i le) ∙ or_false had) ∙ all q

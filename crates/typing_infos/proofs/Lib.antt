@@ -1,3 +1,5 @@
+pub mod CodeLemmas
+pub mod Equal
 pub mod IndexLemmas
 pub mod KeyLemmas
 pub mod MarkLemmas

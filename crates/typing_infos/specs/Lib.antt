@@ -1,3 +1,4 @@
+pub mod Codes
 pub mod Infos
 pub mod Keys
 pub mod Marks

@@ -13,10 +13,6 @@ with_pair pairs p = if list_any (pair_eq p) pairs then pairs else pairs ++ p ∷
 abbrev pub EachOnce : List SamplingPair → Type 0
 EachOnce pairs = fold with_pair [] pairs ≡ pairs
 
--- the keys have what is equal to a value exactly where the values do
-abbrev pub Indexes : {T : Type 0} → (T → T → Bool) → (keys values : List T) → Type 0
-Indexes {T} eq keys values = (value : T) → list_any (eq value) keys ≡ list_any (eq value) values
-
 -- the marks where that of a place is set, up to which all are there then
 abbrev pub marked_at : List Bool → ℕ → List Bool
 marked_at [] zero = true ∷ []

@@ -9,7 +9,7 @@ use Rattle.typing_infos.specs.declared.sampled.StoredKeys.TheVariants as keys
 
 abbrev pub pairs_stored : StoredPairs → List SamplingPair
 pairs_stored (pairs.Few list) = list.items
-pairs_stored (pairs.Many table) = table.value.pairs.items
+pairs_stored (pairs.Many table) = table.value.pairs
 
 abbrev pub keys_stored : StoredKeys → List SamplingKey
 keys_stored (keys.Few list) = list.items

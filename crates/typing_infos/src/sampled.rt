@@ -4,32 +4,31 @@ ghost use Rattle.std.specs.Prelude.{◌≡◌, ◌↔◌, ◌++◌, ◌∷◌, [
 ghost use Rattle.std.specs.List.{flat_map, list_any};
 ghost use Rattle.spec_expressions.specs.judged.Pairs.{pair_eq};
 ghost use Rattle.typing_infos.specs.Keys.{key_of};
-ghost use Rattle.typing_infos.specs.Marks.{EachOnce, Indexes, marks_of};
+ghost use Rattle.typing_infos.specs.Marks.{EachOnce, marks_of};
 
 use crate::keys::keys_of;
 use crate::marks::marks_of;
+use crate::pair_set::{PairSet, code_of};
 use spec_expressions::{SamplingKey, SamplingPair};
 use std::alloc::{AllocError, Global};
-use std::collections::HashSet;
-use std::hash::Hash;
+use std::hash::{DefaultHasher, Hasher};
 use std::marker::Model;
 use std::rc::Rc;
 
 /// So many pairs are a list of each function's own; more are one table, which functions share.
 pub const FEW: usize = 8;
 
-// Many pairs, each once, and all of them by their hashes; those of two global variables, in the same order; and for each
-// argument whether it is among them.
+// Many pairs, each once; those of two global variables, in the same order; for each argument whether it is among them; and a
+// number that tells the table from most others.
 #[derive(Drop)]
 struct PairTable {
-    pairs: Vec<SamplingPair>,
-    index: HashSet<SamplingPair>,
+    pairs: PairSet,
     keys: Vec<SamplingKey>,
     marks: Vec<bool>,
-    ghost once: { EachOnce pairs.items },
-    ghost indexed: { Indexes pair_eq index.keys pairs.items },
-    ghost keyed: { keys.items ≡ flat_map key_of pairs.items },
-    ghost marked: { marks.items ≡ marks_of pairs.items },
+    digest: u64,
+    ghost once: { EachOnce pairs },
+    ghost keyed: { keys.items ≡ flat_map key_of pairs },
+    ghost marked: { marks.items ≡ marks_of pairs },
 }
 
 // A function's pairs.
@@ -122,25 +121,22 @@ fn holds<T: PartialEq>(values: &[T], value: &T) -> bool
     false
 }
 
-// These values by their hashes. The error is out of memory.
-fn index_of<T: Copy + Eq + Hash + Drop>(
-    alloc: Global,
-    values: &[T],
-) -> Result<HashSet<T>, AllocError>
-    ensures { IfOk result (λ index. Indexes T.eq index.keys values.now) }
-{
-    let mut index = HashSet::new(alloc);
-    for value in values {
-        index.insert(*value)?;
+// The hash of the numbers of these pairs.
+fn digest_of(pairs: &[SamplingPair]) -> u64 {
+    let mut state = DefaultHasher::new();
+    for pair in pairs {
+        let code = code_of(*pair);
+        state.write_u64(code.0);
+        state.write_u64(code.1);
     }
-    Ok(index)
+    state.finish()
 }
 
 impl PairTable {
     fn as_slice(&self) -> &[SamplingPair]
-        ensures { result.now ≡ self.now.pairs.items }
+        ensures { result.now ≡ self.now.pairs }
     {
-        &self.pairs
+        self.pairs.as_slice()
     }
 
     fn keys(&self) -> &[SamplingKey]
@@ -150,16 +146,16 @@ impl PairTable {
     }
 
     fn marks(&self) -> &[bool]
-        ensures marked { result.now ≡ marks_of self.now.pairs.items }
-        ensures once { EachOnce self.now.pairs.items }
+        ensures marked { result.now ≡ marks_of self.now.pairs }
+        ensures once { EachOnce self.now.pairs }
     {
         &self.marks
     }
 
     fn contains(&self, pair: &SamplingPair) -> bool
-        ensures { result ≡ list_any (pair_eq pair.now) self.now.pairs.items }
+        ensures { result ≡ list_any (pair_eq pair.now) self.now.pairs }
     {
-        self.index.contains(pair)
+        self.pairs.contains(pair)
     }
 }
 
@@ -189,6 +185,13 @@ impl Pairs {
         match &self.held {
             StoredPairs::Few(_) => None,
             StoredPairs::Many(table) => Some(table.as_ref().marks()),
+        }
+    }
+
+    fn digest(&self) -> u64 {
+        match &self.held {
+            StoredPairs::Few(_) => 0,
+            StoredPairs::Many(table) => table.as_ref().digest,
         }
     }
 
@@ -266,14 +269,15 @@ impl SampledPairs {
         requires { EachOnce pairs.items }
         ensures { IfOk result (λ sampled. sampled.items ≡ pairs.items) }
     {
-        let index = index_of(alloc, &pairs)?;
         let keys = keys_of(alloc, &pairs)?;
         let marks = marks_of(alloc, &pairs)?;
+        let digest = digest_of(&pairs);
+        let pairs = PairSet::of_pairs(alloc, pairs)?;
         let table = PairTable {
             pairs,
-            index,
             keys,
             marks,
+            digest,
         };
         let table = Rc::new(alloc, table)?;
         let held = StoredPairs::Many(table);
@@ -315,6 +319,12 @@ impl SampledPairs {
         ensures once { IfSome result (λ marks. EachOnce self.now.items) }
     {
         self.items.marks()
+    }
+
+    /// Where they are a table, a number that tells it from most others: a hash that all know, so that two tables may be made to
+    /// have one.
+    pub fn digest(&self) -> u64 {
+        self.items.digest()
     }
 
     /// The same pairs, of which a table is shared and nothing of it copied. The error is out of memory.

@@ -12,7 +12,7 @@ use Rattle.spec_expressions.specs.judged.CallChains.{global_or_argument, seen_th
 use Rattle.typing_summaries.specs.Fronts.{BeginsWith}
 use Rattle.typing_summaries.specs.Pairings.{Paired, pair_one, passed_for, pass_all_up}
 use Rattle.typing_summaries.specs.Passed.{PassesOn, PassesAllOn}
-use Rattle.typing_summaries.proofs.Equal.{pair_same, pair_self}
+use Rattle.typing_infos.proofs.Equal.{pair_same, pair_self}
 use Rattle.typing_summaries.proofs.Marked.{HasArgument, is_marked}
 
 -- ---- lists

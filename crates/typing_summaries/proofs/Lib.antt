@@ -1,5 +1,4 @@
 pub mod Effects
-pub mod Equal
 pub mod Handles
 pub mod Joining
 pub mod Listing

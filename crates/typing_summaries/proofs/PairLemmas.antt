@@ -8,7 +8,7 @@ use Rattle.ir_types.specs.judged.ExpressionPlain.{PlainExpression}
 use Rattle.spec_expressions.specs.declared.sampling.GlobalOrArgument.{GlobalOrArgument}
 use Rattle.spec_expressions.specs.declared.sampling.GlobalOrArgument.TheVariants.{Global, Argument}
 use Rattle.spec_expressions.specs.judged.Pairs.{SamplingPair, pair_eq}
-use Rattle.typing_summaries.proofs.Equal.{pair_same}
+use Rattle.typing_infos.proofs.Equal.{pair_same}
 use Rattle.spec_expressions.specs.judged.CallChains.{global_or_argument, seen_through}
 use Rattle.spec_expressions.specs.found.Arguments.{argument_means}
 use Rattle.spec_expressions.specs.judged.Summaries.{ComesUp, IsWrongArgument}

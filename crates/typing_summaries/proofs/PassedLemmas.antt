@@ -1,10 +1,9 @@
 -- A callee that was joined for the same before adds nothing, and one that is joined is there.
-use Rattle.std.proofs.Common.{◌≡◌, ◌⊎◌, ℕ, ◌<◌, ◌≤◌, length, get_or, map, option_map, Option, Some, None, Bool, true, false, true≢false, ◌&&◌, ◌||◌, not, List, [], ◌∷◌, ◌++◌, refl, sym, ap, ◌∙◌, subst, inl, inr, slice_get}
-use Rattle.std.specs.Prelude.{if◌then◌else◌, eqb}
+use Rattle.std.proofs.Common.{◌≡◌, ◌⊎◌, ℕ, zero, suc, arith, ◌<◌, ◌≤◌, length, get_or, map, option_map, Option, Some, None, Bool, true, false, true≢false, ◌&&◌, ◌||◌, List, [], ◌∷◌, ◌++◌, refl, sym, ap, ◌∙◌, subst, inl, inr, slice_get}
+use Rattle.std.specs.Prelude.{if◌then◌else◌}
 use Rattle.std.specs.Cmp.Lexicographic.{pointwise}
 use Rattle.std.specs.List.{list_any}
 use Rattle.std.specs.Option.{option_eq}
-use Rattle.std.proofs.lemmas.Bool.{eqb-true}
 use Rattle.std.proofs.lemmas.Option.{slice_get-map, slice_get-get_or, slice_get_past}
 use Rattle.indexmap.specs.IndexSet.{insert_key}
 use Rattle.typing_rules.specs.judged.Laws.{IsAmong}
@@ -12,20 +11,18 @@ use Rattle.ir_types.specs.judged.ExpressionPlain.{PlainExpression}
 use Rattle.spec_expressions.specs.declared.sampling.GlobalOrArgument.{GlobalOrArgument}
 use Rattle.spec_expressions.specs.declared.sampling.GlobalOrArgument.TheVariants.{Global, Argument}
 use Rattle.spec_expressions.specs.judged.Pairs.{SamplingPair, pair_eq}
-use Rattle.typing_summaries.proofs.Equal.{both, part_same, pair_self}
+use Rattle.typing_infos.proofs.Equal.{both, part_same, pair_same, pair_self}
 use Rattle.typing_summaries.proofs.Marked.{is_marked}
 use Rattle.typing_infos.specs.Infos.{summary_of}
 use Rattle.typing_infos.specs.Marks.{marks_of}
 use Rattle.typing_infos.specs.declared.function_info.FunctionInfo.{FunctionInfo}
 use Rattle.spec_expressions.specs.judged.CallChains.{global_or_argument, seen_through}
-use Rattle.spec_expressions.specs.judged.Summaries.{Summary}
 use Rattle.spec_expressions.proofs.Members.{among-cases}
-use Rattle.typing_summaries.specs.Joined.{IsKept, IsWrong, IsCovered, AreJoined}
+use Rattle.typing_summaries.specs.Joined.{Holds, IsWrong, IsCovered, AreJoined}
 use Rattle.typing_summaries.specs.Parts.{parts_of, AllStand}
 use Rattle.typing_summaries.specs.Tallies.{Known, Paired, with_wrong, first_wrong, part_wrong, pair_one, passed_for, pass_up, pass_all_up}
 use Rattle.typing_summaries.specs.declared.joined.Passed.{Passed}
 use Rattle.spec_expressions.specs.contracts.sampling.GlobalOrArgumentPartialEq as each
-use Rattle.typing_summaries.specs.contracts.joined.PassedPartialEq as impl
 use Rattle.typing_summaries.proofs.PairLemmas.{some_is, none_some}
 use Rattle.typing_summaries.proofs.PartLemmas.{same_means, part_means}
 
@@ -167,83 +164,62 @@ same_lists [] (y ∷ ys) e = absurd (true≢false (sym e))
 same_lists (x ∷ xs) [] e = absurd (true≢false (sym e))
 same_lists (x ∷ xs) (y ∷ ys) e = let h = both (option_eq each.TheImpl.ghosts.eq x y) (pointwise (option_eq each.TheImpl.ghosts.eq) xs ys) e in λ i. same_parts x y h.0 i ∷ same_lists xs ys h.1 i
 
-abbrev pub passed_eq : Passed → Passed → Bool
-passed_eq = impl.TheImpl.ghosts.eq
+pairs_same : (xs ys : List SamplingPair) → pointwise pair_eq xs ys ≡ true → xs ≡ ys
+pairs_same [] [] e = refl
+pairs_same [] (y ∷ ys) e = absurd (true≢false (sym e))
+pairs_same (x ∷ xs) [] e = absurd (true≢false (sym e))
+pairs_same (x ∷ xs) (y ∷ ys) e = let h = both (pair_eq x y) (pointwise pair_eq xs ys) e in λ i. pair_same x y h.0 i ∷ pairs_same xs ys h.1 i
 
--- they are of one callee and have the same parts
-abbrev IsSame : Passed → Passed → Type 0
-IsSame p q = (p.callee ≡ q.callee) × (p.parts.items ≡ q.parts.items)
+-- equal parts and equal pairs are the same
+pub same_as : (parts others : List (Option GlobalOrArgument)) (pairs more : List SamplingPair) → pointwise (option_eq each.TheImpl.ghosts.eq) parts others ≡ true → pointwise pair_eq pairs more ≡ true → (pairs ≡ more) × (parts ≡ others)
+same_as parts others pairs more e f = (pairs_same pairs more f, same_lists parts others e)
 
-same_passed : (p q : Passed) → passed_eq p q ≡ true → IsSame p q
-same_passed p q e =
-    let h = both (eqb p.callee q.callee) (pointwise (option_eq each.TheImpl.ghosts.eq) p.parts.items q.parts.items) e in
-    (eqb-true p.callee q.callee h.0, same_lists p.parts.items q.parts.items h.1)
+-- what stands at a place is among all
+pub at_place : (joined : List Passed) (i : ℕ) (p : Passed) → i < length joined → p ≡ get_or joined i p → IsAmong p joined
+at_place [] i p lt is = absurd (omega (arith, lt))
+at_place (q ∷ joined) zero p lt is = inl (sym is)
+at_place (q ∷ joined) (suc i) p lt is = inr (at_place joined i p (omega (arith, lt)) is)
 
--- one that is the same is among these
-abbrev Held : Passed → List Passed → Type 0
-Held p joined = (q : Passed) × IsAmong q joined × IsSame p q
-
-held : (p : Passed) (joined : List Passed) → list_any (passed_eq p) joined ≡ true → Held p joined
-held p [] e = absurd (true≢false (sym e))
-held p (q ∷ joined) e = by (passed_eq p q) refl (λ h. held p joined h)
-  where
-    by : (b : Bool) → passed_eq p q ≡ b → (list_any (passed_eq p) joined ≡ true → Held p joined) → Held p (q ∷ joined)
-    by true is rest = (q, inl refl, same_passed p q is)
-    by false is rest = let r = rest (ap (λ b. b || list_any (passed_eq p) joined) (sym is) ∙ e) in (r.0, inr r.1, r.2)
-
-among_kept : (b : Bool) (joined : List Passed) (p q : Passed) → IsAmong q (if b then joined else joined ++ p ∷ []) → IsAmong q joined ⊎ (p ≡ q)
-among_kept true joined p q among = inl among
-among_kept false joined p q among = elim (among-cases joined (p ∷ []) q among) [ inl l ↦ inl l | inr r ↦ elim r [ inl e ↦ inr e | inr n ↦ elim n [ ] ] ]
-
-module _ (k : Known) (callee : ℕ) (pairs : List SamplingPair) (kept : IsKept k callee pairs) (arguments : List ℕ) (marks : List Bool) (marked : marks ≡ marks_of pairs)
-    (p : Passed) (of : p.callee ≡ callee) (parts : p.parts.items ≡ parts_of (global_or_argument k.expressions) marks arguments) where
-  by_marks : p.parts.items ≡ parts_of (global_or_argument k.expressions) (marks_of pairs) arguments
-  by_marks = parts ∙ ap (λ ms. parts_of (global_or_argument k.expressions) ms arguments) marked
-
-  pairs_of : (s : Summary) (c : ℕ) → c ≡ callee → slice_get k.summaries c ≡ Some s → s.pairs ≡ pairs
-  pairs_of s c is found = ap (λ z. z.pairs) (some_is (sym found ∙ ap (slice_get k.summaries) is ∙ kept.found)) ∙ kept.same
+module _ (k : Known) (pairs : List SamplingPair) (arguments : List ℕ) (marks : List Bool) (marked : marks ≡ marks_of pairs)
+    (parts : List (Option GlobalOrArgument)) (are : parts ≡ parts_of (global_or_argument k.expressions) marks arguments) where
+  by_marks : parts ≡ parts_of (global_or_argument k.expressions) (marks_of pairs) arguments
+  by_marks = are ∙ ap (λ ms. parts_of (global_or_argument k.expressions) ms arguments) marked
 
   -- for what it was joined before it adds nothing
-  pub adds_nothing : (joined : List Passed) (t : Paired) → AreJoined k joined t.pairs → list_any (passed_eq p) joined ≡ true → IsWrong t ⊎ AllStand marks p.parts.items
+  pub adds_nothing : (joined : List Passed) (t : Paired) → AreJoined k joined t.pairs → Holds joined pairs parts → IsWrong t ⊎ AllStand marks parts
       → t ≡ pass_all_up k.expressions arguments pairs t
-  adds_nothing joined t are there settled =
-      let h = held p joined there in
-      let found : slice_get k.summaries h.0.callee ≡ Some kept.summary = ap (slice_get k.summaries) (sym h.2.0 ∙ of) ∙ kept.found in
-      let same : parts_of (global_or_argument k.expressions) (marks_of kept.summary.pairs) arguments ≡ h.0.parts.items = ap (λ z. parts_of (global_or_argument k.expressions) (marks_of z) arguments) kept.same ∙ (sym by_marks ∙ h.2.1) in
-      let all : IsCovered k.expressions arguments pairs t.pairs = subst (λ z. IsCovered k.expressions arguments z t.pairs) kept.same (are h.0 h.1 kept.summary found arguments same) in
-      sym (all_stay k.expressions arguments pairs t all (λ q among. elim settled [
+  adds_nothing joined t all there settled =
+      let same : parts_of (global_or_argument k.expressions) (marks_of there.0.pairs.items) arguments ≡ there.0.parts.items =
+      ap (λ z. parts_of (global_or_argument k.expressions) (marks_of z) arguments) there.2 ∙ (sym by_marks ∙ sym there.3) in
+      let covers : IsCovered k.expressions arguments pairs t.pairs = subst (λ z. IsCovered k.expressions arguments z t.pairs) there.2 (all there.0 there.1 arguments same) in
+      sym (all_stay k.expressions arguments pairs t covers (λ q among. elim settled [
         | inl w ↦ inl w
-        | inr stand ↦ let stand_too = subst (λ ms. AllStand ms p.parts.items) marked stand in inr (
-          part_stands k.expressions pairs arguments p.parts.items by_marks stand_too q.0 (λ n is. is_marked pairs q n among (inl is)),
-          part_stands k.expressions pairs arguments p.parts.items by_marks stand_too q.1 (λ n is. is_marked pairs q n among (inr is)),
+        | inr stand ↦ let stand_too = subst (λ ms. AllStand ms parts) marked stand in inr (
+          part_stands k.expressions pairs arguments parts by_marks stand_too q.0 (λ n is. is_marked pairs q n among (inl is)),
+          part_stands k.expressions pairs arguments parts by_marks stand_too q.1 (λ n is. is_marked pairs q n among (inr is)),
         )
       ]))
 
   -- where it is joined, it and all that were joined before are there
-  pub one_joined : (joined : List Passed) (t : Paired) → AreJoined k joined t.pairs → AreJoined k (insert_key passed_eq joined p) (pass_all_up k.expressions arguments pairs t).pairs
-  one_joined joined t are = λ q among s found others same. elim (among_kept (list_any (passed_eq p) joined) joined p q among) [
-    | inl before ↦ λ r in_pairs image sampler ei es. all_have k.expressions arguments pairs t (image, sampler) (are q before s found others same r in_pairs image sampler ei es)
-    | inr is ↦
-        let own = pairs_of s q.callee (ap (λ z. z.callee) (sym is) ∙ of) found in
-        let alike : parts_of (global_or_argument k.expressions) (marks_of pairs) arguments ≡ parts_of (global_or_argument k.expressions) (marks_of pairs) others =
-        sym by_marks ∙ (ap (λ z. z.parts.items) is ∙ (sym same ∙ ap (λ z. parts_of (global_or_argument k.expressions) (marks_of z) others) own)) in
-        subst (λ z. IsCovered k.expressions others z (pass_all_up k.expressions arguments pairs t).pairs) (sym own)
-        (covered_same k.expressions pairs arguments others (pass_all_up k.expressions arguments pairs t).pairs alike (covered k.expressions arguments pairs t))
+  pub one_joined : (joined : List Passed) (p : Passed) (t : Paired) → p.pairs.items ≡ pairs → p.parts.items ≡ parts → AreJoined k joined t.pairs
+      → AreJoined k (joined ++ p ∷ []) (pass_all_up k.expressions arguments pairs t).pairs
+  one_joined joined p t is_pairs is_parts all = λ q among others same. elim (among-cases joined (p ∷ []) q among) [
+    | inl before ↦ λ r in_pairs image sampler ei es. all_have k.expressions arguments pairs t (image, sampler) (all q before others same r in_pairs image sampler ei es)
+    | inr last ↦ elim last [
+      | inl is ↦
+          let own : q.pairs.items ≡ pairs = ap (λ z. z.pairs.items) (sym is) ∙ is_pairs in
+          let alike : parts_of (global_or_argument k.expressions) (marks_of pairs) arguments ≡ parts_of (global_or_argument k.expressions) (marks_of pairs) others =
+          sym by_marks ∙ (sym is_parts ∙ (ap (λ z. z.parts.items) is ∙ (sym same ∙ ap (λ z. parts_of (global_or_argument k.expressions) (marks_of z) others) own))) in
+          subst (λ z. IsCovered k.expressions others z (pass_all_up k.expressions arguments pairs t).pairs) (sym own)
+          (covered_same k.expressions pairs arguments others (pass_all_up k.expressions arguments pairs t).pairs alike (covered k.expressions arguments pairs t))
+      | inr none ↦ elim none [ ]
+    ]
   ]
-
--- one that was there leaves all as they were
-pub none_joined : (k : Known) (joined : List Passed) (p : Passed) (held : List SamplingPair) → AreJoined k joined held → list_any (passed_eq p) joined ≡ true → AreJoined k (insert_key passed_eq joined p) held
-none_joined k joined p held are there = subst (λ z. AreJoined k z held) (sym (ap (λ b. if b then joined else joined ++ p ∷ []) there)) are
 
 -- pairs that are joined of few leave what was joined before
 pub few_joined : (k : Known) (joined : List Passed) (arguments : List ℕ) (pairs : List SamplingPair) (t : Paired) → AreJoined k joined t.pairs → AreJoined k joined (pass_all_up k.expressions arguments pairs t).pairs
-few_joined k joined arguments pairs t are = λ q among s found others same r in_pairs image sampler ei es.
-    all_have k.expressions arguments pairs t (image, sampler) (are q among s found others same r in_pairs image sampler ei es)
-
--- it was there
-pub was_there : (fresh there : Bool) → fresh ≡ not there → fresh ≡ false → there ≡ true
-was_there fresh true is old = refl
-was_there fresh false is old = absurd (true≢false (sym is ∙ old))
+few_joined k joined arguments pairs t are = λ q among others same r in_pairs image sampler ei es.
+    all_have k.expressions arguments pairs t (image, sampler) (are q among others same r in_pairs image sampler ei es)
 
 -- ---- what is kept of a callee
 

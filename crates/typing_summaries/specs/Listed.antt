@@ -4,4 +4,4 @@ use Rattle.spec_expressions.specs.judged.Pairs.{SamplingPair}
 use Rattle.typing_summaries.specs.declared.list.PairList.{PairList}
 
 abbrev pub listed : PairList → List SamplingPair
-listed l = l.few.items ++ l.more.keys
+listed l = l.few.items ++ l.more

@@ -1,34 +1,23 @@
 //! Lists of pairs, each once.
 
-ghost use Rattle.std.specs.Prelude.{◌≡◌, ◌++◌, [], IfOk, IsTrue, OnErr, OnOk};
+ghost use Rattle.std.specs.Prelude.{◌≡◌, ◌++◌, [], IfOk, IsTrue, OnOk};
 ghost use Rattle.indexmap.specs.IndexSet.{insert_key};
 ghost use Rattle.spec_expressions.specs.judged.Pairs.{pair_eq};
 ghost use Rattle.typing_infos.specs.Marks.{EachOnce};
 ghost use Rattle.typing_summaries.specs.Fronts.{BeginsWith};
 
-use indexmap::IndexSet;
 use spec_expressions::SamplingPair;
 use std::alloc::{AllocError, Global};
-use std::hash::Hash;
-use typing_infos::SampledPairs;
+use typing_infos::{PairSet, SampledPairs};
 
 /// Pairs in the order in which they were found, each once. The first few are a list, or all those of a function that is called,
-/// which has them as well; only those after them are found by hashes of this list's own: most functions sample few pairs, and a
+/// which has them as well; only those after them are found by a table of this list's own: most functions sample few pairs, and a
 /// table is dear to make.
 #[derive(Drop)]
 pub struct PairList {
     few: SampledPairs,
-    more: IndexSet<SamplingPair>,
-    ghost once: { EachOnce (few.items ++ more.keys) },
-}
-
-// A value of a set, once. The error is out of memory; the set is as it was then.
-fn keep<T: Eq + Hash + Drop>(set: &mut IndexSet<T>, value: T) -> Result<(), AllocError>
-    ensures added { OnOk result (set.new.keys ≡ insert_key T.eq set.old.keys value) }
-    ensures err { OnErr result (set.new.keys ≡ set.old.keys) }
-{
-    set.insert(value)?;
-    Ok(())
+    more: PairSet,
+    ghost once: { EachOnce (few.items ++ more) },
 }
 
 // These values after others. The error is out of memory.
@@ -66,7 +55,7 @@ impl PairList {
     {
         PairList {
             few: SampledPairs::new(alloc),
-            more: IndexSet::new(alloc),
+            more: PairSet::new(alloc),
         }
     }
 
@@ -77,13 +66,13 @@ impl PairList {
     {
         PairList {
             few: pairs,
-            more: IndexSet::new(alloc),
+            more: PairSet::new(alloc),
         }
     }
 
     // What the list takes memory from.
     pub(crate) fn allocator(&self) -> Global {
-        *self.more.allocator()
+        self.more.allocator()
     }
 
     // Whether these begin with all pairs of the list.
@@ -114,14 +103,12 @@ impl PairList {
             return Ok(());
         }
         if !self.more.is_empty() {
-            keep(&mut self.more, pair)?;
-            return Ok(());
+            return self.more.insert(pair);
         }
         if self.few.push_few(pair)? {
             return Ok(());
         }
-        keep(&mut self.more, pair)?;
-        Ok(())
+        self.more.insert(pair)
     }
 
     /// All pairs. The error is out of memory.

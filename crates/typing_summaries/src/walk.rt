@@ -7,7 +7,6 @@ ghost use Rattle.typing_summaries.specs.Tallies.{Known, known, tallied, join_sum
 
 use crate::joined::{Joined, join_pairs};
 use crate::tally::{Context, Tally};
-use indexmap::IndexSet;
 use ir_arena::handle::Handle;
 use ir_blocks::{Block, Statement, SwitchCase, plain_operation};
 use ir_types::key;
@@ -22,10 +21,10 @@ impl Tally {
         arguments: &[Handle<key::Expression>],
         joined: &mut Joined,
     ) -> Result<(), AllocError>
-        requires { AreJoined (known context.now) joined.old.keys (tallied self.old).paired.pairs }
+        requires { AreJoined (known context.now) joined.old.passed.items (tallied self.old).paired.pairs }
         ensures tally { OnOk result (tallied self.new
             ≡ join_summary (known context.now) arguments.now (slice_get (known context.now).summaries callee) (tallied self.old)) }
-        ensures joined { OnOk result (AreJoined (known context.now) joined.new.keys (tallied self.new).paired.pairs) }
+        ensures joined { OnOk result (AreJoined (known context.now) joined.new.passed.items (tallied self.new).paired.pairs) }
     {
         match context.callees.get(callee.index()) {
             Some(info) => {
@@ -35,7 +34,6 @@ impl Tally {
                     &mut self.sampled,
                     joined,
                     context,
-                    callee.index(),
                     arguments,
                     info.sampled(),
                 )
@@ -51,9 +49,9 @@ impl Tally {
         statement: &Statement,
         joined: &mut Joined,
     ) -> Result<(), AllocError>
-        requires { AreJoined (known context.now) joined.old.keys (tallied self.old).paired.pairs }
+        requires { AreJoined (known context.now) joined.old.passed.items (tallied self.old).paired.pairs }
         ensures tally { OnOk result (tallied self.new ≡ leave (known context.now) (statement_view statement.now) (tallied self.old)) }
-        ensures joined { OnOk result (AreJoined (known context.now) joined.new.keys (tallied self.new).paired.pairs) }
+        ensures joined { OnOk result (AreJoined (known context.now) joined.new.passed.items (tallied self.new).paired.pairs) }
     {
         match statement {
             Statement::Kill => {
@@ -84,9 +82,9 @@ impl Tally {
         statement: &Statement,
         joined: &mut Joined,
     ) -> Result<(), AllocError>
-        requires { AreJoined (known context.now) joined.old.keys (tallied self.old).paired.pairs }
+        requires { AreJoined (known context.now) joined.old.passed.items (tallied self.old).paired.pairs }
         ensures tally { OnOk result (tallied self.new ≡ statement_done (known context.now) (statement_view statement.now) (tallied self.old)) }
-        ensures joined { OnOk result (AreJoined (known context.now) joined.new.keys (tallied self.new).paired.pairs) }
+        ensures joined { OnOk result (AreJoined (known context.now) joined.new.passed.items (tallied self.new).paired.pairs) }
     {
         self.counts.take_statement(context.globals, statement);
         self.leave(context, statement, joined)
@@ -96,7 +94,7 @@ impl Tally {
     pub fn add_block(&mut self, context: &Context<'_>, block: &Block) -> Result<(), AllocError>
         ensures { OnOk result (tallied self.new ≡ done_in (known context.now) (block_view block.now) (tallied self.old)) }
     {
-        let mut joined = IndexSet::new(self.counts.allocator());
+        let mut joined = Joined::new(self.counts.allocator());
         self.add_all(context, block, &mut joined)
     }
 
@@ -108,9 +106,9 @@ impl Tally {
         block: &Block,
         joined: &mut Joined,
     ) -> Result<(), AllocError>
-        requires { AreJoined (known context.now) joined.old.keys (tallied self.old).paired.pairs }
+        requires { AreJoined (known context.now) joined.old.passed.items (tallied self.old).paired.pairs }
         ensures tally { OnOk result (tallied self.new ≡ done_in (known context.now) (block_view block.now) (tallied self.old)) }
-        ensures joined { OnOk result (AreJoined (known context.now) joined.new.keys (tallied self.new).paired.pairs) }
+        ensures joined { OnOk result (AreJoined (known context.now) joined.new.passed.items (tallied self.new).paired.pairs) }
     {
         for statement in block.as_slice() {
             self.add_statement(context, statement, joined)?;
@@ -126,9 +124,9 @@ impl Tally {
         statement: &Statement,
         joined: &mut Joined,
     ) -> Result<(), AllocError>
-        requires { AreJoined (known context.now) joined.old.keys (tallied self.old).paired.pairs }
+        requires { AreJoined (known context.now) joined.old.passed.items (tallied self.old).paired.pairs }
         ensures tally { OnOk result (tallied self.new ≡ done_inside (known context.now) (statement_view statement.now) (tallied self.old)) }
-        ensures joined { OnOk result (AreJoined (known context.now) joined.new.keys (tallied self.new).paired.pairs) }
+        ensures joined { OnOk result (AreJoined (known context.now) joined.new.passed.items (tallied self.new).paired.pairs) }
     {
         match statement {
             Statement::Block(block) => self.add_all(context, block, joined),
@@ -162,9 +160,9 @@ impl Tally {
         cases: &[SwitchCase],
         joined: &mut Joined,
     ) -> Result<(), AllocError>
-        requires { AreJoined (known context.now) joined.old.keys (tallied self.old).paired.pairs }
+        requires { AreJoined (known context.now) joined.old.passed.items (tallied self.old).paired.pairs }
         ensures tally { OnOk result (tallied self.new ≡ done_in_cases (known context.now) (cases_of (map case_view cases.now)) (tallied self.old)) }
-        ensures joined { OnOk result (AreJoined (known context.now) joined.new.keys (tallied self.new).paired.pairs) }
+        ensures joined { OnOk result (AreJoined (known context.now) joined.new.passed.items (tallied self.new).paired.pairs) }
     {
         for case in cases {
             self.add_all(context, &case.body, joined)?;

@@ -6,5 +6,5 @@ use Rattle.typing_summaries.proofs.list.PairList.begins_with.Goals as goal
 
 pub returns : goal.returns
 returns c = λ t.
-    begins_longer pair_eq c.args.self.now.few.items c.args.self.now.more.keys c.args.pairs.now
+    begins_longer pair_eq c.args.self.now.few.items c.args.self.now.more c.args.pairs.now
     (subst (λ front. BeginsWith pair_eq front c.args.pairs.now) c.as_slice.ensures (c.begins_with.ensures t))
