@@ -2,3 +2,4 @@ pub mod DescriptorLemmas
 pub mod EmitLemmas
 pub mod CallLemmas
 pub mod Refuted
+pub mod RootLemmas

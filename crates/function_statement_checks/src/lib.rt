@@ -12,6 +12,7 @@ mod emits;
 pub mod laws;
 mod pointers;
 mod returns;
+mod roots;
 mod stores;
 mod variables;
 
@@ -24,5 +25,6 @@ pub use descriptors::descriptors_of;
 pub use emits::check_emit;
 pub use pointers::{base_at, pointer_space};
 pub use returns::check_return;
+pub use roots::roots_of;
 pub use stores::check_store;
 pub use variables::{accessed_at, named_at, variable_at};
