@@ -44,8 +44,8 @@ uint32_t shader_check(const uint8_t *document, size_t length, uint8_t *text, siz
 uint32_t shader_check_json(const uint8_t *document, size_t length, uint8_t *text, size_t capacity, size_t *needed);
 
 /* The same, but that after the verdict of an accepted document stands a line for each buffer, each with those of the numbers, vectors and
- * matrices in it: ./shader-check --leaves. An array writes the lines of its element once for each, so that a short document may have a
- * long text, all of which is in memory during the call. */
+ * matrices in it: ./shader-check --leaves. What lies at one place in each element of an array has one line. Types that nest deeper than 255
+ * and more than 16 MiB of lines are not listed: SHADER_CHECK_NO_MEMORY. */
 uint32_t shader_check_leaves(const uint8_t *document, size_t length, uint8_t *text, size_t capacity, size_t *needed);
 
 /* Judges the module of SPIR-V in the `length` bytes at `spirv`, in either order of bytes: the text is that of ./shader-check --spirv.

@@ -107,13 +107,13 @@ const Report = (() => {
         for (const line of lines.split("\n")) {
             const [kind, ...words] = line.split(" ");
             if (kind === "buffer") found.set(Number(words[0]), (leaves = []));
-            if (kind === "leaf") leaves.push(words);
+            if (kind === "leaf") leaves.push([...words.slice(0, 4), words.slice(4).filter((it) => it !== "stride").join(", ")]);
         }
         return found;
     }
 
     function leafList(title, leaves, isOpen) {
-        const of = `Leaves of ${title}`, list = table(of, ["leaf", "offset", "length", "alignment"], leaves, " --leaves");
+        const of = `Leaves of ${title}`, list = table(of, ["leaf", "offset", "length", "alignment", "stride"], leaves, " --leaves");
         const it = made("details", made("summary", `${of}: ${leaves.length}`), ...list);
         it.open = isOpen;
         return it;

@@ -69,16 +69,20 @@ leaf a 36 4 4
     "nested": (document([U, struct([("x", 0, 0), (None, 0, 4)], 8), [None, ["Array", 1, ["Constant", 2], 8]], [None, ["Array", 2, ["Constant", 2], 16]],
                          struct([("rows", 3, 0), ("last", 1, 32)], 40)], [storage(4)]), """accepted
 buffer 0 size 40 alignment 4
-leaf rows[0][0].x 0 4 4
-leaf rows[0][0].1 4 4 4
-leaf rows[0][1].x 8 4 4
-leaf rows[0][1].1 12 4 4
-leaf rows[1][0].x 16 4 4
-leaf rows[1][0].1 20 4 4
-leaf rows[1][1].x 24 4 4
-leaf rows[1][1].1 28 4 4
+leaf rows[0..2][0..2].x 0 4 4 stride 16 stride 8
+leaf rows[0..2][0..2].1 4 4 4 stride 16 stride 8
 leaf last.x 32 4 4
 leaf last.1 36 4 4
+"""),
+    "arrays-of-one-and-of-many": (document([F, [None, ["Array", 0, ["Constant", 1], 16]], [None, ["Array", 1, ["Constant", 1000], 16]],
+                                            struct([("few", 1, 0), ("many", 2, 16)], 16016)], [storage(3)]), """accepted
+buffer 0 size 16016 alignment 4
+leaf few[0] 0 4 4
+leaf many[0..1000][0] 16 4 4 stride 16
+"""),
+    "array-of-all-that-there-is": (document([U, [None, ["Array", 0, ["Constant", 536870911], 4]]], [storage(1)]), """accepted
+buffer 0 size 2147483644 alignment 4
+leaf [0..536870911] 0 4 4 stride 4
 """),
     "member-off-its-alignment": (document([V4, struct([("a", 0, 4)], 32)], [storage(1)]), "refused global 0\n"),
     "later-type": (document([[None, ["Array", 1, ["Constant", 2], 4]], U], [storage(0)]), "refused handles\n"),

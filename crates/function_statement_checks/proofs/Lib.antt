@@ -4,3 +4,4 @@ pub mod CallLemmas
 pub mod Refuted
 mod CaseLists
 mod CaseLemmas
+pub mod RootLemmas

@@ -10,3 +10,4 @@ pub mod Emits
 pub mod Returns
 pub mod Stores
 pub mod Laws
+pub mod Roots

@@ -7,6 +7,9 @@ ghost use Rattle.ir_items.specs.found.View.{function_view};
 ghost use Rattle.ir_types.specs.judged.ExpressionPlain.{expression_view};
 ghost use Rattle.ir_types.specs.judged.Plain.{inner_view, type_view};
 ghost use Rattle.spec_statements.specs.judged.BlockContext.{BlockContext as PlainContext, form_at};
+ghost use Rattle.spec_statements.specs.judged.Stores.{BeginsAt};
+ghost use Rattle.ir_items.specs.judged.Bases.{BasesPrecede, expressions_of};
+ghost use Rattle.function_statement_checks.specs.Roots.{AreRoots};
 ghost use Rattle.function_statement_checks.specs.Descriptors.{IsDescriptorAt};
 ghost use Rattle.function_statement_checks.specs.Emits.{IsAnswerOf};
 ghost use Rattle.typing_forms.specs.judged.Forms.{form_of_type};
@@ -16,6 +19,7 @@ ghost use Rattle.typing_layout.specs.declared.constness.ExpressionKind.TheVarian
 
 use crate::descriptors::is_descriptor;
 use crate::emits::answer_of;
+use crate::roots::walked_back;
 use ir_arena::handle::Handle;
 use ir_arena::range::Range;
 use ir_flags::{Capabilities, SubgroupOperationSet};
@@ -80,6 +84,11 @@ pub trait StatementContext {
     fn expression_at(&self, handle: Handle<key::Expression>) -> Option<&Expression>
         ensures { option_map (λ found. expression_view found.now) result ≡ slice_get (seen self.now).f.expressions handle };
 
+    /// What a chain of accesses begins at. Requires that the base of each access comes before it.
+    fn beginning_of(&self, pointer: Handle<key::Expression>) -> Handle<key::Expression>
+        requires { BasesPrecede (seen self.now).f.expressions }
+        ensures { BeginsAt (seen self.now).f.expressions pointer result };
+
     /// Whether the value of an expression is known as the module is written.
     fn is_const(&self, handle: Handle<key::Expression>) -> bool
         requires { known self.now }
@@ -124,6 +133,9 @@ pub struct BlockContext<'a> {
     /// Of each type of the module, whether it is made of the same as its type of rays; those that have no mark here are compared
     /// with it.
     pub descriptors: &'a [bool],
+    /// For each of its expressions what the chain of accesses from it begins at; one that has none here is walked back.
+    pub roots: &'a [Handle<key::Expression>],
+    ghost begin: { AreRoots (expressions_of function.now.expressions) roots.now },
 }
 
 impl<'a> StatementContext for BlockContext<'a> {
@@ -192,6 +204,13 @@ impl<'a> StatementContext for BlockContext<'a> {
         match self.function.expressions.try_get(handle) {
             Ok(expression) => Some(expression),
             Err(_) => None,
+        }
+    }
+
+    fn beginning_of(&self, pointer: Handle<key::Expression>) -> Handle<key::Expression> {
+        match self.roots.get(pointer.index()) {
+            Some(root) => *root,
+            None => walked_back(&self.function.expressions, pointer),
         }
     }
 

@@ -3,9 +3,9 @@
 ghost use Rattle.std.specs.Prelude.{◌≡◌, ◌↔◌, IsTrue, Some};
 ghost use Rattle.ir_types.specs.judged.ExpressionPlain.{expression_view};
 ghost use Rattle.ir_types.specs.judged.Plain.{inner_view};
-ghost use Rattle.ir_items.specs.judged.Bases.{base_of, BasesPrecede};
+ghost use Rattle.ir_items.specs.judged.Bases.{base_of};
 ghost use Rattle.spec_expressions.specs.judged.Loads.{loaded, loaded_value};
-ghost use Rattle.spec_statements.specs.judged.Stores.{base_at, BeginsAt, IsVariableOf, IsVariableAt, pointer_space, IsWritable, FitsAt};
+ghost use Rattle.spec_statements.specs.judged.Stores.{base_at, IsVariableOf, IsVariableAt, pointer_space, IsWritable, FitsAt};
 ghost use Rattle.typing_forms.specs.judged.Resolutions.{inner_at};
 
 use crate::context::StatementContext;
@@ -20,7 +20,7 @@ use typing_forms::Form;
 // ---- where a pointer begins
 
 // The base of an access, if the expression is one.
-fn base_of(expression: &Expression) -> Option<Handle<key::Expression>>
+pub(crate) fn base_of(expression: &Expression) -> Option<Handle<key::Expression>>
     ensures { result ≡ base_of (expression_view expression.now) }
 {
     match *expression {
@@ -41,21 +41,6 @@ pub fn base_at<C: StatementContext>(
         Some(expression) => base_of(expression),
         None => None,
     }
-}
-
-/// What a chain of accesses begins at. Requires that the base of each access comes before it.
-pub(crate) fn beginning_of<C: StatementContext>(
-    context: &C,
-    pointer: Handle<key::Expression>,
-) -> Handle<key::Expression>
-    requires { BasesPrecede (C.seen context.now).f.expressions }
-    ensures { BeginsAt (C.seen context.now).f.expressions pointer result }
-{
-    let mut current = pointer;
-    while let Some(base) = base_at(context, current) {
-        current = base;
-    }
-    current
 }
 
 // Whether an expression is a variable or an argument.

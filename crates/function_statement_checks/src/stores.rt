@@ -9,7 +9,7 @@ ghost use Rattle.function_statement_checks.specs.Stores.{IsStoreFault};
 ghost use Rattle.typing_forms.specs.judged.Forms.{form_in};
 
 use crate::context::StatementContext;
-use crate::pointers::{beginning_of, fits_at, is_variable_at, is_writable};
+use crate::pointers::{fits_at, is_variable_at, is_writable};
 use ir_arena::handle::Handle;
 use ir_types::{TypeInner, key};
 use typing_errors::FunctionError;
@@ -59,7 +59,7 @@ fn check_target<C: StatementContext>(
         (λ _. StoreOK (C.seen context.now) pointer value)
         (IsStoreFault (C.seen context.now) pointer value) }
 {
-    let start = beginning_of(context, pointer);
+    let start = context.beginning_of(pointer);
     if !is_variable_at(context, start) {
         return Err(FunctionError::InvalidStorePointer(start));
     }

@@ -21,7 +21,7 @@ ghost use Rattle.typing_errors.specs.Answers.{form_given};
 use crate::forms::forms_of;
 use crate::parts::{Met, check_parts};
 use function_interface::{Lower, analyse_function};
-use function_statement_checks::BlockContext;
+use function_statement_checks::{BlockContext, roots_of};
 use function_statements::next_answers;
 use ir_arena::handle::Handle;
 use ir_flags::Settings;
@@ -80,6 +80,10 @@ fn judge<L: Lower>(
         Ok(answers) => answers,
         Err(error) => return Err(Refusal::Memory(error)),
     };
+    let roots = match roots_of(alloc, &function.expressions) {
+        Ok(roots) => roots,
+        Err(error) => return Err(Refusal::Memory(error)),
+    };
     let context = BlockContext {
         capabilities: settings.capabilities,
         operations: settings.subgroup_operations,
@@ -89,6 +93,7 @@ fn judge<L: Lower>(
         kinds: &kinds,
         answers: &answers,
         descriptors,
+        roots: &roots,
     };
     match check_parts(
         lower,

@@ -7,3 +7,4 @@ pub mod Laid
 pub mod Listed
 pub mod Reported
 pub mod LeavesWritten
+pub mod RunLaws

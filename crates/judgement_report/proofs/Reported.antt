@@ -1,22 +1,21 @@
 -- The lines of a buffer, and those of all buffers.
-use Rattle.std.proofs.Common.{◌≡◌, ◌<◌, ◌+◌, ℕ, zero, suc, List, [], ◌∷◌, ◌++◌, true, Option, Some, None, unwrap_or, length, drop, slice_get, refl, sym, ap, subst, ◌∙◌, arith, append_assoc, append-nil}
+use Rattle.std.proofs.Common.{◌≡◌, ◌<◌, ◌+◌, ℕ, zero, suc, List, [], ◌∷◌, ◌++◌, true, Option, Some, None, unwrap_or, length, drop, slice_get, refl, sym, ap, subst, ◌∙◌, arith, append_assoc}
 use Rattle.std.specs.Prelude.{if◌then◌else◌}
 use Rattle.std.proofs.lemmas.List.Elements.{All-head}
 use Rattle.ir_items.specs.judged.GlobalPlain.{PlainGlobal}
 use Rattle.ir_types.specs.judged.Plain.{PlainInner, plain, PlainType}
 use Rattle.ir_types.specs.declared.types.TypeInner.TheVariants as inner
-use Rattle.judgement_report.proofs.Along.{all_along}
-use Rattle.judgement_report.specs.Lines.{described, leaf_lines, leaves_of}
+use Rattle.judgement_report.specs.Lines.{described, leaves_of, row_lines}
 use Rattle.judgement_report.specs.Paths.{parts_at, path_along}
 use Rattle.judgement.specs.judged.BufferLaws.{buffer_type}
-use Rattle.judgement.specs.judged.Leaves.{leaves}
+use Rattle.judgement_report.specs.Runs.{listed}
 use Rattle.spec_interface.specs.judged.Spaces.{array_base, effective_type}
 use Rattle.judgement.specs.judged.Lines.{each_from, is_buffer, buffer_line}
 use Rattle.typing_forms.specs.judged.Order.{TypesGoBack}
 use Rattle.typing_forms.specs.judged.Resolutions.{inner_at}
 use Rattle.typing_layout.specs.found.Held.{IsLayoutOf}
 use Rattle.typing_layout.specs.judged.Layout.{size, alignment}
-use Rattle.typing_layout.specs.judged.View.{tree_along, type_tree}
+use Rattle.typing_layout.specs.judged.View.{type_tree}
 use Rattle.typing_layout.specs.declared.layout.TypeLayout.{TypeLayout}
 
 -- ---- the type that counts is there
@@ -38,19 +37,18 @@ pub counted_there : (types : List PlainType) → TypesGoBack types → (type : �
 counted_there types back type within = counted_by types back type within (array_base (inner_at types type)) refl
 
 -- what is written of a buffer is what describes it
-pub buffer_described : (types : List PlainType) → TypesGoBack types → (number : ℕ) (v : PlainGlobal) (ty many step : ℕ) (l : TypeLayout) (old middle after : List ℕ) → is_buffer v.space ≡ true
-    → ty ≡ effective_type types v.ty → many ≡ length types → IsLayoutOf (type_tree types ty) l → step ≡ l.alignment → middle ≡ old ++ buffer_line number l.size step
-    → after ≡ middle ++ leaf_lines (path_along types [] (parts_at types ty)) 0 (leaves 1 (tree_along types many ty)) → after ≡ old ++ described types number v
-buffer_described types back number v ty many step l old middle after buffer counts is laid steps first second =
+pub buffer_described : (types : List PlainType) → TypesGoBack types → (number : ℕ) (v : PlainGlobal) (ty step : ℕ) (l : TypeLayout) (old middle after : List ℕ) → is_buffer v.space ≡ true
+    → ty ≡ effective_type types v.ty → IsLayoutOf (type_tree types ty) l → step ≡ l.alignment → middle ≡ old ++ buffer_line number l.size step
+    → after ≡ middle ++ row_lines (path_along types [] (parts_at types ty)) [] 0 (listed (type_tree types ty)) → after ≡ old ++ described types number v
+buffer_described types back number v ty step l old middle after buffer counts laid steps first second =
     let t = effective_type types v.ty in
     let here : IsLayoutOf (type_tree types t) l = subst (λ h. IsLayoutOf (type_tree types h) l) counts laid in
     let line : List ℕ = buffer_line number (size (buffer_type types v)) (alignment (buffer_type types v)) in
     let e : buffer_line number l.size step ≡ line = ap (λ n. buffer_line number l.size n) steps ∙ ap (λ n. buffer_line number n l.alignment) here.size ∙ ap (λ n. buffer_line number (size (buffer_type types v)) n) here.alignment in
-    let tree : tree_along types many ty ≡ type_tree types t = ap (λ h. tree_along types many h) counts ∙ ap (λ n. tree_along types n t) is ∙ all_along types back t in
-    let behind : leaf_lines (path_along types [] (parts_at types ty)) 0 (leaves 1 (tree_along types many ty)) ≡ leaves_of types v =
-    ap (λ h. leaf_lines (path_along types [] (parts_at types h)) 0 (leaves 1 (tree_along types many ty))) counts ∙ ap (λ x. leaf_lines (path_along types [] (parts_at types t)) 0 (leaves 1 x)) tree in
+    let behind : row_lines (path_along types [] (parts_at types ty)) [] 0 (listed (type_tree types ty)) ≡ leaves_of types v =
+    ap (λ h. row_lines (path_along types [] (parts_at types h)) [] 0 (listed (type_tree types h))) counts in
     second
-    ∙ ap (λ m. m ++ leaf_lines (path_along types [] (parts_at types ty)) 0 (leaves 1 (tree_along types many ty))) (first ∙ ap (λ n. old ++ n) e)
+    ∙ ap (λ m. m ++ row_lines (path_along types [] (parts_at types ty)) [] 0 (listed (type_tree types ty))) (first ∙ ap (λ n. old ++ n) e)
     ∙ ap (λ b. (old ++ line) ++ b) behind
     ∙ append_assoc old line (leaves_of types v)
     ∙ ap (λ b. old ++ (if b then line ++ leaves_of types v else [])) (sym buffer)

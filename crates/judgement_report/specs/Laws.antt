@@ -7,6 +7,9 @@ use Rattle.ir_items.specs.judged.Plain.{PlainEntry, PlainModule}
 use Rattle.judgement.specs.judged.ModuleSteps.{ModuleOK}
 use Rattle.judgement_report.specs.Reported.{IsEntryInfo}
 use Rattle.judgement_report.specs.Rows.{AreLaid}
+use Rattle.judgement_report.specs.Runs.{all_stand_for, listed}
+use Rattle.judgement.specs.judged.Leaves.{Leaf, leaves}
+use Rattle.typing_layout.specs.judged.Tree.{Tree}
 use Rattle.typing_rules.specs.judged.Laws.{IsAmong}
 use Rattle.spec_expressions.specs.judged.CallChains.{HasUse, HasPair}
 use Rattle.spec_expressions.specs.judged.Summaries.{HasUseBit}
@@ -26,3 +29,7 @@ NotedIsReported = (m : PlainModule) (e : PlainEntry) (info : FunctionInfo) → I
 -- each type of a module that the steps up to overrides accept has a layout
 abbrev pub AcceptedIsLaid : Type 0
 AcceptedIsLaid = (s : Settings) (resolved : Bool) (m : PlainModule) → ModuleOK s resolved m → AreLaid m
+
+-- the leaves that the rows of a value stand for are those of the value, where an array without a length has one element
+abbrev pub RowsAreLeaves : Type 0
+RowsAreLeaves = (t : Tree) (l : Leaf) → IsAmong l (leaves 1 t) ↔ IsAmong l (all_stand_for (listed t))

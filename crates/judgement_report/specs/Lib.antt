@@ -1,5 +1,6 @@
 pub mod Reported
 pub mod Laws
 pub mod Rows
+pub mod Runs
 pub mod Paths
 pub mod Lines

@@ -1,11 +1,11 @@
--- The lines of buffers and of their leaves, each ended by a line feed.
+-- The lines of buffers and of their leaves, each ended by a line feed: a line stands for the leaves of its row (`stands_for`).
 use Rattle.std.specs.Prelude.{ℕ, ◌+◌, List, [], ◌∷◌, ◌++◌, if◌then◌else◌, codes, decimal}
 use Rattle.ir_items.specs.judged.GlobalPlain.{PlainGlobal}
 use Rattle.ir_items.specs.judged.Plain.{PlainModule}
 use Rattle.ir_types.specs.judged.Plain.{PlainType}
-use Rattle.judgement_report.specs.Paths.{path_along, parts_at}
+use Rattle.judgement_report.specs.Paths.{path_along, parts_at, stride_words}
+use Rattle.judgement_report.specs.Runs.{Step, Row, listed}
 use Rattle.judgement.specs.judged.BufferLaws.{buffer_type}
-use Rattle.judgement.specs.judged.Leaves.{Leaf, leaves}
 use Rattle.spec_interface.specs.judged.Spaces.{effective_type}
 use Rattle.judgement.specs.judged.Lines.{each_from, is_buffer, buffer_line}
 use Rattle.typing_layout.specs.judged.Layout.{size, alignment}
@@ -16,17 +16,21 @@ path_word [] = codes "."
 path_word (b ∷ bs) = b ∷ bs
 
 -- by its path, its first byte, its length and its alignment
-abbrev pub leaf_line : (path : List ℕ) → (first length alignment : ℕ) → List ℕ
-leaf_line path first length alignment = codes "leaf " ++ path_word path ++ codes " " ++ decimal first ++ codes " " ++ decimal length ++ codes " " ++ decimal alignment ++ codes "\n"
+abbrev pub leaf_place : (path : List ℕ) → (first length alignment : ℕ) → List ℕ
+leaf_place path first length alignment = codes "leaf " ++ path_word path ++ codes " " ++ decimal first ++ codes " " ++ decimal length ++ codes " " ++ decimal alignment
 
--- of the leaves of a value that begins at a byte, where `text` writes their paths
-abbrev pub leaf_lines : (text : List ℕ → List ℕ) → (start : ℕ) → List Leaf → List ℕ
-leaf_lines text start [] = []
-leaf_lines text start (l ∷ ls) = leaf_line (text l.path) (start + l.first) l.length l.alignment ++ leaf_lines text start ls
+-- the same, and how far apart there are more, outermost first
+abbrev pub leaf_line : (path strides : List ℕ) → (first length alignment : ℕ) → List ℕ
+leaf_line path strides first length alignment = leaf_place path first length alignment ++ strides ++ codes "\n"
 
--- of the leaves of a global variable, which has one element where it is an array without a length
+-- of the rows of a value that begins at a byte, where `text` writes their paths, after the strides of what it is in
+abbrev pub row_lines : (text : List Step → List ℕ) → (strides : List ℕ) → (start : ℕ) → List Row → List ℕ
+row_lines text strides start [] = []
+row_lines text strides start (r ∷ rs) = leaf_line (text r.steps) (strides ++ stride_words r.steps) (start + r.first) r.length r.alignment ++ row_lines text strides start rs
+
+-- of the rows of a global variable, which has one element where it is an array without a length
 abbrev pub leaves_of : List PlainType → PlainGlobal → List ℕ
-leaves_of types v = leaf_lines (path_along types [] (parts_at types (effective_type types v.ty))) 0 (leaves 1 (buffer_type types v))
+leaves_of types v = row_lines (path_along types [] (parts_at types (effective_type types v.ty))) [] 0 (listed (buffer_type types v))
 
 -- of a global variable, where it is a buffer: its line of the report, and after it those of its leaves
 abbrev pub described : List PlainType → (number : ℕ) → PlainGlobal → List ℕ

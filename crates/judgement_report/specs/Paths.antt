@@ -3,6 +3,7 @@ use Rattle.std.specs.Prelude.{ℕ, List, [], ◌∷◌, ◌++◌, Bool, true, fa
 use Rattle.std.specs.Char.{is_ascii, is_ascii_digit, is_ascii_alphanumeric}
 use Rattle.ir_types.specs.judged.Plain.{PlainMember, PlainInner, struct, plain, PlainType}
 use Rattle.ir_types.specs.declared.types.TypeInner.TheVariants as inner
+use Rattle.judgement_report.specs.Runs.{Step, to_part, to_each}
 use Rattle.typing_forms.specs.judged.Resolutions.{inner_at}
 
 -- ---- the steps of a path
@@ -30,12 +31,25 @@ abbrev pub dot_after : (before : List ℕ) → List ℕ
 dot_after [] = []
 dot_after (b ∷ bs) = codes "."
 
--- a path with a step to a member after it, and with a step to an element
+-- the numbers of elements, of which the first is 0
+abbrev pub range_word : (count : ℕ) → List ℕ
+range_word count = if count == 1 then codes "0" else codes "0.." ++ decimal count
+
+-- a path with a step to a member after it, and with a step to each of so many elements
 abbrev pub to_member : (before : List ℕ) → (name : Option (List ℕ)) → (number : ℕ) → List ℕ
 to_member before name number = before ++ dot_after before ++ member_word name number
 
-abbrev pub to_element : (before : List ℕ) → (number : ℕ) → List ℕ
-to_element before number = before ++ (codes "[" ++ decimal number ++ codes "]")
+abbrev pub to_elements : (before : List ℕ) → (count : ℕ) → List ℕ
+to_elements before count = before ++ (codes "[" ++ range_word count ++ codes "]")
+
+-- how far apart elements begin, where there are several
+abbrev pub stride_word : Step → List ℕ
+stride_word (to_part number) = []
+stride_word (to_each count stride) = if count == 1 then [] else codes " stride " ++ decimal stride
+
+abbrev pub stride_words : List Step → List ℕ
+stride_words [] = []
+stride_words (step ∷ steps) = stride_word step ++ stride_words steps
 
 -- ---- along the types of a module
 
@@ -66,9 +80,11 @@ abbrev pub parts_of_found : List PlainType → Option PlainMember → Parts
 parts_of_found types (Some m) = parts_at types m.ty
 parts_of_found types None = alone
 
--- the path of these numbers of members and elements, after a path to what has these parts
-abbrev pub path_along : List PlainType → (before : List ℕ) → Parts → (path : List ℕ) → List ℕ
+-- the path of these steps, after a path to what has these parts
+abbrev pub path_along : List PlainType → (before : List ℕ) → Parts → List Step → List ℕ
 path_along types before parts [] = before
-path_along types before (named ms) (k ∷ ks) = path_along types (to_found before (slice_get ms k) k) (parts_of_found types (slice_get ms k)) ks
-path_along types before (numbered base) (k ∷ ks) = path_along types (to_element before k) (parts_at types base) ks
-path_along types before alone (k ∷ ks) = before
+path_along types before (named ms) (to_part k ∷ steps) = path_along types (to_found before (slice_get ms k) k) (parts_of_found types (slice_get ms k)) steps
+path_along types before (named ms) (to_each count stride ∷ steps) = before
+path_along types before (numbered base) (to_each count stride ∷ steps) = path_along types (to_elements before count) (parts_at types base) steps
+path_along types before (numbered base) (to_part k ∷ steps) = before
+path_along types before alone (step ∷ steps) = before

@@ -1,23 +1,29 @@
-//! The lines of the leaves of a value, in the order of their paths.
+//! The lines of the leaves of a value, in the order of their paths: one for those at one place in each element of an array.
 
-ghost use Rattle.std.specs.Prelude.{◌≡◌, ◌<◌, ◌≤◌, ◌+◌, ◌*◌, ◌++◌, ◌∷◌, [], map, OnOk, string_bytes};
+ghost use Rattle.std.specs.Prelude.{◌≡◌, ◌≤◌, ◌+◌, ◌++◌, ◌∷◌, [], map, OnOk, string_bytes};
 ghost use Rattle.ir_types.specs.judged.Plain.{inner_view, member_view};
-ghost use Rattle.judgement_report.specs.Lines.{leaf_line, leaf_lines, path_word};
+ghost use Rattle.judgement_report.specs.Lines.{leaf_line, leaf_place, path_word, row_lines};
 ghost use Rattle.judgement_report.specs.Paths.{named, numbered, parts_at, parts_by, path_along};
-ghost use Rattle.judgement_report.specs.Rows.{AreInRange, HasRoom};
-ghost use Rattle.judgement.specs.judged.Leaves.{leaf, leaves, member_leaves, repeated};
+ghost use Rattle.judgement_report.specs.Rows.{HasRoom};
+ghost use Rattle.judgement_report.specs.Runs.{elements, listed, member_rows, row_of};
+ghost use Rattle.typing_forms.specs.judged.Order.{TypesGoBack};
 ghost use Rattle.typing_forms.specs.judged.Resolutions.{types_view};
 ghost use Rattle.typing_forms.specs.judged.Sizes.{type_size};
-ghost use Rattle.typing_forms.specs.declared.sizes.TheConstants.{MAX_TYPE_SIZE};
-ghost use Rattle.typing_layout.specs.judged.View.{members_by, tree_by, tree_along};
+ghost use Rattle.typing_layout.specs.judged.View.{members_by, tree_by, type_tree};
 
 use crate::leaves::{counted, vector_alignment};
-use crate::paths::{to_element, to_member};
+use crate::paths::{to_elements, to_member, with_stride};
 use ir_arena::handle::Handle;
 use ir_sets::unique_arena::UniqueArena;
 use ir_types::{IrType, StructMember, TypeInner, key};
 use std::alloc::{AllocError, Global};
 use typing_forms::{TypeInnerExt, inner_of};
+
+/// The deepest that the types of a buffer nest whose leaves are listed: so deep does a call go.
+pub const MAX_NESTING: usize = 255;
+
+/// A listing ends at the line that goes past so many bytes.
+pub const MAX_LISTING: usize = 16777216;
 
 // A path as it is written: a dot where it has no step.
 fn path_word(path: &str) -> &str
@@ -26,31 +32,51 @@ fn path_word(path: &str) -> &str
     if path.is_empty() { "." } else { path }
 }
 
-// Writes the line of a leaf.
-fn write_line(
+// Writes where a leaf lies.
+fn write_place(
     text: &mut String,
     path: &str,
     first: u64,
     len: u64,
     alignment: u64,
 ) -> Result<(), AllocError>
-    ensures { OnOk result (string_bytes text.new ≡ string_bytes text.old ++ leaf_line path.now first len alignment) }
+    ensures { OnOk result (string_bytes text.new ≡ string_bytes text.old ++ leaf_place path.now first len alignment) }
 {
     let word = path_word(path);
-    write!(text, "leaf {word} {first} {len} {alignment}\n")
+    write!(text, "leaf {word} {first} {len} {alignment}")
 }
 
-// Writes the line of the leaf that a value at this byte is itself.
+// Writes the line of a leaf.
+fn write_line(
+    text: &mut String,
+    path: &str,
+    strides: &str,
+    first: u64,
+    len: u64,
+    alignment: u64,
+) -> Result<(), AllocError>
+    ensures { OnOk result (string_bytes text.new ≡ string_bytes text.old ++ leaf_line path.now strides.now first len alignment) }
+{
+    write_place(text, path, first, len, alignment)?;
+    text.push_str(strides)?;
+    text.push_str("\n")
+}
+
+// Writes the line of the leaf that a value at this byte is itself. The error is out of memory, or that the text is too long.
 fn write_leaf(
     inner: &TypeInner,
     alignment: u64,
     path: &str,
+    strides: &str,
     start: u64,
     text: &mut String,
 ) -> Result<(), AllocError>
-    ensures { OnOk result (string_bytes text.new ≡ string_bytes text.old ++ leaf_lines (λ p. path.now) start (leaf [] 0 (type_size (inner_view inner.now)) alignment ∷ [])) }
+    ensures { OnOk result (string_bytes text.new ≡ string_bytes text.old ++ row_lines (λ p. path.now) strides.now start (row_of [] 0 (type_size (inner_view inner.now)) alignment ∷ [])) }
 {
-    write_line(text, path, start, inner.size(), alignment)
+    if text.len() > MAX_LISTING {
+        return Err(AllocError);
+    }
+    write_line(text, path, strides, start, inner.size(), alignment)
 }
 
 // Writes the lines of the leaves of so many elements, the first of which begins at this byte.
@@ -63,20 +89,20 @@ fn write_elements(
     count: u32,
     stride: u32,
     path: &str,
+    strides: &str,
     start: u64,
     text: &mut String,
 ) -> Result<(), AllocError>
-    requires sizes { AreInRange (types_view types.now) }
-    requires size { count * stride ≤ MAX_TYPE_SIZE }
+    requires back { TypesGoBack (types_view types.now) }
     requires room { HasRoom start (depth + 1) }
-    ensures { OnOk result (string_bytes text.new ≡ string_bytes text.old ++ leaf_lines (path_along (types_view types.now) path.now (numbered base)) start (repeated count 0 stride (leaves 1 (tree_along (types_view types.now) depth base)))) }
+    ensures { OnOk result (string_bytes text.new ≡ string_bytes text.old ++ row_lines (path_along (types_view types.now) path.now (numbered base)) strides.now start (elements count stride (listed (type_tree (types_view types.now) base)))) }
 {
-    for place in 0..count {
-        let offset = u64::from(place) * u64::from(stride);
-        let inside = to_element(alloc, path, place)?;
-        write_along(alloc, types, depth, base, &inside, start + offset, text)?;
+    if count == 0 {
+        return Ok(());
     }
-    Ok(())
+    let inside = to_elements(alloc, path, count)?;
+    let apart = with_stride(alloc, strides, count, stride)?;
+    write_along(alloc, types, depth, base, &inside, &apart, start, text)
 }
 
 // Writes the lines of the leaves of the members of a struct that begins at this byte.
@@ -87,12 +113,13 @@ fn write_members(
     depth: usize,
     members: &[StructMember],
     path: &str,
+    strides: &str,
     start: u64,
     text: &mut String,
 ) -> Result<(), AllocError>
-    requires sizes { AreInRange (types_view types.now) }
+    requires back { TypesGoBack (types_view types.now) }
     requires room { HasRoom start (depth + 1) }
-    ensures { OnOk result (string_bytes text.new ≡ string_bytes text.old ++ leaf_lines (path_along (types_view types.now) path.now (named (map member_view members.now))) start (member_leaves 1 0 (members_by (tree_along (types_view types.now) depth) (map member_view members.now)))) }
+    ensures { OnOk result (string_bytes text.new ≡ string_bytes text.old ++ row_lines (path_along (types_view types.now) path.now (named (map member_view members.now))) strides.now start (member_rows 0 (members_by (type_tree (types_view types.now)) (map member_view members.now)))) }
 {
     for place in 0..members.len() {
         let member = &members[place];
@@ -104,6 +131,7 @@ fn write_members(
             depth,
             member.ty,
             &inside,
+            strides,
             start + offset,
             text,
         )?;
@@ -119,27 +147,27 @@ fn write_inner(
     depth: usize,
     inner: &TypeInner,
     path: &str,
+    strides: &str,
     start: u64,
     text: &mut String,
 ) -> Result<(), AllocError>
-    requires sizes { AreInRange (types_view types.now) }
-    requires size { type_size (inner_view inner.now) ≤ MAX_TYPE_SIZE }
+    requires back { TypesGoBack (types_view types.now) }
     requires room { HasRoom start (depth + 1) }
-    ensures { OnOk result (string_bytes text.new ≡ string_bytes text.old ++ leaf_lines (path_along (types_view types.now) path.now (parts_by (inner_view inner.now))) start (leaves 1 (tree_by (tree_along (types_view types.now) depth) (inner_view inner.now)))) }
+    ensures { OnOk result (string_bytes text.new ≡ string_bytes text.old ++ row_lines (path_along (types_view types.now) path.now (parts_by (inner_view inner.now))) strides.now start (listed (tree_by (type_tree (types_view types.now)) (inner_view inner.now)))) }
 {
     match *inner {
         TypeInner::Scalar(scalar)
         | TypeInner::Atomic(scalar)
         | TypeInner::CooperativeMatrix { scalar, .. } => {
-            write_leaf(inner, u64::from(scalar.width), path, start, text)
+            write_leaf(inner, u64::from(scalar.width), path, strides, start, text)
         }
         TypeInner::Vector { size, scalar } => {
             let whole = vector_alignment(size, scalar.width);
-            write_leaf(inner, whole, path, start, text)
+            write_leaf(inner, whole, path, strides, start, text)
         }
         TypeInner::Matrix { rows, scalar, .. } => {
             let column = vector_alignment(rows, scalar.width);
-            write_leaf(inner, column, path, start, text)
+            write_leaf(inner, column, path, strides, start, text)
         }
         TypeInner::Array { base, size, stride } => {
             write_elements(
@@ -150,12 +178,22 @@ fn write_inner(
                 counted(size),
                 stride,
                 path,
+                strides,
                 start,
                 text,
             )
         }
         TypeInner::Struct { ref members, .. } => {
-            write_members(alloc, types, depth, members.as_slice(), path, start, text)
+            write_members(
+                alloc,
+                types,
+                depth,
+                members.as_slice(),
+                path,
+                strides,
+                start,
+                text,
+            )
         }
         TypeInner::Pointer { .. }
         | TypeInner::ValuePointer { .. }
@@ -167,8 +205,8 @@ fn write_inner(
     }
 }
 
-/// Writes the lines of the leaves of a value of the type at a handle, which begins at this byte and has this path, along so many
-/// handles at most.
+/// Writes the lines of the leaves of a value of the type at a handle, which begins at this byte and has this path. The error is
+/// out of memory, or that types nest deeper than this, or that the text is too long.
 #[cycle(lines)]
 pub(crate) fn write_along(
     alloc: Global,
@@ -176,18 +214,19 @@ pub(crate) fn write_along(
     depth: usize,
     handle: Handle<key::IrType>,
     path: &str,
+    strides: &str,
     start: u64,
     text: &mut String,
 ) -> Result<(), AllocError>
-    requires sizes { AreInRange (types_view types.now) }
+    requires back { TypesGoBack (types_view types.now) }
     requires room { HasRoom start depth }
-    ensures { OnOk result (string_bytes text.new ≡ string_bytes text.old ++ leaf_lines (path_along (types_view types.now) path.now (parts_at (types_view types.now) handle)) start (leaves 1 (tree_along (types_view types.now) depth handle))) }
+    ensures { OnOk result (string_bytes text.new ≡ string_bytes text.old ++ row_lines (path_along (types_view types.now) path.now (parts_at (types_view types.now) handle)) strides.now start (listed (type_tree (types_view types.now) handle))) }
 {
     if depth == 0 {
-        return Ok(());
+        return Err(AllocError);
     }
     match inner_of(types, handle) {
-        Some(inner) => write_inner(alloc, types, depth - 1, inner, path, start, text),
+        Some(inner) => write_inner(alloc, types, depth - 1, inner, path, strides, start, text),
         None => Ok(()),
     }
 }

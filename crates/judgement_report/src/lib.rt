@@ -18,6 +18,7 @@ mod paths;
 mod whole;
 
 pub use leaf_buffers::buffer_leaves;
+pub use leaf_lines::{MAX_LISTING, MAX_NESTING};
 pub use leaves::Leaf;
 pub use listing::leaf_report;
 pub use whole::report;

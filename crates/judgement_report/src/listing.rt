@@ -9,7 +9,7 @@ ghost use Rattle.spec_expressions.specs.judged.ModuleHandles.{HandlesOK};
 ghost use Rattle.judgement.specs.judged.Lines.{buffer_line, is_buffer};
 
 use crate::leaf_buffers::counted;
-use crate::leaf_lines::write_along;
+use crate::leaf_lines::{MAX_NESTING, write_along};
 use ir_arena::handle::Handle;
 use ir_items::{GlobalVariable, Module};
 use ir_kinds::AddressSpace;
@@ -66,18 +66,20 @@ fn write_variable(
     let ty = counted(&module.types, variable.ty);
     let layout = info.layout(ty);
     write_buffer(text, number, layout.size, layout.alignment.get())?;
-    write_along(alloc, &module.types, module.types.len(), ty, "", 0, text)
+    write_along(alloc, &module.types, MAX_NESTING, ty, "", "", 0, text)
 }
 
-/// The lines of the storage and uniform buffers of a module, in order: of each the line that the report has, and after it a line
-/// for each of its leaves, with its path, its first byte, its length and its alignment.
+/// The lines of the storage and uniform buffers of a module, in order: of each the line that the report has, and after it the lines
+/// of its leaves, with path, first byte, length and alignment. Of leaves that lie at one place in each element of an array there is
+/// one line, with the numbers of the elements in its path and how far apart they begin.
 ///
 /// `handles` requires that the handles of the module are in order, `laid` that each of its types has a layout, and `layouts` that what
 /// is kept of the module has these layouts.
 ///
 /// # Errors
 ///
-/// There was no memory. Nothing is kept then.
+/// There was no memory, or the types of a buffer nest deeper than [`MAX_NESTING`], or the listing is longer than
+/// [`MAX_LISTING`](crate::MAX_LISTING). Nothing is kept then.
 pub fn leaf_report(alloc: Global, module: &Module, info: &ModuleInfo) -> Result<String, AllocError>
     requires handles { HandlesOK (module_view «module».now) }
     requires laid { AreLaid (module_view «module».now) }

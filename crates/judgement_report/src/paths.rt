@@ -1,7 +1,8 @@
 //! Paths of leaves, step by step.
 
 ghost use Rattle.std.specs.Prelude.{◌≡◌, ◌++◌, IfOk, OnOk, option_map, string_bytes};
-ghost use Rattle.judgement_report.specs.Paths.{are_word_bytes, dot_after, is_word, is_word_byte, member_word, to_element, to_member};
+ghost use Rattle.judgement_report.specs.Paths.{are_word_bytes, dot_after, is_word, is_word_byte, member_word, range_word, stride_word, to_elements, to_member};
+ghost use Rattle.judgement_report.specs.Runs.{to_each};
 
 use std::alloc::{AllocError, Global};
 
@@ -73,11 +74,40 @@ pub(crate) fn to_member(
     Ok(path)
 }
 
-/// A path with a step after it to the element with this number.
-pub(crate) fn to_element(alloc: Global, before: &str, number: u32) -> Result<String, AllocError>
-    ensures { IfOk result (λ path. string_bytes path ≡ to_element before.now number) }
+// Writes the numbers of so many elements, of which the first is 0.
+fn write_range(path: &mut String, count: u32) -> Result<(), AllocError>
+    ensures { OnOk result (string_bytes path.new ≡ string_bytes path.old ++ range_word count) }
+{
+    if count == 1 {
+        path.push_str("0")
+    } else {
+        write!(path, "0..{count}")
+    }
+}
+
+/// A path with a step after it to each of so many elements.
+pub(crate) fn to_elements(alloc: Global, before: &str, count: u32) -> Result<String, AllocError>
+    ensures { IfOk result (λ path. string_bytes path ≡ to_elements before.now count) }
 {
     let mut path = String::from_str(alloc, before)?;
-    write!(path, "[{number}]")?;
+    path.push_str("[")?;
+    write_range(&mut path, count)?;
+    path.push_str("]")?;
     Ok(path)
+}
+
+/// How far apart elements begin, after the same of what they are in: nothing more where there is one.
+pub(crate) fn with_stride(
+    alloc: Global,
+    before: &str,
+    count: u32,
+    stride: u32,
+) -> Result<String, AllocError>
+    ensures { IfOk result (λ strides. string_bytes strides ≡ before.now ++ stride_word (to_each count stride)) }
+{
+    let mut strides = String::from_str(alloc, before)?;
+    if count != 1 {
+        write!(strides, " stride {stride}")?;
+    }
+    Ok(strides)
 }

@@ -8,3 +8,6 @@ check_parts-requires-clause-precede g c = bases_precede (function_view c.args.fu
 
 pub from_arena-requires : goal.from_arena-requires
 from_arena-requires g c = origins c.args.function.now.expressions c.requires.precede
+
+pub roots_of-requires : goal.roots_of-requires
+roots_of-requires g c = bases_precede (function_view c.args.function.now).expressions c.requires.precede

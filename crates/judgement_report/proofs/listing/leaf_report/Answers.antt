@@ -1,4 +1,4 @@
-use Rattle.std.proofs.Common.{◌++◌, string_bytes, ap, ◌∙◌}
+use Rattle.std.proofs.Common.{string_bytes, ap, ◌∙◌}
 use Rattle.ir_arena.specs.found.Arenas.{value_at}
 use Rattle.ir_items.specs.found.GlobalView.{global_view}
 use Rattle.ir_items.specs.found.View.{module_view}
