@@ -1,6 +1,6 @@
 //! Which rule of an expression is broken, by its kind.
 
-ghost use Rattle.std.specs.Prelude.{IfSome};
+ghost use Rattle.std.specs.Prelude.{IfSome, IsSomeAnd, slice_get};
 ghost use Rattle.check_causes.specs.Causes.{BrokenBy};
 ghost use Rattle.ir_types.specs.judged.ExpressionPlain.{expression_view, plain};
 ghost use Rattle.module_context.specs.OperandView.{scene_in, expressions_in};
@@ -201,5 +201,17 @@ pub fn broken_rule(context: &CheckContext<'_>, expression: &Expression) -> Optio
             Some(Cause::Swizzle(cause))
         }
         _ => of_image(context, expression),
+    }
+}
+
+/// The same of the expression at a handle, if it is there.
+#[tactic(auto, using(module_context::proofs::Lookups::found, module_context::proofs::Lookups::missing))]
+pub fn broken_at(context: &CheckContext<'_>, handle: Handle<key::Expression>) -> Option<Cause>
+    requires { AreKinds (expressions_in context.now) context.now.kinds.now }
+    ensures { IfSome result (λ cause. IsSomeAnd (slice_get (expressions_in context.now) handle) (λ e. BrokenBy (scene_in context.now) e cause)) }
+{
+    match context.expressions.try_get(handle) {
+        Ok(expression) => broken_rule(context, expression),
+        Err(_) => None,
     }
 }

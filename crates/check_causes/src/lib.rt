@@ -18,7 +18,7 @@ mod swizzles;
 pub use access::{AccessCause, broken_access, broken_access_index};
 pub use bodies::{ReturnCause, StoreCause, broken_return, broken_store};
 pub use conversions::{AsCause, broken_as};
-pub use expression::{Cause, broken_rule};
+pub use expression::{Cause, broken_at, broken_rule};
 pub use image_levels::{DetailCause, EdgeCause};
 pub use image_loads::{LoadCause, QueryCause, TexelCause, TexelLoad, broken_load, broken_query};
 pub use image_samples::{PlaceCause, SampleCause, SamplerCause, TexelsCause, broken_sample};
