@@ -2,3 +2,4 @@ pub mod Answered
 pub mod Explained
 pub mod Listed
 pub mod Objects
+pub mod Ruled

@@ -14,12 +14,12 @@ ghost use Rattle.shader_check.specs.found.Examined.{IsLeft, finding_in};
 ghost use Rattle.shader_check.specs.found.Judgements.{Judged, FindsIn};
 
 use crate::refused::{RefusedItem, refused_item, value_of};
-use crate::types::type_texts;
 use check_faults::{Refused, accepted_value, no_document_value, refused_value};
 use check_names::{Names, Roles, entries_value, globals_value};
 use check_reasons::{PathNames, Slip, hint};
 use document_forms::Place;
 use document_reader::{Document, DocumentError, MAX_LEN, read_document};
+use ir_flags::Capabilities;
 use ir_items::Module;
 use judgement_report::{leaf_report, report};
 use serde_json::Value;
@@ -82,17 +82,6 @@ fn names(alloc: Global, requested: Requested, module: &Module) -> Result<Names, 
     }
 }
 
-// The item of a module that is refused.
-fn item(
-    alloc: Global,
-    bytes: &[u8],
-    module: &Module,
-    error: &ValidationError,
-) -> Result<RefusedItem, AllocError> {
-    let types = type_texts(alloc, module, error)?;
-    refused_item(alloc, bytes, error, &types)
-}
-
 // The explanation of an accepted module.
 fn accepted(
     alloc: Global,
@@ -130,6 +119,7 @@ fn refused(
 fn explained(
     alloc: Global,
     requested: Requested,
+    capabilities: Capabilities,
     bytes: &[u8],
     examined: Examined,
     module: &Module,
@@ -145,7 +135,7 @@ fn explained(
             explanation
         }
         Examined::Refused(error) => {
-            let item = item(alloc, bytes, module, &error);
+            let item = refused_item(alloc, capabilities, bytes, module, &error);
             refused(error, item)
         }
     }
@@ -186,8 +176,16 @@ pub fn explain_document(
     ensures left { IsLeft document.old.returns document.old.«module» document.new.«module» }
     ensures settings { document.new ≡ record document.old { «module» = document.new.«module» } }
 {
+    let capabilities = document.settings.capabilities;
     let examined = examine_document(alloc, document)?;
-    explained(alloc, requested, text, examined, &document.module)
+    explained(
+        alloc,
+        requested,
+        capabilities,
+        text,
+        examined,
+        &document.module,
+    )
 }
 
 // The explanation of bytes that spell no document, unless there was no memory for what they look like.

@@ -6,6 +6,8 @@
 mod explanation;
 mod origin;
 mod refused;
+mod required;
+mod sites;
 mod spans;
 mod spirv;
 mod traced;

@@ -1,11 +1,18 @@
 // The item that is refused, and why.
 
-use check_reasons::{BodyPlace, Reason, Refusal, name_of, path_of};
-use ir_places::Trail;
+use crate::required::{Told, told_in};
+use crate::sites::site_of;
+use crate::types::{forms_of, operand_types, refused_function, types_in};
+use check_causes::Cause;
+use check_reasons::{OperandType, Reason, Refusal, name_of, path_of};
+use check_sentences::part_path;
+use ir_flags::Capabilities;
+use ir_items::Module;
 use serde_json::Value;
-use shader_check::{Finding, Named, Step, ValidationError, refused_by};
+use shader_check::{Finding, ModuleError, Named, Step, ValidationError, refused_by};
 use std::alloc::{AllocError, Global};
 use std::str::from_utf8;
+use typing_forms::TypeResolution;
 
 /// The item that a step refuses, and why.
 #[derive(Drop)]
@@ -22,6 +29,8 @@ pub struct RefusedItem {
     pub text: String,
     /// The error by its name, with all that it holds.
     pub error: String,
+    /// Which rule of an expression is broken, where that is one of several.
+    pub cause: Option<Cause>,
 }
 
 // The word of a step.
@@ -81,34 +90,28 @@ fn reason_of(alloc: Global, refusal: &Refusal<'_>) -> Result<(Vec<u32>, String),
     }
 }
 
-// The name of the item, and the error by its name.
-fn names_in(alloc: Global, refusal: &Refusal<'_>) -> Result<(Option<String>, String), AllocError> {
-    let name = copied(
-        alloc,
-        name_of(refusal.document, refusal.step, refusal.index),
-    )?;
-    match String::from_str(alloc, refusal.error) {
-        Ok(error) => Ok((name, error)),
-        Err(error) => Err(AllocError::from(error)),
-    }
-}
-
 // Puts the item together from the refusal.
 fn item_of(
     alloc: Global,
     refusal: &Refusal<'_>,
     step: &'static str,
     index: Option<usize>,
+    named: String,
+    cause: Option<Cause>,
 ) -> Result<RefusedItem, AllocError> {
     let (path, text) = reason_of(alloc, refusal)?;
-    let (name, error) = names_in(alloc, refusal)?;
+    let name = copied(
+        alloc,
+        name_of(refusal.document, refusal.step, refusal.index),
+    )?;
     Ok(RefusedItem {
         step,
         index,
         name,
         path,
         text,
-        error,
+        error: named,
+        cause,
     })
 }
 
@@ -124,59 +127,84 @@ fn name_with_fields(alloc: Global, error: &ValidationError) -> Result<String, Al
     }
 }
 
-// Where in a body the error stands, if the trail leads there.
-fn place_at(of_entry: bool, index: usize, trail: &Trail) -> Option<BodyPlace<'_>> {
-    if trail.is_lost() {
-        return None;
-    }
-    Some(BodyPlace {
-        of_entry,
-        index,
-        trail,
-    })
-}
-
-// The same, of an error of a module.
-fn place_of(error: &ValidationError) -> Option<BodyPlace<'_>> {
+// Whether it is in a function or at a global expression, or at what one is the value of.
+fn is_of_values(error: &ValidationError) -> bool {
     match error {
-        ValidationError::Module(_) | ValidationError::GlobalVariable(_) => None,
-        ValidationError::Function(refused) => {
-            place_at(false, refused.function.index(), &refused.trail)
-        }
-        ValidationError::EntryPoint(refused) => place_at(true, refused.index, &refused.trail),
+        ValidationError::Module(error) => match error {
+            ModuleError::ConstExpression(_) | ModuleError::Constant(_) | ModuleError::Override(_) =>
+                true,
+            ModuleError::InvalidHandle(_) | ModuleError::Layouter(_) | ModuleError::Typing(_) =>
+                false,
+        },
+        ValidationError::GlobalVariable(_)
+        | ValidationError::Function(_)
+        | ValidationError::EntryPoint(_) => true,
     }
 }
 
-// The item of a document that is refused so.
-fn item_in(
+// The types of the expressions among which the error stands, as far as they are known.
+fn known_types(
     alloc: Global,
-    document: &Value,
+    module: &Module,
     error: &ValidationError,
-    types: &[String],
-) -> Result<RefusedItem, AllocError> {
-    let named = name_with_fields(alloc, error)?;
+) -> Result<Vec<TypeResolution>, AllocError> {
+    if is_of_values(error) {
+        types_in(alloc, module, refused_function(module, error))
+    } else {
+        Ok(Vec::new(alloc))
+    }
+}
+
+// The refusal of a document by an error that stands at this part, where it stands neither in a body nor at a handle.
+fn refusal_of<'a>(
+    document: &'a Value,
+    error: &'a ValidationError,
+    part: &'a [usize],
+    types: &'a [OperandType],
+    required: &'a str,
+) -> Refusal<'a> {
     let (step, index) = step_of(refused_by(error));
-    let refusal = Refusal {
+    Refusal {
         document,
         step,
         index: index.unwrap_or(0),
-        error: &named,
         types,
-        place: place_of(error),
-    };
-    item_of(alloc, &refusal, step, index)
+        site: site_of(error, part),
+        required,
+    }
 }
 
-/// The item of the document that these bytes spell which is refused so, where the expressions of its function have these types.
-/// The error is out of memory.
+// The item of a document that is refused so, where this is required.
+fn item_in(
+    alloc: Global,
+    document: &Value,
+    module: &Module,
+    error: &ValidationError,
+    types: &[TypeResolution],
+    told: &Told,
+) -> Result<RefusedItem, AllocError> {
+    let named = name_with_fields(alloc, error)?;
+    let (step, index) = step_of(refused_by(error));
+    let part = part_path(alloc, module, error)?;
+    let operands = operand_types(alloc, module, types)?;
+    let refusal = refusal_of(document, error, &part, &operands, told.text.as_str());
+    item_of(alloc, &refusal, step, index, named, told.cause)
+}
+
+/// The item of a module, which the bytes spell as a document, that is refused so under these capabilities. The error is out of
+/// memory.
 pub(crate) fn refused_item(
     alloc: Global,
+    capabilities: Capabilities,
     bytes: &[u8],
+    module: &Module,
     error: &ValidationError,
-    types: &[String],
 ) -> Result<RefusedItem, AllocError> {
+    let types = known_types(alloc, module, error)?;
+    let forms = forms_of(alloc, module, &types)?;
+    let told = told_in(alloc, capabilities, module, &forms, error)?;
     match value_of(alloc, bytes) {
-        Ok(document) => item_in(alloc, &document, error, types),
+        Ok(document) => item_in(alloc, &document, module, error, &types, &told),
         Err(memory) => Err(memory),
     }
 }

@@ -1,13 +1,15 @@
-// The types of expressions, as errors have them.
+// The types of the expressions among which an error stands.
 
+use check_reasons::OperandType;
+use check_sentences::TypeText;
 use ir_arena::arena::Arena;
 use ir_arena::handle::Handle;
 use ir_items::{Function, Module};
 use ir_types::{Expression, TypeInner, key};
-use shader_check::{ModuleError, ValidationError};
+use shader_check::ValidationError;
 use std::alloc::{AllocError, Global};
 use typing_errors::ResolveRefusal;
-use typing_forms::TypeResolution;
+use typing_forms::{Form, TypeResolution, form_of};
 use typing_resolve::ResolveContext;
 
 // What is read for an operand that has no type.
@@ -66,50 +68,13 @@ fn types_of(
     Ok(types)
 }
 
-// The types as errors have them.
-fn texts_of(alloc: Global, types: &[TypeResolution]) -> Result<Vec<String>, AllocError> {
-    let mut texts = Vec::new(alloc);
-    for found in types {
-        texts.push(format!(in alloc; "{found:?}")?)?;
-    }
-    Ok(texts)
-}
-
-fn types_in(
-    alloc: Global,
-    module: &Module,
-    function: &Function,
-) -> Result<Vec<String>, AllocError> {
-    let context = ResolveContext::with_locals(
-        module,
-        &function.local_variables,
-        &function.arguments,
-    );
-    let types = types_of(alloc, &context, &function.expressions)?;
-    texts_of(alloc, &types)
-}
-
-fn global_types(alloc: Global, module: &Module) -> Result<Vec<String>, AllocError> {
-    let locals = Arena::new(alloc);
-    let context = ResolveContext::with_locals(module, &locals, &[]);
-    let types = types_of(alloc, &context, &module.global_expressions)?;
-    texts_of(alloc, &types)
-}
-
-// The function at a handle, where there is one.
-fn function_at(module: &Module, wanted: usize) -> Option<&Function> {
-    for (handle, function) in module.functions.iter() {
-        if handle.index() == wanted {
-            return Some(function);
-        }
-    }
-    None
-}
-
-// The function that is refused, where it is one.
-fn refused_function<'a>(module: &'a Module, error: &ValidationError) -> Option<&'a Function> {
+/// The function that is refused, where it is one.
+pub(crate) fn refused_function<'a>(
+    module: &'a Module,
+    error: &ValidationError,
+) -> Option<&'a Function> {
     match error {
-        ValidationError::Function(error) => function_at(module, error.function.index()),
+        ValidationError::Function(error) => module.functions.try_get(error.function).ok(),
         ValidationError::EntryPoint(error) => match module.entry_points.get(error.index) {
             Some(entry) => Some(&entry.function),
             None => None,
@@ -118,32 +83,81 @@ fn refused_function<'a>(module: &'a Module, error: &ValidationError) -> Option<&
     }
 }
 
-// Whether it is a global expression that is refused, or what one is the value of.
-fn is_of_values(error: &ValidationError) -> bool {
-    match error {
-        ValidationError::Module(error) => match error {
-            ModuleError::ConstExpression(_) | ModuleError::Constant(_) | ModuleError::Override(_) =>
-                true,
-            ModuleError::InvalidHandle(_) | ModuleError::Layouter(_) | ModuleError::Typing(_) =>
-                false,
-        },
-        ValidationError::GlobalVariable(_) => true,
-        ValidationError::Function(_) | ValidationError::EntryPoint(_) => false,
+/// The types of the expressions of the function that is refused, or of the global expressions, up to the first that has none. The
+/// error is out of memory.
+pub(crate) fn types_in(
+    alloc: Global,
+    module: &Module,
+    function: Option<&Function>,
+) -> Result<Vec<TypeResolution>, AllocError> {
+    match function {
+        Some(function) => {
+            let context = ResolveContext::with_locals(
+                module,
+                &function.local_variables,
+                &function.arguments,
+            );
+            types_of(alloc, &context, &function.expressions)
+        }
+        None => global_types(alloc, module),
     }
 }
 
-/// The types of the expressions of the function that is refused, or of the global expressions, as errors have them, up to the
-/// first that has none. The error is out of memory.
-pub(crate) fn type_texts(
+// The types of the global expressions.
+fn global_types(alloc: Global, module: &Module) -> Result<Vec<TypeResolution>, AllocError> {
+    let locals = Arena::new(alloc);
+    let context = ResolveContext::with_locals(module, &locals, &[]);
+    types_of(alloc, &context, &module.global_expressions)
+}
+
+/// The forms of types. The error is out of memory.
+pub(crate) fn forms_of(
     alloc: Global,
     module: &Module,
-    error: &ValidationError,
-) -> Result<Vec<String>, AllocError> {
-    if let Some(function) = refused_function(module, error) {
-        return types_in(alloc, module, function);
+    types: &[TypeResolution],
+) -> Result<Vec<Form>, AllocError> {
+    let mut forms = Vec::new(alloc);
+    for found in types {
+        forms.push(form_of(&module.types, found))?;
     }
-    if is_of_values(error) {
-        return global_types(alloc, module);
+    Ok(forms)
+}
+
+// The index of a type of the module, or of what it points to.
+fn index_of(found: &TypeResolution) -> Option<usize> {
+    match found {
+        TypeResolution::Handle(handle) => Some(handle.index()),
+        TypeResolution::Value(TypeInner::Pointer { base, .. }) => Some(base.index()),
+        TypeResolution::Value(_) => None,
     }
-    Ok(Vec::new(alloc))
+}
+
+// A type in words.
+fn operand_type(
+    alloc: Global,
+    module: &Module,
+    found: &TypeResolution,
+) -> Result<OperandType, AllocError> {
+    let form = form_of(&module.types, found);
+    let text = TypeText {
+        types: &module.types,
+        form: &form,
+    };
+    Ok(OperandType {
+        text: format!(in alloc; "{text}")?,
+        index: index_of(found),
+    })
+}
+
+/// Types in words. The error is out of memory.
+pub(crate) fn operand_types(
+    alloc: Global,
+    module: &Module,
+    types: &[TypeResolution],
+) -> Result<Vec<OperandType>, AllocError> {
+    let mut operands = Vec::new(alloc);
+    for found in types {
+        operands.push(operand_type(alloc, module, found)?)?;
+    }
+    Ok(operands)
 }

@@ -7,7 +7,6 @@ pub mod document;
 pub mod error_text;
 mod fields;
 pub mod forms;
-pub mod members;
 mod object;
 mod parts;
 mod place;

@@ -1,7 +1,9 @@
 -- The path of a place of a body.
-use Rattle.std.specs.Prelude.{ℕ, Bool, true, false, List, [], ◌∷◌, ◌++◌, map, nat_le, if◌then◌else◌}
+use Rattle.std.specs.Prelude.{ℕ, Bool, true, false, List, [], ◌∷◌, ◌++◌, Option, Some, None, map, nat_le, if◌then◌else◌}
 use Rattle.check_paths.specs.Json.{json_path}
 use Rattle.check_places.specs.declared.body_place.BodyPlace.{BodyPlace}
+use Rattle.check_places.specs.declared.subject.Site.{Site}
+use Rattle.check_places.specs.declared.subject.Site.TheVariants as site
 
 -- the greatest index that a path has
 abbrev pub greatest : ℕ
@@ -18,3 +20,10 @@ body_path true index = 13 ∷ index ∷ 6 ∷ 5 ∷ []
 
 abbrev pub path_to : BodyPlace → List ℕ
 path_to place = map clamped (body_path place.of_entry place.index ++ json_path place.trail.now)
+
+-- the path to where an error stands; that to what names a handle is looked for
+abbrev pub site_path : Site → Option (List ℕ)
+site_path (site.Body place) = Some (path_to place)
+site_path (site.Part indexes) = Some (map clamped indexes.now)
+site_path (site.Handle target) = None
+site_path (site.Range first end) = None

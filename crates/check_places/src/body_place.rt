@@ -41,8 +41,8 @@ fn push_body(path: &mut Vec<usize>, place: BodyPlace<'_>) -> Result<(), AllocErr
     path.push(5).map_err(AllocError::from)
 }
 
-// The indexes as steps of a path. The error is out of memory.
-fn steps_of(alloc: Global, indexes: &[usize]) -> Result<Vec<u32>, AllocError>
+/// The indexes as steps of a path. The error is out of memory.
+pub(crate) fn steps_of(alloc: Global, indexes: &[usize]) -> Result<Vec<u32>, AllocError>
     ensures { IfOk result (λ path. path.items ≡ map clamped indexes.now) }
 {
     let mut path = Vec::new(alloc);

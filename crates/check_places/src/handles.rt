@@ -1,7 +1,7 @@
 // The first item that names something which is not there, or comes too late.
 
 use crate::body_place::step;
-use crate::walk::{Rule, Scene, Search, find_statement};
+use crate::walk::{Search, find_statement};
 use check_faults::document::{along, at, number_at, parts, word};
 use check_faults::forms::{Names, Part, does_name, expression_parts};
 use serde_json::Value;
@@ -10,9 +10,14 @@ use std::alloc::AllocError;
 /// What is named, and by which item where that is known.
 #[derive(Clone, Copy)]
 pub struct Target {
+    /// What is named.
     pub named: Names,
+    /// Its index.
     pub index: usize,
+    /// The index of the item that names it, where that is known.
     pub subject: Option<usize>,
+    /// Whether it is there, and does not come before the item.
+    pub is_later: bool,
 }
 
 const T: Names = Names::Type;
@@ -87,6 +92,7 @@ impl Target {
                         named: self.named,
                         index: self.index,
                         subject: None,
+                        is_later: self.is_later,
                     };
                     any.found_in(Some(members), &ARGUMENT).is_some()
                 }
@@ -198,30 +204,16 @@ fn find_in_function(
     find_in_body(target, function, path)
 }
 
-// Where nothing is to be known of expressions.
-fn scene_of(value: &Value) -> Scene<'_> {
-    Scene {
-        document: value,
-        expressions: &[],
-        types: &[],
-    }
-}
-
 fn find_in_body(
     target: &Target,
     function: &Value,
     path: &mut Vec<u32>,
 ) -> Result<bool, AllocError> {
-    let search = Search {
-        rule: Rule::Refers(target.named),
-        words: "",
-        numbers: [Some(target.index), None],
-        scene: scene_of(function),
-    };
+    let search = Search::Refers(target.named, target.index);
     match at(function, 5) {
         Some(body) if target.subject.is_none() || target.named != E => {
             path.push(5)?;
-            if find_statement(&search, body, path)? {
+            if find_statement(search, body, path)? {
                 return Ok(true);
             }
             path.pop();
@@ -319,12 +311,8 @@ fn is_filter_of_module(document: &Value, index: usize) -> bool {
     }
 }
 
-/// Puts the way to the first item that names it at the end of the path, which is empty. The error is out of memory.
-pub fn find_item(
-    target: &Target,
-    document: &Value,
-    path: &mut Vec<u32>,
-) -> Result<bool, AllocError> {
+// Puts the way to the first item that names it at the end of the path, which is empty. The error is out of memory.
+fn find_item(target: &Target, document: &Value, path: &mut Vec<u32>) -> Result<bool, AllocError> {
     let is_filter = target.named == Names::Filter && target.subject.is_none();
     if is_filter && is_filter_of_module(document, target.index) {
         path.extend_from_slice(&[7, 1])?;
@@ -342,7 +330,7 @@ pub fn find_item(
 
 // Looks for a range in the bodies of a list of functions, or of entry points.
 fn find_range_in(
-    search: &Search<'_>,
+    search: Search,
     document: &Value,
     list: usize,
     way: &[usize],
@@ -368,19 +356,30 @@ fn find_range_in(
 
 /// Puts the way to the first emit of this range at the end of the path, which is empty. The error is out of memory.
 pub fn find_range(
-    first: Option<usize>,
-    end: Option<usize>,
+    first: usize,
+    end: usize,
     document: &Value,
     path: &mut Vec<u32>,
 ) -> Result<bool, AllocError> {
-    let search = Search {
-        rule: Rule::Range,
-        words: "",
-        numbers: [first, end],
-        scene: scene_of(document),
-    };
+    let search = Search::Range(first, end);
     Ok(
-        find_range_in(&search, document, 12, &[5], path)?
-            || find_range_in(&search, document, 13, &[6, 5], path)?,
+        find_range_in(search, document, 12, &[5], path)?
+            || find_range_in(search, document, 13, &[6, 5], path)?,
     )
+}
+
+/// Puts the way to what names a handle at the end of the path, which is empty; or to the item that is said to.
+pub fn find_target(
+    document: &Value,
+    target: &Target,
+    path: &mut Vec<u32>,
+) -> Result<(), AllocError> {
+    let is_found = find_item(target, document, path)?;
+    match target.subject {
+        Some(subject) if !is_found => {
+            let list = if target.named == Names::Type { 5 } else { 10 };
+            path.extend_from_slice(&[list, step(subject)])
+        }
+        Some(_) | None => Ok(()),
+    }
 }

@@ -1,5 +1,5 @@
-//! Where in a document the item stands that a refusal speaks of: from the error by its name to the path of an expression, a
-//! statement, a member or another item; of an error that stands in a body by its trail.
+//! Where in a document an error stands: of one in a body by its trail, of one at an item by the indexes of the item, of one of a handle
+//! at what names it.
 #![tactic(auto)]
 
 mod body_place;
@@ -8,4 +8,5 @@ mod subject;
 mod walk;
 
 pub use body_place::BodyPlace;
-pub use subject::{Refusal, innermost, path_of};
+pub use handles::Target;
+pub use subject::{OperandType, Refusal, Site, path_of};

@@ -3,12 +3,11 @@
 #![tactic(auto)]
 
 mod hints;
-mod kinds;
 mod reason;
-mod rules;
 mod show;
 
 pub use check_faults::PathNames;
-pub use check_places::{BodyPlace, Refusal, path_of};
+pub use check_faults::forms::names_of;
+pub use check_places::{BodyPlace, OperandType, Refusal, Site, Target, path_of};
 pub use hints::{Slip, hint};
 pub use reason::{Reason, name_of};

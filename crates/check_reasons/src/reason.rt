@@ -5,17 +5,12 @@ ghost use Rattle.serde_json.specs.View.{view};
 ghost use Rattle.check_faults.specs.Tables.{spelled};
 ghost use Rattle.check_reasons.specs.ItemNames.{item_name, named as names_listed};
 
-use crate::kinds::{arity, passed, required_of};
-use crate::rules::required;
-use crate::show::{NameIn, Plain, Shown, TypeAt, TypeOf, value_at};
+use crate::show::{Shown, TypeAt, value_at};
 use check_faults::PathNames;
-use check_faults::document::{along, at, number, number_at, parts, word, word_at};
-use check_faults::error_text::{
-    field, head, name_of as error_name, number as handle, part, quoted, text_of,
-};
-use check_faults::forms::{Names, Part, expression_parts, names_of, statement_parts};
+use check_faults::document::{along, at, number, number_at, parts, word};
+use check_faults::forms::{Names, Part, expression_parts, statement_parts};
 use check_faults::tables::find_in;
-use check_places::{Refusal, innermost};
+use check_places::{Refusal, Site, Target};
 use serde_json::Value;
 use std::fmt::{self, Display};
 
@@ -107,16 +102,6 @@ fn values(item: &Value) -> &[Value] {
     }
 }
 
-// The type of the document that a resolved type is, or that it points to.
-fn type_in(text: &[u8]) -> Option<usize> {
-    let inner = part(text, 0);
-    if error_name(text) == "Handle" {
-        handle(inner)
-    } else {
-        handle(field(inner, "base"))
-    }
-}
-
 // The name of the list of what is named.
 fn list_of(named: Names) -> &'static str {
     match named {
@@ -131,16 +116,7 @@ fn list_of(named: Names) -> &'static str {
     }
 }
 
-// What the handle is of, by the field of an error that says it.
-fn named_by(error: &[u8], name: &str) -> Option<Names> {
-    names_of(text_of(quoted(field(error, name))))
-}
-
 impl Reason<'_> {
-    fn error(&self) -> &[u8] {
-        self.refusal.error.as_bytes()
-    }
-
     fn item(&self) -> Option<&Value> {
         value_at(self.refusal.document, self.path)
     }
@@ -155,13 +131,12 @@ impl Reason<'_> {
         let Some(index) = number(operand) else {
             return Ok(false);
         };
-        let Some(text) = self.refusal.types.get(index) else {
+        let Some(found) = self.refusal.types.get(index) else {
             return Ok(false);
         };
         let before = if is_first { ", where" } else { " and" };
-        let found = TypeOf(self.refusal.document, text.as_bytes());
-        write!(f, "{before} [{index}] is {found}")?;
-        self.write_origin(f, type_in(text.as_bytes()), self.root_of(index))?;
+        write!(f, "{before} [{index}] is {}", found.text.as_str())?;
+        self.write_origin(f, found.index, self.root_of(index))?;
         Ok(true)
     }
 
@@ -261,42 +236,6 @@ impl Reason<'_> {
         write!(f, ": ")
     }
 
-    // Writes a sentence with the parts of the error that it names.
-    fn write_sentence<W: fmt::Write>(
-        &self,
-        f: &mut fmt::Formatter<W>,
-        sentence: &str,
-        error: &[u8],
-    ) -> fmt::Result {
-        for (index, piece) in sentence.split('{').enumerate() {
-            match piece.split_once('}') {
-                Some((name, more)) if index > 0 => {
-                    let shown = Plain(self.refusal.document, field(error, name));
-                    write!(f, "{shown}{more}")?;
-                }
-                _ => write!(f, "{piece}")?,
-            }
-        }
-        Ok(())
-    }
-
-    // Writes what is required of the expression at the path, whose kind has no name for its error.
-    fn write_kind<W: fmt::Write>(&self, f: &mut fmt::Formatter<W>) -> fmt::Result {
-        let Some(item) = self.item() else {
-            return write!(f, "the expression breaks the rule of its kind");
-        };
-        let function = word_at(item, 1);
-        let count = passed(item);
-        let wanted = arity(function);
-        if word(item) == "Math" && count != wanted {
-            return write!(
-                f,
-                "{function} takes {wanted} arguments, and {count} are passed"
-            );
-        }
-        write!(f, "{}", required_of(item))
-    }
-
     // How many items there are of what a handle names.
     fn count_of(&self, named: Names) -> usize {
         let document = self.refusal.document;
@@ -324,25 +263,17 @@ impl Reason<'_> {
     }
 
     // Writes what is wrong with a handle.
-    fn write_handle<W: fmt::Write>(&self, f: &mut fmt::Formatter<W>, error: &[u8]) -> fmt::Result {
-        if let Some(named) = named_by(error, "kind") {
-            let index = text_of(field(error, "index"));
-            let count = self.count_of(named);
-            return write!(
-                f,
-                "it names {}[{index}], and there are {count}",
-                list_of(named)
-            );
+    fn write_handle<W: fmt::Write>(
+        &self,
+        f: &mut fmt::Formatter<W>,
+        target: &Target,
+    ) -> fmt::Result {
+        let (list, index) = (list_of(target.named), target.index);
+        if target.is_later {
+            return write!(f, "it names {list}[{index}], which does not come before it");
         }
-        if let Some(named) = named_by(error, "depends_on_kind") {
-            let index = text_of(field(error, "depends_on"));
-            return write!(
-                f,
-                "it names {}[{index}], which does not come before it",
-                list_of(named)
-            );
-        }
-        write!(f, "{}", required("", error_name(error)))
+        let count = self.count_of(target.named);
+        write!(f, "it names {list}[{index}], and there are {count}")
     }
 
     // The global variable that a pointer is made from.
@@ -361,95 +292,15 @@ impl Reason<'_> {
         None
     }
 
-    // Writes why the global variable of a pointer is not written.
-    fn write_root<W: fmt::Write>(&self, f: &mut fmt::Formatter<W>, pointer: usize) -> fmt::Result {
-        let Some(index) = self.root_of(pointer) else {
-            return Ok(());
-        };
-        let name = NameIn(along(self.refusal.document, &[11, index, 0]));
-        let space = match along(self.refusal.document, &[11, index, 1]) {
-            Some(space) => word(space),
-            None => "",
-        };
-        if space == "Storage" {
-            write!(f, "; globals[{index}]{name} lacks STORE")
-        } else {
-            write!(f, "; globals[{index}]{name} lies in {space}")
-        }
-    }
-
-    // Writes what is required, and what the error tells besides.
+    // Writes what is required.
     fn write_required<W: fmt::Write>(&self, f: &mut fmt::Formatter<W>) -> fmt::Result {
-        if self.refusal.step == "handles" {
-            return self.write_handle(f, innermost("", self.error()).1);
-        }
-        let (outer, inner) = innermost(self.refusal.step, self.error());
-        let around = text_of(outer);
-        let name = error_name(inner);
-        let is_expression = around == "Expression" || around == "expression";
-        if name == "IncompatibleOperands"
-            || name == "BuiltinArgumentsInvalid"
-            || (name == "Other" && is_expression)
-        {
-            return self.write_kind(f);
-        }
-        self.write_sentence(f, required(around, name), inner)?;
-        self.write_besides(f, around)?;
-        match name {
-            "InvalidStorePointer" => self.write_root(f, handle(part(inner, 0)).unwrap_or(0)),
-            "NotInScope" => self.write_missing(f),
-            _ => Ok(()),
-        }
-    }
-
-    // Writes the stage that an entry point is refused at, the output of its mesh part, or the space of a global variable.
-    fn write_besides<W: fmt::Write>(&self, f: &mut fmt::Formatter<W>, around: &str) -> fmt::Result {
-        let document = self.refusal.document;
-        let index = self.refusal.index;
-        if self.refusal.step == "entry" && error_name(self.error()) != "Function" {
-            let stage = match along(document, &[13, index, 0]) {
-                Some(stage) => word(stage),
-                None => "",
-            };
-            write!(f, "; entry points[{index}].stage is {stage}")?;
-        }
-        if around == "Alignment" {
-            let space = match along(document, &[11, index, 1]) {
-                Some(space) => word(space),
-                None => "",
-            };
-            write!(f, "; globals[{index}] lies in {space}")?;
-        }
-        self.write_output(f)
-    }
-
-    // Writes the output of the mesh part that the path leads to.
-    fn write_output<W: fmt::Write>(&self, f: &mut fmt::Formatter<W>) -> fmt::Result {
-        let is_mesh = self.path.first() == Some(&13) && self.path.get(2) == Some(&4);
-        let output = match self.item() {
-            Some(mesh) if is_mesh => number_at(mesh, 7),
-            _ => None,
-        };
-        let Some(global) = output else {
-            return Ok(());
-        };
-        match along(self.refusal.document, &[11, global, 3]) {
-            Some(ty) => write!(f, "; globals[{global}] is of types[{}]", Shown(ty)),
-            None => Ok(()),
-        }
-    }
-
-    // Writes which expression is not in scope.
-    fn write_missing<W: fmt::Write>(&self, f: &mut fmt::Formatter<W>) -> fmt::Result {
-        let error = self.error();
-        let inner = if error_name(error) == "Function" {
-            part(error, 0)
-        } else {
-            error
-        };
-        match handle(field(inner, "handle")) {
-            Some(index) => write!(f, ", and expressions[{index}] is not there"),
-            None => Ok(()),
+        match &self.refusal.site {
+            Site::Handle(target) => self.write_handle(f, target),
+            Site::Range(..) => write!(
+                f,
+                "a range must not end before its start, nor after the last expression"
+            ),
+            Site::Body(_) | Site::Part(_) => write!(f, "{}", self.refusal.required),
         }
     }
 }

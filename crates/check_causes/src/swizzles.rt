@@ -1,0 +1,55 @@
+//! Which rule of a swizzle is broken.
+
+ghost use Rattle.std.specs.Prelude.{IfSome};
+ghost use Rattle.check_causes.specs.Swizzles.{BrokenLetter, BrokenSwizzle};
+
+use ir_kinds::{SwizzleComponent, VectorSize};
+use module_context::shaped_of;
+use spec_statements::Shape;
+use typing_forms::Form;
+
+/// Which rule of a swizzle is broken.
+#[derive(Clone, Copy)]
+pub enum SwizzleCause {
+    /// The operand has this type, which is not that of a vector.
+    NoVector(Form),
+    /// A letter that counts is that of none of so many components.
+    Letter(SwizzleComponent, VectorSize),
+}
+
+// The first letter of a pattern that counts and is that of no component of a vector, if there is one.
+fn broken_letter(
+    size: VectorSize,
+    pattern: [SwizzleComponent; 4],
+    of: VectorSize,
+) -> Option<SwizzleComponent>
+    ensures { IfSome result (BrokenLetter size pattern of) }
+{
+    for place in 0..4usize {
+        let letter = pattern[place];
+        if place < u32::from(size) as usize && letter.index() >= u32::from(of) {
+            return Some(letter);
+        }
+    }
+    None
+}
+
+/// The rule of a swizzle that is broken, if one is: each letter that counts is that of a component of a vector.
+pub fn broken_swizzle(
+    size: VectorSize,
+    pattern: [SwizzleComponent; 4],
+    of: &Form,
+) -> Option<SwizzleCause>
+    ensures { IfSome result (BrokenSwizzle size pattern of.now) }
+{
+    let Some(shaped) = shaped_of(*of) else {
+        return Some(SwizzleCause::NoVector(*of));
+    };
+    let Shape::Vector(count) = shaped.shape else {
+        return Some(SwizzleCause::NoVector(*of));
+    };
+    match broken_letter(size, pattern, count) {
+        Some(letter) => Some(SwizzleCause::Letter(letter, count)),
+        None => None,
+    }
+}

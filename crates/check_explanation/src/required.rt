@@ -1,0 +1,152 @@
+// What is required where an error stands, and which rule is broken there.
+
+ghost use Rattle.std.specs.Prelude.{◌≡◌, IfSome};
+ghost use Rattle.check_explanation.specs.Ruled.{IsBrokenAt, ruled, ruled_in};
+ghost use Rattle.module_context.specs.OperandView.{expressions_in, scene_in};
+ghost use Rattle.typing_layout.specs.judged.Constness.{AreKinds};
+
+use crate::types::refused_function;
+use check_causes::{Cause, broken_at};
+use check_sentences::{Scene, Sentence};
+use function_entry_checks::EntryPointError;
+use ir_arena::arena::Arena;
+use ir_arena::handle::Handle;
+use ir_flags::Capabilities;
+use ir_items::Module;
+use ir_types::{Expression, key};
+use module_context::CheckContext;
+use shader_check::{ModuleError, ValidationError};
+use std::alloc::{AllocError, Global};
+use typing_errors::{ConstExpressionError, ExpressionError, FunctionError};
+use typing_forms::Form;
+use typing_layout::{ExpressionKindTracker, origins_precede};
+
+/// What is required where an error stands, and which rule of an expression is broken there.
+#[derive(Drop)]
+pub(crate) struct Told {
+    /// What is required.
+    pub text: String,
+    /// The rule, where that is one of several.
+    pub cause: Option<Cause>,
+}
+
+// The expression of a function that breaks a rule of its kind.
+fn ruled_in(error: &FunctionError) -> Option<Handle<key::Expression>>
+    ensures { result ≡ ruled_in error.now }
+{
+    match error {
+        FunctionError::Expression {
+            handle,
+            source: ExpressionError::Other,
+        }
+        | FunctionError::Expression {
+            handle,
+            source: ExpressionError::Typing(_),
+        } => Some(*handle),
+        _ => None,
+    }
+}
+
+// The expression that breaks a rule of its kind.
+fn ruled(error: &ValidationError) -> Option<Handle<key::Expression>>
+    ensures { result ≡ ruled error.now }
+{
+    match error {
+        ValidationError::Function(refused) => ruled_in(&refused.error),
+        ValidationError::EntryPoint(refused) => match &refused.error {
+            EntryPointError::Function(error) => ruled_in(error),
+            _ => None,
+        },
+        ValidationError::Module(ModuleError::ConstExpression(refused)) => match &refused.error {
+            ConstExpressionError::Other | ConstExpressionError::Typing(_) => {
+                Some(refused.expression)
+            }
+            _ => None,
+        },
+        ValidationError::Module(_) | ValidationError::GlobalVariable(_) => None,
+    }
+}
+
+// The rule that is broken by the expression that the error names.
+fn cause_of(context: &CheckContext<'_>, error: &ValidationError) -> Option<Cause>
+    requires { AreKinds (expressions_in context.now) context.now.kinds.now }
+    ensures { IfSome result (IsBrokenAt (scene_in context.now) (ruled error.now)) }
+{
+    match ruled(error) {
+        Some(handle) => broken_at(context, handle),
+        None => None,
+    }
+}
+
+// What is told where the error stands among the expressions of a context.
+fn told_among<'a>(
+    alloc: Global,
+    context: &CheckContext<'a>,
+    module: &'a Module,
+    error: &'a ValidationError,
+) -> Result<Told, AllocError>
+    requires { AreKinds (expressions_in context.now) context.now.kinds.now }
+{
+    let cause = cause_of(context, error);
+    let scene = Scene {
+        module,
+        context: *context,
+        cause: cause.as_ref(),
+    };
+    let text = format!(in alloc; "{}", Sentence { scene, error })?;
+    Ok(Told { text, cause })
+}
+
+// What may be looked at, of expressions with these forms and kinds.
+fn context_of<'a>(
+    capabilities: Capabilities,
+    module: &'a Module,
+    expressions: &'a Arena<Expression, key::Expression>,
+    forms: &'a [Form],
+    kinds: &'a ExpressionKindTracker,
+) -> CheckContext<'a>
+    ensures expressions { result.expressions.now ≡ expressions.now }
+    ensures kinds { result.kinds.now ≡ kinds.now }
+{
+    CheckContext {
+        capabilities,
+        types: &module.types,
+        infos: &[],
+        expressions,
+        forms,
+        kinds,
+        callees: &[],
+    }
+}
+
+// The expressions among which the error stands.
+fn expressions_of<'a>(
+    module: &'a Module,
+    error: &ValidationError,
+) -> &'a Arena<Expression, key::Expression> {
+    match refused_function(module, error) {
+        Some(function) => &function.expressions,
+        None => &module.global_expressions,
+    }
+}
+
+/// What is told where the error stands, under these capabilities, among expressions whose types have these forms. The error is out of
+/// memory.
+pub(crate) fn told_in(
+    alloc: Global,
+    capabilities: Capabilities,
+    module: &Module,
+    forms: &[Form],
+    error: &ValidationError,
+) -> Result<Told, AllocError> {
+    let expressions = expressions_of(module, error);
+    if !origins_precede(expressions) {
+        return Ok(Told {
+            text: String::new(alloc),
+            cause: None,
+        });
+    }
+    let kinds = ExpressionKindTracker::from_arena(alloc, expressions)?;
+    let context = context_of(capabilities, module, expressions, forms, &kinds);
+    told_among(alloc, &context, module, error)
+}

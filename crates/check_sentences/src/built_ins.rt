@@ -1,0 +1,12 @@
+//! Built-in values in words.
+
+use crate::types::word_of;
+use ir_kinds::BuiltIn;
+
+/// The word of a built-in value.
+pub(crate) fn built_in_word(value: &BuiltIn) -> &'static str {
+    match *value {
+        BuiltIn::Position { .. } => "Position",
+        other => word_of(other),
+    }
+}

@@ -1,0 +1,119 @@
+//! The member of a struct that an error speaks of.
+
+use function_varying_checks::VaryingError;
+use ir_arena::handle::Handle;
+use ir_items::Module;
+use ir_kinds::{Binding, BuiltIn, Interpolation};
+use ir_types::{StructMember, TypeInner, key};
+use typing_forms::inner_of;
+use typing_layout::{TypeError, VaryingError as BlendError};
+
+/// What is sought among members.
+#[derive(Clone, Copy)]
+enum Sought {
+    /// One at this location.
+    Location(u32),
+    /// One at a location, of this type.
+    Type(Handle<key::IrType>),
+    /// One that is this built-in value.
+    BuiltIn(BuiltIn),
+    /// One at a location, without interpolation.
+    Plain,
+    /// One at a location that is not flat.
+    NotFlat,
+}
+
+// What an error of what goes between stages speaks of.
+fn sought_by(error: &VaryingError) -> Option<Sought> {
+    match error {
+        VaryingError::MissingInterpolation => Some(Sought::Plain),
+        VaryingError::InvalidInterpolationForInteger => Some(Sought::NotFlat),
+        VaryingError::InvalidBuiltInStage(value)
+        | VaryingError::InvalidBuiltInType(value, _)
+        | VaryingError::DuplicateBuiltIn(value) => Some(Sought::BuiltIn(*value)),
+        VaryingError::NotIOShareableType(ty) | VaryingError::InvalidType(ty) => {
+            Some(Sought::Type(*ty))
+        }
+        VaryingError::BindingCollision { location }
+        | VaryingError::InvalidBlendSrcIndex { location, .. }
+        | VaryingError::InvalidBlendSrcWithOtherBindings { location } => {
+            Some(Sought::Location(*location))
+        }
+        _ => None,
+    }
+}
+
+// What an error of the blend sources of a struct speaks of.
+fn sought_by_blend(error: &BlendError) -> Option<Sought> {
+    match error {
+        BlendError::NotIOShareableType(ty) => Some(Sought::Type(*ty)),
+        BlendError::InvalidBlendSrcIndex { location, .. }
+        | BlendError::InvalidBlendSrcWithOtherBindings { location } => {
+            Some(Sought::Location(*location))
+        }
+        _ => None,
+    }
+}
+
+// Whether a member is the one that is sought.
+fn is_sought(member: &StructMember, sought: &Sought) -> bool {
+    let Some(binding) = member.binding else {
+        return false;
+    };
+    match (binding, *sought) {
+        (Binding::BuiltIn(found), Sought::BuiltIn(wanted)) => found == wanted,
+        (Binding::Location { location, .. }, Sought::Location(wanted)) => location == wanted,
+        (Binding::Location { .. }, Sought::Type(wanted)) => member.ty.index() == wanted.index(),
+        (Binding::Location { interpolation, .. }, Sought::Plain) => interpolation.is_none(),
+        (Binding::Location { interpolation, .. }, Sought::NotFlat) => {
+            interpolation != Some(Interpolation::Flat)
+        }
+        _ => false,
+    }
+}
+
+// The first of the members that is sought.
+fn member_among(members: &[StructMember], sought: &Sought) -> Option<usize> {
+    for (place, member) in members.iter().enumerate() {
+        if is_sought(member, sought) {
+            return Some(place);
+        }
+    }
+    None
+}
+
+// The member of a type, where that is a struct.
+fn member_in(module: &Module, ty: Handle<key::IrType>, sought: &Sought) -> Option<usize> {
+    match inner_of(&module.types, ty)? {
+        TypeInner::Struct { members, .. } => member_among(members, sought),
+        _ => None,
+    }
+}
+
+/// The member of a struct type that goes between stages, which the error speaks of.
+pub(crate) fn varying_member(
+    module: &Module,
+    ty: Handle<key::IrType>,
+    error: &VaryingError,
+) -> Option<usize> {
+    match error {
+        VaryingError::MemberMissingBinding(member) => Some(*member as usize),
+        _ => member_in(module, ty, &sought_by(error)?),
+    }
+}
+
+/// The member of a type that the error speaks of.
+pub(crate) fn type_member(
+    module: &Module,
+    ty: Handle<key::IrType>,
+    error: &TypeError,
+) -> Option<usize> {
+    match error {
+        TypeError::InvalidData { index, .. }
+        | TypeError::InvalidDynamicArray { index, .. }
+        | TypeError::MemberOverlap { index, .. }
+        | TypeError::MemberOutOfBounds { index, .. } => Some(*index),
+        TypeError::InvalidBlendSrc(error) => member_in(module, ty, &sought_by_blend(error)?),
+        _ => None,
+    }
+}

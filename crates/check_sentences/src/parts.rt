@@ -1,0 +1,336 @@
+//! The part of a document at which an error stands that stands in no body.
+
+ghost use Rattle.std.specs.Prelude.{◌≡◌, ◌++◌, ◌∷◌, IfOk, OnOk, Some, None, option_to_list};
+ghost use Rattle.check_sentences.specs.Parts.{IsInner, IsPartPath, member_steps, steps_in};
+
+use crate::members::{type_member, varying_member};
+use function_entry_checks::EntryPointError;
+use function_errors::{InvalidEntryPoint, InvalidFunction, ValidationError};
+use function_varying_checks::VaryingError;
+use ir_arena::handle::Handle;
+use ir_items::{EntryPoint, Function, Module};
+use ir_types::key;
+use module_globals::GlobalVariableError;
+use module_steps::{InvalidGlobalVariable, ModuleError};
+use std::alloc::{AllocError, Global};
+use typing_errors::FunctionError;
+use typing_layout::Disalignment;
+
+/// The last steps of a path, of which there are two at most.
+#[derive(Clone, Copy)]
+pub struct Steps {
+    /// The first, if there is one.
+    pub first: Option<usize>,
+    /// The second, if there is one.
+    pub second: Option<usize>,
+}
+
+// No step.
+const fn no_steps() -> Steps
+    ensures { result ≡ record { first = None; second = None } }
+{
+    Steps {
+        first: None,
+        second: None,
+    }
+}
+
+// One step.
+const fn one_step(first: usize) -> Steps
+    ensures { result ≡ record { first = Some first; second = None } }
+{
+    Steps {
+        first: Some(first),
+        second: None,
+    }
+}
+
+// Two steps.
+const fn two_steps(first: usize, second: usize) -> Steps
+    ensures { result ≡ record { first = Some first; second = Some second } }
+{
+    Steps {
+        first: Some(first),
+        second: Some(second),
+    }
+}
+
+// Appends a step to a path, if there is one.
+fn push_if(path: &mut Vec<usize>, step: Option<usize>) -> Result<(), AllocError>
+    ensures { OnOk result (path.new.items ≡ path.old.items ++ option_to_list step) }
+{
+    match step {
+        Some(step) => path.push(step).map_err(AllocError::from),
+        None => Ok(()),
+    }
+}
+
+// The path that begins so and goes on by these steps. The error is out of memory.
+fn path_from(alloc: Global, start: &[usize], last: Steps) -> Result<Vec<usize>, AllocError>
+    ensures { IfOk result (λ path. path.items ≡ start.now ++ steps_in last) }
+{
+    let mut path = Vec::new(alloc);
+    path.extend_from_slice(start)?;
+    push_if(&mut path, last.first)?;
+    push_if(&mut path, last.second)?;
+    Ok(path)
+}
+
+// ---- functions
+
+// The index of the first argument of a function that has a binding.
+fn bound_argument(function: Option<&Function>) -> usize {
+    let Some(function) = function else {
+        return 0;
+    };
+    for (index, argument) in function.arguments.iter().enumerate() {
+        if argument.binding.is_some() {
+            return index;
+        }
+    }
+    0
+}
+
+/// The part of a function at which its error stands, where it stands in no body.
+pub(crate) fn inner_of(function: Option<&Function>, error: &FunctionError) -> Steps
+    ensures { IsInner error.now (steps_in result) }
+{
+    match error {
+        FunctionError::Expression { handle, .. }
+        | FunctionError::UnvisitedExpression(handle)
+        | FunctionError::NonUniformControlFlow(_, handle, _) => two_steps(4, handle.index()),
+        FunctionError::LocalVariable { handle, .. } => two_steps(3, handle.index()),
+        FunctionError::InvalidArgumentType { index, .. }
+        | FunctionError::InvalidArgumentPointerSpace { index, .. } => two_steps(1, *index),
+        FunctionError::PipelineInputRegularFunction { .. } => {
+            two_steps(1, bound_argument(function))
+        }
+        FunctionError::NonConstructibleReturnType | FunctionError::PipelineOutputRegularFunction =>
+            one_step(2),
+        FunctionError::InvalidReturnType { .. } => one_step(5),
+        _ => no_steps(),
+    }
+}
+
+// The path of an error of a function.
+fn function_path(
+    alloc: Global,
+    module: &Module,
+    refused: &InvalidFunction,
+) -> Result<Vec<usize>, AllocError>
+    ensures { IfOk result (λ path. IsPartPath (ValidationError.Function refused.now) path.items) }
+{
+    let function = module.functions.try_get(refused.function).ok();
+    let last = inner_of(function, &refused.error);
+    path_from(alloc, &[12, refused.function.index()], last)
+}
+
+// ---- items
+
+// The path of a type, and of the member of it that is meant.
+fn type_path(
+    alloc: Global,
+    ty: Handle<key::IrType>,
+    member: Option<usize>,
+) -> Result<Vec<usize>, AllocError>
+    ensures { IfOk result (λ path. path.items ≡ 5 ∷ ty ∷ member_steps member) }
+{
+    match member {
+        Some(member) => path_from(alloc, &[5, ty.index(), 1, 1], one_step(member)),
+        None => path_from(alloc, &[5, ty.index()], no_steps()),
+    }
+}
+
+// The member that makes a type misaligned.
+const fn misaligned(error: &Disalignment) -> Option<usize> {
+    match *error {
+        Disalignment::MemberOffset { index, .. }
+        | Disalignment::MemberOffsetAfterStruct { index, .. } => Some(index),
+        Disalignment::ArrayStride { .. }
+        | Disalignment::StructSpan { .. }
+        | Disalignment::NonHostShareable => None,
+    }
+}
+
+// The path of an error of a global variable.
+fn variable_path(alloc: Global, refused: &InvalidGlobalVariable) -> Result<Vec<usize>, AllocError>
+    ensures { IfOk result (λ path. IsPartPath (ValidationError.GlobalVariable refused.now) path.items) }
+{
+    match &refused.error {
+        GlobalVariableError::Alignment(_, ty, error) => type_path(alloc, *ty, misaligned(error)),
+        _ => path_from(alloc, &[11, refused.global.index()], no_steps()),
+    }
+}
+
+// The path of an error of a step up to overrides; of handles it is empty.
+fn module_path(
+    alloc: Global,
+    module: &Module,
+    error: &ModuleError,
+) -> Result<Vec<usize>, AllocError>
+    ensures { IfOk result (λ path. IsPartPath (ValidationError.Module error.now) path.items) }
+{
+    match error {
+        ModuleError::InvalidHandle(_) => Ok(Vec::new(alloc)),
+        ModuleError::Layouter(error) => type_path(alloc, error.ty, None),
+        ModuleError::Typing(error) => {
+            type_path(alloc, error.ty, type_member(module, error.ty, &error.error))
+        }
+        ModuleError::ConstExpression(error) => {
+            path_from(alloc, &[10, error.expression.index()], no_steps())
+        }
+        ModuleError::Constant(error) => {
+            path_from(alloc, &[8, error.constant.index()], no_steps())
+        }
+        ModuleError::Override(error) => path_from(alloc, &[9, error.id.index()], no_steps()),
+    }
+}
+
+// ---- entry points
+
+// The path of what an entry point is given.
+fn argument_path(
+    alloc: Global,
+    module: &Module,
+    entry: &EntryPoint,
+    index: usize,
+    place: usize,
+    error: &VaryingError,
+) -> Result<Vec<usize>, AllocError> {
+    if let Some(argument) = entry.function.arguments.get(place) {
+        let member = varying_member(module, argument.ty, error);
+        if member.is_some() {
+            return type_path(alloc, argument.ty, member);
+        }
+    }
+    path_from(alloc, &[13, index, 6], two_steps(1, place))
+}
+
+// The types of what an entry point gives: of its result, or of a mesh shader of its vertices and of its primitives.
+fn given_types(entry: &EntryPoint) -> [Option<Handle<key::IrType>>; 2] {
+    match (&entry.mesh_info, &entry.function.result) {
+        (Some(mesh), _) => [
+            Some(mesh.vertex_output_type),
+            Some(mesh.primitive_output_type),
+        ],
+        (None, Some(given)) => [Some(given.ty), None],
+        (None, None) => [None, None],
+    }
+}
+
+// The path of what an entry point gives: its result, or of a mesh shader its mesh part.
+fn result_path(
+    alloc: Global,
+    module: &Module,
+    entry: &EntryPoint,
+    index: usize,
+    error: &VaryingError,
+) -> Result<Vec<usize>, AllocError> {
+    let types = given_types(entry);
+    for place in 0..2usize {
+        if let Some(ty) = types[place] {
+            let member = varying_member(module, ty, error);
+            if member.is_some() {
+                return type_path(alloc, ty, member);
+            }
+        }
+    }
+    if entry.mesh_info.is_some() {
+        return path_from(alloc, &[13, index], one_step(4));
+    }
+    path_from(alloc, &[13, index], two_steps(6, 2))
+}
+
+// The part of an entry point that an error speaks of.
+fn entry_part(error: &EntryPointError) -> Steps {
+    match error {
+        EntryPointError::UnsupportedCapability(_) => one_step(0),
+        EntryPointError::Conflict => one_step(1),
+        EntryPointError::UnexpectedEarlyDepthTest => one_step(2),
+        EntryPointError::UnexpectedWorkgroupSize | EntryPointError::OutOfRangeWorkgroupSize => {
+            one_step(3)
+        }
+        EntryPointError::ExpectedMeshShaderAttributes
+        | EntryPointError::UnexpectedMeshShaderAttributes
+        | EntryPointError::BadMeshOutputVariableType
+        | EntryPointError::BadMeshOutputVariableField
+        | EntryPointError::InvalidMeshOutputType
+        | EntryPointError::InvalidMeshPrimitiveOutputType
+        | EntryPointError::WrongMeshOutputAddressSpace => one_step(4),
+        EntryPointError::TaskPayloadTooSmall(_)
+        | EntryPointError::UnexpectedTaskPayload
+        | EntryPointError::TaskPayloadWrongAddressSpace
+        | EntryPointError::WrongTaskPayloadUsed
+        | EntryPointError::ExpectedTaskPayload => one_step(5),
+        EntryPointError::ForbiddenStageOperations => one_step(6),
+        EntryPointError::WrongTaskShaderEntryResult
+        | EntryPointError::UnexpectedMeshShaderEntryResult
+        | EntryPointError::MissingVertexOutputPosition => two_steps(6, 2),
+        _ => no_steps(),
+    }
+}
+
+// The path of an error of what goes between stages.
+fn varying_path(
+    alloc: Global,
+    module: &Module,
+    refused: &InvalidEntryPoint,
+) -> Result<Vec<usize>, AllocError> {
+    let index = refused.index;
+    let Some(entry) = module.entry_points.get(index) else {
+        return path_from(alloc, &[13, index], no_steps());
+    };
+    match &refused.error {
+        EntryPointError::Argument(place, error) => {
+            argument_path(alloc, module, entry, index, *place as usize, error)
+        }
+        EntryPointError::Result(error) => result_path(alloc, module, entry, index, error),
+        other => path_from(alloc, &[13, index], entry_part(other)),
+    }
+}
+
+// The function of an entry point, where there is one.
+fn function_at(module: &Module, index: usize) -> Option<&Function> {
+    match module.entry_points.get(index) {
+        Some(entry) => Some(&entry.function),
+        None => None,
+    }
+}
+
+// The path of an error of an entry point.
+fn entry_path(
+    alloc: Global,
+    module: &Module,
+    refused: &InvalidEntryPoint,
+) -> Result<Vec<usize>, AllocError>
+    ensures { IfOk result (λ path. IsPartPath (ValidationError.EntryPoint refused.now) path.items) }
+{
+    match &refused.error {
+        EntryPointError::Function(error) => {
+            let last = inner_of(function_at(module, refused.index), error);
+            path_from(alloc, &[13, refused.index, 6], last)
+        }
+        EntryPointError::InvalidGlobalUsage(global, _)
+        | EntryPointError::BindingCollision(global) => {
+            path_from(alloc, &[11, global.index()], no_steps())
+        }
+        _ => varying_path(alloc, module, refused),
+    }
+}
+
+/// The path of the part of a document at which an error stands that stands in no body, from the outermost on; of handles it is empty.
+/// The error is out of memory.
+pub fn part_path(
+    alloc: Global,
+    module: &Module,
+    error: &ValidationError,
+) -> Result<Vec<usize>, AllocError>
+    ensures { IfOk result (λ path. IsPartPath error.now path.items) }
+{
+    match error {
+        ValidationError::Module(error) => module_path(alloc, module, error),
+        ValidationError::GlobalVariable(refused) => variable_path(alloc, refused),
+        ValidationError::Function(refused) => function_path(alloc, module, refused),
+        ValidationError::EntryPoint(refused) => entry_path(alloc, module, refused),
+    }
+}

@@ -1,0 +1,52 @@
+//! What is required where a module is refused.
+
+use crate::entries::write_entry;
+use crate::expressions::write_global_expression;
+use crate::functions::write_function;
+use crate::items::{write_constant, write_layout, write_override, write_type, write_variable};
+use crate::scene::Scene;
+use function_errors::ValidationError;
+use module_steps::ModuleError;
+use std::fmt::{self, Display};
+
+/// What is required where a module is refused, in one sentence without its end: of handles nothing.
+#[derive(Clone, Copy)]
+pub struct Sentence<'a> {
+    /// What it looks at.
+    pub scene: Scene<'a>,
+    /// Why it is refused.
+    pub error: &'a ValidationError,
+}
+
+fn write_module<W: fmt::Write>(
+    f: &mut fmt::Formatter<W>,
+    scene: &Scene<'_>,
+    error: &ModuleError,
+) -> fmt::Result {
+    match error {
+        ModuleError::InvalidHandle(_) => Ok(()),
+        ModuleError::Layouter(error) => write_layout(f, error.inner),
+        ModuleError::Typing(error) => write_type(f, scene, error.ty, &error.error),
+        ModuleError::ConstExpression(error) => {
+            write_global_expression(f, scene, error.expression, &error.error)
+        }
+        ModuleError::Constant(error) => write_constant(f, scene, error.constant, error.error),
+        ModuleError::Override(error) => write_override(f, scene, error.id, error.error),
+    }
+}
+
+impl Display for Sentence<'_> {
+    fn fmt<W: fmt::Write>(&self, f: &mut fmt::Formatter<W>) -> fmt::Result {
+        let scene = &self.scene;
+        match self.error {
+            ValidationError::Module(error) => write_module(f, scene, error),
+            ValidationError::GlobalVariable(error) => {
+                write_variable(f, error.global, &error.error)
+            }
+            ValidationError::Function(error) => write_function(f, scene, &error.error),
+            ValidationError::EntryPoint(error) => {
+                write_entry(f, scene, error.index, &error.error)
+            }
+        }
+    }
+}
