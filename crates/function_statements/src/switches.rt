@@ -6,8 +6,7 @@ ghost use Rattle.spec_statements.specs.judged.BlockContext.{form_at};
 ghost use Rattle.spec_statements.specs.judged.Switches.{SwitchOK};
 ghost use Rattle.function_statements.specs.Switches.{Selects, IsSelectorFault, IsSwitchRefusal};
 
-use function_statement_checks::cases_fault;
-use function_statement_checks::StatementContext;
+use function_statement_checks::{StatementContext, cases_fault};
 use ir_arena::handle::Handle;
 use ir_blocks::SwitchCase;
 use ir_kinds::ScalarKind;

@@ -1,0 +1,99 @@
+// Attributes.
+
+use crate::directives::filter;
+use crate::items::{Reading, part_from};
+use wgsl_text::WgslError;
+use wgsl_tokens::TokenKind;
+use wgsl_tree::{Attribute, Mode};
+use wgsl_words::{AttributeWord, attribute_of};
+
+// All attributes that stand next.
+pub(crate) fn attributes(reading: &mut Reading) {
+    let first = reading.attribute_count();
+    for _ in 0..reading.parser.tokens.list.len() {
+        if reading.parser.has_failed() || !reading.parser.skip(TokenKind::At) {
+            break;
+        }
+        attribute(reading, first);
+    }
+}
+
+// Whether one of the attributes from this one on is this.
+fn is_repeated(reading: &Reading, first: u32, word: AttributeWord) -> bool {
+    let part = part_from(first, &reading.attributes);
+    let known = reading
+        .attributes
+        .get(part.start as usize..part.end as usize)
+        .unwrap_or(&[]);
+    for attribute in known.iter().take(40) {
+        if attribute.word == word && word != AttributeWord::Diagnostic {
+            return true;
+        }
+    }
+    false
+}
+
+// An attribute after its `@`.
+fn attribute(reading: &mut Reading, first: u32) {
+    let token = reading.parser.token();
+    let extent = reading.parser.extent();
+    if reading.parser.name().is_none() {
+        reading.parser.refuse("expected identifier");
+        return;
+    }
+    let Some(word) = attribute_of(reading.parser.tokens.part(extent)) else {
+        reading
+            .parser
+            .failed
+            .fail(WgslError::of_name("unknown attribute: ", extent, ""));
+        return;
+    };
+    if is_repeated(reading, first, word) {
+        reading
+            .parser
+            .failed
+            .fail(WgslError::of_name("repeated attribute: ", extent, ""));
+        return;
+    }
+    reading.parser.advance();
+    let start = reading.parser.count();
+    let mut count = 0;
+    if word == AttributeWord::Diagnostic {
+        reading.parser.expect(TokenKind::ParenOpen, "expected `(`");
+        filter(&mut reading.parser);
+    } else if word.has_arguments() {
+        count = arguments(reading);
+    }
+    let steps = reading.steps_from(start);
+    let attribute = Attribute {
+        word,
+        token,
+        count,
+        steps,
+    };
+    reading
+        .parser
+        .failed
+        .push(&mut reading.attributes, attribute);
+}
+
+// The arguments of an attribute; answers how many there are.
+fn arguments(reading: &mut Reading) -> u32 {
+    reading.parser.expect(TokenKind::ParenOpen, "expected `(`");
+    let mut count: u32 = 0;
+    for _ in 0..reading.parser.tokens.list.len() {
+        if reading.parser.has_failed() {
+            break;
+        }
+        if count > 0 && reading.parser.kind() == TokenKind::ParenClose {
+            break;
+        }
+        reading.parser.expression(Mode::Value);
+        count = count.saturating_add(1);
+        if !reading.parser.skip(TokenKind::Comma) {
+            break;
+        }
+    }
+    reading.parser.expect(TokenKind::ParenClose, "expected `)`");
+    count
+}
