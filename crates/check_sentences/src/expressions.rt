@@ -45,10 +45,10 @@ fn component_type(scene: &Scene<'_>, inner: &TypeInner, index: usize) -> Option<
             size: *rows,
             scalar: *scalar,
         }),
-        TypeInner::Array { base, .. } => Some(form_of_type(&scene.module.types, *base)),
+        TypeInner::Array { base, .. } => Some(form_of_type(scene.context.types, *base)),
         TypeInner::Struct { members, .. } => {
             let member = members.get(index)?;
-            Some(form_of_type(&scene.module.types, member.ty))
+            Some(form_of_type(scene.context.types, member.ty))
         }
         _ => None,
     }
@@ -91,7 +91,7 @@ fn write_components<W: fmt::Write>(
     index: usize,
 ) -> fmt::Result {
     if let Ok(Expression::Compose { ty, components }) = scene.context.expressions.try_get(handle) {
-        if let Some(inner) = inner_of(&scene.module.types, *ty) {
+        if let Some(inner) = inner_of(scene.context.types, *ty) {
             write_component(f, scene, inner, index)?;
             return match components.get(index) {
                 Some(given) => scene.write_given(f, ", and it is ", *given),
@@ -138,8 +138,8 @@ fn count_of(scene: &Scene<'_>, form: &Form) -> Option<usize> {
             ..
         } => Some(u32::from(size) as usize),
         Form::Matrix { columns, .. } => Some(u32::from(columns) as usize),
-        Form::Struct(handle) => count_in(inner_of(&scene.module.types, handle)?),
-        Form::Pointer { base, .. } => count_in(inner_of(&scene.module.types, base)?),
+        Form::Struct(handle) => count_in(inner_of(scene.context.types, handle)?),
+        Form::Pointer { base, .. } => count_in(inner_of(scene.context.types, base)?),
         _ => None,
     }
 }
@@ -257,7 +257,7 @@ fn write_rule<W: fmt::Write>(
 ) -> fmt::Result {
     match scene.cause {
         Some(cause) => {
-            let types = &scene.module.types;
+            let types = scene.context.types;
             write!(f, "{}", CauseText { types, cause })
         }
         None => write_required(f, scene, handle),

@@ -2,21 +2,22 @@
 
 use crate::causes::Types;
 use check_causes::Cause;
+use ir_arena::arena::Arena;
 use ir_arena::handle::Handle;
-use ir_items::Module;
+use ir_items::GlobalVariable;
 use ir_types::key;
 use module_context::CheckContext;
 use std::fmt;
 use typing_forms::form_of_type;
 
-/// What a sentence looks at: the module; the expressions among which the one at fault stands, with their types as far as they are
-/// known; and which rule of that one is broken, where its kind has several.
+/// What a sentence looks at: the expressions among which the one at fault stands, with their types as far as they are known; the
+/// global variables; and which rule of that expression is broken, where its kind has several.
 #[derive(Clone, Copy)]
 pub struct Scene<'a> {
-    /// The module.
-    pub module: &'a Module,
     /// The expressions of the function that is refused, or those of the module.
     pub context: CheckContext<'a>,
+    /// The global variables of the module.
+    pub globals: &'a Arena<GlobalVariable, key::GlobalVariable>,
     /// The rule that is broken.
     pub cause: Option<&'a Cause>,
 }
@@ -24,7 +25,7 @@ pub struct Scene<'a> {
 impl<'a> Scene<'a> {
     /// The types of the module.
     pub(crate) fn types(&self) -> Types<'a> {
-        Types(&self.module.types)
+        Types(self.context.types)
     }
 
     /// Writes the type of an expression, after a word that leads to it; nothing where it is not known.
@@ -47,7 +48,7 @@ impl<'a> Scene<'a> {
         f: &mut fmt::Formatter<W>,
         ty: Handle<key::IrType>,
     ) -> fmt::Result {
-        let form = form_of_type(&self.module.types, ty);
+        let form = form_of_type(self.context.types, ty);
         write!(f, "{} (types[{}])", self.types().text(&form), ty.index())
     }
 }

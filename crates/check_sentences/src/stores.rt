@@ -81,7 +81,7 @@ fn write_space<W: fmt::Write>(
     let Some(global) = root_of(scene.context.expressions, pointer) else {
         return write!(f, "; this one leads into {}", space_word(space));
     };
-    let Ok(variable) = scene.module.global_variables.try_get(global) else {
+    let Ok(variable) = scene.globals.try_get(global) else {
         return Ok(());
     };
     write!(f, "; globals[{}]", global.index())?;
@@ -143,7 +143,7 @@ fn write_inner<W: fmt::Write>(
     before: &str,
     inner: &TypeInner,
 ) -> fmt::Result {
-    let form = form_in(&scene.module.types, None, inner);
+    let form = form_in(scene.context.types, None, inner);
     write!(f, "{before}{}", scene.types().text(&form))
 }
 
