@@ -1,9 +1,8 @@
 //! What is required where an entry point is refused.
 
 use crate::built_ins::built_in_word;
-use crate::functions::write_function;
-use crate::scene::Scene;
-use crate::types::{SetText, word_of};
+use check_cause_texts::{SetText, word_of};
+use check_function_texts::{Scene, write_function};
 use function_entry_checks::EntryPointError;
 use function_varying_checks::VaryingError;
 use ir_arena::handle::Handle;

@@ -1,9 +1,8 @@
 //! What is required where an item of a module is refused.
 
-use crate::expressions::write_width;
-use crate::scene::Scene;
-use crate::types::{ScalarText, SetText, space_word, word_of};
 use bitflags::Flags;
+use check_cause_texts::{ScalarText, SetText, space_word, word_of};
+use check_function_texts::{Scene, write_width};
 use ir_arena::handle::Handle;
 use ir_items::{Constant, GlobalVariable, Override};
 use ir_types::{StructMember, TypeInner, key};

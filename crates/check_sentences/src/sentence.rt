@@ -1,10 +1,8 @@
 //! What is required where a module is refused.
 
 use crate::entries::write_entry;
-use crate::expressions::write_global_expression;
-use crate::functions::write_function;
 use crate::items::{write_constant, write_layout, write_override, write_type, write_variable};
-use crate::scene::Scene;
+use check_function_texts::{Scene, write_function, write_global_expression};
 use function_errors::ValidationError;
 use ir_items::Module;
 use module_steps::ModuleError;

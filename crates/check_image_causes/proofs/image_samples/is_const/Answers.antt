@@ -3,7 +3,7 @@ use Rattle.module_context.proofs.Constness.{constant_at, none_past, past_the_las
 use Rattle.module_context.proofs.Lookups.{many_viewed}
 use Rattle.ir_types.specs.judged.ExpressionPlain.{expression_view}
 use Rattle.module_context.specs.OperandView.{expressions_in}
-use Rattle.check_causes.proofs.image_samples.is_const.Goals as goal
+use Rattle.check_image_causes.proofs.image_samples.is_const.Goals as goal
 
 pub returns-then-index-len : goal.returns-then-index-len
 returns-then-index-len c =

@@ -1,7 +1,7 @@
 //! What is required where a return or a store is refused.
 
 use crate::scene::Scene;
-use crate::types::space_word;
+use check_cause_texts::space_word;
 use check_causes::{ReturnCause, StoreCause, broken_return, broken_store};
 use ir_arena::arena::Arena;
 use ir_arena::handle::Handle;

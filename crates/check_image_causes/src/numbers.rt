@@ -1,7 +1,7 @@
 //! Which rule is broken of a number that is given exactly where one is wanted.
 
 ghost use Rattle.std.specs.Prelude.{◌≡◌, ◌↔◌, IsTrue, MatchOption};
-ghost use Rattle.check_causes.specs.Numbers.{BrokenNumber};
+ghost use Rattle.check_image_causes.specs.Numbers.{BrokenNumber};
 ghost use Rattle.module_context.specs.OperandView.{scene_in};
 ghost use Rattle.spec_statements.specs.judged.Scene.{form_among};
 ghost use Rattle.spec_statements.specs.judged.Shapes.{IsIntegerScalar, ExactlyIf, coordinate_form};

@@ -1,9 +1,8 @@
 //! What is required where an expression is refused.
 
-use crate::causes::CauseText;
 use crate::kinds::write_required;
 use crate::scene::Scene;
-use crate::types::{ScalarText, SetText, word_of};
+use check_cause_texts::{CauseText, ScalarText, SetText, word_of};
 use ir_arena::handle::Handle;
 use ir_kinds::ImageClass;
 use ir_types::{Expression, TypeInner, key};
@@ -12,10 +11,7 @@ use typing_errors::{ComposeError, ConstExpressionError, ExpressionError, Resolve
 use typing_forms::{Form, form_of_type, inner_of};
 use typing_layout::{LiteralError, WidthError};
 
-pub(crate) fn write_width<W: fmt::Write>(
-    f: &mut fmt::Formatter<W>,
-    error: &WidthError,
-) -> fmt::Result {
+pub fn write_width<W: fmt::Write>(f: &mut fmt::Formatter<W>, error: &WidthError) -> fmt::Result {
     match error {
         WidthError::Invalid(kind, width) => {
             write!(f, "there is no {} scalar of {width} bytes", word_of(*kind))
@@ -356,7 +352,7 @@ pub(crate) fn write_image<W: fmt::Write>(
 }
 
 /// Writes what is required where a global expression is refused.
-pub(crate) fn write_global_expression<W: fmt::Write>(
+pub fn write_global_expression<W: fmt::Write>(
     f: &mut fmt::Formatter<W>,
     scene: &Scene<'_>,
     handle: Handle<key::Expression>,

@@ -13,11 +13,14 @@ use typing_forms::Form;
 
 /// The types of a module, to write one of them.
 #[derive(Clone, Copy)]
-pub(crate) struct Types<'a>(pub(crate) &'a UniqueArena<IrType, key::IrType>);
+pub struct Types<'a>(
+    /// The types.
+    pub &'a UniqueArena<IrType, key::IrType>,
+);
 
 impl<'a> Types<'a> {
     /// A type in words.
-    pub(crate) fn text(self, form: &'a Form) -> TypeText<'a> {
+    pub fn text(self, form: &'a Form) -> TypeText<'a> {
         TypeText {
             types: self.0,
             form,

@@ -1,6 +1,6 @@
 //! What a sentence looks at.
 
-use crate::causes::Types;
+use check_cause_texts::Types;
 use check_causes::Cause;
 use ir_arena::arena::Arena;
 use ir_arena::handle::Handle;
@@ -24,12 +24,12 @@ pub struct Scene<'a> {
 
 impl<'a> Scene<'a> {
     /// The types of the module.
-    pub(crate) fn types(&self) -> Types<'a> {
+    pub fn types(&self) -> Types<'a> {
         Types(self.context.types)
     }
 
     /// Writes the type of an expression, after a word that leads to it; nothing where it is not known.
-    pub(crate) fn write_given<W: fmt::Write>(
+    pub fn write_given<W: fmt::Write>(
         &self,
         f: &mut fmt::Formatter<W>,
         before: &str,
@@ -43,7 +43,7 @@ impl<'a> Scene<'a> {
     }
 
     /// Writes a type of the module with its index.
-    pub(crate) fn write_type<W: fmt::Write>(
+    pub fn write_type<W: fmt::Write>(
         &self,
         f: &mut fmt::Formatter<W>,
         ty: Handle<key::IrType>,

@@ -1,7 +1,7 @@
 //! Which rule of the level at which an image is sampled, of what is gathered and of what is clamped is broken.
 
 ghost use Rattle.std.specs.Prelude.{◌≡◌, ◌↔◌, IsTrue, IfSome, MatchOption, Bool};
-ghost use Rattle.check_causes.specs.ImageLevels.{BrokenClamp, BrokenDetail, BrokenEdge, BrokenGather, BrokenLevel, BrokenOutside};
+ghost use Rattle.check_image_causes.specs.ImageLevels.{BrokenClamp, BrokenDetail, BrokenEdge, BrokenGather, BrokenLevel, BrokenOutside};
 ghost use Rattle.module_context.specs.OperandView.{scene_in};
 ghost use Rattle.spec_statements.specs.judged.ImageSamples.{IsFloat32, HasNeighbours, IsGathered, IsLevel, IsClamped, ClampOK, ExternalOK};
 ghost use Rattle.spec_statements.specs.judged.Scene.{form_among};

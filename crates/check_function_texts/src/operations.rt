@@ -2,7 +2,7 @@
 
 use crate::expressions::write_image;
 use crate::scene::Scene;
-use crate::types::{SetText, space_word};
+use check_cause_texts::{SetText, space_word};
 use ir_arena::handle::Handle;
 use ir_types::{Expression, key};
 use std::fmt;

@@ -1,4 +1,4 @@
-use Rattle.check_sentences.proofs.types.+types.Given as goal
+use Rattle.check_cause_texts.proofs.types.+types.Given as goal
 
 abbrev pub decreases-write_base : goal.decreases-write_base
 decreases-write_base l = l.depth

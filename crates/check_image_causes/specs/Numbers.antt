@@ -3,8 +3,8 @@ use Rattle.std.specs.Prelude.{◌≡◌, ℕ, List, Option, None, Bool, true, fa
 use Rattle.typing_forms.specs.declared.form.Form.{Form}
 use Rattle.spec_statements.specs.judged.Scene.{form_among}
 use Rattle.spec_statements.specs.judged.Shapes.{IsIntegerScalar}
-use Rattle.check_causes.specs.declared.numbers.NumberCause.{NumberCause}
-use Rattle.check_causes.specs.declared.numbers.NumberCause.TheVariants.{Missing, Unwanted, NoInteger}
+use Rattle.check_image_causes.specs.declared.numbers.NumberCause.{NumberCause}
+use Rattle.check_image_causes.specs.declared.numbers.NumberCause.TheVariants.{Missing, Unwanted, NoInteger}
 
 abbrev pub BrokenNumber : (forms : List Form) → (wanted : Bool) → (number : Option ℕ) → NumberCause → Type 0
 BrokenNumber forms wanted number Missing = (wanted ≡ true) × (number ≡ None)

@@ -9,14 +9,14 @@ use Rattle.spec_statements.specs.judged.ImageLoads.{IsFlat, IsReadable}
 use Rattle.spec_statements.specs.judged.Scene.{form_among}
 use Rattle.spec_statements.specs.judged.Shapes.{shaped_of, image_type_of, coordinate_form, IsMadeOf, AnyShape, IsInteger, IsIntegerScalar}
 use Rattle.spec_statements.specs.declared.shapes.ImageType.{ImageType}
-use Rattle.check_causes.specs.Numbers.{BrokenNumber}
-use Rattle.check_causes.specs.declared.image_loads.TexelLoad.{TexelLoad}
-use Rattle.check_causes.specs.declared.image_loads.TexelCause.{TexelCause}
-use Rattle.check_causes.specs.declared.image_loads.TexelCause.TheVariants as texel
-use Rattle.check_causes.specs.declared.image_loads.LoadCause.{LoadCause}
-use Rattle.check_causes.specs.declared.image_loads.LoadCause.TheVariants as load
-use Rattle.check_causes.specs.declared.image_loads.QueryCause.{QueryCause}
-use Rattle.check_causes.specs.declared.image_loads.QueryCause.TheVariants as asked
+use Rattle.check_image_causes.specs.Numbers.{BrokenNumber}
+use Rattle.check_image_causes.specs.declared.image_loads.TexelLoad.{TexelLoad}
+use Rattle.check_image_causes.specs.declared.image_loads.TexelCause.{TexelCause}
+use Rattle.check_image_causes.specs.declared.image_loads.TexelCause.TheVariants as texel
+use Rattle.check_image_causes.specs.declared.image_loads.LoadCause.{LoadCause}
+use Rattle.check_image_causes.specs.declared.image_loads.LoadCause.TheVariants as load
+use Rattle.check_image_causes.specs.declared.image_loads.QueryCause.{QueryCause}
+use Rattle.check_image_causes.specs.declared.image_loads.QueryCause.TheVariants as asked
 
 -- ---- loads
 

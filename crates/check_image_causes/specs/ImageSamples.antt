@@ -17,16 +17,16 @@ use Rattle.spec_statements.specs.judged.Scene.{form_among}
 use Rattle.spec_statements.specs.judged.Shapes.{coordinate_form, image_type_of, sampler_of}
 use Rattle.spec_statements.specs.declared.shapes.ImageType.{ImageType}
 use Rattle.spec_statements.specs.declared.shapes.Sampling.{Sampling}
-use Rattle.check_causes.specs.ImageLevels.{BrokenDetail, BrokenEdge}
-use Rattle.check_causes.specs.Numbers.{BrokenNumber}
-use Rattle.check_causes.specs.declared.image_samples.SamplerCause.{SamplerCause}
-use Rattle.check_causes.specs.declared.image_samples.SamplerCause.TheVariants as sampler
-use Rattle.check_causes.specs.declared.image_samples.TexelsCause.{TexelsCause}
-use Rattle.check_causes.specs.declared.image_samples.TexelsCause.TheVariants as texels
-use Rattle.check_causes.specs.declared.image_samples.PlaceCause.{PlaceCause}
-use Rattle.check_causes.specs.declared.image_samples.PlaceCause.TheVariants as place
-use Rattle.check_causes.specs.declared.image_samples.SampleCause.{SampleCause}
-use Rattle.check_causes.specs.declared.image_samples.SampleCause.TheVariants as sample
+use Rattle.check_image_causes.specs.ImageLevels.{BrokenDetail, BrokenEdge}
+use Rattle.check_image_causes.specs.Numbers.{BrokenNumber}
+use Rattle.check_image_causes.specs.declared.image_samples.SamplerCause.{SamplerCause}
+use Rattle.check_image_causes.specs.declared.image_samples.SamplerCause.TheVariants as sampler
+use Rattle.check_image_causes.specs.declared.image_samples.TexelsCause.{TexelsCause}
+use Rattle.check_image_causes.specs.declared.image_samples.TexelsCause.TheVariants as texels
+use Rattle.check_image_causes.specs.declared.image_samples.PlaceCause.{PlaceCause}
+use Rattle.check_image_causes.specs.declared.image_samples.PlaceCause.TheVariants as place
+use Rattle.check_image_causes.specs.declared.image_samples.SampleCause.{SampleCause}
+use Rattle.check_image_causes.specs.declared.image_samples.SampleCause.TheVariants as sample
 
 -- ---- the sampler, and what is compared with
 

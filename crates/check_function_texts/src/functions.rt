@@ -4,7 +4,7 @@ use crate::expressions::{write_expression, write_image};
 use crate::operations::{write_atomic, write_call, write_subgroup};
 use crate::scene::Scene;
 use crate::stores::{write_return, write_store};
-use crate::types::{SetText, space_word};
+use check_cause_texts::{SetText, space_word};
 use ir_arena::handle::Handle;
 use ir_kinds::SwitchValue;
 use ir_types::key;
@@ -252,7 +252,7 @@ fn write_setting<W: fmt::Write>(
 }
 
 /// Writes what is required where a function is refused.
-pub(crate) fn write_function<W: fmt::Write>(
+pub fn write_function<W: fmt::Write>(
     f: &mut fmt::Formatter<W>,
     scene: &Scene<'_>,
     error: &FunctionError,

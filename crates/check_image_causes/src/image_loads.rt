@@ -1,7 +1,7 @@
 //! Which rule of a load from an image or of a query of one is broken.
 
 ghost use Rattle.std.specs.Prelude.{◌≡◌, ◌↔◌, IsTrue, MatchOption};
-ghost use Rattle.check_causes.specs.ImageLoads.{BrokenTexel, BrokenTexelLoad, BrokenLoad, BrokenAnswer, BrokenQuery};
+ghost use Rattle.check_image_causes.specs.ImageLoads.{BrokenTexel, BrokenTexelLoad, BrokenLoad, BrokenAnswer, BrokenQuery};
 ghost use Rattle.module_context.specs.OperandView.{scene_in};
 ghost use Rattle.spec_statements.specs.judged.ImageLoads.{IsFlat, IsTexelCoordinate, IsReadable, IsTexelLoad, ImageLoadOK, IsAnswered, ImageQueryOK};
 ghost use Rattle.spec_statements.specs.judged.Scene.{form_among};

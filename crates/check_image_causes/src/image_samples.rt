@@ -1,7 +1,7 @@
 //! Which rule of a sample of an image is broken.
 
 ghost use Rattle.std.specs.Prelude.{◌≡◌, ◌↔◌, IsTrue, IfSome, IsSomeAnd, MatchOption, true, false};
-ghost use Rattle.check_causes.specs.ImageSamples.{BrokenCompare, BrokenPlace, BrokenOffset, BrokenSampled, BrokenSample, BrokenSampler, BrokenTexels, SamplerOK};
+ghost use Rattle.check_image_causes.specs.ImageSamples.{BrokenCompare, BrokenPlace, BrokenOffset, BrokenSampled, BrokenSample, BrokenSampler, BrokenTexels, SamplerOK};
 ghost use Rattle.ir_kinds.specs.judged.Images.{is_depth, is_multisampled};
 ghost use Rattle.ir_kinds.specs.judged.Scalars.{floating};
 ghost use Rattle.module_context.specs.OperandView.{scene_in, expressions_in};

@@ -13,10 +13,10 @@ use Rattle.spec_statements.specs.judged.Scene.{form_among}
 use Rattle.spec_statements.specs.judged.Shapes.{IsIntegerScalar}
 use Rattle.spec_statements.specs.declared.shapes.ImageType.{ImageType}
 use Rattle.spec_statements.specs.declared.shapes.Sampling.{Sampling}
-use Rattle.check_causes.specs.declared.image_levels.DetailCause.{DetailCause}
-use Rattle.check_causes.specs.declared.image_levels.DetailCause.TheVariants as detail
-use Rattle.check_causes.specs.declared.image_levels.EdgeCause.{EdgeCause}
-use Rattle.check_causes.specs.declared.image_levels.EdgeCause.TheVariants as edge
+use Rattle.check_image_causes.specs.declared.image_levels.DetailCause.{DetailCause}
+use Rattle.check_image_causes.specs.declared.image_levels.DetailCause.TheVariants as detail
+use Rattle.check_image_causes.specs.declared.image_levels.EdgeCause.{EdgeCause}
+use Rattle.check_image_causes.specs.declared.image_levels.EdgeCause.TheVariants as edge
 
 -- ---- what is gathered, and the level
 

@@ -1,7 +1,7 @@
 //! What is required of an expression by its kind, where one rule alone is asked.
 
 use crate::scene::Scene;
-use crate::types::word_of;
+use check_cause_texts::word_of;
 use ir_arena::handle::Handle;
 use ir_kinds::{MathFunction, RelationalFunction, UnaryOperator};
 use ir_types::{Expression, key};
