@@ -6,16 +6,16 @@ use Rattle.spec_statements.specs.judged.Access.{known_length}
 use Rattle.spec_statements.specs.judged.Scene.{Scene, form_among}
 use Rattle.check_causes.specs.Access.{BrokenAccess, BrokenPart}
 use Rattle.check_causes.specs.Conversions.{BrokenAs}
-use Rattle.check_causes.specs.ImageLoads.{BrokenLoad, BrokenQuery}
-use Rattle.check_causes.specs.ImageSamples.{BrokenSample}
+use Rattle.check_image_causes.specs.ImageLoads.{BrokenLoad, BrokenQuery}
+use Rattle.check_image_causes.specs.ImageSamples.{BrokenSample}
 use Rattle.check_causes.specs.Operators.{BrokenBinary}
 use Rattle.check_causes.specs.Selections.{BrokenSelect}
 use Rattle.check_causes.specs.Swizzles.{BrokenSwizzle}
 use Rattle.check_causes.specs.declared.access.AccessCause.{AccessCause}
 use Rattle.check_causes.specs.declared.conversions.AsCause.{AsCause}
-use Rattle.check_causes.specs.declared.image_loads.LoadCause.{LoadCause}
-use Rattle.check_causes.specs.declared.image_loads.QueryCause.{QueryCause}
-use Rattle.check_causes.specs.declared.image_samples.SampleCause.{SampleCause}
+use Rattle.check_image_causes.specs.declared.image_loads.LoadCause.{LoadCause}
+use Rattle.check_image_causes.specs.declared.image_loads.QueryCause.{QueryCause}
+use Rattle.check_image_causes.specs.declared.image_samples.SampleCause.{SampleCause}
 use Rattle.check_causes.specs.declared.operators.BinaryCause.{BinaryCause}
 use Rattle.check_causes.specs.declared.selections.SelectCause.{SelectCause}
 use Rattle.check_causes.specs.declared.swizzles.SwizzleCause.{SwizzleCause}

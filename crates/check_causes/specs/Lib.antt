@@ -1,10 +1,6 @@
 pub mod Access
 pub mod Bodies
 pub mod Conversions
-pub mod Numbers
-pub mod ImageLevels
-pub mod ImageLoads
-pub mod ImageSamples
 pub mod Operators
 pub mod Selections
 pub mod Swizzles

@@ -8,11 +8,12 @@ ghost use Rattle.typing_layout.specs.judged.Constness.{AreKinds};
 
 use crate::access::{AccessCause, broken_access, broken_access_index};
 use crate::conversions::{AsCause, broken_as};
-use crate::image_loads::{LoadCause, QueryCause, TexelLoad, broken_load, broken_query};
-use crate::image_samples::{SampleCause, broken_sample};
 use crate::operators::{BinaryCause, broken_binary};
 use crate::selections::{SelectCause, broken_select};
 use crate::swizzles::{SwizzleCause, broken_swizzle};
+use check_image_causes::{
+    LoadCause, QueryCause, SampleCause, TexelLoad, broken_load, broken_query, broken_sample,
+};
 use ir_arena::handle::Handle;
 use ir_kinds::BinaryOperator;
 use ir_types::{Expression, key};

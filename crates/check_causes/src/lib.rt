@@ -6,10 +6,6 @@ mod access;
 mod bodies;
 mod conversions;
 mod expression;
-mod image_levels;
-mod image_loads;
-mod image_samples;
-mod numbers;
 mod operators;
 mod selections;
 mod shapes;
@@ -17,12 +13,12 @@ mod swizzles;
 
 pub use access::{AccessCause, broken_access, broken_access_index};
 pub use bodies::{ReturnCause, StoreCause, broken_return, broken_store};
+pub use check_image_causes::{
+    DetailCause, EdgeCause, LoadCause, NumberCause, PlaceCause, QueryCause, SampleCause,
+    SamplerCause, TexelCause, TexelsCause,
+};
 pub use conversions::{AsCause, broken_as};
 pub use expression::{Cause, broken_at, broken_rule};
-pub use image_levels::{DetailCause, EdgeCause};
-pub use image_loads::{LoadCause, QueryCause, TexelCause, TexelLoad, broken_load, broken_query};
-pub use image_samples::{PlaceCause, SampleCause, SamplerCause, TexelsCause, broken_sample};
-pub use numbers::NumberCause;
 pub use operators::{AlikeCause, BinaryCause, ProductCause, ShiftCause, broken_binary};
 pub use selections::{SelectCause, broken_select};
 pub use swizzles::{SwizzleCause, broken_swizzle};

@@ -13,6 +13,7 @@ ghost use Rattle.ir_items.specs.found.View.{module_view};
 ghost use Rattle.shader_check.specs.found.Examined.{IsLeft, finding_in};
 ghost use Rattle.shader_check.specs.found.Judgements.{Judged, FindsIn};
 
+use crate::causes::place_value;
 use crate::refused::{RefusedItem, refused_item, value_of};
 use check_faults::{Refused, accepted_value, no_document_value, refused_value};
 use check_names::{Names, Roles, entries_value, globals_value};
@@ -336,7 +337,8 @@ fn refused_object(alloc: Global, verdict: &str, item: &RefusedItem) -> Result<Va
         steps,
         text: &item.text,
     };
-    refused_value(alloc, &refused)
+    let place = place_value(alloc, steps)?;
+    refused_value(alloc, &refused, place, item.cause.clone()?)
 }
 
 impl Explanation {

@@ -3,6 +3,7 @@
 //! is reported at the instruction that it comes from.
 #![tactic(auto)]
 
+mod causes;
 mod explanation;
 mod origin;
 mod refused;

@@ -1,5 +1,7 @@
 // The instruction that a part of a module comes from.
 
+ghost use Rattle.std.specs.Prelude.{◌≡◌, IfSome};
+
 use crate::spans::{entry_at, member_at, span_at};
 use crate::varyings::varying_at;
 use check_names::put_position;
@@ -75,14 +77,17 @@ fn name_at(
     name_of(alloc, listing, first, None)
 }
 
-// The instruction that begins at this word.
-fn instruction_at(listing: &Listing, word: u32) -> Option<Instruction> {
-    for instruction in &listing.instructions {
-        if instruction.start == word {
-            return Some(*instruction);
-        }
+// The instruction that begins at this word, of those that stand in the order of their words.
+fn instruction_at(listing: &Listing, word: u32) -> Option<Instruction>
+    ensures { IfSome result (λ instruction. instruction.start ≡ word) }
+{
+    let place = listing
+        .instructions
+        .partition_point(|instruction| instruction.start < word);
+    match listing.instructions.get(place) {
+        Some(found) if found.start == word => Some(*found),
+        Some(_) | None => None,
     }
-    None
 }
 
 // The instruction whose words the part at a path comes from.

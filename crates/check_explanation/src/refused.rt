@@ -1,9 +1,9 @@
 // The item that is refused, and why.
 
+use crate::causes::cause_value;
 use crate::required::{Told, told_in};
-use crate::sites::site_of;
+use crate::sites::{body_of, site_of};
 use crate::types::{forms_of, operand_types, refused_function, types_in};
-use check_causes::Cause;
 use check_reasons::{OperandType, Reason, Refusal, name_of, path_of};
 use check_sentences::part_path;
 use ir_flags::Capabilities;
@@ -29,8 +29,8 @@ pub struct RefusedItem {
     pub text: String,
     /// The error by its name, with all that it holds.
     pub error: String,
-    /// Which rule of an expression is broken, where that is one of several.
-    pub cause: Option<Cause>,
+    /// Which rule of an expression is broken, where that is one of several, as JSON; else null.
+    pub cause: Value,
 }
 
 // The word of a step.
@@ -97,7 +97,7 @@ fn item_of(
     step: &'static str,
     index: Option<usize>,
     named: String,
-    cause: Option<Cause>,
+    cause: Value,
 ) -> Result<RefusedItem, AllocError> {
     let (path, text) = reason_of(alloc, refusal)?;
     let name = copied(
@@ -159,6 +159,7 @@ fn known_types(
 fn refusal_of<'a>(
     document: &'a Value,
     error: &'a ValidationError,
+    body: &'a [usize],
     part: &'a [usize],
     types: &'a [OperandType],
     required: &'a str,
@@ -169,7 +170,7 @@ fn refusal_of<'a>(
         step,
         index: index.unwrap_or(0),
         types,
-        site: site_of(error, part),
+        site: site_of(error, body, part),
         required,
     }
 }
@@ -187,8 +188,14 @@ fn item_in(
     let (step, index) = step_of(refused_by(error));
     let part = part_path(alloc, module, error)?;
     let operands = operand_types(alloc, module, types)?;
-    let refusal = refusal_of(document, error, &part, &operands, told.text.as_str());
-    item_of(alloc, &refusal, step, index, named, told.cause)
+    let body = body_of(alloc, error)?;
+    let required = told.text.as_str();
+    let refusal = refusal_of(document, error, &body, &part, &operands, required);
+    let cause = match &told.cause {
+        Some(cause) => cause_value(alloc, module, cause)?,
+        None => Value::Null,
+    };
+    item_of(alloc, &refusal, step, index, named, cause)
 }
 
 /// The item of a module, which the bytes spell as a document, that is refused so under these capabilities. The error is out of

@@ -89,11 +89,16 @@ fn told_among<'a>(
 {
     let cause = cause_of(context, error);
     let scene = Scene {
-        module,
         context: *context,
+        globals: &module.global_variables,
         cause: cause.as_ref(),
     };
-    let text = format!(in alloc; "{}", Sentence { scene, error })?;
+    let sentence = Sentence {
+        scene,
+        module,
+        error,
+    };
+    let text = format!(in alloc; "{sentence}")?;
     Ok(Told { text, cause })
 }
 

@@ -1,9 +1,12 @@
 // Where an error stands.
 
-use check_reasons::{BodyPlace, Site, Target, names_of};
+use check_reasons::{BodyPlace, Brought, Site, Target, names_of};
+use function_entry_checks::EntryPointError;
 use ir_places::Trail;
 use module_handles::InvalidHandleError;
 use shader_check::{ModuleError, ValidationError};
+use std::alloc::{AllocError, Global};
+use typing_errors::FunctionError;
 
 // In a body where the trail leads there, or else at a part.
 fn site_in<'a>(of_entry: bool, index: usize, trail: &'a Trail, part: &'a [usize]) -> Site<'a> {
@@ -47,8 +50,40 @@ fn site_of_handle<'a>(error: &InvalidHandleError, part: &'a [usize]) -> Site<'a>
     }
 }
 
-/// Where an error stands, which is at this part where it stands neither in a body nor at a handle.
-pub(crate) fn site_of<'a>(error: &'a ValidationError, part: &'a [usize]) -> Site<'a> {
+// The expression at which all invocations have to arrive together and may not.
+fn diverging(error: &FunctionError) -> Option<usize> {
+    match error {
+        FunctionError::NonUniformControlFlow(_, expression, _) => Some(expression.index()),
+        _ => None,
+    }
+}
+
+// That of an error of a function or of the function of an entry point.
+fn diverging_in(error: &ValidationError) -> Option<usize> {
+    match error {
+        ValidationError::Function(refused) => diverging(&refused.error),
+        ValidationError::EntryPoint(refused) => match &refused.error {
+            EntryPointError::Function(error) => diverging(error),
+            _ => None,
+        },
+        ValidationError::Module(_) | ValidationError::GlobalVariable(_) => None,
+    }
+}
+
+/// Where an error stands, which is at this part where it stands neither in a body nor at a handle; `body` is the path of the body of
+/// the function that is refused.
+pub(crate) fn site_of<'a>(
+    error: &'a ValidationError,
+    body: &'a [usize],
+    part: &'a [usize],
+) -> Site<'a> {
+    if let Some(expression) = diverging_in(error) {
+        return Site::Brought(Brought {
+            body,
+            expression,
+            part,
+        });
+    }
     match error {
         ValidationError::Module(ModuleError::InvalidHandle(error)) => site_of_handle(error, part),
         ValidationError::Module(_) | ValidationError::GlobalVariable(_) => Site::Part(part),
@@ -59,4 +94,19 @@ pub(crate) fn site_of<'a>(error: &'a ValidationError, part: &'a [usize]) -> Site
             site_in(true, refused.index, &refused.trail, part)
         }
     }
+}
+
+/// The path of the body of the function that is refused, empty where none is. The error is out of memory.
+pub(crate) fn body_of(alloc: Global, error: &ValidationError) -> Result<Vec<usize>, AllocError> {
+    let mut path = Vec::new(alloc);
+    match error {
+        ValidationError::Function(refused) => {
+            path.extend_from_slice(&[12, refused.function.index(), 5])?;
+        }
+        ValidationError::EntryPoint(refused) => {
+            path.extend_from_slice(&[13, refused.index, 6, 5])?;
+        }
+        ValidationError::Module(_) | ValidationError::GlobalVariable(_) => {}
+    }
+    Ok(path)
 }

@@ -92,8 +92,14 @@ fn put_steps(map: &mut Map<String, Value>, alloc: Global, steps: &[u32]) -> Resu
     put(map, alloc, "steps", steps_value(alloc, steps)?)
 }
 
-/// The object of a document that a step refuses. The error is out of memory.
-pub fn refused_value(alloc: Global, refused: &Refused<'_>) -> Result<Value, AllocError>
+/// The object of a document that a step refuses, with where it stands in a function and which rule is broken. The error is out of
+/// memory.
+pub fn refused_value(
+    alloc: Global,
+    refused: &Refused<'_>,
+    place: Value,
+    cause: Value,
+) -> Result<Value, AllocError>
     ensures verdict { IfOk result (λ v. Has (view v) (codes "verdict") (string refused.now.verdict.now)) }
     ensures step { IfOk result (λ v. Has (view v) (codes "step") (string refused.now.step.now)) }
     ensures index { IfOk result (λ v. Has (view v) (codes "index") (number_data refused.now.index)) }
@@ -113,6 +119,8 @@ pub fn refused_value(alloc: Global, refused: &Refused<'_>) -> Result<Value, Allo
     put_text(&mut map, alloc, "path", refused.path)?;
     put_steps(&mut map, alloc, refused.steps)?;
     put_text(&mut map, alloc, "text", refused.text)?;
+    put(&mut map, alloc, "place", place)?;
+    put(&mut map, alloc, "cause", cause)?;
     Ok(Value::Object(map))
 }
 

@@ -21,9 +21,10 @@ body_path true index = 13 ∷ index ∷ 6 ∷ 5 ∷ []
 abbrev pub path_to : BodyPlace → List ℕ
 path_to place = map clamped (body_path place.of_entry place.index ++ json_path place.trail.now)
 
--- the path to where an error stands; that to what names a handle is looked for
+-- the path to where an error stands; that to what names a handle, or brings an expression, is looked for
 abbrev pub site_path : Site → Option (List ℕ)
 site_path (site.Body place) = Some (path_to place)
 site_path (site.Part indexes) = Some (map clamped indexes.now)
+site_path (site.Brought expression) = None
 site_path (site.Handle target) = None
 site_path (site.Range first end) = None

@@ -9,4 +9,4 @@ mod walk;
 
 pub use body_place::BodyPlace;
 pub use handles::Target;
-pub use subject::{OperandType, Refusal, Site, path_of};
+pub use subject::{Brought, OperandType, Refusal, Site, path_of};

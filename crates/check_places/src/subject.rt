@@ -7,7 +7,8 @@ ghost use Rattle.check_places.specs.Placed.{site_path};
 
 use crate::body_place::{BodyPlace, place_path, steps_of};
 use crate::handles::{Target, find_range, find_target};
-use check_faults::document::at;
+use crate::walk::{Search, find_statement};
+use check_faults::document::{along, at};
 use serde_json::Value;
 use std::alloc::{AllocError, Global};
 
@@ -18,10 +19,23 @@ pub enum Site<'a> {
     Body(BodyPlace<'a>),
     /// At the part of the document that these indexes lead to, from the outermost on.
     Part(&'a [usize]),
+    /// At the statement of a body that brings an expression.
+    Brought(Brought<'a>),
     /// At what names a handle.
     Handle(Target),
     /// At the emit of a range of expressions, from here on, below there.
     Range(usize, usize),
+}
+
+/// An expression that a statement of a body brings into scope.
+#[derive(Clone, Copy)]
+pub struct Brought<'a> {
+    /// The indexes of the array of the body's statements, from the outermost on.
+    pub body: &'a [usize],
+    /// The expression.
+    pub expression: usize,
+    /// The part of the document that is meant where there is no such statement.
+    pub part: &'a [usize],
 }
 
 /// The type of an expression.
@@ -85,6 +99,22 @@ fn range_path(
     Ok(path)
 }
 
+// The path to the first statement of a body that brings an expression, or to the part that is meant where there is none. The error is
+// out of memory.
+fn brought_path(
+    alloc: Global,
+    document: &Value,
+    brought: &Brought<'_>,
+) -> Result<Vec<u32>, AllocError> {
+    let mut path = steps_of(alloc, brought.body)?;
+    if let Some(body) = along(document, brought.body) {
+        if find_statement(Search::Brings(brought.expression), body, &mut path)? {
+            return Ok(path);
+        }
+    }
+    steps_of(alloc, brought.part)
+}
+
 // The path to where an error stands, which may lead to more than the document has. The error is out of memory.
 fn path_of_site(alloc: Global, document: &Value, site: &Site<'_>) -> Result<Vec<u32>, AllocError>
     ensures { IfSome (site_path site.now) (λ whole. IfOk result (λ path. path.items ≡ whole)) }
@@ -92,6 +122,7 @@ fn path_of_site(alloc: Global, document: &Value, site: &Site<'_>) -> Result<Vec<
     match site {
         Site::Body(place) => place_path(alloc, *place),
         Site::Part(indexes) => steps_of(alloc, indexes),
+        Site::Brought(brought) => brought_path(alloc, document, brought),
         Site::Handle(target) => target_path(alloc, document, target),
         Site::Range(first, end) => range_path(alloc, document, *first, *end),
     }

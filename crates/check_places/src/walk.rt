@@ -2,7 +2,7 @@
 
 use crate::body_place::step;
 use check_faults::document::{at, number_at, parts, word};
-use check_faults::forms::{Names, does_name, statement_parts};
+use check_faults::forms::{Names, answers_by, does_name, statement_parts};
 use serde_json::Value;
 use std::alloc::AllocError;
 
@@ -13,6 +13,8 @@ pub enum Search {
     Range(usize, usize),
     /// It names this one of a sort.
     Refers(Names, usize),
+    /// Its range holds this expression, or that is its result.
+    Brings(usize),
 }
 
 // A bound on how deep a look goes: two for each block, of which JSON nests no more than 127.
@@ -23,6 +25,13 @@ fn cases(statement: &Value) -> &[Value] {
         Some(cases) if word(statement) == "Switch" => parts(cases),
         _ => &[],
     }
+}
+
+// Whether the range of an emit holds this expression.
+fn emits(statement: &Value, wanted: usize) -> bool {
+    let first = number_at(statement, 1).unwrap_or(0);
+    let end = number_at(statement, 2).unwrap_or(0);
+    word(statement) == "Emit" && first <= wanted && wanted < end
 }
 
 impl Search {
@@ -37,6 +46,7 @@ impl Search {
             Search::Refers(named, index) => {
                 does_name(statement, statement_parts(statement), named, index)
             }
+            Search::Brings(index) => emits(statement, index) || answers_by(statement, index),
         }
     }
 }

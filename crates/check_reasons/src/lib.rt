@@ -8,6 +8,6 @@ mod show;
 
 pub use check_faults::PathNames;
 pub use check_faults::forms::names_of;
-pub use check_places::{BodyPlace, OperandType, Refusal, Site, Target, path_of};
+pub use check_places::{BodyPlace, Brought, OperandType, Refusal, Site, Target, path_of};
 pub use hints::{Slip, hint};
 pub use reason::{Reason, name_of};

@@ -300,7 +300,11 @@ impl Reason<'_> {
                 f,
                 "a range must not end before its start, nor after the last expression"
             ),
-            Site::Body(_) | Site::Part(_) => write!(f, "{}", self.refusal.required),
+            Site::Body(_) | Site::Part(_) | Site::Brought(_) => write!(
+                f,
+                "{}",
+                self.refusal.required
+            ),
         }
     }
 }

@@ -1,6 +1,6 @@
 //! Built-in values in words.
 
-use crate::types::word_of;
+use check_cause_texts::word_of;
 use ir_kinds::BuiltIn;
 
 /// The word of a built-in value.

@@ -1,9 +1,8 @@
 //! What is required where an entry point is refused.
 
 use crate::built_ins::built_in_word;
-use crate::functions::write_function;
-use crate::scene::Scene;
-use crate::types::{SetText, word_of};
+use check_cause_texts::{SetText, word_of};
+use check_function_texts::{Scene, write_function};
 use function_entry_checks::EntryPointError;
 use function_varying_checks::VaryingError;
 use ir_arena::handle::Handle;
@@ -237,9 +236,9 @@ fn mesh_text(error: &EntryPointError) -> &'static str {
 
 // The only variable before this one with its group and its binding.
 fn other_bound(scene: &Scene<'_>, global: Handle<key::GlobalVariable>) -> Option<usize> {
-    let wanted = scene.module.global_variables.try_get(global).ok()?.binding?;
+    let wanted = scene.globals.try_get(global).ok()?.binding?;
     let mut found = None;
-    for (handle, variable) in scene.module.global_variables.iter() {
+    for (handle, variable) in scene.globals.iter() {
         if handle.index() != global.index() && variable.binding == Some(wanted) {
             if found.is_some() {
                 return None;
@@ -328,7 +327,7 @@ fn write_output<W: fmt::Write>(
     let Some(mesh) = &entry.mesh_info else {
         return Ok(());
     };
-    match scene.module.global_variables.try_get(mesh.output_variable) {
+    match scene.globals.try_get(mesh.output_variable) {
         Ok(variable) => write!(
             f,
             "; globals[{}] is of types[{}]",
@@ -343,13 +342,14 @@ fn write_output<W: fmt::Write>(
 pub(crate) fn write_entry<W: fmt::Write>(
     f: &mut fmt::Formatter<W>,
     scene: &Scene<'_>,
+    entry: Option<&EntryPoint>,
     index: usize,
     error: &EntryPointError,
 ) -> fmt::Result {
     if let EntryPointError::Function(error) = error {
         return write_function(f, scene, error);
     }
-    let Some(entry) = scene.module.entry_points.get(index) else {
+    let Some(entry) = entry else {
         return Ok(());
     };
     write_own(f, scene, entry, error)?;

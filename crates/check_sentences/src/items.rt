@@ -1,10 +1,10 @@
 //! What is required where an item of a module is refused.
 
-use crate::expressions::write_width;
-use crate::scene::Scene;
-use crate::types::{ScalarText, SetText, space_word, word_of};
 use bitflags::Flags;
+use check_cause_texts::{ScalarText, SetText, space_word, word_of};
+use check_function_texts::{Scene, write_width};
 use ir_arena::handle::Handle;
+use ir_items::{Constant, GlobalVariable, Override};
 use ir_types::{StructMember, TypeInner, key};
 use module_constants::{ConstantError, OverrideError};
 use module_globals::GlobalVariableError;
@@ -69,13 +69,13 @@ fn write_blend<W: fmt::Write>(f: &mut fmt::Formatter<W>, error: &VaryingError) -
 
 // The first byte after a member, where its type is known.
 fn end_of(scene: &Scene<'_>, member: &StructMember) -> Option<u64> {
-    let inner = inner_of(&scene.module.types, member.ty)?;
+    let inner = inner_of(scene.context.types, member.ty)?;
     Some(u64::from(member.offset).saturating_add(inner.size()))
 }
 
 // Where the member of a struct before this one ends.
 fn end_before(scene: &Scene<'_>, ty: Handle<key::IrType>, index: usize) -> Option<u64> {
-    match inner_of(&scene.module.types, ty)? {
+    match inner_of(scene.context.types, ty)? {
         TypeInner::Struct { members, .. } => end_of(scene, members.get(index.checked_sub(1)?)?),
         _ => None,
     }
@@ -199,7 +199,7 @@ fn write_initializer<W: fmt::Write>(
 pub(crate) fn write_constant<W: fmt::Write>(
     f: &mut fmt::Formatter<W>,
     scene: &Scene<'_>,
-    handle: Handle<key::Constant>,
+    constant: Option<&Constant>,
     error: ConstantError,
 ) -> fmt::Result {
     match error {
@@ -207,9 +207,9 @@ pub(crate) fn write_constant<W: fmt::Write>(
             f,
             "the initializer of a constant must be a const-expression, without overrides"
         ),
-        ConstantError::InvalidType => match scene.module.constants.try_get(handle) {
-            Ok(found) => write_initializer(f, scene, "constant", found.ty, found.init),
-            Err(_) => write!(f, "the initializer must have the type of the constant"),
+        ConstantError::InvalidType => match constant {
+            Some(found) => write_initializer(f, scene, "constant", found.ty, found.init),
+            None => write!(f, "the initializer must have the type of the constant"),
         },
         ConstantError::NonConstructibleType => {
             write!(f, "the type of a constant must be constructible")
@@ -221,9 +221,9 @@ pub(crate) fn write_constant<W: fmt::Write>(
 fn write_override_value<W: fmt::Write>(
     f: &mut fmt::Formatter<W>,
     scene: &Scene<'_>,
-    handle: Handle<key::Override>,
+    item: Option<&Override>,
 ) -> fmt::Result {
-    if let Ok(found) = scene.module.overrides.try_get(handle) {
+    if let Some(found) = item {
         if let Some(value) = found.init {
             return write_initializer(f, scene, "override", found.ty, value);
         }
@@ -235,11 +235,11 @@ fn write_override_value<W: fmt::Write>(
 pub(crate) fn write_override<W: fmt::Write>(
     f: &mut fmt::Formatter<W>,
     scene: &Scene<'_>,
-    handle: Handle<key::Override>,
+    item: Option<&Override>,
     error: OverrideError,
 ) -> fmt::Result {
     let text = match error {
-        OverrideError::InvalidType => return write_override_value(f, scene, handle),
+        OverrideError::InvalidType => return write_override_value(f, scene, item),
         OverrideError::MissingNameAndID => {
             "an override must have a name or an id, by which a pipeline can set it"
         }
@@ -330,9 +330,6 @@ fn write_flags<W: fmt::Write>(f: &mut fmt::Formatter<W>, set: TypeFlags) -> fmt:
 // What is required of a variable where the error tells nothing else.
 fn variable_text(error: &GlobalVariableError) -> &'static str {
     match error {
-        GlobalVariableError::InvalidBinding => {
-            "variables in Uniform, Storage and Handle must have a group and a binding, and no others can"
-        }
         GlobalVariableError::InitializerExprType => {
             "the initializer of a variable must be a const-expression or an override-expression"
         }
@@ -355,9 +352,36 @@ fn variable_text(error: &GlobalVariableError) -> &'static str {
     }
 }
 
+// A binding where there can be none, or none where there must be one.
+fn write_binding<W: fmt::Write>(
+    f: &mut fmt::Formatter<W>,
+    variable: Option<&GlobalVariable>,
+) -> fmt::Result {
+    write!(
+        f,
+        "variables in Uniform, Storage and Handle must have a group and a binding, and no others can"
+    )?;
+    match variable {
+        Some(found) => {
+            let has = if found.binding.is_some() {
+                "has"
+            } else {
+                "lacks"
+            };
+            write!(
+                f,
+                "; this one lies in {} and {has} them",
+                space_word(found.space)
+            )
+        }
+        None => Ok(()),
+    }
+}
+
 /// Writes what is required where a global variable is refused.
 pub(crate) fn write_variable<W: fmt::Write>(
     f: &mut fmt::Formatter<W>,
+    variable: Option<&GlobalVariable>,
     handle: Handle<key::GlobalVariable>,
     error: &GlobalVariableError,
 ) -> fmt::Result {
@@ -407,6 +431,7 @@ pub(crate) fn write_variable<W: fmt::Write>(
                 ScalarText(*scalar)
             )
         }
+        GlobalVariableError::InvalidBinding => write_binding(f, variable),
         _ => write!(f, "{}", variable_text(error)),
     }
 }

@@ -2,9 +2,9 @@
 
 use function_varying_checks::VaryingError;
 use ir_arena::handle::Handle;
-use ir_items::Module;
 use ir_kinds::{Binding, BuiltIn, Interpolation};
-use ir_types::{StructMember, TypeInner, key};
+use ir_sets::unique_arena::UniqueArena;
+use ir_types::{IrType, StructMember, TypeInner, key};
 use typing_forms::inner_of;
 use typing_layout::{TypeError, VaryingError as BlendError};
 
@@ -83,8 +83,12 @@ fn member_among(members: &[StructMember], sought: &Sought) -> Option<usize> {
 }
 
 // The member of a type, where that is a struct.
-fn member_in(module: &Module, ty: Handle<key::IrType>, sought: &Sought) -> Option<usize> {
-    match inner_of(&module.types, ty)? {
+fn member_in(
+    types: &UniqueArena<IrType, key::IrType>,
+    ty: Handle<key::IrType>,
+    sought: &Sought,
+) -> Option<usize> {
+    match inner_of(types, ty)? {
         TypeInner::Struct { members, .. } => member_among(members, sought),
         _ => None,
     }
@@ -92,19 +96,19 @@ fn member_in(module: &Module, ty: Handle<key::IrType>, sought: &Sought) -> Optio
 
 /// The member of a struct type that goes between stages, which the error speaks of.
 pub(crate) fn varying_member(
-    module: &Module,
+    types: &UniqueArena<IrType, key::IrType>,
     ty: Handle<key::IrType>,
     error: &VaryingError,
 ) -> Option<usize> {
     match error {
         VaryingError::MemberMissingBinding(member) => Some(*member as usize),
-        _ => member_in(module, ty, &sought_by(error)?),
+        _ => member_in(types, ty, &sought_by(error)?),
     }
 }
 
 /// The member of a type that the error speaks of.
 pub(crate) fn type_member(
-    module: &Module,
+    types: &UniqueArena<IrType, key::IrType>,
     ty: Handle<key::IrType>,
     error: &TypeError,
 ) -> Option<usize> {
@@ -113,7 +117,7 @@ pub(crate) fn type_member(
         | TypeError::InvalidDynamicArray { index, .. }
         | TypeError::MemberOverlap { index, .. }
         | TypeError::MemberOutOfBounds { index, .. } => Some(*index),
-        TypeError::InvalidBlendSrc(error) => member_in(module, ty, &sought_by_blend(error)?),
+        TypeError::InvalidBlendSrc(error) => member_in(types, ty, &sought_by_blend(error)?),
         _ => None,
     }
 }

@@ -9,7 +9,8 @@ use function_errors::{InvalidEntryPoint, InvalidFunction, ValidationError};
 use function_varying_checks::VaryingError;
 use ir_arena::handle::Handle;
 use ir_items::{EntryPoint, Function, Module};
-use ir_types::key;
+use ir_sets::unique_arena::UniqueArena;
+use ir_types::{IrType, key};
 use module_globals::GlobalVariableError;
 use module_steps::{InvalidGlobalVariable, ModuleError};
 use std::alloc::{AllocError, Global};
@@ -115,12 +116,11 @@ pub(crate) fn inner_of(function: Option<&Function>, error: &FunctionError) -> St
 // The path of an error of a function.
 fn function_path(
     alloc: Global,
-    module: &Module,
+    function: Option<&Function>,
     refused: &InvalidFunction,
 ) -> Result<Vec<usize>, AllocError>
     ensures { IfOk result (λ path. IsPartPath (ValidationError.Function refused.now) path.items) }
 {
-    let function = module.functions.try_get(refused.function).ok();
     let last = inner_of(function, &refused.error);
     path_from(alloc, &[12, refused.function.index()], last)
 }
@@ -165,7 +165,7 @@ fn variable_path(alloc: Global, refused: &InvalidGlobalVariable) -> Result<Vec<u
 // The path of an error of a step up to overrides; of handles it is empty.
 fn module_path(
     alloc: Global,
-    module: &Module,
+    types: &UniqueArena<IrType, key::IrType>,
     error: &ModuleError,
 ) -> Result<Vec<usize>, AllocError>
     ensures { IfOk result (λ path. IsPartPath (ValidationError.Module error.now) path.items) }
@@ -174,7 +174,7 @@ fn module_path(
         ModuleError::InvalidHandle(_) => Ok(Vec::new(alloc)),
         ModuleError::Layouter(error) => type_path(alloc, error.ty, None),
         ModuleError::Typing(error) => {
-            type_path(alloc, error.ty, type_member(module, error.ty, &error.error))
+            type_path(alloc, error.ty, type_member(types, error.ty, &error.error))
         }
         ModuleError::ConstExpression(error) => {
             path_from(alloc, &[10, error.expression.index()], no_steps())
@@ -191,14 +191,14 @@ fn module_path(
 // The path of what an entry point is given.
 fn argument_path(
     alloc: Global,
-    module: &Module,
+    types: &UniqueArena<IrType, key::IrType>,
     entry: &EntryPoint,
     index: usize,
     place: usize,
     error: &VaryingError,
 ) -> Result<Vec<usize>, AllocError> {
     if let Some(argument) = entry.function.arguments.get(place) {
-        let member = varying_member(module, argument.ty, error);
+        let member = varying_member(types, argument.ty, error);
         if member.is_some() {
             return type_path(alloc, argument.ty, member);
         }
@@ -221,15 +221,15 @@ fn given_types(entry: &EntryPoint) -> [Option<Handle<key::IrType>>; 2] {
 // The path of what an entry point gives: its result, or of a mesh shader its mesh part.
 fn result_path(
     alloc: Global,
-    module: &Module,
+    types: &UniqueArena<IrType, key::IrType>,
     entry: &EntryPoint,
     index: usize,
     error: &VaryingError,
 ) -> Result<Vec<usize>, AllocError> {
-    let types = given_types(entry);
+    let given = given_types(entry);
     for place in 0..2usize {
-        if let Some(ty) = types[place] {
-            let member = varying_member(module, ty, error);
+        if let Some(ty) = given[place] {
+            let member = varying_member(types, ty, error);
             if member.is_some() {
                 return type_path(alloc, ty, member);
             }
@@ -273,25 +273,26 @@ fn entry_part(error: &EntryPointError) -> Steps {
 // The path of an error of what goes between stages.
 fn varying_path(
     alloc: Global,
-    module: &Module,
+    types: &UniqueArena<IrType, key::IrType>,
+    entry: Option<&EntryPoint>,
     refused: &InvalidEntryPoint,
 ) -> Result<Vec<usize>, AllocError> {
     let index = refused.index;
-    let Some(entry) = module.entry_points.get(index) else {
+    let Some(entry) = entry else {
         return path_from(alloc, &[13, index], no_steps());
     };
     match &refused.error {
         EntryPointError::Argument(place, error) => {
-            argument_path(alloc, module, entry, index, *place as usize, error)
+            argument_path(alloc, types, entry, index, *place as usize, error)
         }
-        EntryPointError::Result(error) => result_path(alloc, module, entry, index, error),
+        EntryPointError::Result(error) => result_path(alloc, types, entry, index, error),
         other => path_from(alloc, &[13, index], entry_part(other)),
     }
 }
 
 // The function of an entry point, where there is one.
-fn function_at(module: &Module, index: usize) -> Option<&Function> {
-    match module.entry_points.get(index) {
+fn function_of(entry: Option<&EntryPoint>) -> Option<&Function> {
+    match entry {
         Some(entry) => Some(&entry.function),
         None => None,
     }
@@ -300,21 +301,22 @@ fn function_at(module: &Module, index: usize) -> Option<&Function> {
 // The path of an error of an entry point.
 fn entry_path(
     alloc: Global,
-    module: &Module,
+    types: &UniqueArena<IrType, key::IrType>,
+    entry: Option<&EntryPoint>,
     refused: &InvalidEntryPoint,
 ) -> Result<Vec<usize>, AllocError>
     ensures { IfOk result (λ path. IsPartPath (ValidationError.EntryPoint refused.now) path.items) }
 {
     match &refused.error {
         EntryPointError::Function(error) => {
-            let last = inner_of(function_at(module, refused.index), error);
+            let last = inner_of(function_of(entry), error);
             path_from(alloc, &[13, refused.index, 6], last)
         }
         EntryPointError::InvalidGlobalUsage(global, _)
         | EntryPointError::BindingCollision(global) => {
             path_from(alloc, &[11, global.index()], no_steps())
         }
-        _ => varying_path(alloc, module, refused),
+        _ => varying_path(alloc, types, entry, refused),
     }
 }
 
@@ -328,9 +330,15 @@ pub fn part_path(
     ensures { IfOk result (λ path. IsPartPath error.now path.items) }
 {
     match error {
-        ValidationError::Module(error) => module_path(alloc, module, error),
+        ValidationError::Module(error) => module_path(alloc, &module.types, error),
         ValidationError::GlobalVariable(refused) => variable_path(alloc, refused),
-        ValidationError::Function(refused) => function_path(alloc, module, refused),
-        ValidationError::EntryPoint(refused) => entry_path(alloc, module, refused),
+        ValidationError::Function(refused) => {
+            let function = module.functions.try_get(refused.function).ok();
+            function_path(alloc, function, refused)
+        }
+        ValidationError::EntryPoint(refused) => {
+            let entry = module.entry_points.get(refused.index);
+            entry_path(alloc, &module.types, entry, refused)
+        }
     }
 }

@@ -1,11 +1,10 @@
 //! What is required where a module is refused.
 
 use crate::entries::write_entry;
-use crate::expressions::write_global_expression;
-use crate::functions::write_function;
 use crate::items::{write_constant, write_layout, write_override, write_type, write_variable};
-use crate::scene::Scene;
+use check_function_texts::{Scene, write_function, write_global_expression};
 use function_errors::ValidationError;
+use ir_items::Module;
 use module_steps::ModuleError;
 use std::fmt::{self, Display};
 
@@ -14,6 +13,8 @@ use std::fmt::{self, Display};
 pub struct Sentence<'a> {
     /// What it looks at.
     pub scene: Scene<'a>,
+    /// The module.
+    pub module: &'a Module,
     /// Why it is refused.
     pub error: &'a ValidationError,
 }
@@ -21,6 +22,7 @@ pub struct Sentence<'a> {
 fn write_module<W: fmt::Write>(
     f: &mut fmt::Formatter<W>,
     scene: &Scene<'_>,
+    module: &Module,
     error: &ModuleError,
 ) -> fmt::Result {
     match error {
@@ -30,8 +32,14 @@ fn write_module<W: fmt::Write>(
         ModuleError::ConstExpression(error) => {
             write_global_expression(f, scene, error.expression, &error.error)
         }
-        ModuleError::Constant(error) => write_constant(f, scene, error.constant, error.error),
-        ModuleError::Override(error) => write_override(f, scene, error.id, error.error),
+        ModuleError::Constant(error) => {
+            let constant = module.constants.try_get(error.constant).ok();
+            write_constant(f, scene, constant, error.error)
+        }
+        ModuleError::Override(error) => {
+            let item = module.overrides.try_get(error.id).ok();
+            write_override(f, scene, item, error.error)
+        }
     }
 }
 
@@ -39,13 +47,15 @@ impl Display for Sentence<'_> {
     fn fmt<W: fmt::Write>(&self, f: &mut fmt::Formatter<W>) -> fmt::Result {
         let scene = &self.scene;
         match self.error {
-            ValidationError::Module(error) => write_module(f, scene, error),
+            ValidationError::Module(error) => write_module(f, scene, self.module, error),
             ValidationError::GlobalVariable(error) => {
-                write_variable(f, error.global, &error.error)
+                let variable = scene.globals.try_get(error.global).ok();
+                write_variable(f, variable, error.global, &error.error)
             }
             ValidationError::Function(error) => write_function(f, scene, &error.error),
             ValidationError::EntryPoint(error) => {
-                write_entry(f, scene, error.index, &error.error)
+                let entry = self.module.entry_points.get(error.index);
+                write_entry(f, scene, entry, error.index, &error.error)
             }
         }
     }

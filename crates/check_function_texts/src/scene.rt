@@ -1,0 +1,54 @@
+//! What a sentence looks at.
+
+use check_cause_texts::Types;
+use check_causes::Cause;
+use ir_arena::arena::Arena;
+use ir_arena::handle::Handle;
+use ir_items::GlobalVariable;
+use ir_types::key;
+use module_context::CheckContext;
+use std::fmt;
+use typing_forms::form_of_type;
+
+/// What a sentence looks at: the expressions among which the one at fault stands, with their types as far as they are known; the
+/// global variables; and which rule of that expression is broken, where its kind has several.
+#[derive(Clone, Copy)]
+pub struct Scene<'a> {
+    /// The expressions of the function that is refused, or those of the module.
+    pub context: CheckContext<'a>,
+    /// The global variables of the module.
+    pub globals: &'a Arena<GlobalVariable, key::GlobalVariable>,
+    /// The rule that is broken.
+    pub cause: Option<&'a Cause>,
+}
+
+impl<'a> Scene<'a> {
+    /// The types of the module.
+    pub fn types(&self) -> Types<'a> {
+        Types(self.context.types)
+    }
+
+    /// Writes the type of an expression, after a word that leads to it; nothing where it is not known.
+    pub fn write_given<W: fmt::Write>(
+        &self,
+        f: &mut fmt::Formatter<W>,
+        before: &str,
+        handle: Handle<key::Expression>,
+    ) -> fmt::Result {
+        if handle.index() >= self.context.forms.len() {
+            return Ok(());
+        }
+        let form = self.context.form_at(handle);
+        write!(f, "{before}{}", self.types().text(&form))
+    }
+
+    /// Writes a type of the module with its index.
+    pub fn write_type<W: fmt::Write>(
+        &self,
+        f: &mut fmt::Formatter<W>,
+        ty: Handle<key::IrType>,
+    ) -> fmt::Result {
+        let form = form_of_type(self.context.types, ty);
+        write!(f, "{} (types[{}])", self.types().text(&form), ty.index())
+    }
+}

@@ -1,0 +1,4 @@
+pub mod Numbers
+pub mod ImageLevels
+pub mod ImageLoads
+pub mod ImageSamples
