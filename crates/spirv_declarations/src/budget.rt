@@ -16,7 +16,7 @@ pub struct Budget {
 impl Budget {
     /// That of all functions of a module of so many words.
     pub fn of_functions(words: usize) -> Budget {
-        Budget::of(words, 64)
+        Budget::of(words, 8)
     }
 
     /// That of its types, of its constants, or of its entry points.
