@@ -11,7 +11,7 @@ pub use judgement::report_laws::{named_are_reported, one_report, some_report};
 pub use judgement_laws::accepted_laws::{
     answered_by_one, answered_by_one_in_entries, bindings_differ, calls_fall,
 };
-pub use judgement_report::laws::accepted_is_laid;
+pub use judgement_report::laws::{accepted_is_laid, rows_are_leaves};
 pub use judgement_report::{Leaf, buffer_leaves};
 
 /// One text is expected for some bytes: every answer to the same bytes is the same.

@@ -16,7 +16,7 @@ pub struct Budget {
 impl Budget {
     /// The budget for all functions of a module of this many words.
     pub fn of_functions(words: usize) -> Budget {
-        Budget::of(words, 64)
+        Budget::of(words, 8)
     }
 
     /// The budget for its types, its constants, or its entry points.

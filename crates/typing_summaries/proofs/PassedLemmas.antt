@@ -18,7 +18,7 @@ use Rattle.typing_infos.specs.Marks.{marks_of}
 use Rattle.typing_infos.specs.declared.function_info.FunctionInfo.{FunctionInfo}
 use Rattle.spec_expressions.specs.judged.CallChains.{global_or_argument, seen_through}
 use Rattle.spec_expressions.proofs.Members.{among-cases}
-use Rattle.typing_summaries.specs.Joined.{Holds, IsWrong, IsCovered, AreJoined}
+use Rattle.typing_summaries.specs.Joined.{Holds, IsJoined, IsKept, IsWrong, IsCovered, AreJoined}
 use Rattle.typing_summaries.specs.Parts.{parts_of, AllStand}
 use Rattle.typing_summaries.specs.Tallies.{Known, Paired, with_wrong, first_wrong, part_wrong, pair_one, passed_for, pass_up, pass_all_up}
 use Rattle.typing_summaries.specs.declared.joined.Passed.{Passed}
@@ -164,15 +164,14 @@ same_lists [] (y ∷ ys) e = absurd (true≢false (sym e))
 same_lists (x ∷ xs) [] e = absurd (true≢false (sym e))
 same_lists (x ∷ xs) (y ∷ ys) e = let h = both (option_eq each.TheImpl.ghosts.eq x y) (pointwise (option_eq each.TheImpl.ghosts.eq) xs ys) e in λ i. same_parts x y h.0 i ∷ same_lists xs ys h.1 i
 
-pairs_same : (xs ys : List SamplingPair) → pointwise pair_eq xs ys ≡ true → xs ≡ ys
+pub pairs_same : (xs ys : List SamplingPair) → pointwise pair_eq xs ys ≡ true → xs ≡ ys
 pairs_same [] [] e = refl
 pairs_same [] (y ∷ ys) e = absurd (true≢false (sym e))
 pairs_same (x ∷ xs) [] e = absurd (true≢false (sym e))
 pairs_same (x ∷ xs) (y ∷ ys) e = let h = both (pair_eq x y) (pointwise pair_eq xs ys) e in λ i. pair_same x y h.0 i ∷ pairs_same xs ys h.1 i
 
--- equal parts and equal pairs are the same
-pub same_as : (parts others : List (Option GlobalOrArgument)) (pairs more : List SamplingPair) → pointwise (option_eq each.TheImpl.ghosts.eq) parts others ≡ true → pointwise pair_eq pairs more ≡ true → (pairs ≡ more) × (parts ≡ others)
-same_as parts others pairs more e f = (pairs_same pairs more f, same_lists parts others e)
+pub parts_same : (parts others : List (Option GlobalOrArgument)) → pointwise (option_eq each.TheImpl.ghosts.eq) parts others ≡ true → parts ≡ others
+parts_same parts others e = same_lists parts others e
 
 -- what stands at a place is among all
 pub at_place : (joined : List Passed) (i : ℕ) (p : Passed) → i < length joined → p ≡ get_or joined i p → IsAmong p joined
@@ -180,19 +179,36 @@ at_place [] i p lt is = absurd (omega (arith, lt))
 at_place (q ∷ joined) zero p lt is = inl (sym is)
 at_place (q ∷ joined) (suc i) p lt is = inr (at_place joined i p (omega (arith, lt)) is)
 
-module _ (k : Known) (pairs : List SamplingPair) (arguments : List ℕ) (marks : List Bool) (marked : marks ≡ marks_of pairs)
+-- what is kept of a callee has its pairs alone
+one_kept : (k : Known) (callee other : ℕ) (pairs more : List SamplingPair) → IsKept k callee pairs → IsKept k other more → other ≡ callee → more ≡ pairs
+one_kept k callee other pairs more kept held same =
+    let s : held.summary ≡ kept.summary = some_is (sym held.found ∙ (ap (slice_get k.summaries) same ∙ kept.found)) in
+    sym held.same ∙ (ap (λ z. z.pairs) s ∙ kept.same)
+
+-- what was joined is there where more is
+more_held : (k : Known) (held now : List SamplingPair) (p : Passed) → ((image sampler : GlobalOrArgument) → HasPair (image, sampler) held → HasPair (image, sampler) now) → IsJoined k held p → IsJoined k now p
+more_held k held now p stay is = record { kept = is.kept; covered = λ others same r in_pairs image sampler ei es. stay image sampler (is.covered others same r in_pairs image sampler ei es) }
+
+module _ (k : Known) (callee : ℕ) (pairs : List SamplingPair) (kept : IsKept k callee pairs) (arguments : List ℕ) (marks : List Bool) (marked : marks ≡ marks_of pairs)
     (parts : List (Option GlobalOrArgument)) (are : parts ≡ parts_of (global_or_argument k.expressions) marks arguments) where
   by_marks : parts ≡ parts_of (global_or_argument k.expressions) (marks_of pairs) arguments
   by_marks = are ∙ ap (λ ms. parts_of (global_or_argument k.expressions) ms arguments) marked
 
+  module _ (joined : List Passed) (held : List SamplingPair) (all : AreJoined k joined held) (there : Holds joined callee pairs parts) where
+    its_pairs : there.0.pairs.items ≡ pairs
+    its_pairs = elim there.3 [ inl same ↦ one_kept k callee there.0.callee pairs there.0.pairs.items kept (all there.0 there.1).kept same | inr same ↦ same ]
+
+    -- whatever the arguments are for which these parts are passed
+    covered_there : (others : List ℕ) → parts_of (global_or_argument k.expressions) (marks_of pairs) others ≡ parts → IsCovered k.expressions others pairs held
+    covered_there others same =
+        subst (λ z. IsCovered k.expressions others z held) its_pairs
+        ((all there.0 there.1).covered others (ap (λ z. parts_of (global_or_argument k.expressions) (marks_of z) others) its_pairs ∙ (same ∙ sym there.2)))
+
   -- for what it was joined before it adds nothing
-  pub adds_nothing : (joined : List Passed) (t : Paired) → AreJoined k joined t.pairs → Holds joined pairs parts → IsWrong t ⊎ AllStand marks parts
+  pub adds_nothing : (joined : List Passed) (t : Paired) → AreJoined k joined t.pairs → Holds joined callee pairs parts → IsWrong t ⊎ AllStand marks parts
       → t ≡ pass_all_up k.expressions arguments pairs t
   adds_nothing joined t all there settled =
-      let same : parts_of (global_or_argument k.expressions) (marks_of there.0.pairs.items) arguments ≡ there.0.parts.items =
-      ap (λ z. parts_of (global_or_argument k.expressions) (marks_of z) arguments) there.2 ∙ (sym by_marks ∙ sym there.3) in
-      let covers : IsCovered k.expressions arguments pairs t.pairs = subst (λ z. IsCovered k.expressions arguments z t.pairs) there.2 (all there.0 there.1 arguments same) in
-      sym (all_stay k.expressions arguments pairs t covers (λ q among. elim settled [
+      sym (all_stay k.expressions arguments pairs t (covered_there joined t.pairs all there arguments (sym by_marks)) (λ q among. elim settled [
         | inl w ↦ inl w
         | inr stand ↦ let stand_too = subst (λ ms. AllStand ms parts) marked stand in inr (
           part_stands k.expressions pairs arguments parts by_marks stand_too q.0 (λ n is. is_marked pairs q n among (inl is)),
@@ -200,26 +216,47 @@ module _ (k : Known) (pairs : List SamplingPair) (arguments : List ℕ) (marks :
         )
       ]))
 
-  -- where it is joined, it and all that were joined before are there
-  pub one_joined : (joined : List Passed) (p : Passed) (t : Paired) → p.pairs.items ≡ pairs → p.parts.items ≡ parts → AreJoined k joined t.pairs
-      → AreJoined k (joined ++ p ∷ []) (pass_all_up k.expressions arguments pairs t).pairs
-  one_joined joined p t is_pairs is_parts all = λ q among others same. elim (among-cases joined (p ∷ []) q among) [
-    | inl before ↦ λ r in_pairs image sampler ei es. all_have k.expressions arguments pairs t (image, sampler) (all q before others same r in_pairs image sampler ei es)
-    | inr last ↦ elim last [
-      | inl is ↦
-          let own : q.pairs.items ≡ pairs = ap (λ z. z.pairs.items) (sym is) ∙ is_pairs in
-          let alike : parts_of (global_or_argument k.expressions) (marks_of pairs) arguments ≡ parts_of (global_or_argument k.expressions) (marks_of pairs) others =
-          sym by_marks ∙ (sym is_parts ∙ (ap (λ z. z.parts.items) is ∙ (sym same ∙ ap (λ z. parts_of (global_or_argument k.expressions) (marks_of z) others) own))) in
-          subst (λ z. IsCovered k.expressions others z (pass_all_up k.expressions arguments pairs t).pairs) (sym own)
-          (covered_same k.expressions pairs arguments others (pass_all_up k.expressions arguments pairs t).pairs alike (covered k.expressions arguments pairs t))
-      | inr none ↦ elim none [ ]
+  module _ (p : Passed) (of : p.callee ≡ callee) (is_pairs : p.pairs.items ≡ pairs) (is_parts : p.parts.items ≡ parts) where
+    its_kept : IsKept k p.callee p.pairs.items
+    its_kept = subst (λ c. IsKept k c p.pairs.items) (sym of) (subst (IsKept k callee) (sym is_pairs) kept)
+
+    -- it, for which one was joined before, is noted beside that
+    pub alike_joined : (joined : List Passed) (held : List SamplingPair) → AreJoined k joined held → Holds joined callee pairs parts → AreJoined k (joined ++ p ∷ []) held
+    alike_joined joined held all there q among = elim (among-cases joined (p ∷ []) q among) [
+      | inl before ↦ all q before
+      | inr last ↦ elim last [
+        | inl is ↦ subst (IsJoined k held) is (record {
+          kept = its_kept;
+          covered = λ others same. subst (λ z. IsCovered k.expressions others z held) (sym is_pairs)
+              (covered_there joined held all there others (ap (λ z. parts_of (global_or_argument k.expressions) (marks_of z) others) (sym is_pairs) ∙ (same ∙ is_parts)));
+        })
+        | inr none ↦ elim none [ ]
+      ]
     ]
-  ]
+
+    -- where it is joined, it and all that were joined before are there
+    pub one_joined : (joined : List Passed) (t : Paired) → AreJoined k joined t.pairs → AreJoined k (joined ++ p ∷ []) (pass_all_up k.expressions arguments pairs t).pairs
+    one_joined joined t all q among =
+        let now = (pass_all_up k.expressions arguments pairs t).pairs in
+        elim (among-cases joined (p ∷ []) q among) [
+          | inl before ↦ more_held k t.pairs now q (λ image sampler h. all_have k.expressions arguments pairs t (image, sampler) h) (all q before)
+          | inr last ↦ elim last [
+            | inl is ↦ subst (IsJoined k now) is (record {
+              kept = its_kept;
+              covered = λ others same.
+                  let alike : parts_of (global_or_argument k.expressions) (marks_of pairs) arguments ≡ parts_of (global_or_argument k.expressions) (marks_of pairs) others =
+                  sym by_marks ∙ (sym is_parts ∙ (sym same ∙ ap (λ z. parts_of (global_or_argument k.expressions) (marks_of z) others) is_pairs)) in
+                  subst (λ z. IsCovered k.expressions others z now) (sym is_pairs)
+                  (covered_same k.expressions pairs arguments others now alike (covered k.expressions arguments pairs t));
+            })
+            | inr none ↦ elim none [ ]
+          ]
+        ]
 
 -- pairs that are joined of few leave what was joined before
 pub few_joined : (k : Known) (joined : List Passed) (arguments : List ℕ) (pairs : List SamplingPair) (t : Paired) → AreJoined k joined t.pairs → AreJoined k joined (pass_all_up k.expressions arguments pairs t).pairs
-few_joined k joined arguments pairs t are = λ q among others same r in_pairs image sampler ei es.
-    all_have k.expressions arguments pairs t (image, sampler) (are q among others same r in_pairs image sampler ei es)
+few_joined k joined arguments pairs t are q among =
+    more_held k t.pairs (pass_all_up k.expressions arguments pairs t).pairs q (λ image sampler h. all_have k.expressions arguments pairs t (image, sampler) h) (are q among)
 
 -- ---- what is kept of a callee
 

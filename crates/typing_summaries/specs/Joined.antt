@@ -1,5 +1,5 @@
 -- What callees were joined for, whose pairs are there.
-use Rattle.std.specs.Prelude.{◌≡◌, ℕ, true, List, Option, Some}
+use Rattle.std.specs.Prelude.{◌≡◌, ◌⊎◌, ℕ, true, List, Option, Some, slice_get}
 use Rattle.std.specs.List.{list_any}
 use Rattle.typing_rules.specs.judged.Laws.{IsAmong}
 use Rattle.ir_types.specs.judged.ExpressionPlain.{PlainExpression}
@@ -7,9 +7,16 @@ use Rattle.spec_expressions.specs.declared.sampling.GlobalOrArgument.{GlobalOrAr
 use Rattle.spec_expressions.specs.judged.Pairs.{SamplingPair, pair_eq}
 use Rattle.typing_infos.specs.Marks.{marks_of}
 use Rattle.spec_expressions.specs.judged.CallChains.{global_or_argument, seen_through}
+use Rattle.spec_expressions.specs.judged.Summaries.{Summary}
 use Rattle.typing_summaries.specs.Parts.{parts_of}
 use Rattle.typing_summaries.specs.Tallies.{Known, Paired}
 use Rattle.typing_summaries.specs.declared.joined.Passed.{Passed}
+
+-- a summary of the callee is kept, with these pairs
+pub record IsKept (k : Known) (callee : ℕ) (pairs : List SamplingPair) : Type 0 where
+  pub summary : Summary
+  pub found : slice_get k.summaries callee ≡ Some summary
+  pub same : summary.pairs ≡ pairs
 
 -- an expression is wrong
 abbrev pub IsWrong : Paired → Type 0
@@ -21,12 +28,14 @@ IsCovered expressions arguments pairs held =
     (q : SamplingPair) → IsAmong q pairs → (image sampler : GlobalOrArgument) → seen_through (global_or_argument expressions) arguments (Some q.0) ≡ Some image
     → seen_through (global_or_argument expressions) arguments (Some q.1) ≡ Some sampler → list_any (pair_eq (image, sampler)) held ≡ true
 
--- so for each table with what it was joined for, whatever the arguments are for which that is passed
-abbrev pub AreJoined : Known → List Passed → List SamplingPair → Type 0
-AreJoined k joined held =
-    (p : Passed) → IsAmong p joined → (arguments : List ℕ)
-    → parts_of (global_or_argument k.expressions) (marks_of p.pairs.items) arguments ≡ p.parts.items → IsCovered k.expressions arguments p.pairs.items held
+-- it is what is kept of its callee; and so for what it was joined for, whatever the arguments are for which that is passed
+pub record IsJoined (k : Known) (held : List SamplingPair) (p : Passed) : Type 0 where
+  pub kept : IsKept k p.callee p.pairs.items
+  pub covered : (arguments : List ℕ) → parts_of (global_or_argument k.expressions) (marks_of p.pairs.items) arguments ≡ p.parts.items → IsCovered k.expressions arguments p.pairs.items held
 
--- these pairs, for which these parts were passed, are among what was joined
-abbrev pub Holds : List Passed → List SamplingPair → List (Option GlobalOrArgument) → Type 0
-Holds joined pairs parts = (p : Passed) × IsAmong p joined × (p.pairs.items ≡ pairs) × (p.parts.items ≡ parts)
+abbrev pub AreJoined : Known → List Passed → List SamplingPair → Type 0
+AreJoined k joined held = (p : Passed) → IsAmong p joined → IsJoined k held p
+
+-- for these parts this callee, or one with these pairs, is among what was joined
+abbrev pub Holds : List Passed → (callee : ℕ) → List SamplingPair → List (Option GlobalOrArgument) → Type 0
+Holds joined callee pairs parts = (p : Passed) × IsAmong p joined × (p.parts.items ≡ parts) × ((p.callee ≡ callee) ⊎ (p.pairs.items ≡ pairs))

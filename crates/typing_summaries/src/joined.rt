@@ -6,7 +6,7 @@ ghost use Rattle.ir_items.specs.found.GlobalView.{values_of};
 ghost use Rattle.typing_infos.specs.Marks.{marks_of};
 ghost use Rattle.spec_expressions.specs.judged.CallChains.{global_or_argument};
 ghost use Rattle.typing_summaries.specs.Parts.{part_if, parts_of, Stands, AllStand};
-ghost use Rattle.typing_summaries.specs.Joined.{Holds, IsWrong, AreJoined};
+ghost use Rattle.typing_summaries.specs.Joined.{Holds, IsKept, IsWrong, AreJoined};
 ghost use Rattle.typing_summaries.specs.Tallies.{known, paired, pass_all_up};
 
 use crate::tally::Context;
@@ -18,27 +18,39 @@ use std::alloc::{AllocError, Global};
 use std::collections::BTreeMap;
 use typing_infos::SampledPairs;
 
-/// A table of pairs of a function that was called, and for each of its arguments, up to the last among the pairs, what was passed:
+/// A function that was called, its table of pairs, and for each of its arguments, up to the last among the pairs, what was passed:
 /// what that stands for in the caller where the argument is among the pairs, and nothing where it isn't.
 #[derive(Drop)]
 pub(crate) struct Passed {
+    callee: usize,
     pairs: SampledPairs,
     parts: Vec<Option<GlobalOrArgument>>,
 }
 
-/// All that were passed so far, and where to look for one of them: at most one place for each digest of a table with what was
-/// passed. What stands at a place is compared, so that nothing rests on digests.
+/// All that were passed so far, and where to look for one of them: a place for each callee with what was passed, and one for the
+/// digest of its table. What stands at a place is compared, so that nothing rests on digests.
 #[derive(Drop)]
 pub(crate) struct Joined {
     passed: Vec<Passed>,
     places: BTreeMap<Vec<u64>, usize>,
 }
 
-// Whether it is this table with these parts.
-fn is_same(passed: &Passed, pairs: &[SamplingPair], parts: &[Option<GlobalOrArgument>]) -> bool
-    ensures { IsTrue result → (passed.now.pairs.items ≡ pairs.now) × (passed.now.parts.items ≡ parts.now) }
+// Whether it is this callee, or one with this table, with these parts.
+fn is_same(
+    passed: &Passed,
+    callee: usize,
+    pairs: &[SamplingPair],
+    parts: &[Option<GlobalOrArgument>],
+) -> bool
+    ensures { IsTrue result → (passed.now.parts.items ≡ parts.now) × ((passed.now.callee ≡ callee) ⊎ (passed.now.pairs.items ≡ pairs.now)) }
 {
-    passed.parts.as_slice() == parts && passed.pairs.as_slice() == pairs
+    if passed.parts.as_slice() != parts {
+        return false;
+    }
+    if passed.callee == callee {
+        return true;
+    }
+    passed.pairs.as_slice() == pairs
 }
 
 // What is passed, as a number.
@@ -49,14 +61,16 @@ fn number_of(part: GlobalOrArgument) -> u64 {
     }
 }
 
-// The digest of a table, and what is passed as numbers. The error is out of memory.
+// Where to look for what was passed, by the number of a callee or the digest of a table. The error is out of memory.
 fn place_key(
     alloc: Global,
-    digest: u64,
+    is_digest: bool,
+    number: u64,
     parts: &[Option<GlobalOrArgument>],
 ) -> Result<Vec<u64>, AllocError> {
-    let mut key = Vec::with_capacity(alloc, parts.len().saturating_add(1))?;
-    key.push(digest)?;
+    let mut key = Vec::with_capacity(alloc, parts.len().saturating_add(2))?;
+    key.push(u64::from(is_digest))?;
+    key.push(number)?;
     for part in parts {
         match part {
             Some(part) => key.push(number_of(*part))?,
@@ -77,34 +91,43 @@ impl Joined {
         }
     }
 
-    // Whether this table was passed with these parts, so far as the place of the key tells.
-    fn has(&self, key: &[u64], pairs: &[SamplingPair], parts: &[Option<GlobalOrArgument>]) -> bool
-        ensures { IsTrue result → Holds self.now.passed.items pairs.now parts.now }
+    // Whether this callee, or one with this table, was passed these parts, so far as the place of the key tells.
+    fn has(
+        &self,
+        key: &[u64],
+        callee: usize,
+        pairs: &[SamplingPair],
+        parts: &[Option<GlobalOrArgument>],
+    ) -> bool
+        ensures { IsTrue result → Holds self.now.passed.items callee pairs.now parts.now }
     {
         match self.places.get(key) {
             Some(place) => match self.passed.get(*place) {
-                Some(passed) => is_same(passed, pairs, parts),
+                Some(passed) => is_same(passed, callee, pairs, parts),
                 None => false,
             },
             None => false,
         }
     }
 
-    // Notes that a table was passed with these parts. The error is out of memory.
-    fn note(
-        &mut self,
-        key: Vec<u64>,
-        pairs: SampledPairs,
-        parts: Vec<Option<GlobalOrArgument>>,
-    ) -> Result<(), AllocError>
-        ensures { OnOk result (self.new.passed.items ≡ self.old.passed.items ++ record { pairs = pairs; parts = parts } ∷ []) }
+    // Notes where what was passed last is found. The error is out of memory.
+    fn note_place(&mut self, key: Vec<u64>) -> Result<(), AllocError>
+        ensures { self.new.passed ≡ self.old.passed }
     {
-        let place = self.passed.len();
-        self.passed.push(Passed { pairs, parts })?;
+        let place = self.passed.len().saturating_sub(1);
         match self.places.insert(key, place) {
             Ok(_) => Ok(()),
             Err(_) => Err(AllocError),
         }
+    }
+
+    // Notes that a callee with a table was passed these parts, to be found by two keys. The error is out of memory.
+    fn note(&mut self, passed: Passed, own: Vec<u64>, alike: Vec<u64>) -> Result<(), AllocError>
+        ensures { OnOk result (self.new.passed.items ≡ self.old.passed.items ++ passed ∷ []) }
+    {
+        self.passed.push(passed)?;
+        self.note_place(own)?;
+        self.note_place(alike)
     }
 }
 
@@ -182,15 +205,18 @@ fn is_settled(sampled: &Sampled, marks: &[bool], parts: &[Option<GlobalOrArgumen
 }
 
 // Notes the pairs of a callee that has a table of them and marks of its arguments, as the caller that passes these sees them,
-// unless the table was joined for the same before: then they are there, and with them what is wrong, if anything is.
+// unless the callee, or another with its table, was joined for the same before: then they are there, and with them what is wrong,
+// if anything is.
 fn join_table(
     sampled: &mut Sampled,
     joined: &mut Joined,
     context: &Context<'_>,
+    callee: usize,
     arguments: &[Handle<key::Expression>],
     pairs: &SampledPairs,
     marks: &[bool],
 ) -> Result<(), AllocError>
+    requires kept { IsKept (known context.now) callee pairs.now.items }
     requires marked { marks.now ≡ marks_of pairs.now.items }
     requires joined { AreJoined (known context.now) joined.old.passed.items (paired sampled.old).pairs }
     ensures pairs { OnOk result (paired sampled.new ≡ pass_all_up (known context.now).expressions arguments.now pairs.now.items (paired sampled.old)) }
@@ -198,14 +224,29 @@ fn join_table(
 {
     let alloc = *joined.passed.allocator();
     let parts = parts_of(alloc, context.expressions, marks, arguments)?;
-    let key = place_key(alloc, pairs.digest(), &parts)?;
-    if joined.has(&key, pairs.as_slice(), &parts) {
-        if is_settled(sampled, marks, &parts) {
-            return Ok(());
-        }
+    let settled = is_settled(sampled, marks, &parts);
+    let own = place_key(alloc, false, callee as u64, &parts)?;
+    if settled && joined.has(&own, callee, pairs.as_slice(), &parts) {
+        return Ok(());
+    }
+    let alike = place_key(alloc, true, pairs.digest(), &parts)?;
+    if settled && joined.has(&alike, callee, pairs.as_slice(), &parts) {
+        let pairs = pairs.share()?;
+        let passed = Passed {
+            callee,
+            pairs,
+            parts,
+        };
+        return joined.note(passed, own, alike);
     }
     sampled.join(context.expressions, arguments, pairs)?;
-    joined.note(key, pairs.share()?, parts)
+    let pairs = pairs.share()?;
+    let passed = Passed {
+        callee,
+        pairs,
+        parts,
+    };
+    joined.note(passed, own, alike)
 }
 
 /// Notes the pairs of a callee, as the caller that passes these arguments sees them. Few are looked through at each call; a table
@@ -214,15 +255,17 @@ pub(crate) fn join_pairs(
     sampled: &mut Sampled,
     joined: &mut Joined,
     context: &Context<'_>,
+    callee: usize,
     arguments: &[Handle<key::Expression>],
     pairs: &SampledPairs,
 ) -> Result<(), AllocError>
-    requires { AreJoined (known context.now) joined.old.passed.items (paired sampled.old).pairs }
+    requires kept { IsKept (known context.now) callee pairs.now.items }
+    requires joined { AreJoined (known context.now) joined.old.passed.items (paired sampled.old).pairs }
     ensures pairs { OnOk result (paired sampled.new ≡ pass_all_up (known context.now).expressions arguments.now pairs.now.items (paired sampled.old)) }
     ensures joined { OnOk result (AreJoined (known context.now) joined.new.passed.items (paired sampled.new).pairs) }
 {
     match pairs.marks() {
-        Some(marks) => join_table(sampled, joined, context, arguments, pairs, marks),
+        Some(marks) => join_table(sampled, joined, context, callee, arguments, pairs, marks),
         None => {
             sampled.pass_all_up(context.expressions, arguments, pairs.as_slice())?;
             Ok(())

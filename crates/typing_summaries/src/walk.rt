@@ -34,6 +34,7 @@ impl Tally {
                     &mut self.sampled,
                     joined,
                     context,
+                    callee.index(),
                     arguments,
                     info.sampled(),
                 )

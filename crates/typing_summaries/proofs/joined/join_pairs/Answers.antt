@@ -9,4 +9,4 @@ returns-in_ok-pass_all_up-in-None-clause-joined c =
     let k = known c.args.context.now in
     let t = paired c.args.sampled.now in
     let done : paired c.pass_all_up.new.self ≡ pass_all_up k.expressions c.args.arguments.now c.args.pairs.now.items t = c.in_ok-pass_all_up-in-None.ensures ∙ ap (λ ps. pass_all_up k.expressions c.args.arguments.now ps t) c.as_slice.ensures in
-    subst (λ (z : Paired). AreJoined k c.args.joined.now.passed.items z.pairs) (sym done) (few_joined k c.args.joined.now.passed.items c.args.arguments.now c.args.pairs.now.items t c.requires)
+    subst (λ (z : Paired). AreJoined k c.args.joined.now.passed.items z.pairs) (sym done) (few_joined k c.args.joined.now.passed.items c.args.arguments.now c.args.pairs.now.items t c.requires.joined)

@@ -7,6 +7,15 @@ use Rattle.typing_summaries.proofs.PassedLemmas.{callee_there, callee_missing}
 use Rattle.typing_summaries.proofs.tally.Tally.join.Goals.{then-self, else-self}
 use Rattle.typing_summaries.proofs.tally.Tally.join.Goals as goal
 
+pub join_pairs-requires-clause-kept : goal.join_pairs-requires-clause-kept
+join_pairs-requires-clause-kept c =
+    let l = c.in-Some.ensures.lookup in
+    record {
+      summary = summary_of c.in-Some.info.now;
+      found = callee_there c.args.context.now.callees.now c.index-in-Some.result c.index.result c.in-Some.info.now l.3.0 l.1 (c.index.ensures.value ∙ sym c.index-in-Some.ensures.value);
+      same = ap (λ s. s.items) (sym c.sampled.ensures);
+    }
+
 pub returns-after-self-clause-tally : goal.returns-after-self-clause-tally
 returns-after-self-clause-tally c =
     let l = c.in-Some.ensures.lookup in
