@@ -272,6 +272,16 @@ fn steps_of(error: &DocumentError) -> &[u32] {
     }
 }
 
+// The line and the byte in it where the JSON reader stopped, if the bytes are no JSON.
+fn position_of(error: &DocumentError) -> (Option<usize>, Option<usize>) {
+    match error {
+        DocumentError::NotJson { line, column } => (Some(*line), Some(*column)),
+        DocumentError::Memory | DocumentError::TooLong | DocumentError::Malformed { .. } => (
+            None, None,
+        ),
+    }
+}
+
 // Why the bytes spell no document, with what stands there.
 #[derive(Clone, Copy)]
 struct Misformed<'a>(&'a DocumentError, &'a str);
@@ -300,7 +310,8 @@ fn no_document(alloc: Global, error: &DocumentError, hint: &str) -> Result<Value
     let text = format!(in alloc; "{}", Misformed(error, hint))?;
     let steps = steps_of(error);
     let path = format!(in alloc; "{}", PathNames(steps))?;
-    no_document_value(alloc, &path, steps, &text)
+    let (line, column) = position_of(error);
+    no_document_value(alloc, &path, steps, &text, line, column)
 }
 
 // The object of an accepted document.

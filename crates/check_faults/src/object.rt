@@ -124,18 +124,23 @@ pub fn refused_value(
     Ok(Value::Object(map))
 }
 
-/// The object of bytes that spell no document. The error is out of memory.
+/// The object of bytes that spell no document, with the line and the byte in it where the JSON reader stopped, both counted from 1, if it
+/// is that. The error is out of memory.
 pub fn no_document_value(
     alloc: Global,
     path: &str,
     steps: &[u32],
     text: &str,
+    line: Option<usize>,
+    column: Option<usize>,
 ) -> Result<Value, AllocError>
     ensures verdict { IfOk result (λ v. Has (view v) (codes "verdict") (string (codes "refused"))) }
     ensures step { IfOk result (λ v. Has (view v) (codes "step") (string (codes "document"))) }
     ensures path { IfOk result (λ v. Has (view v) (codes "path") (string path.now)) }
     ensures steps { IfOk result (λ v. Has (view v) (codes "steps") (steps_data steps.now)) }
     ensures text { IfOk result (λ v. Has (view v) (codes "text") (string text.now)) }
+    ensures line { IfOk result (λ v. Has (view v) (codes "line") (number_data line)) }
+    ensures column { IfOk result (λ v. Has (view v) (codes "column") (number_data column)) }
 {
     let mut map = Map::new(alloc);
     put_text(&mut map, alloc, "verdict", "refused")?;
@@ -143,6 +148,8 @@ pub fn no_document_value(
     put_text(&mut map, alloc, "path", path)?;
     put_steps(&mut map, alloc, steps)?;
     put_text(&mut map, alloc, "text", text)?;
+    put(&mut map, alloc, "line", number_or_null(line))?;
+    put(&mut map, alloc, "column", number_or_null(column))?;
     Ok(Value::Object(map))
 }
 
