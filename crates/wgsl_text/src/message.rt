@@ -23,9 +23,6 @@ fn told(alloc: Global, text: &[u8], error: &WgslError) -> Result<String, AllocEr
     match error.quote {
         Quote::Nothing => String::from_str(alloc, before),
         Quote::Name => format!(in alloc; "{before}`{part}`{after}"),
-        Quote::Found if part.is_empty() => {
-            format!(in alloc; "{before}, found the end of the file")
-        }
         Quote::Found => format!(in alloc; "{before}, found \"{part}\""),
     }
 }
