@@ -1,0 +1,174 @@
+// What attributes say.
+
+use crate::builder::ModuleBuilder;
+use ir_kinds::{Literal, ResourceBinding, Scalar, ShaderStage};
+use wgsl_expressions::{Lowering, Operand, Value};
+use wgsl_text::{Extent, WgslError};
+use wgsl_tree::{Attribute, Part, StepKind};
+use wgsl_values::converted;
+use wgsl_words::AttributeWord;
+
+// The attribute of this name among these.
+pub(crate) fn find<B: ModuleBuilder>(
+    lowering: &Lowering<B>,
+    part: Part,
+    word: AttributeWord,
+) -> Option<Attribute> {
+    for place in part.start..part.end {
+        match lowering.tree.attributes.get(place as usize) {
+            Some(attribute) if attribute.word == word => return Some(*attribute),
+            _ => {}
+        }
+    }
+    None
+}
+
+// The whole number that a value is, if it is one.
+pub(crate) fn number_of(value: &Value) -> Option<u32> {
+    let Value::Literal(literal) = value else {
+        return None;
+    };
+    match converted(*literal, Scalar::I32) {
+        Some(Literal::I32(number)) => return u32::try_from(number).ok(),
+        _ => {}
+    }
+    match *literal {
+        Literal::U32(number) => Some(number),
+        _ => None,
+    }
+}
+
+// The arguments of an attribute.
+pub(crate) fn arguments<B: ModuleBuilder>(
+    lowering: &mut Lowering<B>,
+    attribute: &Attribute,
+) -> Vec<Operand> {
+    lowering.run(attribute.steps);
+    lowering.take(attribute.count)
+}
+
+// The whole number that is the one argument of an attribute.
+pub(crate) fn number<B: ModuleBuilder>(lowering: &mut Lowering<B>, attribute: &Attribute) -> u32 {
+    let given = arguments(lowering, attribute);
+    let found = match given.first() {
+        Some(first) if given.len() == 1 => number_of(&first.value),
+        _ => None,
+    };
+    match found {
+        Some(number) => number,
+        None => {
+            let extent = lowering.extent(attribute.token);
+            lowering.wrong(
+                "must be a const-expression that resolves to a concrete integer scalar (`u32` or `i32`)",
+                extent,
+            );
+            0
+        }
+    }
+}
+
+// The word that is the argument of an attribute at this place of its steps.
+pub(crate) fn word_of<B: ModuleBuilder>(
+    lowering: &Lowering<B>,
+    attribute: &Attribute,
+    place: u32,
+) -> Option<(u32, Extent)> {
+    let at = attribute.steps.start.saturating_add(place);
+    if at >= attribute.steps.end {
+        return None;
+    }
+    let step = lowering.step_at(at)?;
+    match step.kind {
+        StepKind::Name(name) => Some((name, lowering.extent(step.token))),
+        _ => None,
+    }
+}
+
+// Where a pipeline binds a variable.
+pub(crate) fn binding<B: ModuleBuilder>(
+    lowering: &mut Lowering<B>,
+    part: Part,
+    name: Extent,
+) -> Option<ResourceBinding> {
+    let group = find(lowering, part, AttributeWord::Group);
+    let binding = find(lowering, part, AttributeWord::Binding);
+    match (group, binding) {
+        (Some(group), Some(binding)) => Some(ResourceBinding {
+            group: number(lowering, &group),
+            binding: number(lowering, &binding),
+        }),
+        (None, None) => None,
+        (Some(_), None) => missing(lowering, name, " needs a `binding` attribute"),
+        (None, Some(_)) => missing(lowering, name, " needs a `group` attribute"),
+    }
+}
+
+// A variable lacks an attribute.
+fn missing<B: ModuleBuilder>(
+    lowering: &mut Lowering<B>,
+    name: Extent,
+    text: &'static str,
+) -> Option<ResourceBinding> {
+    lowering.fail(WgslError::of_name("variable ", name, text));
+    None
+}
+
+// The stage of a function, if it is an entry point.
+pub(crate) fn stage<B: ModuleBuilder>(
+    lowering: &mut Lowering<B>,
+    part: Part,
+) -> Option<ShaderStage> {
+    let mut found = None;
+    for place in part.start..part.end {
+        let Some(attribute) = lowering.tree.attributes.get(place as usize).copied() else {
+            break;
+        };
+        match attribute.word {
+            AttributeWord::Compute => found = Some(ShaderStage::Compute),
+            AttributeWord::Vertex => found = Some(ShaderStage::Vertex),
+            AttributeWord::Fragment => found = Some(ShaderStage::Fragment),
+            AttributeWord::Task
+            | AttributeWord::Mesh
+            | AttributeWord::RayGeneration
+            | AttributeWord::AnyHit
+            | AttributeWord::ClosestHit
+            | AttributeWord::Miss
+            | AttributeWord::EarlyDepthTest => {
+                let extent = lowering.extent(attribute.token);
+                lowering.unsupported_name("the attribute ", extent);
+            }
+            _ => {}
+        }
+    }
+    found
+}
+
+// How many invocations a workgroup has.
+pub(crate) fn workgroup_size<B: ModuleBuilder>(
+    lowering: &mut Lowering<B>,
+    part: Part,
+    name: Extent,
+) -> [u32; 3] {
+    let Some(attribute) = find(lowering, part, AttributeWord::WorkgroupSize) else {
+        lowering.wrong(
+            "workgroup size is missing on compute shader entry point",
+            name,
+        );
+        return [1, 1, 1];
+    };
+    let extent = lowering.extent(attribute.token);
+    let given = arguments(lowering, &attribute);
+    let mut size = [1, 1, 1];
+    if given.len() > 3 {
+        lowering.wrong("too many arguments of `workgroup_size`", extent);
+    }
+    for (place, operand) in given.iter().enumerate() {
+        match (number_of(&operand.value), size.get_mut(place)) {
+            (Some(number), Some(dimension)) => *dimension = number,
+            _ => {
+                lowering.unsupported("a size of workgroups that is no number", operand.extent);
+            }
+        }
+    }
+    size
+}

@@ -1,0 +1,148 @@
+// Functions and entry points.
+
+use crate::attributes::{find, stage, workgroup_size};
+use crate::builder::{EntryHead, ModuleBuilder};
+use crate::interface::bound;
+use crate::structs::shape_of;
+use ir_items::{FunctionArgument, FunctionResult};
+use ir_kinds::ShaderStage;
+use ir_types::Expression;
+use wgsl_expressions::{Declared, FunctionEntry, Lowering, Value};
+use wgsl_statements::lower_body;
+use wgsl_text::{Failure, WgslError};
+use wgsl_tree::{Item, Member, Part};
+use wgsl_types::Shape;
+use wgsl_words::AttributeWord;
+
+// The members of a function that are arguments.
+fn argument_part(item: &Item, has_result: bool) -> Part {
+    let end = if has_result {
+        item.members.end.saturating_sub(1)
+    } else {
+        item.members.end
+    };
+    Part {
+        start: item.members.start,
+        end: end.max(item.members.start),
+    }
+}
+
+// An argument.
+fn argument<B: ModuleBuilder>(
+    lowering: &mut Lowering<B>,
+    member: &Member,
+    number: u32,
+) -> (FunctionArgument, Shape) {
+    let extent = lowering.extent(member.token);
+    let shape = shape_of(lowering, member.steps);
+    let made = FunctionArgument {
+        name: lowering.name_at(member.token),
+        ty: lowering.type_handle(shape, extent),
+        binding: bound(lowering, member.attributes, shape),
+    };
+    let value = lowering.place(Expression::FunctionArgument(number), extent);
+    let mut failed = Failure::NONE;
+    if !lowering
+        .scopes
+        .set(member.name, Value::Computed(value, shape), &mut failed)
+    {
+        failed.fail(WgslError::of_name("redefinition of ", extent, ""));
+    }
+    failed.push(&mut lowering.arguments, shape);
+    lowering.join(&failed);
+    (made, shape)
+}
+
+// All arguments.
+fn take_arguments<B: ModuleBuilder>(
+    lowering: &mut Lowering<B>,
+    part: Part,
+) -> Vec<FunctionArgument> {
+    let mut arguments = Vec::new(lowering.alloc);
+    let mut failed = Failure::NONE;
+    for place in part.start..part.end {
+        if lowering.has_failed() {
+            break;
+        }
+        if let Some(member) = lowering.tree.members.get(place as usize).copied() {
+            let number = place.saturating_sub(part.start);
+            let (made, _) = argument(lowering, &member, number);
+            failed.push(&mut arguments, made);
+        }
+    }
+    lowering.join(&failed);
+    arguments
+}
+
+// What a function gives.
+fn result_of<B: ModuleBuilder>(
+    lowering: &mut Lowering<B>,
+    item: &Item,
+    has_result: bool,
+) -> (Option<FunctionResult>, Shape) {
+    if !has_result {
+        return (None, Shape::None);
+    }
+    let last = item.members.end.saturating_sub(1);
+    let Some(member) = lowering.tree.members.get(last as usize).copied() else {
+        return (None, Shape::None);
+    };
+    let extent = lowering.extent(member.token);
+    let shape = shape_of(lowering, member.steps);
+    let ty = lowering.type_handle(shape, extent);
+    let binding = bound(lowering, member.attributes, shape);
+    (Some(FunctionResult { ty, binding }), shape)
+}
+
+// The number of arguments' types so far.
+fn argument_count<B: ModuleBuilder>(lowering: &Lowering<B>) -> u32 {
+    u32::try_from(lowering.arguments.len()).unwrap_or(u32::MAX)
+}
+
+// A function.
+pub(crate) fn function<B: ModuleBuilder>(
+    lowering: &mut Lowering<B>,
+    item: &Item,
+    has_result: bool,
+) -> Declared {
+    let name = lowering.extent(item.token);
+    let stage = stage(lowering, item.attributes);
+    let size = match stage {
+        Some(ShaderStage::Compute) => workgroup_size(lowering, item.attributes, name),
+        _ => [0, 0, 0],
+    };
+    let (gives, shape) = result_of(lowering, item, has_result);
+    let start = argument_count(lowering);
+    lowering.builder.set_global(false);
+    lowering.builder.open();
+    let mut failed = Failure::NONE;
+    lowering.scopes.enter(&mut failed);
+    let arguments = take_arguments(lowering, argument_part(item, has_result));
+    let end = argument_count(lowering);
+    lower_body(lowering, item.steps, shape);
+    lowering.scopes.leave();
+    lowering.join(&failed);
+    let title = lowering.name_at(item.token);
+    let number = match stage {
+        Some(stage) => {
+            let head = EntryHead { stage, size };
+            lowering.builder.end_entry(head, title, arguments, gives);
+            None
+        }
+        None => {
+            let extent = name;
+            Some(
+                lowering
+                    .builder
+                    .end_function(title, arguments, gives, extent),
+            )
+        }
+    };
+    lowering.builder.set_global(true);
+    Declared::Function(FunctionEntry {
+        number,
+        gives: shape,
+        arguments: Part { start, end },
+        must_use: find(lowering, item.attributes, AttributeWord::MustUse).is_some(),
+    })
+}

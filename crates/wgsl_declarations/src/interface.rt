@@ -1,0 +1,104 @@
+// How arguments, results and members are bound.
+
+use crate::attributes::{find, number, word_of};
+use crate::builder::ModuleBuilder;
+use ir_kinds::{Binding, BuiltIn, Interpolation, Sampling, ScalarKind};
+use wgsl_expressions::Lowering;
+use wgsl_text::WgslError;
+use wgsl_tree::{Attribute, Part};
+use wgsl_types::Shape;
+use wgsl_words::{AttributeWord, built_in_of, interpolation_of, sampling_of};
+
+// A built-in value.
+fn built_in<B: ModuleBuilder>(
+    lowering: &mut Lowering<B>,
+    attribute: &Attribute,
+    part: Part,
+) -> Option<Binding> {
+    let (name, extent) = word_of(lowering, attribute, 0)?;
+    let found = built_in_of(lowering.tree.tokens.word(name));
+    let invariant = find(lowering, part, AttributeWord::Invariant).is_some();
+    match found {
+        Some(BuiltIn::Position { .. }) => Some(Binding::BuiltIn(BuiltIn::Position { invariant })),
+        Some(built_in) => Some(Binding::BuiltIn(built_in)),
+        None => {
+            lowering.fail(WgslError::of_name("unknown builtin: ", extent, ""));
+            None
+        }
+    }
+}
+
+// How a value between vertices is found, as an attribute says.
+fn interpolation<B: ModuleBuilder>(
+    lowering: &mut Lowering<B>,
+    attribute: &Attribute,
+) -> (Option<Interpolation>, Option<Sampling>) {
+    let mut found = (None, None);
+    if let Some((name, extent)) = word_of(lowering, attribute, 0) {
+        found.0 = interpolation_of(lowering.tree.tokens.word(name));
+        if found.0.is_none() {
+            lowering.fail(WgslError::of_name("unknown interpolation: ", extent, ""));
+        }
+    }
+    if let Some((name, extent)) = word_of(lowering, attribute, 1) {
+        found.1 = sampling_of(lowering.tree.tokens.word(name));
+        if found.1.is_none() {
+            lowering.fail(WgslError::of_name("unknown sampling: ", extent, ""));
+        }
+    }
+    found
+}
+
+// A location: floats are found with the perspective where nothing else is said.
+fn located<B: ModuleBuilder>(
+    lowering: &mut Lowering<B>,
+    attribute: &Attribute,
+    part: Part,
+    shape: Shape,
+) -> Binding {
+    let location = number(lowering, attribute);
+    let said = find(lowering, part, AttributeWord::Interpolate);
+    let (mut interpolation, mut sampling) = match said {
+        Some(said) => interpolation(lowering, &said),
+        None => (None, None),
+    };
+    let is_float = match shape.scalar() {
+        Some(scalar) => scalar.kind == ScalarKind::Float,
+        None => false,
+    };
+    if is_float && interpolation.is_none() {
+        interpolation = Some(Interpolation::Perspective);
+    }
+    let is_between = matches!(
+        interpolation,
+        Some(Interpolation::Perspective | Interpolation::Linear)
+    );
+    if is_between && sampling.is_none() {
+        sampling = Some(Sampling::Center);
+    }
+    let blend = find(lowering, part, AttributeWord::BlendSrc);
+    let blend_src = match blend {
+        Some(attribute) => Some(number(lowering, &attribute)),
+        None => None,
+    };
+    Binding::Location {
+        location,
+        interpolation,
+        sampling,
+        blend_src,
+        per_primitive: find(lowering, part, AttributeWord::PerPrimitive).is_some(),
+    }
+}
+
+// What attributes bind a value of this type to, if they do.
+pub(crate) fn bound<B: ModuleBuilder>(
+    lowering: &mut Lowering<B>,
+    part: Part,
+    shape: Shape,
+) -> Option<Binding> {
+    if let Some(attribute) = find(lowering, part, AttributeWord::Builtin) {
+        return built_in(lowering, &attribute, part);
+    }
+    let attribute = find(lowering, part, AttributeWord::Location)?;
+    Some(located(lowering, &attribute, part, shape))
+}

@@ -1,0 +1,13 @@
+//! The items of a text of WGSL in the IR: constants, types, variables, functions and entry points.
+#![tactic(auto)]
+
+mod attributes;
+mod builder;
+mod functions;
+mod interface;
+mod items;
+mod structs;
+mod variables;
+
+pub use builder::{EntryHead, ModuleBuilder};
+pub use items::lower_items;

@@ -1,0 +1,144 @@
+// Structs.
+
+use crate::attributes::{find, number};
+use crate::builder::ModuleBuilder;
+use crate::interface::bound;
+use ir_types::StructMember;
+use wgsl_expressions::{Declared, Lowering};
+use wgsl_text::{Extent, Failure};
+use wgsl_tree::{Item, Member, Part};
+use wgsl_types::{Layout, Shape, TypeMember};
+use wgsl_words::AttributeWord;
+
+// How many members a struct may have.
+const MAX_MEMBERS: u32 = 1023;
+
+// The type that steps say.
+pub(crate) fn shape_of<B: ModuleBuilder>(lowering: &mut Lowering<B>, steps: Part) -> Shape {
+    lowering.run(steps);
+    let operand = lowering.pop();
+    lowering.type_of(&operand)
+}
+
+// How a member lies in memory, with what its attributes say.
+fn layout_of<B: ModuleBuilder>(
+    lowering: &mut Lowering<B>,
+    member: &Member,
+    shape: Shape,
+    extent: Extent,
+) -> Layout {
+    let mut layout = lowering.table.layout(shape);
+    if let Some(attribute) = find(lowering, member.attributes, AttributeWord::Align) {
+        let alignment = u64::from(number(lowering, &attribute));
+        if alignment < layout.alignment {
+            lowering.wrong(
+                "struct member alignment must be at least that of its type",
+                extent,
+            );
+        }
+        if alignment == 0 || alignment & alignment.saturating_sub(1) != 0 {
+            lowering.wrong("struct member alignment must be a power of 2", extent);
+        }
+        layout.alignment = alignment.max(1);
+    }
+    if let Some(attribute) = find(lowering, member.attributes, AttributeWord::Size) {
+        let size = u64::from(number(lowering, &attribute));
+        if size < layout.size {
+            lowering.wrong(
+                "struct member size must be at least that of its type",
+                extent,
+            );
+        }
+        layout.size = size;
+    }
+    layout
+}
+
+// What is built of a struct.
+#[derive(Drop)]
+struct Built {
+    members: Vec<StructMember>,
+    // for the table
+    shapes: Vec<TypeMember>,
+    layout: Layout,
+}
+
+impl Built {
+    // A member more.
+    fn add<B: ModuleBuilder>(&mut self, lowering: &mut Lowering<B>, member: &Member) {
+        let extent = lowering.extent(member.token);
+        let shape = shape_of(lowering, member.steps);
+        let layout = layout_of(lowering, member, shape, extent);
+        let offset = layout.round(self.layout.size);
+        let built = StructMember {
+            name: lowering.name_at(member.token),
+            ty: lowering.type_handle(shape, extent),
+            binding: bound(lowering, member.attributes, shape),
+            offset: u32::try_from(offset).unwrap_or(u32::MAX),
+        };
+        let mut failed = Failure::NONE;
+        failed.push(&mut self.members, built);
+        let name = member.name;
+        failed.push(&mut self.shapes, TypeMember { name, shape });
+        lowering.join(&failed);
+        self.layout = Layout {
+            size: offset.saturating_add(layout.size),
+            alignment: self.layout.alignment.max(layout.alignment),
+        };
+    }
+}
+
+// A struct.
+pub(crate) fn structure<B: ModuleBuilder>(lowering: &mut Lowering<B>, item: &Item) -> Declared {
+    let extent = lowering.extent(item.token);
+    if item.members.count() > MAX_MEMBERS {
+        lowering.unsupported("a struct of more than 1023 members", extent);
+        return Declared::Nothing;
+    }
+    if item.members.count() == 0 {
+        lowering.wrong("structs must have at least one member", extent);
+        return Declared::Nothing;
+    }
+    let mut built = Built {
+        members: Vec::new(lowering.alloc),
+        shapes: Vec::new(lowering.alloc),
+        layout: Layout::NONE,
+    };
+    for place in item.members.start..item.members.end {
+        if lowering.has_failed() {
+            break;
+        }
+        if let Some(member) = lowering.tree.members.get(place as usize).copied() {
+            built.add(lowering, &member);
+        }
+    }
+    let Built {
+        members,
+        shapes,
+        layout,
+    } = built;
+    let part = keep(lowering, &shapes);
+    let whole = Layout {
+        size: layout.stride(),
+        alignment: layout.alignment,
+    };
+    let name = lowering.name_at(item.token);
+    let shape = lowering
+        .table
+        .structure(&mut lowering.builder, name, members, part, whole, extent);
+    Declared::Type(shape)
+}
+
+// The members in the table.
+fn keep<B: ModuleBuilder>(lowering: &mut Lowering<B>, shapes: &[TypeMember]) -> Part {
+    let start = u32::try_from(lowering.table.members.len()).unwrap_or(u32::MAX);
+    let mut failed = Failure::NONE;
+    for member in shapes {
+        failed.push(&mut lowering.table.members, *member);
+    }
+    lowering.join(&failed);
+    Part {
+        start,
+        end: u32::try_from(lowering.table.members.len()).unwrap_or(u32::MAX),
+    }
+}

@@ -1,0 +1,100 @@
+// `&&` and `||`: what stands on the right is computed only where the left does not decide.
+
+use crate::lowering::Lowering;
+use crate::values::{Operand, Value, handle_of, number_of};
+use ir_blocks::Statement;
+use ir_items::LocalVariable;
+use ir_kinds::{BinaryOperator, Literal, Scalar, UnaryOperator};
+use ir_types::Expression;
+use wgsl_text::Extent;
+use wgsl_types::{Builder, Shape};
+
+impl<B: Builder> Lowering<B> {
+    /// Between the operands of `||`, or else of `&&`.
+    pub fn between(&mut self, or: bool, token: u32) {
+        let popped = self.pop();
+        let left = self.load(popped);
+        let extent = self.extent(token);
+        if let Value::Literal(_) = left.value {
+            self.push(left);
+            self.push(Operand {
+                value: Value::PendingLiteral,
+                extent,
+            });
+            return;
+        }
+        if self.builder.is_global() {
+            self.wrong(
+                "this operation is not supported in a const context",
+                left.extent,
+            );
+        }
+        let (value, _) = self.value(left);
+        let mut condition = value;
+        if or {
+            let negated = Expression::Unary {
+                op: UnaryOperator::LogicalNot,
+                expr: handle_of(value),
+            };
+            condition = self.compute(negated, left.extent);
+        }
+        let ty = self.type_handle(Shape::Scalar(Scalar::BOOL), extent);
+        let local = LocalVariable {
+            name: None,
+            ty,
+            init: None,
+        };
+        let pointer = number_of(self.builder.local(local, extent));
+        self.push(Operand::computed(condition, Shape::Scalar(Scalar::BOOL), left.extent));
+        self.push(Operand {
+            value: Value::Pending(pointer),
+            extent,
+        });
+        self.builder.open();
+    }
+
+    // Stores the result in the block that is open.
+    fn store(&mut self, pointer: u32, value: u32, extent: Extent) {
+        let store = Statement::Store {
+            pointer: handle_of(pointer),
+            value: handle_of(value),
+        };
+        self.builder.statement(store, extent);
+    }
+
+    /// After the second operand.
+    pub fn logical(&mut self, or: bool) {
+        let popped = self.pop();
+        let right = self.load(popped);
+        let between = self.pop();
+        let left = self.pop();
+        let extent = left.extent.until(right.extent);
+        let Value::Pending(pointer) = between.value else {
+            let op = if or {
+                BinaryOperator::LogicalOr
+            } else {
+                BinaryOperator::LogicalAnd
+            };
+            let made = self.combine(op, left, right);
+            self.push(made);
+            return;
+        };
+        let (condition, _) = self.value(left);
+        let (value, _) = self.value(right);
+        self.store(pointer, value, extent);
+        let accept = self.builder.close();
+        self.builder.open();
+        let decided = self.place(Expression::Literal(Literal::Bool(or)), extent);
+        self.store(pointer, decided, extent);
+        let reject = self.builder.close();
+        let chosen = Statement::If {
+            condition: handle_of(condition),
+            accept,
+            reject,
+        };
+        self.builder.statement(chosen, extent);
+        let pointer = handle_of(pointer);
+        let loaded = self.compute(Expression::Load { pointer }, extent);
+        self.push(Operand::computed(loaded, Shape::Scalar(Scalar::BOOL), extent));
+    }
+}

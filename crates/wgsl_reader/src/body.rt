@@ -1,0 +1,154 @@
+// A function's expressions, locals and statements, as they come.
+
+use ir_arena::arena::Arena;
+use ir_arena::range::Range;
+use ir_arena::span::Span;
+use ir_items::{
+    Block, Expression, Function, FunctionArgument, FunctionResult, LocalVariable, Statement, key,
+};
+use std::alloc::Global;
+use std::mem;
+use wgsl_types::{ExpressionHandle, no_expression};
+
+// What is written of the function that is open.
+#[derive(Drop)]
+pub(crate) struct Body {
+    alloc: Global,
+    expressions: Arena<Expression, key::Expression>,
+    locals: Arena<LocalVariable, key::LocalVariable>,
+    // the blocks that are open, the innermost last
+    open: Vec<Block>,
+    // the first expression that no statement emits yet, and the spans from it on
+    start: Option<u32>,
+    span: Span,
+    // whether there was not enough memory
+    pub has_failed: bool,
+}
+
+impl Body {
+    // With nothing in it.
+    pub(crate) fn new(alloc: Global) -> Body {
+        Body {
+            alloc,
+            expressions: Arena::new(alloc),
+            locals: Arena::new(alloc),
+            open: Vec::new(alloc),
+            start: None,
+            span: Span::UNDEFINED,
+            has_failed: false,
+        }
+    }
+
+    // An expression.
+    fn append(&mut self, expression: Expression, span: Span) -> ExpressionHandle {
+        match self.expressions.append(expression, span) {
+            Ok(handle) => handle,
+            Err(_) => {
+                self.has_failed = true;
+                no_expression()
+            }
+        }
+    }
+
+    fn count(&self) -> u32 {
+        u32::try_from(self.expressions.len()).unwrap_or(u32::MAX)
+    }
+
+    // A statement in the innermost block.
+    fn push(&mut self, statement: Statement, span: Span) {
+        match self.open.last_mut() {
+            Some(block) => {
+                if block.push(statement, span).is_err() {
+                    self.has_failed = true;
+                }
+            }
+            None => drop(statement),
+        }
+    }
+
+    // Emits what no statement emits yet.
+    fn flush(&mut self) {
+        let Some(start) = self.start.take() else {
+            return;
+        };
+        let end = self.count();
+        let span = self.span;
+        if start < end {
+            self.push(Statement::Emit(Range::new(start, end)), span);
+        }
+    }
+
+    // An expression that is computed here.
+    pub(crate) fn compute(&mut self, expression: Expression, span: Span) -> ExpressionHandle {
+        match self.start {
+            None => {
+                self.start = Some(self.count());
+                self.span = span;
+            }
+            Some(_) => self.span.subsume(span),
+        }
+        self.append(expression, span)
+    }
+
+    // An expression that is always there, or that a statement gives.
+    pub(crate) fn place(&mut self, expression: Expression, span: Span) -> ExpressionHandle {
+        self.flush();
+        self.append(expression, span)
+    }
+
+    // A statement.
+    pub(crate) fn statement(&mut self, statement: Statement, span: Span) {
+        self.flush();
+        self.push(statement, span);
+    }
+
+    // Opens a block.
+    pub(crate) fn open(&mut self) {
+        self.flush();
+        if self.open.push(Block::new(self.alloc)).is_err() {
+            self.has_failed = true;
+        }
+    }
+
+    // Closes the innermost block.
+    pub(crate) fn close(&mut self) -> Block {
+        self.flush();
+        match self.open.pop() {
+            Some(block) => block,
+            None => Block::new(self.alloc),
+        }
+    }
+
+    // A local; answers the pointer to it.
+    pub(crate) fn local(&mut self, local: LocalVariable, span: Span) -> ExpressionHandle {
+        match self.locals.append(local, span) {
+            Ok(handle) => self.place(Expression::LocalVariable(handle), span),
+            Err(_) => {
+                self.has_failed = true;
+                no_expression()
+            }
+        }
+    }
+
+    // What was written, as a function whose body is the block that is open.
+    pub(crate) fn take(
+        &mut self,
+        name: Option<String>,
+        arguments: Vec<FunctionArgument>,
+        gives: Option<FunctionResult>,
+    ) -> Function {
+        let body = self.close();
+        let expressions = mem::replace(&mut self.expressions, Arena::new(self.alloc));
+        let local_variables = mem::replace(&mut self.locals, Arena::new(self.alloc));
+        self.start = None;
+        Function {
+            name,
+            arguments,
+            result: gives,
+            local_variables,
+            expressions,
+            body,
+            diagnostic_filter_leaf: None,
+        }
+    }
+}

@@ -1,0 +1,239 @@
+// A module as it comes.
+
+use crate::body::Body;
+use crate::budget::{Budget, expression_size, type_size};
+use ir_arena::arena::Arena;
+use ir_items::{
+    Block, EntryPoint, Expression, Function, FunctionArgument, FunctionResult, GlobalVariable,
+    IrType, LocalVariable, Statement, key,
+};
+use ir_sets::keyed::KeyedState;
+use ir_sets::unique_arena::UniqueArena;
+use std::alloc::Global;
+use wgsl_declarations::{EntryHead, ModuleBuilder};
+use wgsl_text::{Extent, Failure, WgslError};
+use wgsl_types::{Builder, ExpressionHandle, TypeHandle, no_expression, no_type, span_of};
+
+// The types, variables, expressions, functions and entry points of a module.
+pub(crate) type Parts = (
+    UniqueArena<IrType, key::IrType>,
+    Arena<GlobalVariable, key::GlobalVariable>,
+    Arena<Expression, key::Expression>,
+    Arena<Function, key::Function>,
+    Vec<EntryPoint>,
+);
+
+// A module as it comes.
+#[derive(Drop)]
+pub(crate) struct Building {
+    pub alloc: Global,
+    pub types: UniqueArena<IrType, key::IrType>,
+    pub variables: Arena<GlobalVariable, key::GlobalVariable>,
+    pub expressions: Arena<Expression, key::Expression>,
+    pub functions: Arena<Function, key::Function>,
+    pub entries: Vec<EntryPoint>,
+    body: Body,
+    is_global: bool,
+    budget: Budget,
+    pub failed: Failure,
+}
+
+impl Building {
+    // With nothing in it, of a text of so many tokens.
+    pub(crate) fn new(alloc: Global, key: KeyedState, tokens: usize) -> Building {
+        Building {
+            alloc,
+            types: UniqueArena::with_hasher(alloc, key),
+            variables: Arena::new(alloc),
+            expressions: Arena::new(alloc),
+            functions: Arena::new(alloc),
+            entries: Vec::new(alloc),
+            body: Body::new(alloc),
+            is_global: true,
+            budget: Budget::of(tokens),
+            failed: Failure::NONE,
+        }
+    }
+
+    // The parts of the module.
+    pub(crate) fn into_parts(self) -> Parts {
+        let Building {
+            alloc: _,
+            types,
+            variables,
+            expressions,
+            functions,
+            entries,
+            body: _body,
+            is_global: _,
+            budget: _,
+            failed: _,
+        } = self;
+        (types, variables, expressions, functions, entries)
+    }
+
+    // So many parts are made; answers whether they may be.
+    fn spend(&mut self, count: u64, extent: Extent) -> bool {
+        if let Some(error) = self.budget.spend(count, extent) {
+            self.failed.fail(error);
+        }
+        !self.failed.is_some()
+    }
+
+    // Tells where there was not enough memory.
+    fn check(&mut self) {
+        if self.body.has_failed {
+            self.failed.fail_memory();
+        }
+    }
+
+    // An expression of the module.
+    fn global(&mut self, expression: Expression, extent: Extent) -> ExpressionHandle {
+        match self.expressions.append(expression, span_of(extent)) {
+            Ok(handle) => handle,
+            Err(_) => {
+                self.failed.fail_memory();
+                no_expression()
+            }
+        }
+    }
+}
+
+impl Builder for Building {
+    fn fail(&mut self, error: WgslError) {
+        self.failed.fail(error);
+    }
+
+    fn has_failed(&self) -> bool {
+        self.failed.is_some()
+    }
+
+    fn insert(&mut self, ty: IrType, extent: Extent) -> TypeHandle {
+        if !self.spend(type_size(&ty), extent) {
+            drop(ty);
+            return no_type();
+        }
+        match self.types.insert(ty, span_of(extent)) {
+            Ok(handle) => handle,
+            Err(_) => {
+                self.failed.fail_memory();
+                no_type()
+            }
+        }
+    }
+
+    fn compute(&mut self, expression: Expression, extent: Extent) -> ExpressionHandle {
+        if !self.spend(expression_size(&expression), extent) {
+            drop(expression);
+            return no_expression();
+        }
+        if self.is_global {
+            return self.global(expression, extent);
+        }
+        let made = self.body.compute(expression, span_of(extent));
+        self.check();
+        made
+    }
+
+    fn place(&mut self, expression: Expression, extent: Extent) -> ExpressionHandle {
+        if !self.spend(expression_size(&expression), extent) {
+            drop(expression);
+            return no_expression();
+        }
+        if self.is_global {
+            return self.global(expression, extent);
+        }
+        let made = self.body.place(expression, span_of(extent));
+        self.check();
+        made
+    }
+
+    fn statement(&mut self, statement: Statement, extent: Extent) {
+        if self.is_global {
+            drop(statement);
+            self.failed.fail(WgslError::malformed("Unexpected runtime-expression", extent));
+            return;
+        }
+        self.body.statement(statement, span_of(extent));
+        self.check();
+    }
+
+    fn open(&mut self) {
+        self.body.open();
+        self.check();
+    }
+
+    fn close(&mut self) -> Block {
+        let block = self.body.close();
+        self.check();
+        block
+    }
+
+    fn local(&mut self, local: LocalVariable, extent: Extent) -> ExpressionHandle {
+        let made = self.body.local(local, span_of(extent));
+        self.check();
+        made
+    }
+
+    fn is_global(&self) -> bool {
+        self.is_global
+    }
+}
+
+impl ModuleBuilder for Building {
+    fn set_global(&mut self, is_global: bool) {
+        self.is_global = is_global;
+    }
+
+    fn variable(&mut self, variable: GlobalVariable, extent: Extent) -> u32 {
+        match self.variables.append(variable, span_of(extent)) {
+            Ok(handle) => u32::try_from(handle.index()).unwrap_or(u32::MAX),
+            Err(_) => {
+                self.failed.fail_memory();
+                0
+            }
+        }
+    }
+
+    fn end_function(
+        &mut self,
+        name: Option<String>,
+        arguments: Vec<FunctionArgument>,
+        gives: Option<FunctionResult>,
+        extent: Extent,
+    ) -> u32 {
+        let function = self.body.take(name, arguments, gives);
+        match self.functions.append(function, span_of(extent)) {
+            Ok(handle) => u32::try_from(handle.index()).unwrap_or(u32::MAX),
+            Err(_) => {
+                self.failed.fail_memory();
+                0
+            }
+        }
+    }
+
+    fn end_entry(
+        &mut self,
+        head: EntryHead,
+        name: Option<String>,
+        arguments: Vec<FunctionArgument>,
+        gives: Option<FunctionResult>,
+    ) {
+        let function = self.body.take(None, arguments, gives);
+        let entry = EntryPoint {
+            name: match name {
+                Some(name) => name,
+                None => String::new(self.alloc),
+            },
+            stage: head.stage,
+            early_depth_test: None,
+            workgroup_size: head.size,
+            mesh_info: None,
+            task_payload: None,
+            function,
+        };
+        if self.entries.push(entry).is_err() {
+            self.failed.fail_memory();
+        }
+    }
+}

@@ -1,0 +1,156 @@
+// Declarations in functions.
+
+use crate::flow::Flow;
+use ir_blocks::Statement;
+use ir_items::LocalVariable;
+use ir_kinds::AddressSpace;
+use wgsl_expressions::{Lowering, Operand, Value, handle_of, number_of};
+use wgsl_text::{Extent, Failure, WgslError};
+use wgsl_types::{Builder, Shape};
+use wgsl_values::converted;
+
+// Whether a value of one type stands where the other is wanted, as far as shapes tell.
+fn agrees(wanted: Shape, found: Shape) -> bool {
+    match (wanted, found) {
+        (Shape::Row(_), _) | (_, Shape::Row(_)) => true,
+        _ => wanted == found,
+    }
+}
+
+// A name stands for this from here on.
+pub(crate) fn declare<B: Builder>(lowering: &mut Lowering<B>, token: u32, value: Value) {
+    let name = lowering.word_at(token);
+    let extent = lowering.extent(token);
+    let mut failed = Failure::NONE;
+    if !lowering.scopes.set(name, value, &mut failed) {
+        failed.fail(WgslError::of_name("redefinition of ", extent, ""));
+    }
+    lowering.join(&failed);
+}
+
+// The value that a declaration gives a name, as one of the type that it says, if it says one.
+fn initial<B: Builder>(
+    lowering: &mut Lowering<B>,
+    wanted: Option<Shape>,
+    operand: Operand,
+    name: Extent,
+) -> (u32, Shape) {
+    let Some(wanted) = wanted else {
+        return lowering.value(operand);
+    };
+    let (value, found) = match wanted.scalar() {
+        Some(scalar) => lowering.value_as(operand, scalar),
+        None => lowering.value(operand),
+    };
+    if !agrees(wanted, found) {
+        let text = " is expected to be of another type than its value";
+        lowering.fail(WgslError::of_name("the type of ", name, text));
+    }
+    (value, wanted)
+}
+
+// The type that a declaration says, before the value on the stack.
+fn typed<B: Builder>(lowering: &mut Lowering<B>, is_typed: bool) -> Option<Shape> {
+    if !is_typed {
+        return None;
+    }
+    let operand = lowering.pop();
+    Some(lowering.type_of(&operand))
+}
+
+// A `let`.
+pub(crate) fn bind<B: Builder>(lowering: &mut Lowering<B>, is_typed: bool, token: u32) {
+    let popped = lowering.pop();
+    let operand = lowering.load(popped);
+    let wanted = typed(lowering, is_typed);
+    let extent = lowering.extent(token);
+    let (value, shape) = initial(lowering, wanted, operand, extent);
+    declare(lowering, token, Value::Computed(value, shape));
+}
+
+// A `const`.
+pub(crate) fn constant<B: Builder>(lowering: &mut Lowering<B>, is_typed: bool, token: u32) {
+    let popped = lowering.pop();
+    let operand = lowering.load(popped);
+    let wanted = typed(lowering, is_typed);
+    let extent = lowering.extent(token);
+    let value = match (operand.value, wanted) {
+        (Value::Literal(literal), Some(Shape::Scalar(scalar))) => match converted(literal, scalar) {
+            Some(literal) => Value::Literal(literal),
+            None => {
+                let text = " is expected to be of another type than its value";
+                lowering.fail(WgslError::of_name("the type of ", extent, text));
+                Value::Nothing
+            }
+        },
+        (Value::Literal(_) | Value::Parts(..), None) => operand.value,
+        _ => {
+            lowering.unsupported("a constant that is no number", operand.extent);
+            Value::Nothing
+        }
+    };
+    declare(lowering, token, value);
+}
+
+// A `var`.
+pub(crate) fn variable<B: Builder>(
+    lowering: &mut Lowering<B>,
+    flow: &Flow,
+    templates: u16,
+    is_typed: bool,
+    init: bool,
+    token: u32,
+) {
+    let extent = lowering.extent(token);
+    let operand = if init {
+        let popped = lowering.pop();
+        lowering.load(popped)
+    } else {
+        Operand::NOTHING
+    };
+    let wanted = typed(lowering, is_typed);
+    if templates > 0 {
+        let space = lowering.pop();
+        check_space(lowering, &space);
+    }
+    let is_known = matches!(operand.value, Value::Literal(_)) && flow.loops == 0;
+    let (value, shape) = if init {
+        initial(lowering, wanted, operand, extent)
+    } else {
+        (0, wanted.unwrap_or(Shape::None))
+    };
+    let local = LocalVariable {
+        name: lowering.name_at(token),
+        ty: lowering.type_handle(shape, extent),
+        init: if init && is_known {
+            Some(handle_of(value))
+        } else {
+            None
+        },
+    };
+    let pointer = number_of(lowering.builder.local(local, extent));
+    if init && !is_known {
+        let store = Statement::Store {
+            pointer: handle_of(pointer),
+            value: handle_of(value),
+        };
+        lowering.builder.statement(store, extent);
+    }
+    declare(
+        lowering,
+        token,
+        Value::Place(pointer, shape, AddressSpace::Function),
+    );
+}
+
+// A variable of a function lies in its own memory.
+fn check_space<B: Builder>(lowering: &mut Lowering<B>, space: &Operand) {
+    let is_function = match space.value {
+        Value::Word(name) => lowering.tree.tokens.word(name) == b"function".as_slice(),
+        _ => false,
+    };
+    if !is_function {
+        let text = "invalid address space for local variable: ";
+        lowering.fail(WgslError::of_name(text, space.extent, ""));
+    }
+}

@@ -1,0 +1,153 @@
+// Stores and calls.
+
+use ir_blocks::Statement;
+use ir_kinds::{BinaryOperator, Literal, Scalar};
+use wgsl_expressions::{Lowering, Operand, Value, handle_of};
+use wgsl_text::Extent;
+use wgsl_types::{Builder, Shape};
+use wgsl_words::FunctionWord;
+
+// Stores a value into a variable or a part of one.
+fn store<B: Builder>(lowering: &mut Lowering<B>, place: Operand, value: Operand) {
+    let extent = place.extent.until(value.extent);
+    let Value::Place(pointer, shape, _) = place.value else {
+        lowering.wrong("invalid left-hand side of assignment", place.extent);
+        return;
+    };
+    let wanted = match shape {
+        Shape::Atomic(scalar) => Shape::Scalar(scalar),
+        _ => shape,
+    };
+    let value = lowering.value_for(value, wanted);
+    let store = Statement::Store {
+        pointer: handle_of(pointer),
+        value: handle_of(value),
+    };
+    lowering.builder.statement(store, extent);
+}
+
+// A store.
+pub(crate) fn assign<B: Builder>(lowering: &mut Lowering<B>) {
+    let popped = lowering.pop();
+    let value = lowering.load(popped);
+    let place = lowering.pop();
+    store(lowering, place, value);
+}
+
+// The place of a store that computes is known: what lies there is loaded.
+pub(crate) fn target<B: Builder>(lowering: &mut Lowering<B>) {
+    let place = lowering.pop();
+    if !matches!(place.value, Value::Place(..)) {
+        lowering.wrong("invalid left-hand side of assignment", place.extent);
+    }
+    let loaded = lowering.load(place);
+    lowering.push(place);
+    lowering.push(loaded);
+}
+
+// A store of what an operation makes of what lies there and another value.
+pub(crate) fn compound<B: Builder>(lowering: &mut Lowering<B>, operator: BinaryOperator) {
+    let popped = lowering.pop();
+    let right = lowering.load(popped);
+    let left = lowering.pop();
+    let place = lowering.pop();
+    let made = lowering.combine(operator, left, right);
+    store(lowering, place, made);
+}
+
+// One more, or one less.
+pub(crate) fn count<B: Builder>(lowering: &mut Lowering<B>, op: BinaryOperator, token: u32) {
+    let place = lowering.pop();
+    let extent = place.extent.until(lowering.extent(token));
+    let one = match place.value {
+        Value::Place(_, Shape::Scalar(scalar), _) if scalar == Scalar::I32 => Literal::I32(1),
+        Value::Place(_, Shape::Scalar(scalar), _) if scalar == Scalar::U32 => Literal::U32(1),
+        Value::Place(..) => {
+            lowering.wrong(
+                "increment/decrement operation requires reference type to be one of i32 or u32",
+                place.extent,
+            );
+            return;
+        }
+        _ => {
+            lowering.wrong("invalid left-hand side of assignment", place.extent);
+            return;
+        }
+    };
+    let left = lowering.load(place);
+    let right = Operand {
+        value: Value::Literal(one),
+        extent,
+    };
+    let made = lowering.combine(op, left, right);
+    store(lowering, place, made);
+}
+
+// A value that is not used.
+pub(crate) fn phony<B: Builder>(lowering: &mut Lowering<B>) {
+    let operand = lowering.pop();
+    let _ = lowering.value(operand);
+}
+
+// Whether what a call gives may be left.
+fn may_be_left(value: Value) -> bool {
+    match value {
+        Value::Function(entry) => !entry.must_use,
+        Value::BuiltIn(word) => matches!(word, FunctionWord::Barrier(_) | FunctionWord::Other),
+        Value::Word(_) => true,
+        _ => false,
+    }
+}
+
+// A call that is a statement, with so many arguments.
+pub(crate) fn call<B: Builder>(lowering: &mut Lowering<B>, arguments: u32, token: u32) {
+    let place = lowering
+        .stack
+        .len()
+        .saturating_sub(arguments as usize)
+        .saturating_sub(1);
+    let callee = lowering
+        .stack
+        .get(place)
+        .copied()
+        .unwrap_or(Operand::NOTHING);
+    if !may_be_left(callee.value) {
+        lowering.wrong(
+            "unused return value from function annotated with @must_use",
+            callee.extent,
+        );
+    }
+    lowering.call(arguments, token);
+    let _ = lowering.pop();
+}
+
+// Ends the function, with a value or not.
+pub(crate) fn give<B: Builder>(
+    lowering: &mut Lowering<B>,
+    gives: Shape,
+    has_value: bool,
+    extent: Extent,
+) {
+    let value = if has_value {
+        let popped = lowering.pop();
+        let operand = lowering.load(popped);
+        Some(handle_of(lowering.value_for(operand, gives)))
+    } else {
+        None
+    };
+    lowering
+        .builder
+        .statement(Statement::Return { value }, extent);
+}
+
+// A condition that has to hold when the text is read.
+pub(crate) fn assertion<B: Builder>(lowering: &mut Lowering<B>) {
+    let operand = lowering.pop();
+    match operand.value {
+        Value::Literal(Literal::Bool(true)) => {}
+        Value::Literal(Literal::Bool(false)) => {
+            lowering.wrong("`const_assert` failure", operand.extent);
+        }
+        _ => lowering.unsupported("a `const_assert` of this", operand.extent),
+    }
+}

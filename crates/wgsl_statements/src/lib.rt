@@ -1,0 +1,11 @@
+//! The statements of a text of WGSL in the IR.
+#![tactic(auto)]
+
+mod declarations;
+mod effects;
+mod flow;
+mod loops;
+mod steps;
+mod switches;
+
+pub use steps::lower_body;
