@@ -1,11 +1,10 @@
 // What attributes say.
 
 use crate::builder::ModuleBuilder;
-use ir_kinds::{Literal, ResourceBinding, Scalar, ShaderStage};
+use ir_kinds::{Literal, ResourceBinding, ShaderStage};
 use wgsl_expressions::{Lowering, Operand, Value};
 use wgsl_text::{Extent, WgslError};
 use wgsl_tree::{Attribute, Part, StepKind};
-use wgsl_values::converted;
 use wgsl_words::AttributeWord;
 
 // The attribute of this name among these.
@@ -28,12 +27,10 @@ pub(crate) fn number_of(value: &Value) -> Option<u32> {
     let Value::Literal(literal) = value else {
         return None;
     };
-    match converted(*literal, Scalar::I32) {
-        Some(Literal::I32(number)) => return u32::try_from(number).ok(),
-        _ => {}
-    }
     match *literal {
+        Literal::I32(number) => u32::try_from(number).ok(),
         Literal::U32(number) => Some(number),
+        Literal::AbstractInt(number) => u32::try_from(number).ok(),
         _ => None,
     }
 }
@@ -113,6 +110,48 @@ fn missing<B: ModuleBuilder>(
     None
 }
 
+// Whether it says a stage.
+fn is_stage(word: AttributeWord) -> bool {
+    matches!(
+        word,
+        AttributeWord::Compute | AttributeWord::Vertex | AttributeWord::Fragment
+    )
+}
+
+// Whether it stands before members, arguments and results.
+fn is_of_members(word: AttributeWord) -> bool {
+    matches!(
+        word,
+        AttributeWord::Align
+            | AttributeWord::Size
+            | AttributeWord::Builtin
+            | AttributeWord::Location
+            | AttributeWord::Interpolate
+            | AttributeWord::Invariant
+            | AttributeWord::BlendSrc
+            | AttributeWord::PerPrimitive
+    )
+}
+
+// Each attribute stands before what it is for.
+pub(crate) fn check<B: ModuleBuilder>(lowering: &mut Lowering<B>, part: Part, members: bool) {
+    for place in part.start..part.end {
+        let Some(attribute) = lowering.tree.attributes.get(place as usize).copied() else {
+            break;
+        };
+        let extent = lowering.extent(attribute.token);
+        if is_of_members(attribute.word) != members {
+            lowering.fail(WgslError::of_name("unknown attribute: ", extent, ""));
+        }
+        if matches!(
+            attribute.word,
+            AttributeWord::BlendSrc | AttributeWord::PerPrimitive
+        ) {
+            lowering.unsupported_name("the attribute ", extent);
+        }
+    }
+}
+
 // The stage of a function, if it is an entry point.
 pub(crate) fn stage<B: ModuleBuilder>(
     lowering: &mut Lowering<B>,
@@ -123,6 +162,10 @@ pub(crate) fn stage<B: ModuleBuilder>(
         let Some(attribute) = lowering.tree.attributes.get(place as usize).copied() else {
             break;
         };
+        if found.is_some() && is_stage(attribute.word) {
+            let extent = lowering.extent(attribute.token);
+            lowering.fail(WgslError::of_name("repeated attribute: ", extent, ""));
+        }
         match attribute.word {
             AttributeWord::Compute => found = Some(ShaderStage::Compute),
             AttributeWord::Vertex => found = Some(ShaderStage::Vertex),
