@@ -5,3 +5,4 @@
 mod judged;
 
 pub use judged::{WgslAnswer, WgslVerdict, check_wgsl, wgsl_document};
+pub use wgsl_reader::{Cause, WgslError, message_of};
