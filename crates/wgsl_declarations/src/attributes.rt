@@ -51,10 +51,20 @@ pub(crate) fn number<B: ModuleBuilder>(lowering: &mut Lowering<B>, attribute: &A
         Some(first) if given.len() == 1 => number_of(&first.value),
         _ => None,
     };
+    let is_negative = match given.first() {
+        Some(first) => matches!(
+            first.value,
+            Value::Literal(Literal::AbstractInt(number)) if number < 0
+        ),
+        None => false,
+    };
     match found {
         Some(number) => number,
         None => {
-            let extent = lowering.extent(attribute.token);
+            let extent = arguments_extent(lowering, attribute);
+            if is_negative {
+                lowering.wrong("must be non-negative (>= 0)", extent);
+            }
             lowering.wrong(
                 "must be a const-expression that resolves to a concrete integer scalar (`u32` or `i32`)",
                 extent,
@@ -85,7 +95,6 @@ pub(crate) fn word_of<B: ModuleBuilder>(
 pub(crate) fn binding<B: ModuleBuilder>(
     lowering: &mut Lowering<B>,
     part: Part,
-    name: Extent,
 ) -> Option<ResourceBinding> {
     let group = find(lowering, part, AttributeWord::Group);
     let binding = find(lowering, part, AttributeWord::Binding);
@@ -95,19 +104,52 @@ pub(crate) fn binding<B: ModuleBuilder>(
             binding: number(lowering, &binding),
         }),
         (None, None) => None,
-        (Some(_), None) => missing(lowering, name, " needs a `binding` attribute"),
-        (None, Some(_)) => missing(lowering, name, " needs a `group` attribute"),
+        (Some(group), None) => missing(lowering, &group, " needs a 'binding' attribute"),
+        (None, Some(binding)) => missing(lowering, &binding, " needs a 'group' attribute"),
     }
 }
 
-// A variable lacks an attribute.
+// A binding lacks an attribute.
 fn missing<B: ModuleBuilder>(
     lowering: &mut Lowering<B>,
-    name: Extent,
+    attribute: &Attribute,
     text: &'static str,
 ) -> Option<ResourceBinding> {
-    lowering.fail(WgslError::of_name("variable ", name, text));
+    let whole = whole_extent(lowering, attribute);
+    lowering.fail(WgslError::of_name("variable ", whole, text));
     None
+}
+
+// Where the arguments of an attribute stand, without its parentheses.
+pub(crate) fn arguments_extent<B: ModuleBuilder>(
+    lowering: &Lowering<B>,
+    attribute: &Attribute,
+) -> Extent {
+    let first = lowering.step_at(attribute.steps.start);
+    let last = lowering.step_at(attribute.steps.end.saturating_sub(1));
+    match (first, last) {
+        (Some(first), Some(last)) if attribute.steps.count() > 0 => {
+            lowering
+                .extent(first.token)
+                .until(lowering.extent(last.token))
+        }
+        _ => lowering.extent(attribute.token),
+    }
+}
+
+// Where an attribute stands, with its `@`.
+pub(crate) fn whole_extent<B: ModuleBuilder>(
+    lowering: &Lowering<B>,
+    attribute: &Attribute,
+) -> Extent {
+    let start = lowering.extent(attribute.token.saturating_sub(1));
+    let last = lowering.step_at(attribute.steps.end.saturating_sub(1));
+    match last {
+        Some(last) if attribute.steps.count() > 0 => {
+            start.until(lowering.extent(last.token.saturating_add(1)))
+        }
+        _ => start.until(lowering.extent(attribute.token)),
+    }
 }
 
 // Whether it says a stage.
@@ -133,6 +175,24 @@ fn is_of_members(word: AttributeWord) -> bool {
     )
 }
 
+// Whether it is of an extension that is not translated.
+fn is_gated(word: AttributeWord) -> bool {
+    matches!(
+        word,
+        AttributeWord::BlendSrc
+            | AttributeWord::PerPrimitive
+            | AttributeWord::Task
+            | AttributeWord::Mesh
+            | AttributeWord::Payload
+            | AttributeWord::RayGeneration
+            | AttributeWord::AnyHit
+            | AttributeWord::ClosestHit
+            | AttributeWord::Miss
+            | AttributeWord::IncomingPayload
+            | AttributeWord::EarlyDepthTest
+    )
+}
+
 // Each attribute stands before what it is for.
 pub(crate) fn check<B: ModuleBuilder>(lowering: &mut Lowering<B>, part: Part, members: bool) {
     for place in part.start..part.end {
@@ -143,10 +203,7 @@ pub(crate) fn check<B: ModuleBuilder>(lowering: &mut Lowering<B>, part: Part, me
         if is_of_members(attribute.word) != members {
             lowering.fail(WgslError::of_name("unknown attribute: ", extent, ""));
         }
-        if matches!(
-            attribute.word,
-            AttributeWord::BlendSrc | AttributeWord::PerPrimitive
-        ) {
+        if is_gated(attribute.word) {
             lowering.unsupported_name("the attribute ", extent);
         }
     }
@@ -170,16 +227,6 @@ pub(crate) fn stage<B: ModuleBuilder>(
             AttributeWord::Compute => found = Some(ShaderStage::Compute),
             AttributeWord::Vertex => found = Some(ShaderStage::Vertex),
             AttributeWord::Fragment => found = Some(ShaderStage::Fragment),
-            AttributeWord::Task
-            | AttributeWord::Mesh
-            | AttributeWord::RayGeneration
-            | AttributeWord::AnyHit
-            | AttributeWord::ClosestHit
-            | AttributeWord::Miss
-            | AttributeWord::EarlyDepthTest => {
-                let extent = lowering.extent(attribute.token);
-                lowering.unsupported_name("the attribute ", extent);
-            }
             _ => {}
         }
     }

@@ -1,6 +1,6 @@
 // How arguments, results and members are bound.
 
-use crate::attributes::{check, find, number, word_of};
+use crate::attributes::{check, find, number, whole_extent, word_of};
 use crate::builder::ModuleBuilder;
 use ir_flags::Capabilities;
 use ir_kinds::{Binding, BuiltIn, Interpolation, Sampling, ScalarKind};
@@ -129,13 +129,18 @@ pub(crate) fn bound<B: ModuleBuilder>(
     let builtin = find(lowering, part, AttributeWord::Builtin);
     let location = find(lowering, part, AttributeWord::Location);
     let interpolated = find(lowering, part, AttributeWord::Interpolate);
-    let wrong = match (builtin, location, interpolated) {
-        (Some(attribute), Some(_), _) | (Some(attribute), None, Some(_)) => Some(attribute),
-        (None, None, found) => found,
-        _ => None,
+    let invariant = find(lowering, part, AttributeWord::Invariant);
+    let is_wrong = match (builtin, location) {
+        (Some(_), Some(_)) => true,
+        (Some(_), None) => interpolated.is_some(),
+        (None, Some(_)) => invariant.is_some(),
+        (None, None) => interpolated.is_some() || invariant.is_some(),
     };
-    if let Some(attribute) = wrong {
-        let extent = lowering.extent(attribute.token);
+    if is_wrong {
+        let extent = match lowering.tree.attributes.get(part.start as usize).copied() {
+            Some(attribute) => whole_extent(lowering, &attribute),
+            None => Extent::NONE,
+        };
         lowering.wrong("input/output binding is not consistent", extent);
         return None;
     }

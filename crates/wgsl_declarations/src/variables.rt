@@ -197,7 +197,7 @@ pub(crate) fn variable<B: ModuleBuilder>(
     let variable = GlobalVariable {
         name: lowering.name_at(item.token),
         space,
-        binding: binding(lowering, item.attributes, extent),
+        binding: binding(lowering, item.attributes),
         ty: lowering.type_handle(shape, extent),
         init: match init {
             Some(value) => Some(handle_of(value)),
