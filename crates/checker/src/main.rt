@@ -1,12 +1,14 @@
 // Judges the document on standard input. With `--explain` it prints why it is refused, and where, in one line, with `--names` with the
 // error by its name after it, or with `--json` all of it as one JSON object; with `--leaves` what lies inside the buffers of an
 // accepted one, too. With `--spirv` the module of SPIR-V there, in the same forms, and with `--document` the document that it says.
+// With `--wgsl` the text of WGSL there, likewise.
 // With `--lsp` as its first word it is a language server. With `--measure` how often the path that is reported leads to a slip that is known.
 #![tactic(auto)]
 
 mod chosen;
 mod editor;
 mod measure;
+mod wgsl;
 
 use check_choices::Choices;
 use check_explanation::{
@@ -22,6 +24,7 @@ use std::env::{Env, FillError};
 use std::io;
 use std::process::ExitCode;
 use std::str::from_utf8;
+use wgsl::print_wgsl;
 
 // In which form.
 #[derive(Clone, Copy)]
@@ -48,6 +51,7 @@ enum Choice {
 struct Arguments {
     form: Form,
     is_spirv: bool,
+    is_wgsl: bool,
     choices: Choices,
     // of what the next one has the words
     open: Option<Choice>,
@@ -100,6 +104,10 @@ fn take_word(wanted: &mut Arguments, word: &str) -> bool {
             wanted.is_spirv = true;
             return true;
         }
+        "--wgsl" => {
+            wanted.is_wgsl = true;
+            return true;
+        }
         "--without" => {
             wanted.open = Some(Choice::Without);
             return true;
@@ -127,6 +135,7 @@ fn read_arguments(rt: &HostRuntime) -> Option<Arguments> {
     let mut wanted = Arguments {
         form: Form::Verdict,
         is_spirv: false,
+        is_wgsl: false,
         choices: Choices::NONE,
         open: None,
     };
@@ -143,7 +152,8 @@ fn read_arguments(rt: &HostRuntime) -> Option<Arguments> {
         }
     }
     // what is chosen is of modules of SPIR-V
-    let is_whole = wanted.open.is_none() && (wanted.is_spirv || wanted.choices.is_none());
+    let is_one = !(wanted.is_spirv && wanted.is_wgsl);
+    let is_whole = is_one && wanted.open.is_none() && (wanted.is_spirv || wanted.choices.is_none());
     if is_whole { Some(wanted) } else { None }
 }
 
@@ -324,6 +334,8 @@ fn print_all(rt: &HostRuntime, wanted: Arguments, bytes: &[u8]) -> ExitCode {
         print_chosen(rt, wanted.form, &wanted.choices, bytes)
     } else if wanted.is_spirv {
         print_spirv(rt, wanted.form, bytes)
+    } else if wanted.is_wgsl {
+        print_wgsl(rt, wanted.form, bytes)
     } else {
         print_document(rt, wanted.form, bytes)
     }
@@ -346,10 +358,10 @@ fn main(rt: HostRuntime) -> ExitCode {
     let Some(wanted) = read_arguments(&rt) else {
         return fault(
             &rt,
-            "an argument is no form and no choice (see shader-check --help), and not --spirv",
+            "an argument is no form and no choice (see shader-check --help), and not --spirv or --wgsl",
         );
     };
-    if let (Form::Verdict, false) = (wanted.form, wanted.is_spirv) {
+    if let (Form::Verdict, false) = (wanted.form, wanted.is_spirv || wanted.is_wgsl) {
         return judge(&rt);
     }
     let mut source = Source::new(rt.reader());
