@@ -13,10 +13,10 @@ from pathlib import Path
 TOP = Path(__file__).resolve().parent.parent
 CRATES = TOP / "crates"
 # the layers, lowest first, each with the first words of its crates' names; definitions stand on the types that they speak of
-LAYERS = [("ir",), ("typing", "spec", "judgement"), ("module",), ("function",), ("document",), ("spirv",),
+LAYERS = [("ir",), ("typing", "spec", "judgement"), ("module",), ("function",), ("document",), ("spirv",), ("wgsl",),
           ("check", "checker", "editor", "shader"), ("test",)]
-# crates that hand a layer on, and stand in it
-DOORS = {"shader_ir": 0, "shader_typing": 1, "module_validator": 2, "function_validator": 3, "shader_check": 6}
+# crates that hand a layer on, and stand in it; and what knows of lines and columns, on which the reading of WGSL stands
+DOORS = {"shader_ir": 0, "shader_typing": 1, "module_validator": 2, "function_validator": 3, "editor_text": 6, "shader_check": 7}
 
 
 def rank(crate):

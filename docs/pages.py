@@ -14,7 +14,7 @@ from pathlib import Path
 TOP = Path(__file__).resolve().parent.parent
 DOCS = TOP / "docs"
 # the most bytes of each group of pages
-USERS = ["FORMAT", "FRONT_ENDS", "SPIRV", "DIFFERENCES"]
+USERS = ["FORMAT", "FRONT_ENDS", "SPIRV", "WGSL", "DIFFERENCES"]
 BELIEVERS = ["JUDGEMENT", "THEOREMS", "READING"]
 KEEPERS = ["ARCHITECTURE", "CONTRIBUTING", "DECISIONS", "TESTING", "PERFORMANCE"]
 SIZES = [("README.md", ["README.md"], 7_000),

@@ -1,11 +1,13 @@
 // Judges the document on standard input. With `--explain` it prints why it is refused, and where, in one line, with `--names` with the
 // error by its name after it, or with `--json` all of it as one JSON object; with `--leaves` what lies inside the buffers of an
 // accepted one, too. With `--spirv` the module of SPIR-V there, in the same forms, and with `--document` the document that it says.
-// With `--lsp` as its first word it is a language server. Words that are none of these are ignored.
+// With `--wgsl` the text of WGSL there, likewise. With `--lsp` as its first word it is a language server. Words that are none of these
+// are ignored.
 #![tactic(auto)]
 
 mod chosen;
 mod editor;
+mod wgsl;
 
 use check_choices::Choices;
 use check_explanation::{
@@ -20,6 +22,7 @@ use std::env::{Env, FillError};
 use std::io;
 use std::process::ExitCode;
 use std::str::from_utf8;
+use wgsl::print_wgsl;
 
 // In which form.
 #[derive(Clone, Copy)]
@@ -45,6 +48,7 @@ enum Choice {
 struct Arguments {
     form: Form,
     is_spirv: bool,
+    is_wgsl: bool,
     choices: Choices,
     // of what the next one has the words
     open: Option<Choice>,
@@ -96,6 +100,10 @@ fn take_word(wanted: &mut Arguments, word: &str) -> bool {
             wanted.is_spirv = true;
             return true;
         }
+        "--wgsl" => {
+            wanted.is_wgsl = true;
+            return true;
+        }
         "--without" => {
             wanted.open = Some(Choice::Without);
             return true;
@@ -121,6 +129,7 @@ fn read_arguments(rt: &HostRuntime) -> Option<Arguments> {
     let mut wanted = Arguments {
         form: Form::Verdict,
         is_spirv: false,
+        is_wgsl: false,
         choices: Choices::NONE,
         open: None,
     };
@@ -139,7 +148,8 @@ fn read_arguments(rt: &HostRuntime) -> Option<Arguments> {
         }
     }
     // what is chosen is of modules of SPIR-V
-    let is_whole = wanted.open.is_none() && (wanted.is_spirv || wanted.choices.is_none());
+    let is_one = !(wanted.is_spirv && wanted.is_wgsl);
+    let is_whole = is_one && wanted.open.is_none() && (wanted.is_spirv || wanted.choices.is_none());
     if is_whole { Some(wanted) } else { None }
 }
 
@@ -304,6 +314,8 @@ fn print_all(rt: &HostRuntime, wanted: Arguments, bytes: &[u8]) -> ExitCode {
         print_chosen(rt, wanted.form, &wanted.choices, bytes)
     } else if wanted.is_spirv {
         print_spirv(rt, wanted.form, bytes)
+    } else if wanted.is_wgsl {
+        print_wgsl(rt, wanted.form, bytes)
     } else {
         print_document(rt, wanted.form, bytes)
     }
@@ -329,7 +341,7 @@ fn main(rt: HostRuntime) -> ExitCode {
             "--without or --capabilities has a word that it does not take, or no --spirv beside it",
         );
     };
-    if let (Form::Verdict, false) = (wanted.form, wanted.is_spirv) {
+    if let (Form::Verdict, false) = (wanted.form, wanted.is_spirv || wanted.is_wgsl) {
         return judge(&rt);
     }
     let mut source = Source::new(rt.reader());

@@ -1,11 +1,10 @@
 // What attributes say.
 
 use crate::builder::ModuleBuilder;
-use ir_kinds::{Literal, ResourceBinding, Scalar, ShaderStage};
+use ir_kinds::{Literal, ResourceBinding, ShaderStage};
 use wgsl_expressions::{Lowering, Operand, Value};
 use wgsl_text::{Extent, WgslError};
 use wgsl_tree::{Attribute, Part, StepKind};
-use wgsl_values::converted;
 use wgsl_words::AttributeWord;
 
 // The attribute of this name among these.
@@ -28,12 +27,10 @@ pub(crate) fn number_of(value: &Value) -> Option<u32> {
     let Value::Literal(literal) = value else {
         return None;
     };
-    match converted(*literal, Scalar::I32) {
-        Some(Literal::I32(number)) => return u32::try_from(number).ok(),
-        _ => {}
-    }
     match *literal {
+        Literal::I32(number) => u32::try_from(number).ok(),
         Literal::U32(number) => Some(number),
+        Literal::AbstractInt(number) => u32::try_from(number).ok(),
         _ => None,
     }
 }
@@ -54,10 +51,20 @@ pub(crate) fn number<B: ModuleBuilder>(lowering: &mut Lowering<B>, attribute: &A
         Some(first) if given.len() == 1 => number_of(&first.value),
         _ => None,
     };
+    let is_negative = match given.first() {
+        Some(first) => matches!(
+            first.value,
+            Value::Literal(Literal::AbstractInt(number)) if number < 0
+        ),
+        None => false,
+    };
     match found {
         Some(number) => number,
         None => {
-            let extent = lowering.extent(attribute.token);
+            let extent = arguments_extent(lowering, attribute);
+            if is_negative {
+                lowering.wrong("must be non-negative (>= 0)", extent);
+            }
             lowering.wrong(
                 "must be a const-expression that resolves to a concrete integer scalar (`u32` or `i32`)",
                 extent,
@@ -88,7 +95,6 @@ pub(crate) fn word_of<B: ModuleBuilder>(
 pub(crate) fn binding<B: ModuleBuilder>(
     lowering: &mut Lowering<B>,
     part: Part,
-    name: Extent,
 ) -> Option<ResourceBinding> {
     let group = find(lowering, part, AttributeWord::Group);
     let binding = find(lowering, part, AttributeWord::Binding);
@@ -98,19 +104,109 @@ pub(crate) fn binding<B: ModuleBuilder>(
             binding: number(lowering, &binding),
         }),
         (None, None) => None,
-        (Some(_), None) => missing(lowering, name, " needs a `binding` attribute"),
-        (None, Some(_)) => missing(lowering, name, " needs a `group` attribute"),
+        (Some(group), None) => missing(lowering, &group, " needs a 'binding' attribute"),
+        (None, Some(binding)) => missing(lowering, &binding, " needs a 'group' attribute"),
     }
 }
 
-// A variable lacks an attribute.
+// A binding lacks an attribute.
 fn missing<B: ModuleBuilder>(
     lowering: &mut Lowering<B>,
-    name: Extent,
+    attribute: &Attribute,
     text: &'static str,
 ) -> Option<ResourceBinding> {
-    lowering.fail(WgslError::of_name("variable ", name, text));
+    let whole = whole_extent(lowering, attribute);
+    lowering.fail(WgslError::of_name("variable ", whole, text));
     None
+}
+
+// Where the arguments of an attribute stand, without its parentheses.
+pub(crate) fn arguments_extent<B: ModuleBuilder>(
+    lowering: &Lowering<B>,
+    attribute: &Attribute,
+) -> Extent {
+    let first = lowering.step_at(attribute.steps.start);
+    let last = lowering.step_at(attribute.steps.end.saturating_sub(1));
+    match (first, last) {
+        (Some(first), Some(last)) if attribute.steps.count() > 0 => {
+            lowering
+                .extent(first.token)
+                .until(lowering.extent(last.token))
+        }
+        _ => lowering.extent(attribute.token),
+    }
+}
+
+// Where an attribute stands, with its `@`.
+pub(crate) fn whole_extent<B: ModuleBuilder>(
+    lowering: &Lowering<B>,
+    attribute: &Attribute,
+) -> Extent {
+    let start = lowering.extent(attribute.token.saturating_sub(1));
+    let last = lowering.step_at(attribute.steps.end.saturating_sub(1));
+    match last {
+        Some(last) if attribute.steps.count() > 0 => {
+            start.until(lowering.extent(last.token.saturating_add(1)))
+        }
+        _ => start.until(lowering.extent(attribute.token)),
+    }
+}
+
+// Whether it says a stage.
+fn is_stage(word: AttributeWord) -> bool {
+    matches!(
+        word,
+        AttributeWord::Compute | AttributeWord::Vertex | AttributeWord::Fragment
+    )
+}
+
+// Whether it stands before members, arguments and results.
+fn is_of_members(word: AttributeWord) -> bool {
+    matches!(
+        word,
+        AttributeWord::Align
+            | AttributeWord::Size
+            | AttributeWord::Builtin
+            | AttributeWord::Location
+            | AttributeWord::Interpolate
+            | AttributeWord::Invariant
+            | AttributeWord::BlendSrc
+            | AttributeWord::PerPrimitive
+    )
+}
+
+// Whether it is of an extension that is not translated.
+fn is_gated(word: AttributeWord) -> bool {
+    matches!(
+        word,
+        AttributeWord::BlendSrc
+            | AttributeWord::PerPrimitive
+            | AttributeWord::Task
+            | AttributeWord::Mesh
+            | AttributeWord::Payload
+            | AttributeWord::RayGeneration
+            | AttributeWord::AnyHit
+            | AttributeWord::ClosestHit
+            | AttributeWord::Miss
+            | AttributeWord::IncomingPayload
+            | AttributeWord::EarlyDepthTest
+    )
+}
+
+// Each attribute stands before what it is for.
+pub(crate) fn check<B: ModuleBuilder>(lowering: &mut Lowering<B>, part: Part, members: bool) {
+    for place in part.start..part.end {
+        let Some(attribute) = lowering.tree.attributes.get(place as usize).copied() else {
+            break;
+        };
+        let extent = lowering.extent(attribute.token);
+        if is_of_members(attribute.word) != members {
+            lowering.fail(WgslError::of_name("unknown attribute: ", extent, ""));
+        }
+        if is_gated(attribute.word) {
+            lowering.unsupported_name("the attribute ", extent);
+        }
+    }
 }
 
 // The stage of a function, if it is an entry point.
@@ -123,20 +219,14 @@ pub(crate) fn stage<B: ModuleBuilder>(
         let Some(attribute) = lowering.tree.attributes.get(place as usize).copied() else {
             break;
         };
+        if found.is_some() && is_stage(attribute.word) {
+            let extent = lowering.extent(attribute.token);
+            lowering.fail(WgslError::of_name("repeated attribute: ", extent, ""));
+        }
         match attribute.word {
             AttributeWord::Compute => found = Some(ShaderStage::Compute),
             AttributeWord::Vertex => found = Some(ShaderStage::Vertex),
             AttributeWord::Fragment => found = Some(ShaderStage::Fragment),
-            AttributeWord::Task
-            | AttributeWord::Mesh
-            | AttributeWord::RayGeneration
-            | AttributeWord::AnyHit
-            | AttributeWord::ClosestHit
-            | AttributeWord::Miss
-            | AttributeWord::EarlyDepthTest => {
-                let extent = lowering.extent(attribute.token);
-                lowering.unsupported_name("the attribute ", extent);
-            }
             _ => {}
         }
     }

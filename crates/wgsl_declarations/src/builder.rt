@@ -1,6 +1,7 @@
 // What modules are written into.
 
-use ir_items::{FunctionArgument, FunctionResult, GlobalVariable};
+use ir_flags::Capabilities;
+use ir_items::{Constant, FunctionArgument, FunctionResult, GlobalVariable, Override};
 use ir_kinds::ShaderStage;
 use wgsl_text::Extent;
 use wgsl_types::Builder;
@@ -21,6 +22,15 @@ pub trait ModuleBuilder: Builder {
 
     /// A variable of the module; answers its number.
     fn variable(&mut self, variable: GlobalVariable, extent: Extent) -> u32;
+
+    /// The module uses this.
+    fn require(&mut self, capability: Capabilities);
+
+    /// A constant of the module; answers its number.
+    fn constant(&mut self, constant: Constant, extent: Extent) -> u32;
+
+    /// An override; answers its number.
+    fn overridable(&mut self, overridable: Override, extent: Extent) -> u32;
 
     /// Ends a function, whose body is the block that is open; answers its number.
     fn end_function(

@@ -1,6 +1,6 @@
 // Functions and entry points.
 
-use crate::attributes::{find, stage, workgroup_size};
+use crate::attributes::{binding, find, stage, workgroup_size};
 use crate::builder::{EntryHead, ModuleBuilder};
 use crate::interface::bound;
 use crate::structs::shape_of;
@@ -107,6 +107,7 @@ pub(crate) fn function<B: ModuleBuilder>(
 ) -> Declared {
     let name = lowering.extent(item.token);
     let stage = stage(lowering, item.attributes);
+    let _ = binding(lowering, item.attributes);
     let size = match stage {
         Some(ShaderStage::Compute) => workgroup_size(lowering, item.attributes, name),
         _ => [0, 0, 0],

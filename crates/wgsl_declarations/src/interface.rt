@@ -1,10 +1,11 @@
 // How arguments, results and members are bound.
 
-use crate::attributes::{find, number, word_of};
+use crate::attributes::{check, find, number, whole_extent, word_of};
 use crate::builder::ModuleBuilder;
+use ir_flags::Capabilities;
 use ir_kinds::{Binding, BuiltIn, Interpolation, Sampling, ScalarKind};
 use wgsl_expressions::Lowering;
-use wgsl_text::WgslError;
+use wgsl_text::{Extent, WgslError};
 use wgsl_tree::{Attribute, Part};
 use wgsl_types::Shape;
 use wgsl_words::{AttributeWord, built_in_of, interpolation_of, sampling_of};
@@ -20,11 +21,36 @@ fn built_in<B: ModuleBuilder>(
     let invariant = find(lowering, part, AttributeWord::Invariant).is_some();
     match found {
         Some(BuiltIn::Position { .. }) => Some(Binding::BuiltIn(BuiltIn::Position { invariant })),
-        Some(built_in) => Some(Binding::BuiltIn(built_in)),
+        Some(built_in) => {
+            require_built_in(lowering, built_in, extent);
+            Some(Binding::BuiltIn(built_in))
+        }
         None => {
             lowering.fail(WgslError::of_name("unknown builtin: ", extent, ""));
             None
         }
+    }
+}
+
+// What a built-in value requires.
+fn require_built_in<B: ModuleBuilder>(
+    lowering: &mut Lowering<B>,
+    built_in: BuiltIn,
+    extent: Extent,
+) {
+    let enabled = lowering.tree.enabled.0;
+    let wanted = match built_in {
+        BuiltIn::PrimitiveIndex => Capabilities::PRIMITIVE_INDEX.0,
+        BuiltIn::ClipDistances => Capabilities::CLIP_DISTANCES.0,
+        BuiltIn::DrawIndex => Capabilities::DRAW_INDEX.0,
+        BuiltIn::SampleIndex => {
+            lowering.builder.require(Capabilities::MULTISAMPLED_SHADING);
+            0
+        }
+        _ => 0,
+    };
+    if wanted & enabled != wanted {
+        lowering.fail(WgslError::of_name("the extension for ", extent, " is not enabled"));
     }
 }
 
@@ -76,6 +102,9 @@ fn located<B: ModuleBuilder>(
     if is_between && sampling.is_none() {
         sampling = Some(Sampling::Center);
     }
+    if sampling == Some(Sampling::Sample) {
+        lowering.builder.require(Capabilities::MULTISAMPLED_SHADING);
+    }
     let blend = find(lowering, part, AttributeWord::BlendSrc);
     let blend_src = match blend {
         Some(attribute) => Some(number(lowering, &attribute)),
@@ -96,9 +125,28 @@ pub(crate) fn bound<B: ModuleBuilder>(
     part: Part,
     shape: Shape,
 ) -> Option<Binding> {
-    if let Some(attribute) = find(lowering, part, AttributeWord::Builtin) {
+    check(lowering, part, true);
+    let builtin = find(lowering, part, AttributeWord::Builtin);
+    let location = find(lowering, part, AttributeWord::Location);
+    let interpolated = find(lowering, part, AttributeWord::Interpolate);
+    let invariant = find(lowering, part, AttributeWord::Invariant);
+    let is_wrong = match (builtin, location) {
+        (Some(_), Some(_)) => true,
+        (Some(_), None) => interpolated.is_some(),
+        (None, Some(_)) => invariant.is_some(),
+        (None, None) => interpolated.is_some() || invariant.is_some(),
+    };
+    if is_wrong {
+        let extent = match lowering.tree.attributes.get(part.start as usize).copied() {
+            Some(attribute) => whole_extent(lowering, &attribute),
+            None => Extent::NONE,
+        };
+        lowering.wrong("input/output binding is not consistent", extent);
+        return None;
+    }
+    if let Some(attribute) = builtin {
         return built_in(lowering, &attribute, part);
     }
-    let attribute = find(lowering, part, AttributeWord::Location)?;
+    let attribute = location?;
     Some(located(lowering, &attribute, part, shape))
 }

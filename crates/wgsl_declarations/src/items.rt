@@ -1,27 +1,41 @@
 // All items, each after those that it names.
 
+use crate::attributes::{check, find};
 use crate::builder::ModuleBuilder;
 use crate::functions::function;
 use crate::structs::{shape_of, structure};
-use crate::variables::{assertion, constant, variable};
+use crate::variables::{assertion, constant, overridable, variable};
 use wgsl_expressions::{Declared, Lowering};
 use wgsl_tree::{Item, ItemKind};
+use wgsl_words::AttributeWord;
 
 // An item.
 fn declared<B: ModuleBuilder>(lowering: &mut Lowering<B>, item: &Item) -> Declared {
+    check(lowering, item.attributes, false);
+    if !matches!(item.kind, ItemKind::Function(_)) {
+        let must_use = find(lowering, item.attributes, AttributeWord::MustUse);
+        if let Some(attribute) = must_use {
+            let extent = lowering.extent(attribute.token);
+            lowering.wrong(
+                "attribute `@must_use` is only valid on function declarations",
+                extent,
+            );
+        }
+    }
     match item.kind {
         ItemKind::Const(is_typed) => constant(lowering, item, is_typed),
-        ItemKind::Override { .. } => {
-            let extent = lowering.extent(item.token);
-            lowering.unsupported_name("the override ", extent);
-            Declared::Nothing
-        }
+        ItemKind::Override { typed, init } => overridable(lowering, item, typed, init),
         ItemKind::Variable {
             templates,
             typed,
             init,
         } => variable(lowering, item, templates, typed, init),
-        ItemKind::Alias => Declared::Type(shape_of(lowering, item.steps)),
+        ItemKind::Alias => {
+            let shape = shape_of(lowering, item.steps);
+            let extent = lowering.extent(item.token);
+            let _ = lowering.type_handle(shape, extent);
+            Declared::Type(shape)
+        }
         ItemKind::Struct => structure(lowering, item),
         ItemKind::Function(has_result) => function(lowering, item, has_result),
         ItemKind::ConstAssert => assertion(lowering, item),

@@ -1,13 +1,13 @@
 // Structs.
 
-use crate::attributes::{find, number};
+use crate::attributes::{arguments_extent, find, number};
 use crate::builder::ModuleBuilder;
 use crate::interface::bound;
-use ir_types::StructMember;
+use ir_types::{ArraySize, StructMember};
 use wgsl_expressions::{Declared, Lowering};
-use wgsl_text::{Extent, Failure};
+use wgsl_text::Failure;
 use wgsl_tree::{Item, Member, Part};
-use wgsl_types::{Layout, Shape, TypeMember};
+use wgsl_types::{Layout, RowKind, Shape, TypeMember};
 use wgsl_words::AttributeWord;
 
 // How many members a struct may have.
@@ -20,16 +20,24 @@ pub(crate) fn shape_of<B: ModuleBuilder>(lowering: &mut Lowering<B>, steps: Part
     lowering.type_of(&operand)
 }
 
+// Whether it is an array as long as its buffer.
+fn is_unbounded<B: ModuleBuilder>(lowering: &Lowering<B>, shape: Shape) -> bool {
+    match lowering.table.row(shape) {
+        Some(row) => matches!(row.kind, RowKind::Array(_, ArraySize::Dynamic)),
+        None => false,
+    }
+}
+
 // How a member lies in memory, with what its attributes say.
 fn layout_of<B: ModuleBuilder>(
     lowering: &mut Lowering<B>,
     member: &Member,
     shape: Shape,
-    extent: Extent,
 ) -> Layout {
     let mut layout = lowering.table.layout(shape);
     if let Some(attribute) = find(lowering, member.attributes, AttributeWord::Align) {
         let alignment = u64::from(number(lowering, &attribute));
+        let extent = arguments_extent(lowering, &attribute);
         if alignment < layout.alignment {
             lowering.wrong(
                 "struct member alignment must be at least that of its type",
@@ -43,6 +51,13 @@ fn layout_of<B: ModuleBuilder>(
     }
     if let Some(attribute) = find(lowering, member.attributes, AttributeWord::Size) {
         let size = u64::from(number(lowering, &attribute));
+        let extent = arguments_extent(lowering, &attribute);
+        if is_unbounded(lowering, shape) {
+            lowering.wrong(
+                "@size attribute requires a type with creation-fixed footprint",
+                extent,
+            );
+        }
         if size < layout.size {
             lowering.wrong(
                 "struct member size must be at least that of its type",
@@ -68,7 +83,7 @@ impl Built {
     fn add<B: ModuleBuilder>(&mut self, lowering: &mut Lowering<B>, member: &Member) {
         let extent = lowering.extent(member.token);
         let shape = shape_of(lowering, member.steps);
-        let layout = layout_of(lowering, member, shape, extent);
+        let layout = layout_of(lowering, member, shape);
         let offset = layout.round(self.layout.size);
         let built = StructMember {
             name: lowering.name_at(member.token),

@@ -1,9 +1,9 @@
 // Constants and variables of the module.
 
-use crate::attributes::{binding, find};
+use crate::attributes::{binding, find, number};
 use crate::builder::ModuleBuilder;
 use ir_flags::MemoryDecorations;
-use ir_items::GlobalVariable;
+use ir_items::{Constant, GlobalVariable, Override};
 use ir_kinds::{AddressSpace, Literal};
 use wgsl_expressions::{Declared, Lowering, Operand, Value, handle_of};
 use wgsl_text::{Extent, WgslError};
@@ -17,6 +17,97 @@ fn other_type<B: ModuleBuilder>(lowering: &mut Lowering<B>, name: Extent) -> Dec
     let text = " is expected to be of another type than its value";
     lowering.fail(WgslError::of_name("the type of ", name, text));
     Declared::Nothing
+}
+
+// A scalar that is known. Its type is one of the module's, if it is no abstract one.
+fn known<B: ModuleBuilder>(lowering: &mut Lowering<B>, literal: Literal, name: Extent) -> Declared {
+    let scalar = literal.scalar();
+    if !scalar.is_abstract() {
+        let _ = lowering.type_handle(Shape::Scalar(scalar), name);
+    }
+    Declared::Literal(literal)
+}
+
+// A constant that is no scalar.
+fn composite<B: ModuleBuilder>(
+    lowering: &mut Lowering<B>,
+    item: &Item,
+    value: u32,
+    shape: Shape,
+) -> Declared {
+    let extent = lowering.extent(item.token);
+    let constant = Constant {
+        name: lowering.name_at(item.token),
+        ty: lowering.type_handle(shape, extent),
+        init: handle_of(value),
+    };
+    Declared::Constant(lowering.builder.constant(constant, extent), shape)
+}
+
+// An `override`.
+pub(crate) fn overridable<B: ModuleBuilder>(
+    lowering: &mut Lowering<B>,
+    item: &Item,
+    is_typed: bool,
+    has_init: bool,
+) -> Declared {
+    let extent = lowering.extent(item.token);
+    lowering.run(item.steps);
+    let operand = if has_init {
+        lowering.pop()
+    } else {
+        Operand::NOTHING
+    };
+    let wanted = if is_typed {
+        let ty = lowering.pop();
+        Some(lowering.type_of(&ty))
+    } else {
+        None
+    };
+    let (init, shape) = initial(lowering, operand, has_init, wanted, extent);
+    let id = match find(lowering, item.attributes, AttributeWord::Id) {
+        Some(attribute) => {
+            let id = u16::try_from(number(lowering, &attribute)).ok();
+            if id.is_none() {
+                lowering.wrong("the number of an override has to be below 65536", extent);
+            }
+            id
+        }
+        None => None,
+    };
+    let made = Override {
+        name: lowering.name_at(item.token),
+        id,
+        ty: lowering.type_handle(shape, extent),
+        init: match init {
+            Some(value) => Some(handle_of(value)),
+            None => None,
+        },
+    };
+    Declared::Override(lowering.builder.overridable(made, extent), shape)
+}
+
+// What a variable or an override begins as, and its type.
+fn initial<B: ModuleBuilder>(
+    lowering: &mut Lowering<B>,
+    operand: Operand,
+    has_init: bool,
+    wanted: Option<Shape>,
+    extent: Extent,
+) -> (Option<u32>, Shape) {
+    match (has_init, wanted) {
+        (true, Some(shape)) => (Some(lowering.value_for(operand, shape)), shape),
+        (true, None) => {
+            let (value, shape) = lowering.value(operand);
+            (Some(value), shape)
+        }
+        (false, Some(shape)) => (None, shape),
+        (false, None) => {
+            let text = " needs a type specifier or initializer";
+            lowering.fail(WgslError::of_name("declaration of ", extent, text));
+            (None, Shape::None)
+        }
+    }
 }
 
 // A `const`.
@@ -36,14 +127,18 @@ pub(crate) fn constant<B: ModuleBuilder>(
     let name = lowering.extent(item.token);
     match (operand.value, wanted) {
         (Value::Literal(literal), Some(Shape::Scalar(scalar))) => match converted(literal, scalar) {
-            Some(literal) => Declared::Literal(literal),
+            Some(literal) => known(lowering, literal, name),
             None => other_type(lowering, name),
         },
-        (Value::Literal(literal), None) => Declared::Literal(literal),
+        (Value::Literal(literal), None) => known(lowering, literal, name),
         (Value::Parts(start, size), None) => Declared::Parts(start, size),
-        _ => {
-            lowering.unsupported("a constant that is no number", operand.extent);
-            Declared::Nothing
+        (_, Some(shape)) => {
+            let value = lowering.value_for(operand, shape);
+            composite(lowering, item, value, shape)
+        }
+        (_, None) => {
+            let (value, shape) = lowering.value(operand);
+            composite(lowering, item, value, shape)
         }
     }
 }
@@ -93,19 +188,7 @@ pub(crate) fn variable<B: ModuleBuilder>(
     };
     let given = lowering.take(u32::from(templates));
     let space = space_of(lowering, &given);
-    let (init, shape) = match (has_init, wanted) {
-        (true, Some(shape)) => (Some(lowering.value_for(operand, shape)), shape),
-        (true, None) => {
-            let (value, shape) = lowering.value(operand);
-            (Some(value), shape)
-        }
-        (false, Some(shape)) => (None, shape),
-        (false, None) => {
-            let text = " needs a type specifier or initializer";
-            lowering.fail(WgslError::of_name("declaration of ", extent, text));
-            (None, Shape::None)
-        }
-    };
+    let (init, shape) = initial(lowering, operand, has_init, wanted, extent);
     if find(lowering, item.attributes, AttributeWord::Coherent).is_some()
         || find(lowering, item.attributes, AttributeWord::Volatile).is_some()
     {
@@ -114,7 +197,7 @@ pub(crate) fn variable<B: ModuleBuilder>(
     let variable = GlobalVariable {
         name: lowering.name_at(item.token),
         space,
-        binding: binding(lowering, item.attributes, extent),
+        binding: binding(lowering, item.attributes),
         ty: lowering.type_handle(shape, extent),
         init: match init {
             Some(value) => Some(handle_of(value)),

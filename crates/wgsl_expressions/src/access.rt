@@ -151,6 +151,11 @@ impl<B: Builder> Lowering<B> {
         let base = self.pop();
         let field = self.extent(token);
         let extent = base.extent.until(field);
+        if let Some(literal) = self.known_component(&base, name) {
+            let value = Value::Literal(literal);
+            self.push(Operand { value, extent });
+            return;
+        }
         let whole = self.whole(base);
         let value = match whole.shape {
             Shape::Vector(size, _) => self.components(&whole, size, name, extent),
@@ -162,6 +167,20 @@ impl<B: Builder> Lowering<B> {
                 self.fail(WgslError::of_name("invalid field accessor ", field, ""));
                 self.push(Operand::NOTHING);
             }
+        }
+    }
+
+    // The one component that is named of a vector that is known.
+    fn known_component(&self, base: &Operand, name: u32) -> Option<Literal> {
+        let Value::Parts(start, size) = base.value else {
+            return None;
+        };
+        let (pattern, count) = swizzle_of(self.tree.tokens.word(name), size)?;
+        match pattern.first() {
+            Some(component) if count == 1 => Some(self.part(start.saturating_add(
+                component.index(),
+            ))),
+            _ => None,
         }
     }
 

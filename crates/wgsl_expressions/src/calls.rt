@@ -175,10 +175,10 @@ impl<B: Builder> Lowering<B> {
         if !self.check_count(arguments, 3, extent) {
             return Operand::NOTHING;
         }
-        let (choices, conditions) = arguments.split_at(2);
+        let choices = arguments.get(..2).unwrap_or(&[]);
         let scalar = self.argument_scalar(choices, true);
         let (values, shape) = self.values(choices, scalar);
-        let condition = match conditions.first() {
+        let condition = match arguments.get(2) {
             Some(condition) => self.value(*condition).0,
             None => 0,
         };

@@ -37,7 +37,7 @@ impl<B: Builder> Lowering<B> {
     }
 
     // A value of a scalar type, converted.
-    fn convert(&mut self, argument: Operand, to: Scalar, extent: Extent) -> Operand {
+    fn convert(&mut self, argument: Operand, wanted: Shape, to: Scalar, extent: Extent) -> Operand {
         let argument = self.load(argument);
         if let Value::Literal(literal) = argument.value {
             if let Some(made) = cast(literal, to) {
@@ -48,6 +48,9 @@ impl<B: Builder> Lowering<B> {
             }
         }
         let (value, shape) = self.value_as(argument, to);
+        if shape.with_scalar(to) != wanted {
+            self.wrong("cannot cast a value of this type", argument.extent);
+        }
         let converted = Expression::As {
             expr: handle_of(value),
             kind: to.kind,
@@ -77,7 +80,7 @@ impl<B: Builder> Lowering<B> {
                 );
             }
             let loaded = Operand::computed(value, Shape::Vector(other, scalar), argument.extent);
-            return self.convert(loaded, to, extent);
+            return self.convert(loaded, Shape::Vector(size, to), to, extent);
         }
         let value = handle_of(value);
         let splat = self.compute(Expression::Splat { size, value }, extent);
@@ -186,7 +189,7 @@ impl<B: Builder> Lowering<B> {
                 if let Some(more) = arguments.get(1) {
                     self.wrong("unexpected components", more.extent);
                 }
-                self.convert(*first, to, extent)
+                self.convert(*first, shape, to, extent)
             }
             Shape::Vector(size, to) if arguments.len() == 1 => {
                 self.vector_of_one(size, to, *first, extent)
@@ -195,7 +198,9 @@ impl<B: Builder> Lowering<B> {
                 let numbers = self.numbers(arguments, to);
                 self.compose(shape, &numbers, extent)
             }
-            Shape::Matrix(_, _, to) if arguments.len() == 1 => self.convert(*first, to, extent),
+            Shape::Matrix(_, _, to) if arguments.len() == 1 => {
+                self.convert(*first, shape, to, extent)
+            }
             Shape::Matrix(columns, rows, to) => self.matrix(columns, rows, to, arguments, extent),
             _ => match self.table.row(shape) {
                 Some(row) => match row.kind {
@@ -212,6 +217,17 @@ impl<B: Builder> Lowering<B> {
     fn not_constructible(&mut self, extent: Extent) -> Operand {
         self.wrong("the type is not constructible", extent);
         Operand::NOTHING
+    }
+
+    // Whether each argument is of an abstract number.
+    fn are_abstract(&self, arguments: &[Operand]) -> bool {
+        for argument in arguments {
+            match self.scalar_of(argument) {
+                Some(scalar) if scalar.is_abstract() => {}
+                _ => return false,
+            }
+        }
+        true
     }
 
     // The scalar that the arguments have in common: that of the first that is not abstract, or what the abstract ones become.
@@ -292,6 +308,9 @@ impl<B: Builder> Lowering<B> {
 
     // An array of the type of these elements.
     fn infer_array(&mut self, arguments: &[Operand], extent: Extent) -> Operand {
+        if self.are_abstract(arguments) {
+            self.unsupported("an array of abstract numbers", extent);
+        }
         let scalar = self.consensus(arguments);
         let element = match arguments.first() {
             Some(first) => self.value_as(*first, scalar).1,

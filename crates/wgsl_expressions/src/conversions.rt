@@ -78,7 +78,12 @@ impl<B: Builder> Lowering<B> {
     }
 
     /// A name stands for nothing.
-    pub fn undefined(&mut self, _name: u32, extent: Extent) {
+    pub fn undefined(&mut self, name: u32, extent: Extent) {
+        let word = self.tree.tokens.word(name);
+        let is_of_rays = word.starts_with(b"RAY_FLAG_") || word.starts_with(b"RAY_QUERY_");
+        if is_of_rays {
+            self.unsupported_name("the constant ", extent);
+        }
         self.fail(WgslError::of_name("no definition in scope for identifier: ", extent, ""));
     }
 

@@ -26,6 +26,10 @@ pub enum Declared {
     Literal(Literal),
     /// A vector that is known, by its places in the table of scalars.
     Parts(u32, VectorSize),
+    /// A constant of the module: its number and its type.
+    Constant(u32, Shape),
+    /// An override: its number and its type.
+    Override(u32, Shape),
     /// A type.
     Type(Shape),
     /// A variable: its number, its type, and where it lies.

@@ -44,6 +44,14 @@ impl<B: Builder> Lowering<B> {
         match item {
             Declared::Literal(literal) => Value::Literal(literal),
             Declared::Parts(start, size) => Value::Parts(start, size),
+            Declared::Constant(number, shape) => {
+                let handle = Handle::at(number.min(4_294_967_294) as usize);
+                Value::Computed(self.place(Expression::Constant(handle), extent), shape)
+            }
+            Declared::Override(number, shape) => {
+                let handle = Handle::at(number.min(4_294_967_294) as usize);
+                Value::Computed(self.place(Expression::Override(handle), extent), shape)
+            }
             Declared::Type(shape) => Value::Type(shape),
             Declared::Variable(number, shape, space) => self.variable(number, shape, space, extent),
             Declared::Function(entry) => Value::Function(entry),

@@ -11,7 +11,9 @@ impl<B: Builder> Lowering<B> {
     fn literal(&mut self, place: u32, token: u32) {
         let extent = self.extent(token);
         let literal = self.tree.literals.get(place as usize).copied();
-        let value = Value::Literal(literal.unwrap_or(Literal::Bool(false)));
+        let literal = literal.unwrap_or(Literal::Bool(false));
+        self.check_scalar(Some(literal.scalar()), extent);
+        let value = Value::Literal(literal);
         self.push(Operand { value, extent });
     }
 

@@ -2,16 +2,41 @@
 
 use crate::lowering::Lowering;
 use crate::values::{Operand, Value};
-use ir_flags::StorageAccess;
-use ir_kinds::{AddressSpace, Literal, Scalar, VectorSize};
+use ir_flags::{Capabilities, StorageAccess};
+use ir_kinds::{AddressSpace, Literal, Scalar, ScalarKind, VectorSize};
 use ir_types::ArraySize;
 use wgsl_text::{Extent, WgslError};
 use wgsl_types::{Builder, Shape};
 use wgsl_words::{FunctionWord, TypeWord, access_of, space_of};
 
 impl<B: Builder> Lowering<B> {
+    /// A scalar of a width that an extension has to enable.
+    pub fn check_scalar(&mut self, scalar: Option<Scalar>, extent: Extent) {
+        let enabled = self.tree.enabled.0;
+        match scalar {
+            Some(scalar) if scalar == Scalar::F16 => {
+                if enabled & Capabilities::SHADER_FLOAT16.0 == 0 {
+                    self.wrong("the `f16` enable extension is not enabled", extent);
+                }
+            }
+            Some(scalar) if scalar == Scalar::I16 || scalar == Scalar::U16 => {
+                if enabled & Capabilities::SHADER_INT16.0 == 0 {
+                    self.wrong("the `wgpu_int16` enable extension is not enabled", extent);
+                }
+            }
+            _ => {}
+        }
+    }
+
     /// The type that an expression is.
     pub fn type_of(&mut self, operand: &Operand) -> Shape {
+        let shape = self.named_type(operand);
+        self.check_scalar(shape.scalar(), operand.extent);
+        shape
+    }
+
+    // The type that an expression names.
+    fn named_type(&mut self, operand: &Operand) -> Shape {
         let extent = operand.extent;
         match operand.value {
             Value::Type(shape) => shape,
@@ -115,6 +140,8 @@ impl<B: Builder> Lowering<B> {
     fn access(&mut self, operand: &Operand) -> StorageAccess {
         let access = match operand.value {
             Value::Word(name) => access_of(self.tree.tokens.word(name)),
+            // its name is that of a type, too
+            Value::Maker(TypeWord::Atomic) => access_of(b"atomic"),
             _ => None,
         };
         match access {
@@ -181,6 +208,10 @@ impl<B: Builder> Lowering<B> {
     // A matrix type.
     fn matrix_type(&mut self, columns: VectorSize, rows: VectorSize, first: &Operand) -> Shape {
         let scalar = self.scalar_type(first);
+        if scalar.kind != ScalarKind::Float {
+            let text = "matrix scalar type must be floating-point, but found ";
+            self.fail(WgslError::of_name(text, first.extent, ""));
+        }
         Shape::Matrix(columns, rows, scalar)
     }
 

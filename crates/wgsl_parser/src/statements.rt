@@ -28,11 +28,11 @@ impl Blocks {
     fn enter(&mut self, parser: &mut Parser, around: Around) {
         let extent = parser.extent();
         parser.expect(TokenKind::BraceOpen, "expected `{`");
-        if self.open.len() >= MAX_BRACES || self.depth >= MAX_DEPTH {
+        self.depth = self.depth.saturating_add(blocks_of(around));
+        if self.open.len() >= MAX_BRACES || self.depth > MAX_DEPTH {
             let error = WgslError::unsupported("blocks nested more than 255 deep", extent);
             parser.failed.fail(error);
         }
-        self.depth = self.depth.saturating_add(blocks_of(around));
         parser.failed.push(&mut self.open, around);
     }
 

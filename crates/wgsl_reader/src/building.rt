@@ -3,9 +3,10 @@
 use crate::body::Body;
 use crate::budget::{Budget, expression_size, type_size};
 use ir_arena::arena::Arena;
+use ir_flags::Capabilities;
 use ir_items::{
-    Block, EntryPoint, Expression, Function, FunctionArgument, FunctionResult, GlobalVariable,
-    IrType, LocalVariable, Statement, key,
+    Block, Constant, EntryPoint, Expression, Function, FunctionArgument, FunctionResult,
+    GlobalVariable, IrType, LocalVariable, Override, Statement, key,
 };
 use ir_sets::keyed::KeyedState;
 use ir_sets::unique_arena::UniqueArena;
@@ -14,14 +15,17 @@ use wgsl_declarations::{EntryHead, ModuleBuilder};
 use wgsl_text::{Extent, Failure, WgslError};
 use wgsl_types::{Builder, ExpressionHandle, TypeHandle, no_expression, no_type, span_of};
 
-// The types, variables, expressions, functions and entry points of a module.
-pub(crate) type Parts = (
-    UniqueArena<IrType, key::IrType>,
-    Arena<GlobalVariable, key::GlobalVariable>,
-    Arena<Expression, key::Expression>,
-    Arena<Function, key::Function>,
-    Vec<EntryPoint>,
-);
+// The parts of a module.
+#[derive(Drop)]
+pub(crate) struct Parts {
+    pub types: UniqueArena<IrType, key::IrType>,
+    pub variables: Arena<GlobalVariable, key::GlobalVariable>,
+    pub expressions: Arena<Expression, key::Expression>,
+    pub functions: Arena<Function, key::Function>,
+    pub entries: Vec<EntryPoint>,
+    pub constants: Arena<Constant, key::Constant>,
+    pub overrides: Arena<Override, key::Override>,
+}
 
 // A module as it comes.
 #[derive(Drop)]
@@ -36,6 +40,10 @@ pub(crate) struct Building {
     is_global: bool,
     budget: Budget,
     pub failed: Failure,
+    // the capabilities that it uses
+    pub used: Capabilities,
+    constants: Arena<Constant, key::Constant>,
+    overrides: Arena<Override, key::Override>,
 }
 
 impl Building {
@@ -52,6 +60,9 @@ impl Building {
             is_global: true,
             budget: Budget::of(tokens),
             failed: Failure::NONE,
+            used: Capabilities(0),
+            constants: Arena::new(alloc),
+            overrides: Arena::new(alloc),
         }
     }
 
@@ -68,8 +79,19 @@ impl Building {
             is_global: _,
             budget: _,
             failed: _,
+            used: _,
+            constants,
+            overrides,
         } = self;
-        (types, variables, expressions, functions, entries)
+        Parts {
+            types,
+            variables,
+            expressions,
+            functions,
+            entries,
+            constants,
+            overrides,
+        }
     }
 
     // So many parts are made; answers whether they may be.
@@ -128,6 +150,13 @@ impl Builder for Building {
             return no_expression();
         }
         if self.is_global {
+            if !matches!(
+                expression,
+                Expression::Compose { .. } | Expression::Splat { .. }
+            ) {
+                let text = "such an operation on constants that are no numbers";
+                self.failed.fail(WgslError::unsupported(text, extent));
+            }
             return self.global(expression, extent);
         }
         let made = self.body.compute(expression, span_of(extent));
@@ -187,6 +216,30 @@ impl ModuleBuilder for Building {
 
     fn variable(&mut self, variable: GlobalVariable, extent: Extent) -> u32 {
         match self.variables.append(variable, span_of(extent)) {
+            Ok(handle) => u32::try_from(handle.index()).unwrap_or(u32::MAX),
+            Err(_) => {
+                self.failed.fail_memory();
+                0
+            }
+        }
+    }
+
+    fn require(&mut self, capability: Capabilities) {
+        self.used = Capabilities(self.used.0 | capability.0);
+    }
+
+    fn constant(&mut self, constant: Constant, extent: Extent) -> u32 {
+        match self.constants.append(constant, span_of(extent)) {
+            Ok(handle) => u32::try_from(handle.index()).unwrap_or(u32::MAX),
+            Err(_) => {
+                self.failed.fail_memory();
+                0
+            }
+        }
+    }
+
+    fn overridable(&mut self, overridable: Override, extent: Extent) -> u32 {
+        match self.overrides.append(overridable, span_of(extent)) {
             Ok(handle) => u32::try_from(handle.index()).unwrap_or(u32::MAX),
             Err(_) => {
                 self.failed.fail_memory();

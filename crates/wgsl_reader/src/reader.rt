@@ -57,16 +57,17 @@ fn document_of(built: Building, enabled: Capabilities) -> Document
     ensures { MakesSixChecks result.settings.flags }
 {
     let alloc = built.alloc;
-    let (types, variables, expressions, functions, entries) = built.into_parts();
+    let enabled = Capabilities(enabled.0 | built.used.0);
+    let parts = built.into_parts();
     let module = Module {
-        types,
+        types: parts.types,
         special_types: SpecialTypes::new(alloc),
-        constants: Arena::new(alloc),
-        overrides: Arena::new(alloc),
-        global_variables: variables,
-        global_expressions: expressions,
-        functions,
-        entry_points: entries,
+        constants: parts.constants,
+        overrides: parts.overrides,
+        global_variables: parts.variables,
+        global_expressions: parts.expressions,
+        functions: parts.functions,
+        entry_points: parts.entries,
         diagnostic_filters: Arena::new(alloc),
         diagnostic_filter_leaf: None,
     };

@@ -17,9 +17,17 @@ pub(crate) enum Around {
     While,
     // a scope, and whether its loop is in its continuing part
     For(bool),
-    // the selector, where its cases begin in the table, and whether it is unsigned
-    Switch(u32, u32, bool),
+    // the selector, and where its cases begin in the table
+    Switch(Selector, u32),
     Case,
+}
+
+// What chooses among cases: the value, whether it is unsigned, and what it is where that is known.
+#[derive(Clone, Copy)]
+pub(crate) struct Selector {
+    pub value: u32,
+    pub unsigned: bool,
+    pub known: Option<i64>,
 }
 
 // The same, and where it began.
@@ -33,6 +41,8 @@ pub(crate) struct Open {
 #[derive(Clone, Copy)]
 pub(crate) struct CaseEntry {
     pub value: SwitchValue,
+    // whether the value is of the selector's type, whichever that is
+    pub converts: bool,
     // whether the next value has the same body
     pub falls: bool,
 }

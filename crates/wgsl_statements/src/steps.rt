@@ -109,8 +109,8 @@ impl Flow {
                 end_loop(lowering, false, None, extent);
             }
             Around::For(_) => end_loop(lowering, true, None, extent),
-            Around::Switch(selector, start, unsigned) => {
-                switches::end(lowering, self, selector, start, unsigned, extent);
+            Around::Switch(selector, start) => {
+                switches::end(lowering, self, &selector, start, extent);
             }
             Around::Case => {}
         }

@@ -1,8 +1,9 @@
 // Switches.
 
-use crate::flow::{Around, CaseEntry, Flow};
+use crate::flow::{Around, CaseEntry, Flow, Selector};
 use ir_blocks::{Statement, SwitchCase};
 use ir_kinds::{Literal, Scalar, SwitchValue};
+use ir_types::Expression;
 use wgsl_expressions::{Lowering, Value, handle_of};
 use wgsl_text::{Extent, Failure};
 use wgsl_types::{Builder, Shape};
@@ -17,14 +18,31 @@ pub(crate) fn select<B: Builder>(lowering: &mut Lowering<B>, flow: &mut Flow, ex
         lowering.wrong("invalid `switch` selector", operand.extent);
     }
     let start = u32::try_from(flow.cases.len()).unwrap_or(u32::MAX);
-    let unsigned = shape == Shape::Scalar(Scalar::U32);
-    flow.push(lowering, Around::Switch(selector, start, unsigned), extent);
+    let selector = Selector {
+        value: selector,
+        unsigned: shape == Shape::Scalar(Scalar::U32),
+        known: match operand.value {
+            Value::Literal(Literal::AbstractInt(number)) => Some(number),
+            _ => None,
+        },
+    };
+    flow.push(lowering, Around::Switch(selector, start), extent);
 }
 
 // Another value may choose the same body as the one before.
-fn add<B: Builder>(lowering: &mut Lowering<B>, flow: &mut Flow, value: SwitchValue) {
+fn add<B: Builder>(
+    lowering: &mut Lowering<B>,
+    flow: &mut Flow,
+    value: SwitchValue,
+    converts: bool,
+) {
     let mut failed = Failure::NONE;
-    failed.push(&mut flow.cases, CaseEntry { value, falls: true });
+    let entry = CaseEntry {
+        value,
+        converts,
+        falls: true,
+    };
+    failed.push(&mut flow.cases, entry);
     lowering.join(&failed);
     lowering.builder.open();
 }
@@ -32,6 +50,7 @@ fn add<B: Builder>(lowering: &mut Lowering<B>, flow: &mut Flow, value: SwitchVal
 // A value that chooses the next body.
 pub(crate) fn value<B: Builder>(lowering: &mut Lowering<B>, flow: &mut Flow) {
     let operand = lowering.pop();
+    let converts = matches!(operand.value, Value::Literal(Literal::AbstractInt(_)));
     let value = match operand.value {
         Value::Literal(Literal::U32(number)) => Some(SwitchValue::U32(number)),
         Value::Literal(literal) => match converted(literal, Scalar::I32) {
@@ -41,14 +60,14 @@ pub(crate) fn value<B: Builder>(lowering: &mut Lowering<B>, flow: &mut Flow) {
         _ => None,
     };
     match value {
-        Some(value) => add(lowering, flow, value),
+        Some(value) => add(lowering, flow, value, converts),
         None => lowering.wrong("invalid `switch` case selector value", operand.extent),
     }
 }
 
 // Any other value chooses it.
 pub(crate) fn default<B: Builder>(lowering: &mut Lowering<B>, flow: &mut Flow) {
-    add(lowering, flow, SwitchValue::Default);
+    add(lowering, flow, SwitchValue::Default, false);
 }
 
 // The body of the last values: the last of them does not go on to another one.
@@ -62,7 +81,7 @@ pub(crate) fn body<B: Builder>(lowering: &mut Lowering<B>, flow: &mut Flow, exte
 // A case's value, as one of the selector's type.
 fn value_of(entry: &CaseEntry, unsigned: bool) -> SwitchValue {
     match entry.value {
-        SwitchValue::I32(number) if unsigned => match u32::try_from(number) {
+        SwitchValue::I32(number) if unsigned && entry.converts => match u32::try_from(number) {
             Ok(number) => SwitchValue::U32(number),
             Err(_) => entry.value,
         },
@@ -70,15 +89,42 @@ fn value_of(entry: &CaseEntry, unsigned: bool) -> SwitchValue {
     }
 }
 
+// Whether a case from this one on is unsigned.
+fn is_unsigned(flow: &Flow, start: u32) -> bool {
+    for place in start as usize..flow.cases.len() {
+        match flow.cases.get(place) {
+            Some(entry) if matches!(entry.value, SwitchValue::U32(_)) => return true,
+            _ => {}
+        }
+    }
+    false
+}
+
+// The selector; one that is known is of the type of the cases.
+fn selector_of<B: Builder>(
+    lowering: &mut Lowering<B>,
+    chosen: &Selector,
+    unsigned: bool,
+    extent: Extent,
+) -> u32 {
+    let Some(number) = chosen.known else {
+        return chosen.value;
+    };
+    match u32::try_from(number) {
+        Ok(number) if unsigned => lowering.place(Expression::Literal(Literal::U32(number)), extent),
+        _ => chosen.value,
+    }
+}
+
 // The end of a switch: its bodies were opened one after the other.
 pub(crate) fn end<B: Builder>(
     lowering: &mut Lowering<B>,
     flow: &mut Flow,
-    selector: u32,
+    chosen: &Selector,
     start: u32,
-    unsigned: bool,
     extent: Extent,
 ) {
+    let unsigned = chosen.unsigned || is_unsigned(flow, start);
     let mut failed = Failure::NONE;
     let mut backwards = Vec::new(lowering.alloc);
     for _ in start as usize..flow.cases.len() {
@@ -99,7 +145,7 @@ pub(crate) fn end<B: Builder>(
         }
     }
     lowering.join(&failed);
-    let selector = handle_of(selector);
+    let selector = handle_of(selector_of(lowering, chosen, unsigned, extent));
     lowering
         .builder
         .statement(Statement::Switch { selector, cases }, extent);

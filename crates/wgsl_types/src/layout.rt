@@ -20,12 +20,7 @@ impl Layout {
 
     /// Of a scalar.
     pub fn of_scalar(scalar: Scalar) -> Layout {
-        // a truth value lies as a word does
-        let width = if scalar == Scalar::BOOL {
-            4
-        } else {
-            u64::from(scalar.width)
-        };
+        let width = u64::from(scalar.width);
         Layout {
             size: width,
             alignment: width,
