@@ -137,12 +137,12 @@ fn expressions_of<'a>(
 
 /// What is told where the error stands, under these capabilities, among expressions whose types have these forms. The error is out of
 /// memory.
-pub(crate) fn told_in(
+pub(crate) fn told_in<'a>(
     alloc: Global,
     capabilities: Capabilities,
-    module: &Module,
-    forms: &[Form],
-    error: &ValidationError,
+    module: &'a Module,
+    forms: &'a [Form],
+    error: &'a ValidationError,
 ) -> Result<Told, AllocError> {
     let expressions = expressions_of(module, error);
     if !origins_precede(expressions) {
