@@ -101,18 +101,34 @@ fn of_swizzle(cause: &SwizzleCause) -> Row<'_> {
     }
 }
 
+fn of_alike(cause: &AlikeCause) -> Row<'_> {
+    match cause {
+        AlikeCause::Differ(one, other) => wanted("OperandsDiffer", other, one),
+        AlikeCause::Type(form) => given("OperandType", form),
+    }
+}
+
+fn of_product(cause: &ProductCause) -> Row<'_> {
+    match cause {
+        ProductCause::Left(form) => given("FactorNotMadeOfScalars", form),
+        ProductCause::Right(form) => given("FactorNotMadeOfScalars", form),
+        ProductCause::Scalars(..) => plain("FactorScalarsDiffer"),
+        ProductCause::Shapes(one, other) => wanted("FactorShapes", other, one),
+    }
+}
+
+fn of_shift(cause: &ShiftCause) -> Row<'_> {
+    match cause {
+        ShiftCause::NoInteger(form) => given("ShiftedNotInteger", form),
+        ShiftCause::Amount(form, other) => wanted("ShiftAmount", form, other),
+    }
+}
+
 fn of_binary(cause: &BinaryCause) -> Row<'_> {
     match cause {
-        BinaryCause::Alike(AlikeCause::Differ(one, other)) => wanted("OperandsDiffer", other, one),
-        BinaryCause::Alike(AlikeCause::Type(form)) => given("OperandType", form),
-        BinaryCause::Product(ProductCause::Left(form)) => given("FactorNotMadeOfScalars", form),
-        BinaryCause::Product(ProductCause::Right(form)) => given("FactorNotMadeOfScalars", form),
-        BinaryCause::Product(ProductCause::Scalars(..)) => plain("FactorScalarsDiffer"),
-        BinaryCause::Product(ProductCause::Shapes(one, other)) => {
-            wanted("FactorShapes", other, one)
-        }
-        BinaryCause::Shift(ShiftCause::NoInteger(form)) => given("ShiftedNotInteger", form),
-        BinaryCause::Shift(ShiftCause::Amount(form, other)) => wanted("ShiftAmount", form, other),
+        BinaryCause::Alike(cause) => of_alike(cause),
+        BinaryCause::Product(cause) => of_product(cause),
+        BinaryCause::Shift(cause) => of_shift(cause),
     }
 }
 
@@ -140,21 +156,29 @@ fn of_layer(cause: &NumberCause) -> Row<'_> {
     )
 }
 
+fn of_texel(cause: &TexelCause) -> Row<'_> {
+    match cause {
+        TexelCause::Cube => plain("LoadFromCube"),
+        TexelCause::NoInteger(form) => given("CoordinateNotInteger", form),
+        TexelCause::Coordinate(form, other) => wanted("CoordinateType", form, other),
+    }
+}
+
+fn of_sample_index(cause: &NumberCause) -> Row<'_> {
+    of_number(cause, "SampleMissing", "SampleUnwanted", "SampleNotInteger")
+}
+
+fn of_level(cause: &NumberCause) -> Row<'_> {
+    of_number(cause, "LevelMissing", "LevelUnwanted", "LevelNotInteger")
+}
+
 fn of_load(cause: &LoadCause) -> Row<'_> {
     match cause {
         LoadCause::NoImage(form) => given("OperandNotImage", form),
-        LoadCause::Texel(TexelCause::Cube) => plain("LoadFromCube"),
-        LoadCause::Texel(TexelCause::NoInteger(form)) => given("CoordinateNotInteger", form),
-        LoadCause::Texel(TexelCause::Coordinate(form, other)) => {
-            wanted("CoordinateType", form, other)
-        }
+        LoadCause::Texel(cause) => of_texel(cause),
         LoadCause::Layer(cause) => of_layer(cause),
-        LoadCause::Sample(cause) => {
-            of_number(cause, "SampleMissing", "SampleUnwanted", "SampleNotInteger")
-        }
-        LoadCause::Level(cause) => {
-            of_number(cause, "LevelMissing", "LevelUnwanted", "LevelNotInteger")
-        }
+        LoadCause::Sample(cause) => of_sample_index(cause),
+        LoadCause::Level(cause) => of_level(cause),
         LoadCause::NoLoad => plain("AccessWithoutLoad"),
     }
 }
@@ -200,20 +224,35 @@ const fn of_edge(cause: &EdgeCause) -> &'static str {
     }
 }
 
+const fn of_comparison(compares: bool) -> &'static str {
+    if compares {
+        "ReferenceMissing"
+    } else {
+        "SamplerDoesNotCompare"
+    }
+}
+
+fn of_sampler(cause: &SamplerCause) -> Row<'_> {
+    match cause {
+        SamplerCause::NoSampler(form) => given("OperandNotSampler", form),
+        SamplerCause::Comparison { compares } => plain(of_comparison(*compares)),
+        SamplerCause::Reference(form) => given("ReferenceType", form),
+        SamplerCause::NoDepth => plain("ImageNotDepth"),
+    }
+}
+
+const fn of_texels(cause: &TexelsCause) -> &'static str {
+    match cause {
+        TexelsCause::Multisampled => "ImageMultisampled",
+        TexelsCause::Unfiltered(_) => "ImageNotFloat",
+    }
+}
+
 fn of_sample(cause: &SampleCause) -> Row<'_> {
     match cause {
         SampleCause::NoImage(form) => given("OperandNotImage", form),
-        SampleCause::Sampler(SamplerCause::NoSampler(form)) => given("OperandNotSampler", form),
-        SampleCause::Sampler(SamplerCause::Comparison { compares: true }) => {
-            plain("ReferenceMissing")
-        }
-        SampleCause::Sampler(SamplerCause::Comparison { compares: false }) => {
-            plain("SamplerDoesNotCompare")
-        }
-        SampleCause::Sampler(SamplerCause::Reference(form)) => given("ReferenceType", form),
-        SampleCause::Sampler(SamplerCause::NoDepth) => plain("ImageNotDepth"),
-        SampleCause::Texels(TexelsCause::Multisampled) => plain("ImageMultisampled"),
-        SampleCause::Texels(TexelsCause::Unfiltered(_)) => plain("ImageNotFloat"),
+        SampleCause::Sampler(cause) => of_sampler(cause),
+        SampleCause::Texels(cause) => plain(of_texels(cause)),
         SampleCause::Place(cause) => of_place(cause),
         SampleCause::Detail(cause) => of_detail(cause),
         SampleCause::Edge(cause) => plain(of_edge(cause)),

@@ -209,7 +209,7 @@ pub(crate) fn refused_item(
 ) -> Result<RefusedItem, AllocError> {
     let types = known_types(alloc, module, error)?;
     let forms = forms_of(alloc, module, &types)?;
-    let told = told_in(alloc, capabilities, module, &forms, error)?;
+    let told = told_in(alloc, capabilities, &*module, &forms, &*error)?;
     match value_of(alloc, bytes) {
         Ok(document) => item_in(alloc, &document, module, error, &types, &told),
         Err(memory) => Err(memory),

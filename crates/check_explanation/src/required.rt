@@ -1,6 +1,8 @@
 // What is required where an error stands, and which rule is broken there.
 
-ghost use Rattle.std.specs.Prelude.{◌≡◌, IfSome};
+ghost use Rattle.std.specs.Prelude.{◌≡◌, IfSome, map};
+ghost use Rattle.ir_items.specs.found.GlobalView.{values_of};
+ghost use Rattle.ir_types.specs.judged.ExpressionPlain.{expression_view};
 ghost use Rattle.check_explanation.specs.Ruled.{IsBrokenAt, ruled, ruled_in};
 ghost use Rattle.module_context.specs.OperandView.{expressions_in, scene_in};
 ghost use Rattle.typing_layout.specs.judged.Constness.{AreKinds};
@@ -102,18 +104,19 @@ fn told_among<'a>(
     Ok(Told { text, cause })
 }
 
-// What may be looked at, of expressions with these forms and kinds.
-fn context_of<'a>(
+// What is told where the error stands among expressions with these forms and kinds.
+fn told_by<'a>(
+    alloc: Global,
     capabilities: Capabilities,
     module: &'a Module,
     expressions: &'a Arena<Expression, key::Expression>,
     forms: &'a [Form],
     kinds: &'a ExpressionKindTracker,
-) -> CheckContext<'a>
-    ensures expressions { result.expressions.now ≡ expressions.now }
-    ensures kinds { result.kinds.now ≡ kinds.now }
+    error: &'a ValidationError,
+) -> Result<Told, AllocError>
+    requires { AreKinds (map expression_view (values_of expressions.now)) kinds.now }
 {
-    CheckContext {
+    let context = CheckContext {
         capabilities,
         types: &module.types,
         infos: &[],
@@ -121,7 +124,8 @@ fn context_of<'a>(
         forms,
         kinds,
         callees: &[],
-    }
+    };
+    told_among(alloc, &context, module, error)
 }
 
 // The expressions among which the error stands.
@@ -137,12 +141,12 @@ fn expressions_of<'a>(
 
 /// What is told where the error stands, under these capabilities, among expressions whose types have these forms. The error is out of
 /// memory.
-pub(crate) fn told_in<'a>(
+pub(crate) fn told_in(
     alloc: Global,
     capabilities: Capabilities,
-    module: &'a Module,
-    forms: &'a [Form],
-    error: &'a ValidationError,
+    module: &Module,
+    forms: &[Form],
+    error: &ValidationError,
 ) -> Result<Told, AllocError> {
     let expressions = expressions_of(module, error);
     if !origins_precede(expressions) {
@@ -152,6 +156,13 @@ pub(crate) fn told_in<'a>(
         });
     }
     let kinds = ExpressionKindTracker::from_arena(alloc, expressions)?;
-    let context = context_of(capabilities, module, expressions, forms, &kinds);
-    told_among(alloc, &context, module, error)
+    told_by(
+        alloc,
+        capabilities,
+        &*module,
+        &*expressions,
+        &*forms,
+        &kinds,
+        &*error,
+    )
 }
