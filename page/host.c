@@ -1,7 +1,7 @@
 /* What the program `checker` takes from its host, where the host is a page: a heap, one input to read, and room for what it
  * writes. `room` takes the input's length and how many bytes all of it may take, and returns where the input goes, or 0. `judge` runs
  * the program over the input and returns its status, and `text` with `text_length` is what it wrote. Of what `judge` takes, the first
- * says what is written (a place of `forms`), the second whether the input is a module of SPIR-V and no document. */
+ * says what is written (a place of `forms`), the second what the input is (a place of `kinds`). */
 
 typedef unsigned long size;
 typedef long offset;
@@ -120,6 +120,11 @@ offset lseek(int file, offset to, int whence) {
 
 static const char *const forms[FORMS] = {"--json", "--document", "--leaves"};
 
+/* What an input is: a document, a module of SPIR-V, a text of WGSL. */
+#define KINDS 3
+
+static const char *const kinds[KINDS] = {0, "--spirv", "--wgsl"};
+
 offset rattle_arg(size index, unsigned char *to, size n) {
     const char *word = index < 4 ? words[index] : 0;
     size length = 0;
@@ -172,11 +177,11 @@ unsigned char *room(size length, size most) {
 }
 
 /* Runs the program over the input: 0 for accepted, 1 for refused, 2 where there is no memory, 3 for a module that was not read. */
-int judge(int form, int is_spirv) {
+int judge(int form, int kind) {
     struct tried got = rattle_alloc(4096, 1);
     words[0] = "shader";
     words[1] = forms[form < 0 || form >= FORMS ? 0 : form];
-    words[2] = is_spirv ? "--spirv" : 0;
+    words[2] = kinds[kind < 0 || kind >= KINDS ? 0 : kind];
     document_read = written_length = 0;
     written_room = got.ok ? 4096 : 0;
     written = got.place;

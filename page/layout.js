@@ -84,6 +84,13 @@ const Layout = (() => {
         return [at, Math.min(at + 1, text.length)];
     }
 
+    // Where the bytes from an offset on are, so many: [start, end].
+    function placeOfBytes(text, offset, length) {
+        const bytes = new TextEncoder().encode(text), decoder = new TextDecoder();
+        const start = decoder.decode(bytes.slice(0, offset)).length;
+        return [start, Math.max(start + decoder.decode(bytes.slice(offset, offset + length)).length, Math.min(start + 1, text.length))];
+    }
+
     // The line that a place is in: [start, end].
     function lineAround(text, at) {
         const end = text.indexOf("\n", at);
@@ -173,5 +180,5 @@ const Layout = (() => {
         return isSeen(laid, startsOf(laid, steps).at(-1)) ? laid : inLines(text);
     }
 
-    return { inLines, placeOf, placeOfColumn, showing };
+    return { inLines, placeOf, placeOfBytes, placeOfColumn, showing };
 })();

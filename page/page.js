@@ -1,5 +1,5 @@
-// Judges the document in the page while it is typed, or a file, and shows the answer. EXAMPLES and SPIRV_EXAMPLES are those of
-// out/module.js.
+// Judges the document or the WGSL in the page while it is typed, or a file, and shows the answer. EXAMPLES, SPIRV_EXAMPLES and
+// WGSL_EXAMPLES are those of out/module.js.
 "use strict";
 
 (() => {
@@ -7,6 +7,8 @@
     const FIRST = "shader-vertex-and-fragment-lit-texture";
     // What a module of SPIR-V begins with, in either order of bytes.
     const MAGIC = [[3, 2, 35, 7], [7, 35, 2, 3]];
+    // What a document begins with, or anything but WGSL.
+    const NO_WGSL = /^\s*(?:["[{]|$)/;
     // The longest text that is shown: longer ones are no documents.
     const LONGEST = 2 ** 24;
 
@@ -52,6 +54,14 @@
         mark(Layout.placeOf($("document").value, steps));
     }
 
+    // Underlines a part of the text, and leaves the cursor where it is.
+    function underline([start, end]) {
+        const text = $("document").value;
+        $("marked").replaceChildren(text.slice(0, start), Report.made("u", text.slice(start, end) || " "));
+    }
+
+    const placeIn = ({ offset, length }) => Layout.placeOfBytes($("document").value, offset, length);
+
     function showColumn(line, column) {
         mark(Layout.placeOfColumn($("document").value, line, column));
     }
@@ -91,8 +101,17 @@
         return Report.link(text, `Show ${text} in the document`, () => showColumn(Number(line), Number(column)));
     }
 
+    // The reason of WGSL that is wrong, with its line and column as a link.
+    function wgslReason(found) {
+        const { line, column } = found.wgsl, place = `${line}:${column}`;
+        const shown = Report.link(place, `Show line ${line}, column ${column}`, () => mark(placeIn(found.wgsl)));
+        const text = found.text.endsWith(` at ${place}`) ? found.text.slice(0, -place.length) : `${found.text} at `;
+        return [text, shown];
+    }
+
     // The reason after its path, with links.
     function reasonOf(found) {
+        if (found.wgsl) return wgslReason(found);
         const isAfterPath = found.path && found.text.startsWith(found.path);
         const text = isAfterPath ? found.text.slice(found.path.length).replace(/^: /, "") : (found.text ?? "");
         const from = found.spirv ? ` (${found.spirv.opcode}${found.spirv.name ? ` "${found.spirv.name}"` : ""} at word ${found.spirv.word}, ${found.spirv.at})` : "";
@@ -101,27 +120,29 @@
     }
 
     function showPath(found) {
-        const isThere = found.verdict === "refused" && Boolean(found.path);
+        const isThere = found.verdict === "refused" && Boolean(found.path) && !found.wgsl;
         $("where").hidden = !isThere;
         write("path", found.path ?? "");
         $("path").setAttribute("aria-label", `Show ${found.path} in the document`);
         $("path").onclick = () => showPart(found.steps);
     }
 
-    function showFound(found, lines = "") {
+    // Shows what is found of an input, of which this is the document.
+    function showFound(found, lines = "", said = $("document").value) {
         $("verdict").className = found.verdict;
         write("verdict", found.verdict + (found.strict ? " strict" : ""));
         const item = [found.step, found.index ?? "", found.name ?? ""].join(" ").trim();
         write("item", found.verdict === "refused" ? `at the step ${item}` : "");
         showPath(found);
         $("reason").replaceChildren(...reasonOf(found));
-        $("report").replaceChildren(...Report.partsOf(found, $("document").value, lines));
+        $("report").replaceChildren(...Report.partsOf(found, said, lines));
+        if (found.wgsl) underline(placeIn(found.wgsl));
     }
 
     // Shows an answer. ./try-page reads it from the page.
-    function showAnswer(answer, lines) {
+    function showAnswer(answer, lines, said) {
         const fault = { verdict: "no verdict", text: `This browser gave no answer: ${answer.fault}` };
-        showFound(answer.fault ? fault : JSON.parse(answer.text), lines);
+        showFound(answer.fault ? fault : JSON.parse(answer.text), lines, said);
         $("answer").dataset.text = answer.text ?? "";
         $("answer").dispatchEvent(new Event("judged"));
     }
@@ -133,19 +154,25 @@
     let waiting = 0;
 
     // Judges an input, and shows the answer; of a module of SPIR-V that was read also the document that it says.
-    async function judge(input, isSpirv) {
+    async function judge(input, kind) {
         clearTimeout(waiting);
         const turn = ++turns;
-        const answer = await Program.run(input, Program.JSON_ANSWER, isSpirv);
-        const hasDocument = isSpirv && (answer.status === 0 || answer.status === 1);
-        const said = hasDocument ? await Program.run(input, Program.DOCUMENT, true) : null;
-        const leaves = answer.status === 0 ? await Program.run(input, Program.LEAVES, isSpirv) : { text: "" };
+        const answer = await Program.run(input, Program.JSON_ANSWER, kind);
+        const hasDocument = kind !== Program.PLAIN && (answer.status === 0 || answer.status === 1);
+        const said = hasDocument ? await Program.run(input, Program.DOCUMENT, kind) : null;
+        const leaves = answer.status === 0 ? await Program.run(input, Program.LEAVES, kind) : { text: "" };
         if (turn !== turns) return;
-        if (isSpirv) putText(Layout.inLines(said?.text ?? ""));
-        showAnswer(answer, leaves.text ?? null);
+        if (kind === Program.SPIRV) putText(Layout.inLines(said?.text ?? ""));
+        showAnswer(answer, leaves.text ?? null, said?.text);
     }
 
-    const judgeTyped = () => judge(new TextEncoder().encode($("document").value), false);
+    // What a text is: a document, or WGSL.
+    const kindOf = (text) => (NO_WGSL.test(text) ? Program.PLAIN : Program.WGSL);
+
+    function judgeTyped() {
+        const text = $("document").value;
+        return judge(new TextEncoder().encode(text), kindOf(text));
+    }
 
     function judgeSoon() {
         turns++;
@@ -154,19 +181,22 @@
         waiting = setTimeout(judgeTyped, 100);
     }
 
-    // Puts a document or a module in, whatever its name is, and judges its bytes as they are.
+    // Puts a document, a module or WGSL in, whatever its name is, and judges its bytes as they are.
     async function put(input) {
         const isSpirv = MAGIC.some((magic) => magic.every((it, index) => input[index] === it));
-        if (!isSpirv) putText(input.length > LONGEST ? "" : new TextDecoder().decode(input));
-        await judge(input, isSpirv);
+        const text = isSpirv ? "" : new TextDecoder().decode(input);
+        if (!isSpirv) putText(input.length > LONGEST ? "" : text);
+        await judge(input, isSpirv ? Program.SPIRV : kindOf(text.slice(0, LONGEST)));
     }
 
+    const TEXTS = { ...EXAMPLES, ...WGSL_EXAMPLES };
+
     async function putExample(name) {
-        const text = Object.hasOwn(EXAMPLES, name) ? EXAMPLES[name] : null;
+        const text = Object.hasOwn(TEXTS, name) ? TEXTS[name] : null;
         await put(text === null ? Program.decoded(SPIRV_EXAMPLES[name]) : new TextEncoder().encode(text));
     }
 
-    const isExample = (name) => Object.hasOwn(EXAMPLES, name) || Object.hasOwn(SPIRV_EXAMPLES, name);
+    const isExample = (name) => Object.hasOwn(TEXTS, name) || Object.hasOwn(SPIRV_EXAMPLES, name);
 
     async function putFile(file) {
         if (!file) return;
@@ -216,7 +246,7 @@
             showFound({ verdict: "no verdict", text: missing });
             return;
         }
-        for (const name of [...Object.keys(EXAMPLES), ...Object.keys(SPIRV_EXAMPLES)]) $("examples").append(Report.made("option", name));
+        for (const name of [...Object.keys(TEXTS), ...Object.keys(SPIRV_EXAMPLES)]) $("examples").append(Report.made("option", name));
         $("examples").onchange = () => isExample($("examples").value) && putExample($("examples").value);
         $("document").oninput = judgeSoon;
         $("document").onscroll = moveMarks;

@@ -7,6 +7,11 @@ const Program = (() => {
     const DOCUMENT = 1;
     const LEAVES = 2;
 
+    // What an input is, as host.c numbers it.
+    const PLAIN = 0;
+    const SPIRV = 1;
+    const WGSL = 2;
+
     // How many bytes a run may take; of leaves, of which few bytes may have many, less.
     const MOST = 2n ** 33n;
     const mostOfLeaves = (input) => BigInt(2 ** 26 + 128 * input.length);
@@ -31,14 +36,14 @@ const Program = (() => {
     }
 
     // What the program writes on an input and its status, or why there is neither.
-    async function run(input, form, isSpirv) {
+    async function run(input, form, kind) {
         try {
             compiled ??= await WebAssembly.compile(decoded(MODULE));
             program ??= (await WebAssembly.instantiate(compiled, {})).exports;
             const room = program.room(BigInt(input.length), form === LEAVES ? mostOfLeaves(input) : MOST);
             if (room === 0n) throw new Error("no memory");
             new Uint8Array(program.memory.buffer).set(input, Number(room));
-            const status = program.judge(form, Number(isSpirv));
+            const status = program.judge(form, kind);
             if (status === 2) throw new Error("no memory");
             const found = new Uint8Array(program.memory.buffer, Number(program.text()), Number(program.text_length()));
             return { text: new TextDecoder().decode(found), status };
@@ -48,5 +53,5 @@ const Program = (() => {
         }
     }
 
-    return { JSON_ANSWER, DOCUMENT, LEAVES, decoded, missing, run };
+    return { JSON_ANSWER, DOCUMENT, LEAVES, PLAIN, SPIRV, WGSL, decoded, missing, run };
 })();

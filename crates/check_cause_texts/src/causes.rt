@@ -1,4 +1,4 @@
-//! Which rule of an expression is broken, in words.
+//! The text for a broken rule of an expression.
 
 use crate::types::{ScalarText, TypeText, word_of};
 use check_causes::{
@@ -11,7 +11,7 @@ use ir_types::{IrType, key};
 use std::fmt::{self, Display};
 use typing_forms::Form;
 
-/// The types of a module, to write one of them.
+/// The types of a module, for writing one of them.
 #[derive(Clone, Copy)]
 pub struct Types<'a>(
     /// The types.
@@ -19,7 +19,7 @@ pub struct Types<'a>(
 );
 
 impl<'a> Types<'a> {
-    /// A type in words.
+    /// Displays a type.
     pub fn text(self, form: &'a Form) -> TypeText<'a> {
         TypeText {
             types: self.0,
@@ -88,7 +88,7 @@ fn write_select<W: fmt::Write>(
     }
 }
 
-// What the operands may be of an operation whose operands have one type.
+// The operand types that an operation with equal operand types accepts.
 fn taken_by(op: BinaryOperator) -> &'static str {
     match op {
         BinaryOperator::Add | BinaryOperator::Subtract => {
@@ -133,7 +133,7 @@ fn write_alike<W: fmt::Write>(
     }
 }
 
-// How values of two shapes are multiplied.
+// The shapes that can be multiplied.
 const PRODUCTS: &str =
     "two vectors have as many components, a vector as many as the matrix on its right has rows or the one on its left has columns, and of two matrices the left one as many columns as the right one has rows";
 
@@ -255,12 +255,12 @@ fn write_swizzle<W: fmt::Write>(
     }
 }
 
-/// A broken rule in words.
+/// Displays a broken rule.
 #[derive(Clone, Copy)]
 pub struct CauseText<'a> {
     /// The types of the module.
     pub types: &'a UniqueArena<IrType, key::IrType>,
-    /// Which rule.
+    /// The broken rule.
     pub cause: &'a Cause,
 }
 

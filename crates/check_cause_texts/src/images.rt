@@ -1,4 +1,4 @@
-//! Which rule of an expression that looks at an image is broken, in words.
+//! The text for a broken rule of an image expression.
 
 use crate::causes::Types;
 use crate::types::word_of;
@@ -9,7 +9,7 @@ use check_causes::{
 use std::fmt;
 use typing_forms::Form;
 
-// What is no image.
+// An operand that is not an image.
 fn write_no_image<W: fmt::Write>(
     f: &mut fmt::Formatter<W>,
     types: Types<'_>,
@@ -22,7 +22,7 @@ fn write_no_image<W: fmt::Write>(
     )
 }
 
-// A number that is given exactly where one is wanted: what it is, and what the image is where it is wanted.
+// An optional integer operand: its name, and the kind of image that requires it.
 fn write_number<W: fmt::Write>(
     f: &mut fmt::Formatter<W>,
     types: Types<'_>,
@@ -56,7 +56,7 @@ fn write_layer<W: fmt::Write>(
     write_number(f, types, cause, "an array index", "is arrayed")
 }
 
-// A value that needs another type.
+// A value of the wrong type.
 fn write_wanted<W: fmt::Write>(
     f: &mut fmt::Formatter<W>,
     types: Types<'_>,

@@ -1,4 +1,4 @@
-//! Types in words, and which rule of an expression is broken, in words.
+//! The texts of types, and of broken rules of expressions.
 #![tactic(auto)]
 
 mod causes;

@@ -1,4 +1,4 @@
-//! Types in words.
+//! The texts of types.
 
 use bitflags::Flags;
 use bitflags::parser::{WriteHex, to_writer};
@@ -10,10 +10,10 @@ use ir_types::{IrType, key};
 use std::fmt::{self, Display};
 use typing_forms::{Form, form_of_type};
 
-// Pointers and arrays are followed so far.
+// The maximum depth to which pointers and arrays are displayed.
 const DEEPEST: u32 = 8;
 
-/// The word of a document for a value, nothing where it has none.
+/// The JSON word for a value, or nothing if it has none.
 pub fn word_of<W: Word + PartialEq>(value: W) -> &'static str {
     for row in W::table() {
         if row.1 == value {
@@ -23,7 +23,7 @@ pub fn word_of<W: Word + PartialEq>(value: W) -> &'static str {
     ""
 }
 
-/// The word of a space.
+/// The word for an address space.
 pub fn space_word(space: AddressSpace) -> &'static str {
     match space {
         AddressSpace::Storage { .. } => "Storage",
@@ -39,10 +39,10 @@ pub fn space_word(space: AddressSpace) -> &'static str {
     }
 }
 
-/// The words of a set.
+/// The words of a bitset.
 #[derive(Clone, Copy)]
 pub struct SetText<B>(
-    /// The set.
+    /// The bitset.
     pub B,
 );
 
@@ -58,7 +58,7 @@ where
     }
 }
 
-/// A scalar in words.
+/// Displays a scalar type.
 #[derive(Clone, Copy)]
 pub struct ScalarText(
     /// The scalar.
@@ -75,7 +75,7 @@ impl Display for ScalarText {
     }
 }
 
-// One scalar, or a vector.
+// A scalar or a vector.
 fn write_row<W: fmt::Write>(
     f: &mut fmt::Formatter<W>,
     size: Option<VectorSize>,
@@ -113,7 +113,7 @@ fn write_image<W: fmt::Write>(
     }
 }
 
-// What is neither made of scalars nor of other types.
+// A type that contains neither scalars nor other types.
 fn write_opaque<W: fmt::Write>(f: &mut fmt::Formatter<W>, form: &Form) -> fmt::Result {
     match *form {
         Form::Struct(_) => write!(f, "a struct"),
@@ -193,7 +193,7 @@ fn write_base<W: fmt::Write>(
     write_type(f, types, &form_of_type(types, base), depth - 1)
 }
 
-/// A type in words.
+/// Displays a type.
 #[derive(Clone, Copy)]
 pub struct TypeText<'a> {
     /// The types of the module.

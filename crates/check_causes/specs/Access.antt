@@ -1,4 +1,4 @@
--- Which rule of an index is broken.
+-- The broken rules of indices.
 use Rattle.std.specs.Prelude.{◌≡◌, ◌<◌, ◌≤◌, ℕ, ℤ, pos, negsuc, List, Option, Some, None, IfSome, option_and_then}
 use Rattle.ir_types.specs.judged.ExpressionPlain.{PlainExpression}
 use Rattle.ir_types.specs.judged.Plain.{PlainType}
@@ -8,20 +8,20 @@ use Rattle.spec_statements.specs.judged.Shapes.{IsIntegerScalar}
 use Rattle.check_causes.specs.declared.access.AccessCause.{AccessCause}
 use Rattle.check_causes.specs.declared.access.AccessCause.TheVariants.{NoInteger, Negative, Outside}
 
--- the index that is written is that of a part
+-- the static index is in bounds
 abbrev pub WithinOK : (parts : Option ℕ) → (written : Option PlainExpression) → Type 0
 WithinOK parts written = IfSome (option_and_then index_of (option_and_then literal_of written)) (IsIndexOf parts)
 
 abbrev pub IsNegative : ℤ → Type 0
 IsNegative z = elim z [ pos n ↦ ⊥ | negsuc n ↦ Unit {0} ]
 
--- there are so many parts, and the index is none of theirs
+-- the index is not below this length
 abbrev pub BrokenPart : (parts : Option ℕ) → (index : ℕ) → AccessCause → Type 0
 BrokenPart parts index (NoInteger given) = ⊥
 BrokenPart parts index (Negative z) = ⊥
 BrokenPart parts index (Outside given count) = (given ≡ index) × (parts ≡ Some count) × (count ≤ index)
 
--- the same of an index that is written, if one is
+-- the same for an optional static index
 abbrev pub BrokenIndex : (parts : Option ℕ) → (index : Option ℤ) → AccessCause → Type 0
 BrokenIndex parts index (NoInteger given) = ⊥
 BrokenIndex parts index (Negative z) = (index ≡ Some z) × IsNegative z

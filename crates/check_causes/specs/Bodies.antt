@@ -1,4 +1,4 @@
--- Which rule of a statement is broken.
+-- The broken rules of statements.
 use Rattle.std.specs.Prelude.{◌≡◌, ◌≢◌, ℕ, List, Option, Some, None, IsSomeAnd}
 use Rattle.ir_flags.specs.Sets.{Has}
 use Rattle.ir_flags.specs.declared.memory.TheConstants.StorageAccess.{STORE}
@@ -18,7 +18,7 @@ use Rattle.check_causes.specs.declared.bodies.StoreCause.TheVariants as store
 
 -- ---- returns
 
--- a value exactly where the function has a result, and of its type
+-- a value exactly if the function has a result, and of its type
 abbrev pub IsReturned : List PlainType → (declared : Option ℕ) → (forms : List Form) → (value : Option ℕ) → Type 0
 IsReturned types declared forms o = elim o [ None ↦ declared ≡ None | Some value ↦ IsSomeAnd declared (λ type. form_among forms value ≡ form_of_type types type) ]
 
@@ -35,7 +35,7 @@ BrokenReturn types declared forms value (returns.Differ given wanted) =
 
 -- ---- stores
 
--- the type of what a pointer leads to
+-- the base type of a pointer
 abbrev pub pointed_value : List PlainType → (pointer : Form) → Option Form
 pointed_value types t = elim t [ form.Pointer base space ↦ Some (loaded types base (inner_at types base)) | form.ValuePointer n s space ↦ Some (loaded_value n s) | _ ↦ None ]
 

@@ -1,4 +1,4 @@
--- Which rule of an expression is broken, by its kind.
+-- The broken rules of expressions, by expression kind.
 use Rattle.std.specs.Prelude.{◌≡◌, slice_get}
 use Rattle.ir_types.specs.judged.ExpressionPlain.{PlainExpression, plain}
 use Rattle.ir_types.specs.declared.expressions.Expression.TheVariants as x
@@ -23,7 +23,7 @@ use Rattle.ir_kinds.specs.declared.operators.BinaryOperator.{BinaryOperator}
 use Rattle.check_causes.specs.declared.expression.Cause.{Cause}
 use Rattle.check_causes.specs.declared.expression.Cause.TheVariants as cause
 
--- ---- of each family: the expression is of it, and breaks the rule
+-- ---- for each family: the expression belongs to it, and breaks the rule
 
 abbrev pub OfAccess : Scene → AccessCause → PlainExpression → Type 0
 OfAccess s c (plain (x.Access base index)) = BrokenAccess s.types (form_among s.forms base) (form_among s.forms index) (slice_get s.expressions index) c
@@ -73,7 +73,7 @@ abbrev pub OfSwizzle : Scene → SwizzleCause → PlainExpression → Type 0
 OfSwizzle s c (plain (x.Swizzle size vector pattern)) = BrokenSwizzle size pattern (form_among s.forms vector) c
 OfSwizzle s c _ = ⊥
 
--- ---- of any
+-- ---- for any expression
 
 -- the expression breaks this rule of its kind
 abbrev pub BrokenBy : Scene → PlainExpression → Cause → Type 0

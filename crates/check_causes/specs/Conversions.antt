@@ -1,4 +1,4 @@
--- Which rule of a conversion is broken.
+-- The broken rules of conversions.
 use Rattle.std.specs.Prelude.{◌≡◌, ℕ, Option, None, IsSomeAnd}
 use Rattle.ir_flags.specs.declared.settings.Capabilities.{Capabilities}
 use Rattle.ir_kinds.specs.declared.scalars.Scalar.{Scalar}

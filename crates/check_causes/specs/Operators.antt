@@ -1,4 +1,4 @@
--- Which rule of an operation on two values is broken.
+-- The broken rules of binary operations.
 use Rattle.std.specs.Prelude.{◌≡◌, ◌≢◌, None, IsSomeAnd}
 use Rattle.ir_kinds.specs.judged.Scalars.{unsigned}
 use Rattle.ir_kinds.specs.declared.operators.BinaryOperator.{BinaryOperator}
@@ -17,9 +17,9 @@ use Rattle.check_causes.specs.declared.operators.ShiftCause.TheVariants as shift
 use Rattle.check_causes.specs.declared.operators.BinaryCause.{BinaryCause}
 use Rattle.check_causes.specs.declared.operators.BinaryCause.TheVariants as binary
 
--- ---- operands of one type
+-- ---- equal operand types
 
--- what the operation takes, of a shape of scalars of a kind; products and shifts have rules of their own
+-- what the operation accepts, by shape and scalar kind; products and shifts have their own rules
 abbrev pub Takes : BinaryOperator → Shape → ScalarKind → Type 0
 Takes Add s k = IsAdded s k
 Takes Subtract s k = IsAdded s k
@@ -62,7 +62,7 @@ abbrev pub BrokenShift : (left right : Form) → ShiftCause → Type 0
 BrokenShift left right (shift.NoInteger given) = (given ≡ left) × ¬ IsMadeOf AnyShape IsInteger left
 BrokenShift left right (shift.Amount given wanted) = (given ≡ right) × IsSomeAnd (shaped_of left) (λ x. wanted ≡ form_of_shape x.shape (unsigned 4)) × (right ≢ wanted)
 
--- ---- operations on two values
+-- ---- binary operations
 
 abbrev pub IsProduct : BinaryOperator → Type 0
 IsProduct op = elim op [ Multiply ↦ Unit {0} | _ ↦ ⊥ ]
@@ -70,7 +70,7 @@ IsProduct op = elim op [ Multiply ↦ Unit {0} | _ ↦ ⊥ ]
 abbrev pub IsShift : BinaryOperator → Type 0
 IsShift op = elim op [ ShiftLeft ↦ Unit {0} | ShiftRight ↦ Unit {0} | _ ↦ ⊥ ]
 
--- the rule of the operation's family is broken so
+-- the rule of the operation's family is broken
 abbrev pub BrokenBinary : BinaryOperator → (left right : Form) → BinaryCause → Type 0
 BrokenBinary op left right (binary.Alike cause) = BrokenAlike op left right cause × ¬ IsProduct op × ¬ IsShift op
 BrokenBinary op left right (binary.Product cause) = BrokenProduct left right cause × IsProduct op

@@ -1,4 +1,4 @@
--- Which rule of a selection is broken.
+-- The broken rules of `Select`.
 use Rattle.std.specs.Prelude.{◌≡◌, ◌≢◌, IsSomeAnd}
 use Rattle.typing_forms.specs.declared.form.Form.{Form}
 use Rattle.spec_statements.specs.judged.Selections.{ChoosesFrom}
@@ -6,7 +6,7 @@ use Rattle.spec_statements.specs.judged.Shapes.{shaped_of, IsMadeOf, IsScalarOrV
 use Rattle.check_causes.specs.declared.selections.SelectCause.{SelectCause}
 use Rattle.check_causes.specs.declared.selections.SelectCause.TheVariants.{Differ, NoValue, NoCondition, Shape}
 
--- the shape of the condition chooses from that of the value
+-- a condition of this shape selects between values of that shape
 abbrev pub Chooses : (condition value : Form) → Type 0
 Chooses condition value = IsSomeAnd (shaped_of condition) (λ x. IsSomeAnd (shaped_of value) (λ y. ChoosesFrom x.shape y.shape))
 

@@ -1,4 +1,4 @@
--- Which rule of a swizzle is broken.
+-- The broken rules of `Swizzle`.
 use Rattle.std.specs.Prelude.{◌≡◌, ◌<◌, ◌≤◌, ℕ, List, Some, IsSomeAnd, slice_get}
 use Rattle.ir_kinds.specs.judged.Scalars.{component_count, component_place}
 use Rattle.ir_kinds.specs.declared.scalars.SwizzleComponent.{SwizzleComponent}
@@ -9,7 +9,7 @@ use Rattle.spec_statements.specs.judged.Swizzles.{row_size}
 use Rattle.check_causes.specs.declared.swizzles.SwizzleCause.{SwizzleCause}
 use Rattle.check_causes.specs.declared.swizzles.SwizzleCause.TheVariants.{NoVector, Letter}
 
--- the letter counts, and is that of no component
+-- the component is used, and is out of bounds
 abbrev pub BrokenLetter : VectorSize → (pattern : List SwizzleComponent) → (of : VectorSize) → SwizzleComponent → Type 0
 BrokenLetter size pattern of letter = (place : ℕ) × (place < component_count size) × (slice_get pattern place ≡ Some letter) × (component_count of ≤ component_place letter)
 

@@ -1,4 +1,4 @@
-//! Which rule of an index is broken.
+//! The broken rules of indices.
 
 ghost use Rattle.std.specs.Prelude.{◌≡◌, ◌<◌, ◌↔◌, IfSome, IsTrue, MatchOption, Some, option_and_then, option_map, slice_get};
 ghost use Rattle.check_causes.specs.Access.{BrokenAccess, BrokenIndex, BrokenPart, WithinOK};
@@ -15,25 +15,25 @@ use ir_types::{ArraySize, TypeInner, key};
 use module_context::{CheckContext, is_integer_scalar};
 use typing_forms::{Form, inner_of};
 
-/// Which rule of an index is broken.
+/// A broken rule of an index.
 #[derive(Clone, Copy)]
 pub enum AccessCause {
-    /// The index has this type, which is not that of an integer scalar.
+    /// The index has this type, which is not an integer scalar.
     NoInteger(Form),
-    /// The index is written, and negative.
+    /// The index is a negative literal.
     Negative(i32),
-    /// The index is written, and not below the number of parts.
+    /// The index is a literal out of bounds.
     Outside {
         /// The index.
         index: u32,
-        /// How many parts there are.
+        /// The length.
         parts: u32,
     },
 }
 
-// ---- how many parts there are, where the module says it
+// ---- lengths known from the module
 
-// How many elements an array of a size has.
+// The number of elements of an array, by its size.
 const fn element_count(size: ArraySize) -> Option<u32>
     ensures { result ≡ element_count size }
 {
@@ -43,7 +43,7 @@ const fn element_count(size: ArraySize) -> Option<u32>
     }
 }
 
-// How many components a value of a size has, if it is a vector.
+// The number of components, if a value is a vector.
 fn row_count(size: Option<VectorSize>) -> Option<u32>
     ensures { result ≡ option_map component_count size }
 {
@@ -53,7 +53,7 @@ fn row_count(size: Option<VectorSize>) -> Option<u32>
     }
 }
 
-// How many parts what a pointer leads to has.
+// The number of parts of a pointer's base type, if known.
 fn pointed_count(inner: &TypeInner) -> Option<u32>
     ensures { result ≡ pointed_count (Some (inner_view inner.now)) }
 {
@@ -74,7 +74,7 @@ fn pointed_count(inner: &TypeInner) -> Option<u32>
     }
 }
 
-// How many parts what a pointer to a type leads to has.
+// The number of parts of the base type of a pointer.
 fn length_at(context: &CheckContext<'_>, base: Handle<key::IrType>) -> Option<u32>
     ensures { result ≡ pointed_count (inner_at (types_in context.now) base) }
 {
@@ -84,7 +84,7 @@ fn length_at(context: &CheckContext<'_>, base: Handle<key::IrType>) -> Option<u3
     }
 }
 
-// How many parts a value of a type has, or what it leads to.
+// The number of parts of a value, or of the base of a pointer to it.
 fn known_length(context: &CheckContext<'_>, of: &Form) -> Option<u32>
     ensures { result ≡ known_length (types_in context.now) of.now }
 {
@@ -106,9 +106,9 @@ fn known_length(context: &CheckContext<'_>, of: &Form) -> Option<u32>
     }
 }
 
-// ---- an index that is computed
+// ---- dynamic indices (`Access`)
 
-// The rule that an index of so many parts breaks, if it breaks one.
+// The rule that an index below a length breaks, if any.
 fn broken_part(parts: Option<u32>, index: u32) -> Option<AccessCause>
     ensures { MatchOption result (IfSome parts (λ many. index < many)) (BrokenPart parts index) }
 {
@@ -124,7 +124,7 @@ fn broken_part(parts: Option<u32>, index: u32) -> Option<AccessCause>
     }
 }
 
-// The same of a signed one.
+// The rule that a signed index breaks, if any.
 fn broken_signed(parts: Option<u32>, index: i32) -> Option<AccessCause>
     ensures { MatchOption result (IsIndexOf parts index) (BrokenIndex parts (Some index)) }
 {
@@ -134,7 +134,7 @@ fn broken_signed(parts: Option<u32>, index: i32) -> Option<AccessCause>
     broken_part(parts, index as u32)
 }
 
-// The same of one that is a literal, if it is one of an index at all.
+// The rule that a literal index breaks, if it is an integer literal.
 fn broken_literal(parts: Option<u32>, literal: Literal) -> Option<AccessCause>
     ensures { MatchOption result (IfSome (index_of literal) (IsIndexOf parts)) (BrokenIndex parts (index_of literal)) }
 {
@@ -154,7 +154,7 @@ fn broken_literal(parts: Option<u32>, literal: Literal) -> Option<AccessCause>
     }
 }
 
-// The same of the literal at a handle, if there is one.
+// The rule that the literal at a handle, if any, breaks as an index.
 fn broken_written(
     context: &CheckContext<'_>,
     parts: Option<u32>,
@@ -170,7 +170,7 @@ fn broken_written(
     }
 }
 
-/// The first rule of an index that is broken, if one is: it is an integer scalar, and where it is written, that of a part.
+/// The first broken rule of an index, if any: it is an integer scalar, and in bounds if it is a literal.
 pub fn broken_access(
     context: &CheckContext<'_>,
     base: &Form,
@@ -187,7 +187,7 @@ pub fn broken_access(
     broken_written(context, known_length(context, base), index)
 }
 
-/// Why a number is not that of a part, if it is known how many there are, and it is not.
+/// The broken rule of a static index, if the length is known and the index is out of bounds.
 pub fn broken_access_index(
     context: &CheckContext<'_>,
     base: &Form,

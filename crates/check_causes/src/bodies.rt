@@ -1,4 +1,4 @@
-//! Which rule of a statement is broken.
+//! The broken rules of statements.
 
 ghost use Rattle.std.specs.Prelude.{◌≡◌, IfSome, MatchOption};
 ghost use Rattle.check_causes.specs.Bodies.{BrokenReturn, BrokenStore, BrokenValue, IsReturned, pointed_value};
@@ -15,29 +15,29 @@ use ir_types::{TypeInner, key};
 use module_context::{CheckContext, are_same};
 use typing_forms::{Form, form_of_type, inner_of};
 
-/// Which rule of a return is broken.
+/// A broken rule of a `Return`.
 #[derive(Clone, Copy)]
 pub enum ReturnCause {
-    /// A value of this type is returned, and the function has no result.
+    /// A value of this type is returned, but the function has no result.
     NoResult(Form),
-    /// Nothing is returned, and the result of the function has this type.
+    /// No value is returned, but the function has a result of this type.
     Nothing(Form),
-    /// The value has the first type, and the result of the function the second.
+    /// The value has the first type, but the function's result has the second.
     Differ(Form, Form),
 }
 
-/// Which rule of a store is broken.
+/// A broken rule of a `Store`.
 #[derive(Clone, Copy)]
 pub enum StoreCause {
-    /// What is stored to has this type, which is not that of a pointer.
+    /// The operand has this type, which is not a pointer.
     NoPointer(Form),
-    /// The memory in this space is not written.
+    /// The memory in this address space is not writable.
     Space(AddressSpace),
-    /// The value has the first type, and the pointer leads to the second.
+    /// The value has the first type, but the pointer's base has the second.
     Value(Form, Form),
 }
 
-/// The rule of a return that is broken, if one is: a value is returned exactly where the function has a result, and is of its type.
+/// The broken rule of a `Return`, if any: a value is returned exactly if the function has a result, and has its type.
 pub fn broken_return(
     context: &CheckContext<'_>,
     declared: Option<Handle<key::IrType>>,
@@ -62,7 +62,7 @@ pub fn broken_return(
     }
 }
 
-// Why a value of a type is not one of another, if it is not.
+// The error if the type of a value is not the required one.
 fn broken_value(given: Form, wanted: Form) -> Option<ReturnCause>
     ensures { MatchOption result (given ≡ wanted) (BrokenValue given wanted) }
 {
@@ -72,7 +72,7 @@ fn broken_value(given: Form, wanted: Form) -> Option<ReturnCause>
     }
 }
 
-// Two types, where they differ.
+// Two types, if they differ.
 fn unlike(given: &Form, wanted: &Form) -> Option<(Form, Form)>
     ensures { MatchOption result (given.now ≡ wanted.now) (λ two. (two.0 ≡ given.now) × (two.1 ≡ wanted.now) × ¬ (given.now ≡ wanted.now)) }
 {
@@ -85,7 +85,7 @@ fn unlike(given: &Form, wanted: &Form) -> Option<(Form, Form)>
 
 // ---- stores
 
-// The space that a pointer points into.
+// The address space of a pointer.
 const fn pointer_space(of: &Form) -> Option<AddressSpace>
     ensures { result ≡ pointer_space of.now }
 {
@@ -107,7 +107,7 @@ const fn pointer_space(of: &Form) -> Option<AddressSpace>
     }
 }
 
-// What is loaded of a scalar or a vector.
+// The type that is loaded from a scalar or a vector.
 const fn value_of(size: Option<VectorSize>, scalar: Scalar) -> Form
     ensures { result ≡ loaded_value size scalar }
 {
@@ -117,7 +117,7 @@ const fn value_of(size: Option<VectorSize>, scalar: Scalar) -> Form
     }
 }
 
-// What is loaded of a type: of an atomic its scalar, and else the whole.
+// The type that is loaded from a type: for an atomic its scalar, and else the whole.
 fn loaded_of(context: &CheckContext<'_>, base: Handle<key::IrType>) -> Form
     ensures { result ≡ loaded (types_in context.now) base (inner_at (types_in context.now) base) }
 {
@@ -127,7 +127,7 @@ fn loaded_of(context: &CheckContext<'_>, base: Handle<key::IrType>) -> Form
     }
 }
 
-// The type of what a pointer leads to.
+// The base type of a pointer.
 fn pointed(context: &CheckContext<'_>, of: &Form) -> Option<Form>
     ensures { result ≡ pointed_value (types_in context.now) of.now }
 {
@@ -150,7 +150,7 @@ fn pointed(context: &CheckContext<'_>, of: &Form) -> Option<Form>
     }
 }
 
-// Why a value is not one that a pointer leads to, if it is not.
+// The error if the type of a value is not the base type of a pointer.
 fn broken_stored(context: &CheckContext<'_>, pointer: &Form, value: &Form) -> Option<StoreCause>
     ensures { IfSome result (BrokenStore (types_in context.now) pointer.now value.now) }
 {
@@ -159,8 +159,8 @@ fn broken_stored(context: &CheckContext<'_>, pointer: &Form, value: &Form) -> Op
     Some(StoreCause::Value(given, wanted))
 }
 
-/// A rule of a store that is broken, if one of these is: it is through a pointer, into memory that is written, and of the type that the
-/// pointer leads to. That the pointer begins at a variable is not asked.
+/// A broken rule of a `Store`, if it is one of these: the operand is a pointer, to writable memory, and the value has its base
+/// type. Whether the pointer originates from a variable is not checked.
 pub fn broken_store(context: &CheckContext<'_>, pointer: &Form, value: &Form) -> Option<StoreCause>
     ensures { IfSome result (BrokenStore (types_in context.now) pointer.now value.now) }
 {

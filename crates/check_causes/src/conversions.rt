@@ -1,4 +1,4 @@
-//! Which rule of a conversion is broken.
+//! The broken rules of conversions.
 
 ghost use Rattle.std.specs.Prelude.{◌↔◌, IsTrue, MatchOption};
 ghost use Rattle.check_causes.specs.Conversions.{BrokenAs, BrokenConversion};
@@ -11,27 +11,27 @@ use module_context::shaped_of;
 use module_type_checks::check_width;
 use typing_forms::Form;
 
-/// Which rule of a conversion is broken.
+/// A broken rule of a conversion.
 #[derive(Clone, Copy)]
 pub enum AsCause {
-    /// The operand has this type, which is not made of scalars.
+    /// The operand has this type, which is not a scalar, vector or matrix.
     NoScalars(Form),
-    /// There is no such scalar, or a capability that it needs is missing.
+    /// The target scalar type is invalid, or its capability is missing.
     NoScalar(Scalar),
-    /// Bits are read anew as those of truth values.
+    /// A bitcast to `bool`.
     ToBool,
-    /// Bits are read anew from truth values.
+    /// A bitcast from `bool`.
     FromBool,
 }
 
-// Whether there is a scalar.
+// Whether a scalar type is valid.
 fn is_there(capabilities: Capabilities, scalar: Scalar) -> bool
     ensures { IsTrue result ↔ ScalarOK capabilities scalar }
 {
     check_width(capabilities, scalar).is_ok()
 }
 
-// The first rule that is broken where a scalar is converted.
+// The first broken rule of a scalar conversion.
 fn broken_conversion(
     capabilities: Capabilities,
     kind: ScalarKind,
@@ -60,8 +60,8 @@ fn broken_conversion(
     }
 }
 
-/// The first rule of a conversion that is broken, if one is: the value is made of scalars; the scalar that it is converted to is there;
-/// where its bits are read anew, neither is a truth value.
+/// The first broken rule of a conversion, if any: the value is a scalar, vector or matrix; the target scalar type is valid;
+/// in a bitcast neither type is `bool`.
 pub fn broken_as(
     capabilities: Capabilities,
     kind: ScalarKind,

@@ -1,4 +1,4 @@
-//! Which rule of an expression is broken, by its kind.
+//! The broken rules of expressions, by expression kind.
 
 ghost use Rattle.std.specs.Prelude.{IfSome, IsSomeAnd, slice_get};
 ghost use Rattle.check_causes.specs.Causes.{BrokenBy};
@@ -20,28 +20,28 @@ use ir_types::{Expression, key};
 use module_context::CheckContext;
 use spec_statements::Sampling;
 
-/// Which rule of an expression is broken.
+/// A broken rule of an expression.
 #[derive(Clone, Copy)]
 pub enum Cause {
-    /// One of an index.
+    /// A rule of an index.
     Access(AccessCause),
-    /// One of a conversion.
+    /// A rule of a conversion.
     As(AsCause),
-    /// One of a load from an image.
+    /// A rule of an image load.
     ImageLoad(LoadCause),
-    /// One of a query of an image.
+    /// A rule of an image query.
     ImageQuery(QueryCause),
-    /// One of a sample of an image.
+    /// A rule of an image sample.
     ImageSample(SampleCause),
-    /// One of an operation on two values.
+    /// A rule of a binary operation.
     Binary(BinaryOperator, BinaryCause),
-    /// One of a selection.
+    /// A rule of a `Select`.
     Select(SelectCause),
-    /// One of a swizzle.
+    /// A rule of a `Swizzle`.
     Swizzle(SwizzleCause),
 }
 
-// That of an operation on two values.
+// The broken rule of a binary operation.
 fn of_binary(
     context: &CheckContext<'_>,
     op: BinaryOperator,
@@ -54,7 +54,7 @@ fn of_binary(
     Some(Cause::Binary(op, cause))
 }
 
-// That of a selection.
+// The broken rule of a `Select`.
 fn of_select(
     context: &CheckContext<'_>,
     condition: Handle<key::Expression>,
@@ -72,7 +72,7 @@ fn of_select(
     Some(Cause::Select(cause))
 }
 
-// That of an index that is computed.
+// The broken rule of a dynamic index.
 fn of_access(
     context: &CheckContext<'_>,
     base: Handle<key::Expression>,
@@ -84,7 +84,7 @@ fn of_access(
     Some(Cause::Access(cause))
 }
 
-// That of an index that is written.
+// The broken rule of a static index.
 fn of_index(context: &CheckContext<'_>, base: Handle<key::Expression>, index: u32) -> Option<Cause>
     ensures { IfSome result (BrokenBy (scene_in context.now) (plain (Expression.AccessIndex base index))) }
 {
@@ -92,7 +92,7 @@ fn of_index(context: &CheckContext<'_>, base: Handle<key::Expression>, index: u3
     Some(Cause::Access(cause))
 }
 
-// That of a load from an image.
+// The broken rule of an image load.
 fn of_load(
     context: &CheckContext<'_>,
     image: Handle<key::Expression>,
@@ -104,7 +104,7 @@ fn of_load(
     Some(Cause::ImageLoad(cause))
 }
 
-// That of a sample of an image.
+// The broken rule of an image sample.
 fn of_sample(
     context: &CheckContext<'_>,
     image: Handle<key::Expression>,
@@ -118,7 +118,7 @@ fn of_sample(
     Some(Cause::ImageSample(cause))
 }
 
-// That of an expression that looks at an image.
+// The broken rule of an image expression.
 fn of_image(context: &CheckContext<'_>, expression: &Expression) -> Option<Cause>
     requires { AreKinds (expressions_in context.now) context.now.kinds.now }
     ensures { IfSome result (BrokenBy (scene_in context.now) (expression_view expression.now)) }
@@ -170,8 +170,8 @@ fn of_image(context: &CheckContext<'_>, expression: &Expression) -> Option<Cause
     }
 }
 
-/// A rule of an expression that is broken, where its kind has several and one is; among the expressions of a context, whose kinds
-/// are those of its expressions.
+/// A broken rule of an expression, if its kind has several and one is broken. Requires that the context has the kinds of all
+/// its expressions.
 pub fn broken_rule(context: &CheckContext<'_>, expression: &Expression) -> Option<Cause>
     requires { AreKinds (expressions_in context.now) context.now.kinds.now }
     ensures { IfSome result (BrokenBy (scene_in context.now) (expression_view expression.now)) }
@@ -205,7 +205,7 @@ pub fn broken_rule(context: &CheckContext<'_>, expression: &Expression) -> Optio
     }
 }
 
-/// The same of the expression at a handle, if it is there.
+/// The broken rule of the expression at a handle, if it exists.
 #[tactic(auto, using(module_context::proofs::Lookups::found, module_context::proofs::Lookups::missing))]
 pub fn broken_at(context: &CheckContext<'_>, handle: Handle<key::Expression>) -> Option<Cause>
     requires { AreKinds (expressions_in context.now) context.now.kinds.now }

@@ -1,5 +1,5 @@
-//! Which rule of an expression is broken, with what stands there and what is wanted: a closed enum for each family of rules, and a
-//! function that answers the first rule of it that is broken.
+//! The broken rules of expressions, with the actual and the required types and values: an enum for each family of rules, and a
+//! function that returns the first broken rule.
 #![tactic(auto)]
 
 mod access;

@@ -1,4 +1,4 @@
-//! Which rule of an operation on one value or on two is broken.
+//! The broken rules of unary and binary operations.
 
 ghost use Rattle.std.specs.Prelude.{◌↔◌, IsTrue, MatchOption};
 ghost use Rattle.check_causes.specs.Operators.{Takes, AlikeOK, BrokenAlike, BrokenProduct, BrokenShift, BrokenBinary};
@@ -10,51 +10,51 @@ use module_context::{are_same, form_of_shape, is_integer, is_numeric, is_truth, 
 use spec_statements::Shape;
 use typing_forms::Form;
 
-/// Which rule of an operation is broken whose operands have one type.
+/// A broken rule of an operation with equal operand types.
 #[derive(Clone, Copy)]
 pub enum AlikeCause {
     /// The operands have these types, which differ.
     Differ(Form, Form),
-    /// Both have this type, which the operation does not take.
+    /// Both have this type, which the operation does not accept.
     Type(Form),
 }
 
-/// Which rule of a product is broken.
+/// A broken rule of a multiplication.
 #[derive(Clone, Copy)]
 pub enum ProductCause {
-    /// The left factor has this type, which is not made of scalars.
+    /// The left operand has this type, which is not a scalar, vector or matrix.
     Left(Form),
-    /// The right one has.
+    /// The right operand has this type, which is not a scalar, vector or matrix.
     Right(Form),
-    /// The factors are made of these scalars, which differ.
+    /// The operands have these scalar types, which differ.
     Scalars(Scalar, Scalar),
-    /// The factors have these types, whose shapes are not multiplied.
+    /// The operands have these types, whose shapes can't be multiplied.
     Shapes(Form, Form),
 }
 
-/// Which rule of a shift is broken.
+/// A broken rule of a shift.
 #[derive(Clone, Copy)]
 pub enum ShiftCause {
-    /// What is shifted has this type, which is not made of integers.
+    /// The left operand has this type, which is not an integer scalar or vector.
     NoInteger(Form),
-    /// The amount has the first type, and needs the second.
+    /// The shift amount has the first type, but must have the second.
     Amount(Form, Form),
 }
 
-/// Which rule of an operation on two values is broken.
+/// A broken rule of a binary operation.
 #[derive(Clone, Copy)]
 pub enum BinaryCause {
-    /// One of operands that have one type.
+    /// A rule of an operation with equal operand types.
     Alike(AlikeCause),
-    /// One of a product.
+    /// A rule of a multiplication.
     Product(ProductCause),
-    /// One of a shift.
+    /// A rule of a shift.
     Shift(ShiftCause),
 }
 
-// ---- operands of one type
+// ---- equal operand types
 
-// Whether scalars of a kind are truth values or integers.
+// Whether a scalar kind is `Bool` or an integer kind.
 const fn is_bits(kind: ScalarKind) -> bool
     ensures { IsTrue result ↔ IsIntegerOrBool kind }
 {
@@ -64,7 +64,7 @@ const fn is_bits(kind: ScalarKind) -> bool
     }
 }
 
-// Whether values of a shape and a kind are added.
+// Whether values of a shape and a scalar kind can be added.
 const fn is_added(shape: Shape, kind: ScalarKind) -> bool
     ensures { IsTrue result ↔ IsAdded shape kind }
 {
@@ -74,7 +74,7 @@ const fn is_added(shape: Shape, kind: ScalarKind) -> bool
     }
 }
 
-// Whether an operation whose operands have one type takes a shape of scalars of a kind.
+// Whether an operation with equal operand types accepts a shape and a scalar kind.
 fn takes(op: BinaryOperator, shape: Shape, kind: ScalarKind) -> bool
     ensures { IsTrue result ↔ Takes op shape kind }
 {
@@ -96,7 +96,7 @@ fn takes(op: BinaryOperator, shape: Shape, kind: ScalarKind) -> bool
     }
 }
 
-// The first rule that is broken of an operation whose operands have one type.
+// The first broken rule of an operation with equal operand types.
 fn broken_alike(op: BinaryOperator, left: &Form, right: &Form) -> Option<AlikeCause>
     ensures { MatchOption result (AlikeOK op left.now right.now) (BrokenAlike op left.now right.now) }
 {
@@ -114,7 +114,7 @@ fn broken_alike(op: BinaryOperator, left: &Form, right: &Form) -> Option<AlikeCa
 
 // ---- products
 
-// Whether a row of so many is multiplied with something.
+// Whether a vector of this size can be multiplied with a shape.
 fn is_row_multiplied(size: VectorSize, right: Shape) -> bool
     ensures { IsTrue result ↔ AreMultiplied (Shape.Vector size) right }
 {
@@ -143,7 +143,7 @@ fn are_shapes_multiplied(left: Shape, right: Shape) -> bool
     }
 }
 
-// The first rule of a product that is broken.
+// The first broken rule of a multiplication.
 fn broken_product(left: &Form, right: &Form) -> Option<ProductCause>
     ensures { MatchOption result (ProductOK left.now right.now) (BrokenProduct left.now right.now) }
 {
@@ -164,7 +164,7 @@ fn broken_product(left: &Form, right: &Form) -> Option<ProductCause>
 
 // ---- shifts
 
-// The first rule of a shift that is broken.
+// The first broken rule of a shift.
 fn broken_shift(left: &Form, right: &Form) -> Option<ShiftCause>
     ensures { MatchOption result (ShiftOK left.now right.now) (BrokenShift left.now right.now) }
 {
@@ -181,9 +181,9 @@ fn broken_shift(left: &Form, right: &Form) -> Option<ShiftCause>
     None
 }
 
-// ---- operations on two values
+// ---- binary operations
 
-/// The first rule of an operation on two values that is broken, if one is.
+/// The first broken rule of a binary operation, if any.
 pub fn broken_binary(op: BinaryOperator, left: &Form, right: &Form) -> Option<BinaryCause>
     ensures { MatchOption result (BinaryOK op left.now right.now) (BrokenBinary op left.now right.now) }
 {

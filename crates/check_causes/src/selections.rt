@@ -1,4 +1,4 @@
-//! Which rule of a selection is broken.
+//! The broken rules of `Select`.
 
 ghost use Rattle.std.specs.Prelude.{◌↔◌, IsTrue, MatchOption};
 ghost use Rattle.check_causes.specs.Selections.{BrokenSelect};
@@ -10,20 +10,20 @@ use module_context::{are_same, is_truth, shaped_of};
 use spec_statements::Shape;
 use typing_forms::Form;
 
-/// Which rule of a selection is broken.
+/// A broken rule of a `Select`.
 #[derive(Clone, Copy)]
 pub enum SelectCause {
     /// The two values have these types, which differ.
     Differ(Form, Form),
-    /// The values have this type, which is neither that of a scalar nor that of a vector.
+    /// The values have this type, which is neither a scalar nor a vector.
     NoValue(Form),
-    /// The condition has this type, which is not made of bools.
+    /// The condition has this type, which is not a bool scalar or vector.
     NoCondition(Form),
-    /// The condition has the first type, which is made of bools, and does not choose from values of the second.
+    /// The condition has the first type, of bools, but its shape does not select between values of the second.
     Shape(Form, Form),
 }
 
-// Whether a truth value for each of so many components chooses from values of a shape.
+// Whether a bool vector of this size selects between values of a shape.
 fn is_chosen_by_row(size: VectorSize, value: Shape) -> bool
     ensures { IsTrue result ↔ ChoosesFrom (Shape.Vector size) value }
 {
@@ -33,7 +33,7 @@ fn is_chosen_by_row(size: VectorSize, value: Shape) -> bool
     }
 }
 
-// Whether truth values of one shape choose from values of another.
+// Whether bools of one shape select between values of another.
 fn chooses_from(condition: Shape, value: Shape) -> bool
     ensures { IsTrue result ↔ ChoosesFrom condition value }
 {
@@ -44,8 +44,8 @@ fn chooses_from(condition: Shape, value: Shape) -> bool
     }
 }
 
-/// The first rule of a selection that is broken, if one is: the values have one type, which is that of a scalar or a vector; the
-/// condition is of bools, and is one for the whole or one for each component.
+/// The first broken rule of a `Select`, if any: the values have equal types, a scalar or a vector; the
+/// condition is a bool, or a bool vector of the same size.
 pub fn broken_select(condition: &Form, accept: &Form, reject: &Form) -> Option<SelectCause>
     ensures { MatchOption result (SelectOK condition.now accept.now reject.now) (BrokenSelect condition.now accept.now reject.now) }
 {

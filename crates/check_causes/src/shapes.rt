@@ -1,11 +1,11 @@
-//! Shapes that several families require.
+//! Shape tests that several families share.
 
 ghost use Rattle.std.specs.Prelude.{◌↔◌, IsTrue};
 ghost use Rattle.spec_statements.specs.judged.Shapes.{IsScalarShape, IsScalarOrVector};
 
 use spec_statements::Shape;
 
-/// Whether a shape is that of one scalar.
+/// Whether a shape is a scalar.
 pub(crate) const fn is_alone(shape: Shape) -> bool
     ensures { IsTrue result ↔ IsScalarShape shape }
 {
@@ -15,7 +15,7 @@ pub(crate) const fn is_alone(shape: Shape) -> bool
     }
 }
 
-/// Whether a shape is that of a value: one scalar, or a vector.
+/// Whether a shape is a scalar or a vector.
 pub(crate) const fn is_of_value(shape: Shape) -> bool
     ensures { IsTrue result ↔ IsScalarOrVector shape }
 {

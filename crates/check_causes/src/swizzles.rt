@@ -1,4 +1,4 @@
-//! Which rule of a swizzle is broken.
+//! The broken rules of `Swizzle`.
 
 ghost use Rattle.std.specs.Prelude.{IfSome};
 ghost use Rattle.check_causes.specs.Swizzles.{BrokenLetter, BrokenSwizzle};
@@ -8,16 +8,16 @@ use module_context::shaped_of;
 use spec_statements::Shape;
 use typing_forms::Form;
 
-/// Which rule of a swizzle is broken.
+/// A broken rule of a `Swizzle`.
 #[derive(Clone, Copy)]
 pub enum SwizzleCause {
-    /// The operand has this type, which is not that of a vector.
+    /// The operand has this type, which is not a vector.
     NoVector(Form),
-    /// A letter that counts is that of none of so many components.
+    /// A used pattern component is out of bounds for this vector size.
     Letter(SwizzleComponent, VectorSize),
 }
 
-// The first letter of a pattern that counts and is that of no component of a vector, if there is one.
+// The first used component of a pattern that is out of bounds of a vector, if any.
 fn broken_letter(
     size: VectorSize,
     pattern: [SwizzleComponent; 4],
@@ -34,7 +34,7 @@ fn broken_letter(
     None
 }
 
-/// The rule of a swizzle that is broken, if one is: each letter that counts is that of a component of a vector.
+/// The broken rule of a `Swizzle`, if any: each used pattern component is in bounds of the vector.
 pub fn broken_swizzle(
     size: VectorSize,
     pattern: [SwizzleComponent; 4],

@@ -1,4 +1,4 @@
-// What is chosen.
+// Validation options for SPIR-V.
 
 use document_words::{SetWord, Word, find_word};
 use ir_flags::{Capabilities, Settings, ValidationFlags};
@@ -6,16 +6,16 @@ use serde_json::{Value, push};
 use std::alloc::{AllocError, Global};
 use std::fmt::{self, Display};
 
-/// What is chosen of how modules of SPIR-V are judged.
+/// The options for validating SPIR-V modules.
 #[derive(Clone, Copy)]
 pub struct Choices {
-    /// The checks that are left out.
+    /// The checks that are skipped.
     pub without: ValidationFlags,
-    /// The capabilities that there are, in place of those that a module names.
+    /// The enabled capabilities, in place of those that the module declares.
     pub capabilities: Option<Capabilities>,
 }
 
-// What words with commas between them denote together, where each is one of the set.
+// The union of flags by comma-separated words, if each names a flag.
 fn set_of<S: SetWord>(words: &str) -> Option<S> {
     let mut all = S::none();
     for word in words.split(',') {
@@ -25,13 +25,13 @@ fn set_of<S: SetWord>(words: &str) -> Option<S> {
 }
 
 impl Choices {
-    /// Nothing: all six checks, and the capabilities that a module names.
+    /// The default options: all six checks, and the capabilities that the module declares.
     pub const NONE: Choices = Choices {
         without: ValidationFlags(0),
         capabilities: None,
     };
 
-    /// Leaves out the checks of these words, with commas between them. Whether each is the word of a check.
+    /// Skips the checks in this comma-separated list. Returns whether each word names a check.
     pub fn leave_out(&mut self, words: &str) -> bool {
         match set_of::<ValidationFlags>(words) {
             Some(flags) => {
@@ -42,7 +42,7 @@ impl Choices {
         }
     }
 
-    /// Judges by the capabilities of these words, with commas between them. Whether each is the word of one.
+    /// Enables the capabilities in this comma-separated list instead. Returns whether each word names a capability.
     pub fn allow(&mut self, words: &str) -> bool {
         match set_of::<Capabilities>(words) {
             Some(capabilities) => {
@@ -53,17 +53,17 @@ impl Choices {
         }
     }
 
-    /// Whether a check is left out.
+    /// Whether a check is skipped.
     pub fn leaves_out(&self) -> bool {
         self.without.0 != 0
     }
 
-    /// Whether nothing is chosen.
+    /// Whether the options are the default.
     pub fn is_none(&self) -> bool {
         !self.leaves_out() && self.capabilities.is_none()
     }
 
-    /// Changes the settings of a document to what is chosen.
+    /// Applies the options to the settings of a document.
     pub fn apply(&self, settings: &mut Settings) {
         settings.flags = ValidationFlags(settings.flags.0 & !self.without.0);
         if let Some(capabilities) = self.capabilities {
@@ -71,7 +71,7 @@ impl Choices {
         }
     }
 
-    /// The words of the checks that are left out, as a list. The error is out of memory.
+    /// The words of the skipped checks, as a list. The error is out of memory.
     pub fn without_value(&self, alloc: Global) -> Result<Value, AllocError> {
         let mut list = Vec::new(alloc);
         for entry in ValidationFlags::table() {
@@ -83,7 +83,7 @@ impl Choices {
     }
 }
 
-// The checks that are left out, by their words.
+// The skipped checks, by their words.
 impl Display for Choices {
     fn fmt<W: fmt::Write>(&self, f: &mut fmt::Formatter<W>) -> fmt::Result {
         let mut rest = self.without.0;

@@ -1,5 +1,5 @@
-//! How a module of SPIR-V is judged where its reader chooses it, by the words of a document: without some of the checks, by other
-//! capabilities than those that it names.
+//! Options for validating a SPIR-V module, by the words of the document format: without some of the checks, or with other
+//! capabilities than those it declares.
 #![tactic(auto)]
 
 mod choices;

@@ -1,4 +1,4 @@
--- The answer of a judgement.
+-- The result of a validation.
 use Rattle.std.proofs.Common.{◌≡◌, ◌++◌, ℕ, List, string_bytes}
 use Rattle.judgement.specs.judged.Text.{text_of}
 use Rattle.shader_check.specs.declared.reported.Judgement.{Judgement}

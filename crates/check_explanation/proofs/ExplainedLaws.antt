@@ -1,4 +1,4 @@
--- What is explained goes with the judgement over the bytes.
+-- An explanation matches the validation of the bytes.
 use Rattle.std.proofs.Common.{◌≡◌, ◌≢◌, ℕ, Bool, List, Ok, Err, Result, IfOk, ap, sym, subst}
 use Rattle.std.specs.declared.alloc.AllocError.{AllocError}
 use Rattle.document_reader.specs.declared.error.DocumentError.{DocumentError}
@@ -27,13 +27,13 @@ use Rattle.judgement_laws.specs.judged.Sound.{AreChecked}
 use Rattle.check_explanation.specs.Answered.{IsExplained, IsExplainedOf}
 use Rattle.check_explanation.specs.declared.traced.Traced.{Traced}
 
--- what is found of its module with the error is found of the document
+-- the result for its module with the error is that for the document
 pub found_if : (d : PlainDocument) (m : PlainModule) (x : Examined) (r : Result Explanation AllocError) → IsExaminedDocument d m x → IfOk r (λ e. finding_of e ≡ finding_in x)
     → IfOk r (λ e. FindsIn d (finding_of e))
 found_if d m x (Ok e) h is = subst (FindsIn d) (sym is) (judged_document d m x h)
 found_if d m x (Err a) h is = tt
 
--- an accepted module is found to be one
+-- the finding for a valid module
 pub accepted_if : (requested : Requested) (m : PlainModule) (strict : Bool) (r : Result Explanation AllocError) → IfOk r (IsAccepted requested m strict) → IfOk r (λ e. finding_of e ≡ findings.Accepted strict)
 accepted_if requested m strict (Ok (Accepted found lines names)) h = ap findings.Accepted h.0
 accepted_if requested m strict (Ok (NoDocument _ _)) h = elim h [ ]
@@ -47,7 +47,7 @@ accepted_explains requested m x strict (Ok (NoDocument _ _)) h = elim h [ ]
 accepted_explains requested m x strict (Ok (Refused _ _)) h = elim h [ ]
 accepted_explains requested m x strict (Err a) h = tt
 
--- one that is refused is found to be so, with its error
+-- the finding for an invalid module, with its error
 pub refused_if : (error : ValidationError) (r : Result Explanation AllocError) → IfOk r (IsRefusedWith error) → IfOk r (λ e. finding_of e ≡ refused_by error)
 refused_if error (Ok (Refused found item)) h = ap refused_by h
 refused_if error (Ok (NoDocument _ _)) h = elim h [ ]
@@ -61,7 +61,7 @@ refused_explains requested m error (Ok (NoDocument _ _)) h = elim h [ ]
 refused_explains requested m error (Ok (Accepted _ _ _)) h = elim h [ ]
 refused_explains requested m error (Err a) h = tt
 
--- bytes that spell no document are found to be so, for a reason
+-- the finding for bytes that are not a document, with a reason
 pub misread_if : (bytes : List ℕ) (error : DocumentError) (r : Result Explanation AllocError) → (error ≢ unread.Memory → (d : PlainDocument) → ¬ Reads bytes d) → IfOk r (IsMisread error)
     → IfOk r (λ e. Judged bytes (finding_of e))
 misread_if bytes error (Ok (NoDocument found hint)) none h = none h.1
@@ -76,13 +76,13 @@ misread_explains requested bytes error (Ok (Accepted _ _ _)) reason h = elim h [
 misread_explains requested bytes error (Ok (Refused _ _)) reason h = elim h [ ]
 misread_explains requested bytes error (Err a) reason h = tt
 
--- what is found of the document is found of the bytes that spell it
+-- the result for the document is that for its bytes
 pub explained_if : (bytes : List ℕ) (d : PlainDocument) (r : Result Explanation AllocError) → Reads bytes d → IfOk r (λ e. FindsIn d (finding_of e))
     → IfOk r (λ e. Judged bytes (finding_of e))
 explained_if bytes d (Ok e) reads h = judged_if bytes d (Ok (finding_of e)) reads h
 explained_if bytes d (Err a) reads h = tt
 
--- of an accepted module buffers and the report can be listed
+-- the buffers and the report of a valid module can be listed
 pub can_report : (d : PlainDocument) (m : PlainModule) (x : Examined) → IsExaminedDocument d m x → CanReportIn m x
 can_report d m (examined.Accepted strict info) h = record {
   handles = h.examined.0.ok.handles;
@@ -92,7 +92,7 @@ can_report d m (examined.Accepted strict info) h = record {
 }
 can_report d m (examined.Refused e) h = tt
 
--- what is explained of its module is explained of the document
+-- the explanation of its module is that of the document
 pub explained_in : (requested : Requested) (d : PlainDocument) (m : PlainModule) (x : Examined) (r : Result Explanation AllocError) → IsExaminedDocument d m x → IfOk r (ExplainsModule requested m x)
     → IfOk r (ExplainsDocument requested d)
 explained_in requested d m x (Ok (NoDocument error hint)) of h = h
@@ -100,7 +100,7 @@ explained_in requested d m x (Ok (Accepted strict lines names)) of h = record { 
 explained_in requested d m x (Ok (Refused error item)) of h = record { judged = m; prepared = of.prepared; fault = subst (IsExamined d.settings m) h of.examined }
 explained_in requested d m x (Err a) of h = tt
 
--- and of the bytes that spell it
+-- and that of its bytes
 pub explained_on : (requested : Requested) (bytes : List ℕ) (d : PlainDocument) (r : Result Explanation AllocError) → Reads bytes d → IfOk r (ExplainsDocument requested d)
     → IfOk r (ExplainsBytes requested bytes)
 explained_on requested bytes d (Ok (NoDocument error hint)) reads h = elim h [ ]
@@ -108,13 +108,13 @@ explained_on requested bytes d (Ok (Accepted strict lines names)) reads h = reco
 explained_on requested bytes d (Ok (Refused error item)) reads h = record { document = d; reads = reads; wrong = h }
 explained_on requested bytes d (Err a) reads h = tt
 
--- what is explained stays so with the instruction that it comes from
+-- the explanation is unchanged with the instruction it comes from
 pub traced_if : (requested : Requested) (d : PlainDocument) (e : Explanation) (r : Result Traced SpirvError) → IsExplainedOf requested d e → IfOk r (λ t. t.explanation ≡ e)
     → IfOk r (λ t. IsExplainedOf requested d t.explanation)
 traced_if requested d e (Ok t) h is = subst (IsExplainedOf requested d) (sym is) h
 traced_if requested d e (Err a) h is = tt
 
--- what is explained of a document under such checks is explained of some such document
+-- the explanation of a document under such checks is one of some such document
 pub explained_under : (requested : Requested) (d : PlainDocument) (r : Result Traced SpirvError) → AreChecked d.settings → IfOk r (λ t. IsExplainedOf requested d t.explanation)
     → IfOk r (λ t. IsExplained requested t.explanation)
 explained_under requested d (Ok t) checked h = record { document = d; checked = checked; judged = h.judged; explains = h.explains }

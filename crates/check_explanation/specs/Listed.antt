@@ -1,5 +1,5 @@
--- What an explanation says of a module, of a document and of bytes: the lines of an accepted module, and the error of one that is
--- refused or of bytes that spell no document, which is what is wrong with them.
+-- What an explanation says about a module, a document and bytes: the lines of a valid module, and the error of an invalid
+-- one, or of bytes that are not a document. The error's condition holds.
 use Rattle.std.specs.Prelude.{◌≡◌, ◌≢◌, ℕ, Bool, false, List, [], string_bytes}
 use Rattle.document_reader.specs.judged.Form.{Reads}
 use Rattle.document_reader.specs.judged.Plain.{PlainDocument}
@@ -22,7 +22,7 @@ use Rattle.shader_check.specs.declared.examined.Examined.{Examined}
 use Rattle.shader_check.specs.declared.examined.Examined.TheVariants as examined
 use Rattle.spec_expressions.specs.judged.ModuleHandles.{HandlesOK}
 
--- what is kept of a module is enough to list its buffers and to report on it
+-- the `ModuleInfo` is enough to list the module's buffers and to report on it
 pub record CanReport (m : PlainModule) (info : ModuleInfo) : Type 0 where
   pub handles : HandlesOK m
   pub laid : AreLaid m
@@ -33,7 +33,7 @@ abbrev pub CanReportIn : PlainModule → Examined → Type 0
 CanReportIn m (examined.Accepted strict info) = CanReport m info
 CanReportIn m (examined.Refused e) = Unit {0}
 
--- the lines that are wanted of a module: none, those of its buffers and their leaves, or its report
+-- the requested lines of a module: none, those of its buffers and their leaves, or its report
 abbrev pub ListsAsRequested : (requested : Requested) → PlainModule → (lines : List ℕ) → Type 0
 ListsAsRequested Nothing m lines = lines ≡ []
 ListsAsRequested Leaves m lines = lines ≡ leaf_report m
@@ -45,25 +45,25 @@ lines_of (NoDocument error hint) = []
 lines_of (Accepted strict lines names) = string_bytes lines
 lines_of (Refused error item) = []
 
--- of a module of which this is found: lines as wanted where it is accepted, else the error that is found
+-- for a module with this finding: the requested lines if it is valid, else its error
 abbrev pub ExplainsModule : (requested : Requested) → PlainModule → Examined → Explanation → Type 0
 ExplainsModule requested m x (NoDocument error hint) = ⊥
 ExplainsModule requested m x (Accepted strict lines names) = ListsAsRequested requested m (string_bytes lines)
 ExplainsModule requested m x (Refused error item) = x ≡ examined.Refused error
 
--- the explanation of an accepted module
+-- the explanation of a valid module
 abbrev pub IsAccepted : (requested : Requested) → PlainModule → Bool → Explanation → Type 0
 IsAccepted requested m strict (NoDocument error hint) = ⊥
 IsAccepted requested m strict (Accepted found lines names) = (found ≡ strict) × ListsAsRequested requested m (string_bytes lines)
 IsAccepted requested m strict (Refused error item) = ⊥
 
--- They are those of the document's module, with returns put in where it requires them.
+-- They are those of the document's module, with missing returns inserted if requested.
 pub record AreListedIn (requested : Requested) (d : PlainDocument) (lines : List ℕ) : Type 0 where
   pub judged : PlainModule
   pub prepared : IsPrepared d.returns d.content judged
   pub are : ListsAsRequested requested judged lines
 
--- This is wrong with the document's module, with returns put in where it requires them.
+-- It is an error of the document's module, with missing returns inserted if requested.
 pub record IsWrongIn (d : PlainDocument) (error : ValidationError) : Type 0 where
   pub judged : PlainModule
   pub prepared : IsPrepared d.returns d.content judged
@@ -74,7 +74,7 @@ ExplainsDocument requested d (NoDocument error hint) = ⊥
 ExplainsDocument requested d (Accepted strict lines names) = AreListedIn requested d (string_bytes lines)
 ExplainsDocument requested d (Refused error item) = IsWrongIn d error
 
--- They are those of the module of the document that the bytes spell, with returns put in where it requires them.
+-- They are those of the module of the document in the bytes, with missing returns inserted if requested.
 pub record AreListed (requested : Requested) (bytes lines : List ℕ) : Type 0 where
   pub document : PlainDocument
   pub reads : Reads bytes document
@@ -82,13 +82,13 @@ pub record AreListed (requested : Requested) (bytes lines : List ℕ) : Type 0 w
   pub prepared : IsPrepared document.returns document.content judged
   pub are : ListsAsRequested requested judged lines
 
--- This is wrong with the module of the document that the bytes spell.
+-- It is an error of the module of the document in the bytes.
 pub record IsWrongWith (bytes : List ℕ) (error : ValidationError) : Type 0 where
   pub document : PlainDocument
   pub reads : Reads bytes document
   pub wrong : IsWrongIn document error
 
--- of bytes: where they spell no document, a reason for it that is not that there was no memory
+-- for bytes that are not a document, a reason for it that is not out of memory
 abbrev pub ExplainsBytes : (requested : Requested) → (bytes : List ℕ) → Explanation → Type 0
 ExplainsBytes requested bytes (NoDocument error hint) = IsReason bytes error × (error ≢ unread.Memory)
 ExplainsBytes requested bytes (Accepted strict lines names) = AreListed requested bytes (string_bytes lines)

@@ -1,4 +1,4 @@
--- Which rule of an expression is broken, of an error that names none.
+-- The broken rule of an expression, for an error that names none.
 use Rattle.std.specs.Prelude.{ℕ, Option, Some, None, IsSomeAnd, slice_get}
 use Rattle.typing_errors.specs.declared.error.FunctionError.{FunctionError}
 use Rattle.typing_errors.specs.declared.error.FunctionError.TheVariants as f
@@ -34,6 +34,6 @@ ruled (refused.EntryPoint e) = ruled_entry e.error
 ruled (refused.Module (step.ConstExpression e)) = ruled_value e
 ruled _ = None
 
--- there is such an expression, and where it stands there it breaks the rule
+-- there is such an expression, and it breaks the rule at its handle
 abbrev pub IsBrokenAt : Scene → (place : Option ℕ) → Cause → Type 0
 IsBrokenAt s place cause = IsSomeAnd place (λ h. IsSomeAnd (slice_get s.expressions h) (λ e. BrokenBy s e cause))

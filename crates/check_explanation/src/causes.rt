@@ -1,4 +1,4 @@
-// Which rule of an expression is broken, as data.
+// The broken rule of an expression, as data.
 
 use check_causes::{
     AccessCause, AlikeCause, AsCause, BinaryCause, Cause, DetailCause, EdgeCause, LoadCause,
@@ -11,7 +11,7 @@ use serde_json::{Map, Value, push, put};
 use std::alloc::{AllocError, Global};
 use typing_forms::Form;
 
-// A broken rule: its name, the type that stands there and the one that is wanted, and the index and how many parts there are.
+// A broken rule: its name, the actual and the required type, and the index and the length.
 #[derive(Clone, Copy)]
 struct Row<'a> {
     name: &'static str,
@@ -20,7 +20,7 @@ struct Row<'a> {
     bound: Option<(i64, u32)>,
 }
 
-// One that tells nothing else.
+// A rule without details.
 const fn plain<'a>(name: &'static str) -> Row<'a> {
     Row {
         name,
@@ -30,7 +30,7 @@ const fn plain<'a>(name: &'static str) -> Row<'a> {
     }
 }
 
-// One that tells what stands there.
+// A rule with the actual type.
 const fn given<'a>(name: &'static str, form: &'a Form) -> Row<'a> {
     Row {
         name,
@@ -40,7 +40,7 @@ const fn given<'a>(name: &'static str, form: &'a Form) -> Row<'a> {
     }
 }
 
-// One that tells what stands there and what is wanted.
+// A rule with the actual and the required type.
 const fn wanted<'a>(name: &'static str, form: &'a Form, other: &'a Form) -> Row<'a> {
     Row {
         name,
@@ -50,7 +50,7 @@ const fn wanted<'a>(name: &'static str, form: &'a Form, other: &'a Form) -> Row<
     }
 }
 
-// One that tells an index and how many parts there are.
+// A rule with an index and a length.
 const fn bound<'a>(name: &'static str, index: i64, parts: u32) -> Row<'a> {
     Row {
         name,
@@ -272,7 +272,7 @@ fn row_of(cause: &Cause) -> Row<'_> {
     }
 }
 
-// Puts a type in words, where there is one.
+// Inserts the text of a type, if there is one.
 fn put_type(
     map: &mut Map<String, Value>,
     alloc: Global,
@@ -291,7 +291,7 @@ fn put_type(
     put(map, alloc, key, Value::try_from_str(alloc, &words)?)
 }
 
-// Puts an index and how many parts there are, where they are told.
+// Inserts an index and a length, if there are any.
 fn put_bound(
     map: &mut Map<String, Value>,
     alloc: Global,
@@ -306,7 +306,7 @@ fn put_bound(
     }
 }
 
-/// A broken rule as a JSON object: its name, with the types and the numbers that it tells. The error is out of memory.
+/// A broken rule as a JSON object: its name, with its types and numbers. The error is out of memory.
 pub(crate) fn cause_value(
     alloc: Global,
     module: &Module,
@@ -334,7 +334,7 @@ fn number_if(number: Option<u32>) -> Value {
     }
 }
 
-// The indexes of a list.
+// The indices of a list.
 fn indexes_value(alloc: Global, indexes: &[u32]) -> Result<Value, AllocError> {
     let mut list = Vec::new(alloc);
     for index in indexes {
@@ -343,7 +343,7 @@ fn indexes_value(alloc: Global, indexes: &[u32]) -> Result<Value, AllocError> {
     Ok(Value::Array(list))
 }
 
-// Where in a function the path leads: the expression, or the indexes inside the body.
+// The location of a path in a function: the expression, or the indices inside the body.
 fn put_inside(
     map: &mut Map<String, Value>,
     alloc: Global,
@@ -356,8 +356,8 @@ fn put_inside(
     }
 }
 
-/// Where a path leads as a JSON object: the function or the entry point, and in it the expression or the indexes inside the body; null
-/// where it leads to neither. The error is out of memory.
+/// The location of a path as a JSON object: the function or the entry point, and in it the expression or the indices inside the
+/// body; null if it is in neither. The error is out of memory.
 pub(crate) fn place_value(alloc: Global, path: &[u32]) -> Result<Value, AllocError> {
     let (list, before) = match path.first() {
         Some(12) => ("function", 2),

@@ -1,4 +1,4 @@
-// What is found of a document, and where that shows.
+// The validation result of a document, with the location of the error.
 ghost use Rattle.std.specs.Prelude.{◌≡◌, ◌≢◌, ◌++◌, IfOk, codes, string_bytes};
 ghost use Rattle.serde_json.specs.Data.{string};
 ghost use Rattle.serde_json.specs.View.{view};
@@ -29,10 +29,10 @@ use std::alloc::{AllocError, Global};
 use std::fmt::{self, Display};
 use typing_infos::ModuleInfo;
 
-/// What is to be known of an accepted document beside that.
+/// The lines to output for a valid document, beyond the verdict.
 #[derive(Clone, Copy, Debug, PartialEq, Eq)]
 pub enum Requested {
-    /// Nothing.
+    /// None.
     Nothing,
     /// The lines of its buffers, each with those of its leaves.
     Leaves,
@@ -40,25 +40,25 @@ pub enum Requested {
     Report,
 }
 
-/// What is found of a document, and where that shows.
+/// The validation result of a document, with the location of the error.
 #[derive(Drop)]
 pub enum Explanation {
-    /// The bytes spell no document. The error is not of memory. With what they look like, or what stands where the slip is.
+    /// The bytes are not a document. The error is not out of memory. With a hint at what they look like, or the value at the error.
     NoDocument(DocumentError, String),
-    /// No step fails.
+    /// The module is valid.
     Accepted {
-        /// Scope was checked strictly.
+        /// Whether strict scope was checked.
         strict: bool,
-        /// The lines that were wanted.
+        /// The requested lines.
         lines: String,
-        /// What the parts of the module are, where lines were wanted.
+        /// Names of the module's parts, if lines were requested.
         names: Names,
     },
-    /// A step fails: why, and the first item that fails it.
+    /// The module is invalid: the first failing item, and why.
     Refused(ValidationError, RefusedItem),
 }
 
-// The lines of a module that are wanted.
+// The requested lines of a module.
 fn lines(
     alloc: Global,
     requested: Requested,
@@ -75,7 +75,7 @@ fn lines(
     }
 }
 
-// What the parts of a module are, where lines of it are wanted.
+// Names of a module's parts, if lines are requested.
 fn names(alloc: Global, requested: Requested, module: &Module) -> Result<Names, AllocError> {
     match requested {
         Requested::Nothing => Ok(Names::none(alloc)),
@@ -83,7 +83,7 @@ fn names(alloc: Global, requested: Requested, module: &Module) -> Result<Names, 
     }
 }
 
-// The explanation of an accepted module.
+// The explanation of a valid module.
 fn accepted(
     alloc: Global,
     requested: Requested,
@@ -103,7 +103,7 @@ fn accepted(
     })
 }
 
-// The explanation of a module that is refused so, unless there was no memory for its item.
+// The explanation of an invalid module, or out of memory.
 fn refused(
     error: ValidationError,
     item: Result<RefusedItem, AllocError>,
@@ -116,7 +116,7 @@ fn refused(
     }
 }
 
-// The explanation of what is found.
+// The explanation of a validation result.
 fn explained(
     alloc: Global,
     requested: Requested,
@@ -142,7 +142,7 @@ fn explained(
     }
 }
 
-// What stands at a place of bytes that are no document, where this is wanted there.
+// A hint about the value in an invalid document, given what is required there.
 fn slip(alloc: Global, bytes: &[u8], place: &Place, wanted: &str) -> Result<String, AllocError> {
     let document = value_of(alloc, bytes)?;
     let slip = Slip {
@@ -153,7 +153,7 @@ fn slip(alloc: Global, bytes: &[u8], place: &Place, wanted: &str) -> Result<Stri
     format!(in alloc; "{slip}")
 }
 
-// What bytes look like that are no JSON.
+// A hint at what bytes look like that are not JSON.
 fn looks(alloc: Global, bytes: &[u8]) -> Result<String, AllocError> {
     let found = hint(bytes);
     if found.is_empty() {
@@ -163,9 +163,9 @@ fn looks(alloc: Global, bytes: &[u8]) -> Result<String, AllocError> {
     }
 }
 
-/// The explanation of a document, with the lines of its module that are wanted, where that is accepted, or the error for which it is
-/// refused; `text` is the document as JSON, of which a reason quotes parts. Returns are put into its module where it requires
-/// them, and the module is left so. The error says that there is no memory, and leaves the module so, or as it was.
+/// The explanation of a document, with the requested lines of its module, if it is valid, or its error;
+/// `text` is the document as JSON, of which a reason quotes parts. Missing returns are inserted into its module if requested,
+/// and the module keeps them. The error is out of memory; the module may then have the returns or not.
 pub fn explain_document(
     alloc: Global,
     requested: Requested,
@@ -189,7 +189,7 @@ pub fn explain_document(
     )
 }
 
-// The explanation of bytes that spell no document, unless there was no memory for what they look like.
+// The explanation of bytes that are not a document, or out of memory.
 fn unread(error: DocumentError, hint: Result<String, AllocError>) -> Result<Explanation, AllocError>
     requires { error ≢ no_memory }
     ensures { IfOk result (IsMisread error) }
@@ -200,7 +200,7 @@ fn unread(error: DocumentError, hint: Result<String, AllocError>) -> Result<Expl
     }
 }
 
-// The same, with what they look like, or what stands where the slip is. The error is out of memory.
+// The same, with a hint at what they look like, or the value at the error. The error is out of memory.
 fn misread(alloc: Global, bytes: &[u8], error: DocumentError) -> Result<Explanation, AllocError>
     ensures { IfOk result (IsMisread error) }
 {
@@ -214,8 +214,8 @@ fn misread(alloc: Global, bytes: &[u8], error: DocumentError) -> Result<Explanat
     }
 }
 
-/// The explanation of the document that the bytes spell, with the lines of its module that are wanted, where that is accepted. The
-/// error says that there is no memory.
+/// The explanation of the document in the bytes, with the requested lines of its module, if it is valid. The
+/// error is out of memory.
 pub fn explain(alloc: Global, requested: Requested, bytes: &[u8]) -> Result<Explanation, AllocError>
     ensures finding { IfOk result (λ e. Judged bytes.now (finding_of e)) }
     ensures explains { IfOk result (ExplainsBytes requested bytes.now) }
@@ -230,7 +230,7 @@ pub fn explain(alloc: Global, requested: Requested, bytes: &[u8]) -> Result<Expl
     }
 }
 
-// Where in the document it is, unless it is the whole.
+// The path of the error in the document, unless it is the whole document.
 fn write_place<W: fmt::Write>(f: &mut fmt::Formatter<W>, place: &Place) -> fmt::Result {
     let steps = place.steps();
     if steps.is_empty() {
@@ -239,7 +239,7 @@ fn write_place<W: fmt::Write>(f: &mut fmt::Formatter<W>, place: &Place) -> fmt::
     write!(f, "{}: ", PathNames(steps))
 }
 
-// Why the bytes spell no document.
+// Why the bytes are not a document.
 fn write_error<W: fmt::Write>(f: &mut fmt::Formatter<W>, error: &DocumentError) -> fmt::Result {
     match error {
         DocumentError::Memory => write!(f, "out of memory"),
@@ -254,7 +254,7 @@ fn write_error<W: fmt::Write>(f: &mut fmt::Formatter<W>, error: &DocumentError) 
     }
 }
 
-// The step that fails and the item that fails it, with its name.
+// The failing step, and the failing item with its name.
 fn write_item<W: fmt::Write>(f: &mut fmt::Formatter<W>, item: &RefusedItem) -> fmt::Result {
     let step = item.step;
     match (item.index, &item.name) {
@@ -264,7 +264,7 @@ fn write_item<W: fmt::Write>(f: &mut fmt::Formatter<W>, item: &RefusedItem) -> f
     }
 }
 
-// The indexes of the place where bytes are no document.
+// The indices of the location where bytes are not a document.
 fn steps_of(error: &DocumentError) -> &[u32] {
     match error {
         DocumentError::Malformed { place, .. } => place.steps(),
@@ -272,7 +272,7 @@ fn steps_of(error: &DocumentError) -> &[u32] {
     }
 }
 
-// The line and the byte in it where the JSON reader stopped, if the bytes are no JSON.
+// The line and the byte column at which the JSON parser stopped, if the bytes are not JSON.
 fn position_of(error: &DocumentError) -> (Option<usize>, Option<usize>) {
     match error {
         DocumentError::NotJson { line, column } => (Some(*line), Some(*column)),
@@ -282,7 +282,7 @@ fn position_of(error: &DocumentError) -> (Option<usize>, Option<usize>) {
     }
 }
 
-// Why the bytes spell no document, with what stands there.
+// Why the bytes are not a document, with the value at the error.
 #[derive(Clone, Copy)]
 struct Misformed<'a>(&'a DocumentError, &'a str);
 
@@ -293,7 +293,7 @@ impl Display for Misformed<'_> {
     }
 }
 
-// The word for what is found.
+// The word for the verdict.
 fn verdict_word(finding: Finding) -> &'static str
     ensures { result.now ≡ verdict_word finding }
 {
@@ -303,7 +303,7 @@ fn verdict_word(finding: Finding) -> &'static str
     }
 }
 
-// The object of bytes that spell no document.
+// The object for bytes that are not a document.
 fn no_document(alloc: Global, error: &DocumentError, hint: &str) -> Result<Value, AllocError>
     ensures { IfOk result (λ v. Has (view v) (codes "verdict") (string (codes "refused"))) }
 {
@@ -314,7 +314,7 @@ fn no_document(alloc: Global, error: &DocumentError, hint: &str) -> Result<Value
     no_document_value(alloc, &path, steps, &text, line, column)
 }
 
-// The object of an accepted document.
+// The object for a valid document.
 fn accepted_object(
     alloc: Global,
     strict: bool,
@@ -328,7 +328,7 @@ fn accepted_object(
     accepted_value(alloc, strict, lines, globals, entries)
 }
 
-// The object of a refused item.
+// The object for an invalid item.
 fn refused_object(alloc: Global, verdict: &str, item: &RefusedItem) -> Result<Value, AllocError>
     ensures { IfOk result (λ v. Has (view v) (codes "verdict") (string verdict.now)) }
 {
@@ -353,7 +353,7 @@ fn refused_object(alloc: Global, verdict: &str, item: &RefusedItem) -> Result<Va
 }
 
 impl Explanation {
-    /// What is found.
+    /// The finding.
     pub fn finding(&self) -> Finding
         ensures { result ≡ finding_of self.now }
     {
@@ -364,7 +364,7 @@ impl Explanation {
         }
     }
 
-    /// The line of what is found, and after it the lines that were wanted. The error is out of memory.
+    /// The line of the verdict, followed by the requested lines. The error is out of memory.
     pub fn listing(&self, alloc: Global) -> Result<String, AllocError>
         ensures { IfOk result (λ text. string_bytes text ≡ text_of (finding_of self.now) ++ lines_of self.now) }
     {
@@ -375,7 +375,7 @@ impl Explanation {
         Ok(text)
     }
 
-    /// A JSON object with all of it. The error is out of memory.
+    /// A JSON object with all details. The error is out of memory.
     pub fn value(&self, alloc: Global) -> Result<Value, AllocError>
         ensures { IfOk result (λ v. SaysVerdict (finding_of self.now) (view v)) }
     {
@@ -392,7 +392,7 @@ impl Explanation {
         }
     }
 
-    /// The object in one line without its end. The error is out of memory.
+    /// The object in one line without a line feed. The error is out of memory.
     #[tactic(auto, using(crate::proofs::ObjectLaws::object_text))]
     pub fn json(&self, alloc: Global) -> Result<String, AllocError>
         ensures { IfOk result (λ s. IsObjectText (finding_of self.now) (string_bytes s)) }
@@ -403,7 +403,7 @@ impl Explanation {
         }
     }
 
-    /// The error by its name, with all that it holds, of a document that a step refuses.
+    /// The error in `Debug` form, with its fields, if a step fails.
     pub fn error_name(&self) -> Option<&str> {
         match self {
             Explanation::Refused(_, item) => Some(item.error.as_str()),

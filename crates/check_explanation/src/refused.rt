@@ -1,4 +1,4 @@
-// The item that is refused, and why.
+// The invalid item, and why it is invalid.
 
 use crate::causes::cause_value;
 use crate::required::{Told, told_in};
@@ -14,26 +14,26 @@ use std::alloc::{AllocError, Global};
 use std::str::from_utf8;
 use typing_forms::TypeResolution;
 
-/// The item that a step refuses, and why.
+/// The item that fails a step, and why.
 #[derive(Drop)]
 pub struct RefusedItem {
-    /// The word of the step.
+    /// The name of the step.
     pub step: &'static str,
-    /// Its index, where the step names one.
+    /// Its index, if the step has one.
     pub index: Option<usize>,
-    /// Its name, where it has one.
+    /// Its name, if it has one.
     pub name: Option<String>,
-    /// The indexes that lead to it, or to the part of it that is at fault, from the outermost on.
+    /// The path of indices to it, or to its faulty part, from the outermost inward.
     pub path: Vec<u32>,
-    /// What stands there, and what is required.
+    /// The actual value, and what is required.
     pub text: String,
-    /// The error by its name, with all that it holds.
+    /// The error in `Debug` form, with its fields.
     pub error: String,
-    /// Which rule of an expression is broken, where that is one of several, as JSON; else null.
+    /// The broken rule of an expression, if its kind has several, as JSON; else null.
     pub cause: Value,
 }
 
-// The word of a step.
+// The name of a step.
 fn word_of(step: Step) -> &'static str {
     match step {
         Step::Layout => "layout",
@@ -48,7 +48,7 @@ fn word_of(step: Step) -> &'static str {
     }
 }
 
-// The step and the index of what is found.
+// The step and the index of a finding.
 fn step_of(finding: Finding) -> (&'static str, Option<usize>) {
     match finding {
         Finding::Refused(step, index) => (word_of(step), Some(index)),
@@ -58,7 +58,7 @@ fn step_of(finding: Finding) -> (&'static str, Option<usize>) {
     }
 }
 
-/// The bytes of a document as a JSON value; null where they spell none. The error is out of memory.
+/// The bytes of a document as a JSON value; null if they are not JSON. The error is out of memory.
 pub(crate) fn value_of(alloc: Global, bytes: &[u8]) -> Result<Value, AllocError> {
     let Ok(text) = from_utf8(bytes) else {
         return Ok(Value::Null);
@@ -77,7 +77,7 @@ fn copied(alloc: Global, name: Option<&str>) -> Result<Option<String>, AllocErro
     }
 }
 
-// The way to the item, and the reason.
+// The path to the item, and the reason.
 fn reason_of(alloc: Global, refusal: &Refusal<'_>) -> Result<(Vec<u32>, String), AllocError> {
     let path = path_of(alloc, refusal)?;
     let reason = Reason {
@@ -90,7 +90,7 @@ fn reason_of(alloc: Global, refusal: &Refusal<'_>) -> Result<(Vec<u32>, String),
     }
 }
 
-// Puts the item together from the refusal.
+// Builds the item from the error.
 fn item_of(
     alloc: Global,
     refusal: &Refusal<'_>,
@@ -115,10 +115,10 @@ fn item_of(
     })
 }
 
-// What a range has beside its two ends.
+// The marker of a range in `Debug` form, which is left out.
 const MARKER: &str = ", marker: PhantomData<_>";
 
-// The error by its name, with all that it holds but what takes no memory.
+// The error in `Debug` form, without the `PhantomData` marker of a range.
 fn name_with_fields(alloc: Global, error: &ValidationError) -> Result<String, AllocError> {
     let named = format!(in alloc; "{}", Named(error))?;
     match named.split_once(MARKER) {
@@ -127,7 +127,7 @@ fn name_with_fields(alloc: Global, error: &ValidationError) -> Result<String, Al
     }
 }
 
-// Whether it is in a function or at a global expression, or at what one is the value of.
+// Whether the error is in a function, at a global expression, or at an item whose value is one.
 fn is_of_values(error: &ValidationError) -> bool {
     match error {
         ValidationError::Module(error) => match error {
@@ -142,7 +142,7 @@ fn is_of_values(error: &ValidationError) -> bool {
     }
 }
 
-// The types of the expressions among which the error stands, as far as they are known.
+// The types of the expressions around the error, as far as they are known.
 fn known_types(
     alloc: Global,
     module: &Module,
@@ -155,7 +155,7 @@ fn known_types(
     }
 }
 
-// The refusal of a document by an error that stands at this part, where it stands neither in a body nor at a handle.
+// The details of an error of a document at this part, if it is neither in a body nor at a handle.
 fn refusal_of<'a>(
     document: &'a Value,
     error: &'a ValidationError,
@@ -175,7 +175,7 @@ fn refusal_of<'a>(
     }
 }
 
-// The item of a document that is refused so, where this is required.
+// The item of a document with this error and requirement.
 fn item_in(
     alloc: Global,
     document: &Value,
@@ -198,7 +198,7 @@ fn item_in(
     item_of(alloc, &refusal, step, index, named, cause)
 }
 
-/// The item of a module, which the bytes spell as a document, that is refused so under these capabilities. The error is out of
+/// The item of a module, of the document in the bytes, with this error under these capabilities. The error is out of
 /// memory.
 pub(crate) fn refused_item(
     alloc: Global,

@@ -1,4 +1,4 @@
-// What is required where an error stands, and which rule is broken there.
+// The requirement that an error breaks, and the broken rule.
 
 ghost use Rattle.std.specs.Prelude.{◌≡◌, IfSome, map};
 ghost use Rattle.ir_items.specs.found.GlobalView.{values_of};
@@ -23,12 +23,12 @@ use typing_errors::{ConstExpressionError, ExpressionError, FunctionError};
 use typing_forms::Form;
 use typing_layout::{ExpressionKindTracker, origins_precede};
 
-/// What is required where an error stands, and which rule of an expression is broken there.
+/// The requirement that an error breaks, and the broken rule of an expression.
 #[derive(Drop)]
 pub(crate) struct Told {
-    /// What is required.
+    /// The requirement.
     pub text: String,
-    /// The rule, where that is one of several.
+    /// The rule, if the expression kind has several.
     pub cause: Option<Cause>,
 }
 
@@ -69,7 +69,7 @@ fn ruled(error: &ValidationError) -> Option<Handle<key::Expression>>
     }
 }
 
-// The rule that is broken by the expression that the error names.
+// The rule that the expression named by the error breaks.
 fn cause_of(context: &CheckContext<'_>, error: &ValidationError) -> Option<Cause>
     requires { AreKinds (expressions_in context.now) context.now.kinds.now }
     ensures { IfSome result (IsBrokenAt (scene_in context.now) (ruled error.now)) }
@@ -80,7 +80,7 @@ fn cause_of(context: &CheckContext<'_>, error: &ValidationError) -> Option<Cause
     }
 }
 
-// What is told where the error stands among the expressions of a context.
+// The requirement at an error, for the expressions of a context.
 fn told_among<'a>(
     alloc: Global,
     context: &CheckContext<'a>,
@@ -104,7 +104,7 @@ fn told_among<'a>(
     Ok(Told { text, cause })
 }
 
-// What is told where the error stands among expressions with these forms and kinds.
+// The requirement at an error, for expressions with these forms and kinds.
 fn told_by<'a>(
     alloc: Global,
     capabilities: Capabilities,
@@ -128,7 +128,7 @@ fn told_by<'a>(
     told_among(alloc, &context, module, error)
 }
 
-// The expressions among which the error stands.
+// The expressions around the error.
 fn expressions_of<'a>(
     module: &'a Module,
     error: &ValidationError,
@@ -139,7 +139,7 @@ fn expressions_of<'a>(
     }
 }
 
-/// What is told where the error stands, under these capabilities, among expressions whose types have these forms. The error is out of
+/// The requirement at an error, with these capabilities, for expressions whose types have these forms. The error is out of
 /// memory.
 pub(crate) fn told_in(
     alloc: Global,

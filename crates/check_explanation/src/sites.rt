@@ -1,4 +1,4 @@
-// Where an error stands.
+// The location of an error.
 
 use check_reasons::{BodyPlace, Brought, Site, Target, names_of};
 use function_entry_checks::EntryPointError;
@@ -8,7 +8,7 @@ use shader_check::{ModuleError, ValidationError};
 use std::alloc::{AllocError, Global};
 use typing_errors::FunctionError;
 
-// In a body where the trail leads there, or else at a part.
+// In a body if the trail leads there, or else at a part.
 fn site_in<'a>(of_entry: bool, index: usize, trail: &'a Trail, part: &'a [usize]) -> Site<'a> {
     if trail.is_lost() {
         return Site::Part(part);
@@ -20,7 +20,7 @@ fn site_in<'a>(of_entry: bool, index: usize, trail: &'a Trail, part: &'a [usize]
     })
 }
 
-// What names a handle, of a kind by its word.
+// The handle's referencing item, by the word of the handle's kind.
 fn target<'a>(kind: &str, index: usize, subject: Option<usize>, part: &'a [usize]) -> Site<'a> {
     match names_of(kind) {
         Some(named) => Site::Handle(Target {
@@ -33,7 +33,7 @@ fn target<'a>(kind: &str, index: usize, subject: Option<usize>, part: &'a [usize
     }
 }
 
-// Of what is wrong with handles.
+// The location of an error of handles.
 fn site_of_handle<'a>(error: &InvalidHandleError, part: &'a [usize]) -> Site<'a> {
     match error {
         InvalidHandleError::BadHandle(bad) => target(bad.kind, bad.index, None, part),
@@ -50,7 +50,7 @@ fn site_of_handle<'a>(error: &InvalidHandleError, part: &'a [usize]) -> Site<'a>
     }
 }
 
-// The expression at which all invocations have to arrive together and may not.
+// The expression that requires uniform control flow but does not have it.
 fn diverging(error: &FunctionError) -> Option<usize> {
     match error {
         FunctionError::NonUniformControlFlow(_, expression, _) => Some(expression.index()),
@@ -58,7 +58,7 @@ fn diverging(error: &FunctionError) -> Option<usize> {
     }
 }
 
-// That of an error of a function or of the function of an entry point.
+// The location of an error of a function or of an entry point's function.
 fn diverging_in(error: &ValidationError) -> Option<usize> {
     match error {
         ValidationError::Function(refused) => diverging(&refused.error),
@@ -70,8 +70,8 @@ fn diverging_in(error: &ValidationError) -> Option<usize> {
     }
 }
 
-/// Where an error stands, which is at this part where it stands neither in a body nor at a handle; `body` is the path of the body of
-/// the function that is refused.
+/// The location of an error, which is this part if it is neither in a body nor at a handle; `body` is the path of the body of
+/// the invalid function.
 pub(crate) fn site_of<'a>(
     error: &'a ValidationError,
     body: &'a [usize],
@@ -96,7 +96,7 @@ pub(crate) fn site_of<'a>(
     }
 }
 
-/// The path of the body of the function that is refused, empty where none is. The error is out of memory.
+/// The path of the body of the invalid function, or empty if there is none. The error is out of memory.
 pub(crate) fn body_of(alloc: Global, error: &ValidationError) -> Result<Vec<usize>, AllocError> {
     let mut path = Vec::new(alloc);
     match error {

@@ -1,4 +1,4 @@
-// What is answered of a module of SPIR-V.
+// The result for a SPIR-V module.
 ghost use Rattle.std.specs.Prelude.{◌≡◌, IfOk, string_bytes};
 ghost use Rattle.spirv_reader.specs.Checks.{MakesSixChecks};
 ghost use Rattle.check_explanation.specs.Answered.{IsOfSome, IsAnswered, IsSoundText, verdict_of};
@@ -11,21 +11,21 @@ use spirv_lines::error_text;
 use spirv_reader::{SpirvError, read_spirv};
 use std::alloc::{AllocError, Global};
 
-/// What the module was found to be.
+/// The verdict on the module.
 #[derive(Clone, Copy, Debug, PartialEq, Eq)]
 pub enum SpirvVerdict {
-    /// No step of the judgement fails.
+    /// The module is valid.
     Accepted,
-    /// Some step fails.
+    /// The module is invalid.
     Refused,
-    /// No module was read: the words are no SPIR-V, or say what is not translated.
+    /// No module was read: the words are not SPIR-V, or not supported by the translation.
     Unread,
 }
 
-/// What the module was found to be, with the text that tells it: the verdict and the report, or why no module was read.
+/// The verdict on the module, with its text: the line of the finding and the report, or why no module was read.
 #[derive(Drop)]
 pub struct SpirvAnswer {
-    /// What it was found to be.
+    /// The verdict.
     pub verdict: SpirvVerdict,
     /// The text.
     pub text: String,
@@ -41,7 +41,7 @@ fn verdict_of(finding: Finding) -> SpirvVerdict
     }
 }
 
-// What is found of a document, and the report on it.
+// The validation result of a document, with its report.
 fn judge_read(alloc: Global, document: &mut Document) -> Result<Judgement, SpirvError>
     requires { MakesSixChecks document.old.settings.flags }
     ensures { IfOk result IsOfSome }
@@ -52,7 +52,7 @@ fn judge_read(alloc: Global, document: &mut Document) -> Result<Judgement, Spirv
     }
 }
 
-// What is found of the document that the module says, and the report on it.
+// The validation result of the document that the module is translated to, with its report.
 fn judge_spirv(alloc: Global, bytes: &[u8]) -> Result<Judgement, SpirvError>
     ensures { IfOk result IsOfSome }
 {
@@ -66,7 +66,7 @@ fn judge_spirv(alloc: Global, bytes: &[u8]) -> Result<Judgement, SpirvError>
     }
 }
 
-// The answer of a judgement.
+// The result of a validation.
 fn answer_of(alloc: Global, judgement: &Judgement) -> Result<SpirvAnswer, AllocError>
     requires { IsOfSome judgement.now }
     ensures { IfOk result (λ a. IsAnswered a.verdict (string_bytes a.text)) }
@@ -78,8 +78,8 @@ fn answer_of(alloc: Global, judgement: &Judgement) -> Result<SpirvAnswer, AllocE
     })
 }
 
-/// What the module is found to be that these bytes of SPIR-V say. Where it is accepted, the document that it is read as has good runs and
-/// sound buffers, with the report that is in the text. The error is out of memory.
+/// The validation result of the module in this SPIR-V binary. If it is valid, the document that it is translated to has safe runs
+/// and well laid out buffers, with the report in the text. The error is out of memory.
 #[tactic(auto, using(crate::proofs::Soundness::sound_answer))]
 pub fn check_spirv(alloc: Global, bytes: &[u8]) -> Result<SpirvAnswer, AllocError>
     ensures answered { IfOk result (λ a. IsAnswered a.verdict (string_bytes a.text)) }
@@ -99,7 +99,7 @@ pub fn check_spirv(alloc: Global, bytes: &[u8]) -> Result<SpirvAnswer, AllocErro
     }
 }
 
-/// A document as JSON in one line without its end.
+/// A document as JSON in one line without a line feed.
 pub(crate) fn written(alloc: Global, document: &Document) -> Result<String, SpirvError> {
     match write_document(alloc, document) {
         Ok(text) => Ok(text),
@@ -107,7 +107,7 @@ pub(crate) fn written(alloc: Global, document: &Document) -> Result<String, Spir
     }
 }
 
-/// The document that the module says, as JSON in one line without its end.
+/// The document that the module is translated to, as JSON in one line without a line feed.
 pub fn document_text(alloc: Global, bytes: &[u8]) -> Result<String, SpirvError> {
     match read_spirv(alloc, bytes) {
         Ok(document) => {

@@ -1,14 +1,14 @@
-// What is found of a module of SPIR-V, explained.
+// The explained validation result of a SPIR-V module.
 ghost use Rattle.std.specs.Prelude.{◌≡◌, IfOk};
 ghost use Rattle.document_reader.specs.found.View.{document_view};
 ghost use Rattle.check_explanation.specs.Answered.{IsExplained, IsExplainedOf};
 
 use crate::explanation::{Explanation, Requested, explain_document};
-use crate::origin::{Origin, origin_of};
-use crate::spans::FUNCTIONS;
 use crate::spirv::written;
 use check_names::{NamedLines, Roles, globals_value};
+use check_origins::{FUNCTIONS, Origin, origin_of, span_at};
 use document_reader::Document;
+use ir_arena::span::Span;
 use ir_items::Module;
 use serde_json::{Map, Value, put};
 use shader_check::ValidationError;
@@ -17,19 +17,19 @@ use std::alloc::{AllocError, Global};
 use std::fmt::{self, Display};
 use typing_errors::FunctionError;
 
-/// An explanation, with the instruction of SPIR-V that a refused part comes from.
+/// An explanation, with the SPIR-V instruction that an invalid part comes from.
 #[derive(Drop)]
 pub struct Traced {
-    /// What is found of the document.
+    /// The explanation of the document.
     pub explanation: Explanation,
-    /// The instruction, where it is known; never of a document that was not made of SPIR-V.
+    /// The instruction, if known; always none for a document not translated from SPIR-V.
     pub origin: Option<Origin>,
-    /// What the global variables of an accepted module of SPIR-V are there.
+    /// The roles of the global variables of a valid module in SPIR-V.
     pub roles: Roles,
 }
 
-// The path of the expression at which all invocations have to arrive together and may not: the path of the refusal leads to the
-// range that it is emitted in.
+// The path of the expression that requires uniform control flow but does not have it: the error's path leads to the
+// range that emits it.
 fn diverging_path(error: &ValidationError) -> Option<[u32; 4]> {
     let ValidationError::Function(refused) = error else {
         return None;
@@ -42,7 +42,18 @@ fn diverging_path(error: &ValidationError) -> Option<[u32; 4]> {
     Some([FUNCTIONS, function, 4, expression])
 }
 
-// The instruction that the refused part comes from.
+/// The span of the invalid part of a module, or of the item that it is in; undefined if the module is valid.
+pub fn refused_span(module: &Module, explanation: &Explanation) -> Span {
+    match explanation {
+        Explanation::Refused(error, item) => match diverging_path(error) {
+            Some(path) => span_at(module, &path),
+            None => span_at(module, &item.path),
+        },
+        Explanation::NoDocument(..) | Explanation::Accepted { .. } => Span::UNDEFINED,
+    }
+}
+
+// The instruction that the invalid part comes from.
 fn trace(
     alloc: Global,
     bytes: &[u8],
@@ -58,7 +69,7 @@ fn trace(
     }
 }
 
-// What is traced of an explanation.
+// The SPIR-V details of an explanation.
 fn traces(
     alloc: Global,
     bytes: &[u8],
@@ -74,7 +85,7 @@ fn traces(
     }
 }
 
-// The explanation with the instruction that the refused part comes from, and what global variables are.
+// The explanation with the instruction that the invalid part comes from, and the roles of global variables.
 fn with_origin(
     alloc: Global,
     bytes: &[u8],
@@ -96,7 +107,7 @@ fn with_origin(
     }
 }
 
-// The explanation of a document that was made of these bytes and is written so.
+// The explanation of a document that was translated from these bytes and is written as this JSON.
 fn explain_written(
     alloc: Global,
     requested: Requested,
@@ -112,8 +123,8 @@ fn explain_written(
     }
 }
 
-/// The explanation of a document that was read from these bytes of SPIR-V, with the lines that are wanted, where it is accepted. Its
-/// settings may be others than those that it was read with.
+/// The explanation of a document that was translated from this SPIR-V binary, with the requested lines, if it is valid. Its
+/// settings may differ from those it was translated with.
 pub fn explain_made(
     alloc: Global,
     requested: Requested,
@@ -128,7 +139,7 @@ pub fn explain_made(
     }
 }
 
-/// The explanation of the document that these bytes of SPIR-V say, with the lines that are wanted, where it is accepted.
+/// The explanation of the document that this SPIR-V binary is translated to, with the requested lines, if it is valid.
 pub fn explain_spirv(
     alloc: Global,
     requested: Requested,
@@ -156,7 +167,7 @@ impl Display for Traced {
     }
 }
 
-// Puts what global variables are in SPIR-V.
+// Inserts the roles of global variables in SPIR-V.
 fn put_globals(
     map: &mut Map<String, Value>,
     alloc: Global,
@@ -172,7 +183,7 @@ fn put_globals(
 }
 
 impl Traced {
-    /// That of a document that was not made of SPIR-V.
+    /// The explanation of a document not translated from SPIR-V.
     pub fn of_document(alloc: Global, explanation: Explanation) -> Traced {
         Traced {
             explanation,
@@ -181,7 +192,7 @@ impl Traced {
         }
     }
 
-    /// A JSON object with all of it. The error is out of memory.
+    /// A JSON object with all details. The error is out of memory.
     pub fn value(&self, alloc: Global) -> Result<Value, AllocError> {
         let mut value = self.explanation.value(alloc)?;
         if let Value::Object(map) = &mut value {
@@ -193,7 +204,7 @@ impl Traced {
         Ok(value)
     }
 
-    /// The object in one line without its end. The error is out of memory.
+    /// The object in one line without a line feed. The error is out of memory.
     pub fn json(&self, alloc: Global) -> Result<String, AllocError> {
         match self.value(alloc) {
             Ok(value) => value.to_string(alloc),
@@ -201,8 +212,8 @@ impl Traced {
         }
     }
 
-    /// The line of what is found, and after it the lines that were wanted, with what each number of a global variable or an entry point
-    /// is. The error is out of memory.
+    /// The line of the verdict, followed by the requested lines, with names for the indices of global variables and entry
+    /// points. The error is out of memory.
     pub fn named(&self, alloc: Global) -> Result<String, AllocError> {
         let mut text = self.explanation.finding().text(alloc)?;
         if let Explanation::Accepted { lines, names, .. } = &self.explanation {

@@ -1,4 +1,4 @@
-// The types of the expressions among which an error stands.
+// The types of the expressions around an error.
 
 use check_reasons::OperandType;
 use check_sentences::TypeText;
@@ -12,12 +12,12 @@ use typing_errors::ResolveRefusal;
 use typing_forms::{Form, TypeResolution, form_of};
 use typing_resolve::ResolveContext;
 
-// What is read for an operand that has no type.
+// The fallback for an operand without a type.
 fn missing_type() -> TypeResolution {
     TypeResolution::Value(TypeInner::Sampler { comparison: false })
 }
 
-// The type of an operand, or another one where it has none.
+// The type of an operand, or another one if it has none.
 fn found_at<'a>(
     types: &'a [TypeResolution],
     operand: Handle<key::Expression>,
@@ -29,7 +29,7 @@ fn found_at<'a>(
     }
 }
 
-// The type of an expression that follows those that have these types, or nothing where it has none.
+// The type of the next expression, given those of earlier ones, or nothing if it has none.
 fn next_type(
     alloc: Global,
     context: &ResolveContext<'_>,
@@ -51,7 +51,7 @@ fn next_type(
     }
 }
 
-// The types of the expressions of a list, up to the first that has none.
+// The types of the expressions of a list, up to the first without one.
 fn types_of(
     alloc: Global,
     context: &ResolveContext<'_>,
@@ -68,7 +68,7 @@ fn types_of(
     Ok(types)
 }
 
-/// The function that is refused, where it is one.
+/// The invalid function, if the error is in one.
 pub(crate) fn refused_function<'a>(
     module: &'a Module,
     error: &ValidationError,
@@ -83,7 +83,7 @@ pub(crate) fn refused_function<'a>(
     }
 }
 
-/// The types of the expressions of the function that is refused, or of the global expressions, up to the first that has none. The
+/// The types of the expressions of the invalid function, or of the global expressions, up to the first without one. The
 /// error is out of memory.
 pub(crate) fn types_in(
     alloc: Global,
@@ -123,7 +123,7 @@ pub(crate) fn forms_of(
     Ok(forms)
 }
 
-// The index of a type of the module, or of what it points to.
+// The index of a type of the module, or of its pointer base.
 fn index_of(found: &TypeResolution) -> Option<usize> {
     match found {
         TypeResolution::Handle(handle) => Some(handle.index()),
@@ -132,7 +132,7 @@ fn index_of(found: &TypeResolution) -> Option<usize> {
     }
 }
 
-// A type in words.
+// A type as text.
 fn operand_type(
     alloc: Global,
     module: &Module,
@@ -149,7 +149,7 @@ fn operand_type(
     })
 }
 
-/// Types in words. The error is out of memory.
+/// Types as text. The error is out of memory.
 pub(crate) fn operand_types(
     alloc: Global,
     module: &Module,

@@ -1,4 +1,4 @@
--- One step more of a path in words.
+-- One more step of a path as text.
 use Rattle.std.proofs.Common.{◌≡◌, ◌∙◌, ◌++◌, ℕ, List, ◌∷◌, codes, refl, subst, sym}
 use Rattle.std.proofs.lemmas.List.{append_assoc}
 use Rattle.std.proofs.lemmas.Grind.{put_two}
@@ -11,7 +11,7 @@ use Rattle.check_faults.specs.Tables.{name_inside, part_inside}
 abbrev pub IsWritten : {W : Type 0} (took : W → List ℕ → W → Type 0) → (f g : Formatter W) (rest whole : List ℕ) → Type 0
 IsWritten took f g rest whole = IsPlainFormatter f → (done : List ℕ) × HasWritten took f done g × (done ++ rest ≡ whole)
 
--- where the step is written, what the others give is left
+-- after the step is written, the text of the remaining steps is left
 pub step_more : {W : Type 0} (took : W → List ℕ → W → Type 0) → (f g h : Formatter W) (dot whole : List ℕ) (part next : Part) (steps : List ℕ) (i : ℕ) (rest : List ℕ) → steps ≡ i ∷ rest → next ≡ part_inside part i
     → IsWritten took f g (steps_text dot part steps) whole → (IsPlainFormatter g → HasWritten took g (step_text dot i (name_inside part i)) h) → IsWritten took f h (steps_text (codes ".") next rest) whole
 step_more took f g h dot whole part next steps i rest first is before wrote plain =

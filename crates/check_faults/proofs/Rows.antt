@@ -1,4 +1,4 @@
--- What stands at an index of a row, by the entry there.
+-- The element at an index of a row, by the entry there.
 use Rattle.std.proofs.Common.{◌≡◌, ◌∙◌, ◌<◌, ℕ, List, Some, ap, length, map, option_map, slice_get, slice_index_or, sym, Bor}
 use Rattle.std.proofs.lemmas.Option.{slice_get-get_or, slice_get-map}
 use Rattle.check_faults.specs.declared.parts.Part.{Part}

@@ -1,4 +1,4 @@
--- The name that an error begins with.
+-- The identifier that an error begins with.
 use Rattle.std.specs.Prelude.{ℕ, suc, List, [], ◌∷◌, ◌||◌, ◌==◌, Bool, if◌then◌else◌, take}
 use Rattle.std.specs.Char.{is_ascii_alphanumeric}
 
@@ -6,7 +6,7 @@ use Rattle.std.specs.Char.{is_ascii_alphanumeric}
 abbrev pub is_name : ℕ → Bool
 is_name b = is_ascii_alphanumeric b || b == 95
 
--- how many bytes of a name stand in front
+-- the length of the identifier at the start
 abbrev pub name_length : List ℕ → ℕ
 name_length [] = 0
 name_length (b ∷ bs) = if is_name b then suc (name_length bs) else 0

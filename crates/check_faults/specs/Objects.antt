@@ -1,4 +1,4 @@
--- What stands in the object of what is found.
+-- The values in the object of a validation result.
 use Rattle.std.specs.Prelude.{ℕ, List, ◌≡◌, Option, Some, None, map}
 use Rattle.serde_json.specs.Data.{Data, null, number, string, array, unsigned}
 use Rattle.serde_json.specs.Find.{get}
@@ -12,15 +12,15 @@ abbrev pub number_or_null : Option ℕ → Data
 number_or_null None = null
 number_or_null (Some n) = plain n
 
--- a text, or null
+-- a string, or null
 abbrev pub text_or_null : Option (List ℕ) → Data
 text_or_null None = null
 text_or_null (Some t) = string t
 
--- the indexes of a path
+-- the indices of a path
 abbrev pub steps : List ℕ → Data
 steps is = array (items_of (map plain is))
 
--- at a key of an object stands this
+-- an object has this value at a key
 abbrev pub Has : Data → List ℕ → Data → Type 0
 Has d key value = get key d ≡ Some value

@@ -1,10 +1,10 @@
--- What stands at which place of a document.
+-- Lookup of parts of a document.
 use Rattle.std.specs.Prelude.{ℕ, List, [], ◌∷◌, Option, Some, None, Bool, option_and_then, nat_eq}
 use Rattle.std.specs.Option.{option_eq}
 use Rattle.serde_json.specs.Data.{Data, Items, no_items}
 use Rattle.serde_json.specs.Find.{as_array, as_number, as_str, as_u64, at}
 
--- the part that indexes lead to
+-- the part at a path
 abbrev pub along : List ℕ → Data → Option Data
 along [] d = Some d
 along (i ∷ is) d = option_and_then (along is) (at i d)
@@ -13,7 +13,7 @@ abbrev items_or_none : Option Items → Items
 items_or_none None = no_items
 items_or_none (Some ds) = ds
 
--- the parts of an array, none of anything else
+-- the elements of an array, or none for any other value
 abbrev pub parts : Data → Items
 parts d = items_or_none (as_array d)
 
@@ -29,7 +29,7 @@ abbrev word_or : (first : Option Data) → Option (List ℕ) → List ℕ
 word_or first None = text_in first
 word_or first (Some t) = t
 
--- a word, or the word that an array begins with
+-- a string, or the string that an array begins with
 abbrev pub word : Data → List ℕ
 word d = word_or (at 0 d) (as_str d)
 
@@ -37,7 +37,7 @@ abbrev word_in : Option Data → List ℕ
 word_in None = []
 word_in (Some d) = word d
 
--- the word that the part at an index is or begins with
+-- the word at an index, or the first of the array there
 abbrev pub word_at : Data → ℕ → List ℕ
 word_at d i = word_in (at i d)
 

@@ -1,9 +1,9 @@
--- A path in words.
+-- A path as text.
 use Rattle.std.specs.Prelude.{ℕ, List, [], ◌∷◌, ◌++◌, Option, Some, None, codes, decimal}
 use Rattle.check_faults.specs.declared.parts.Part.{Part}
 use Rattle.check_faults.specs.Tables.{name_inside, part_inside}
 
--- a step into a part: its name, after what stands before a name, or its index
+-- a step into a part: its name, after the separator, or its index
 abbrev pub step_text : (dot : List ℕ) → (index : ℕ) → Option (List ℕ) → List ℕ
 step_text dot i None = codes "[" ++ decimal i ++ codes "]"
 step_text dot i (Some name) = dot ++ name

@@ -1,4 +1,4 @@
--- The tables of what parts are named and name, and what a word denotes in one.
+-- The tables of part names and references, and lookup in them.
 use Rattle.std.specs.Prelude.{ℕ, List, [], ◌∷◌, codes, Option, Some, None, if◌then◌else◌, slice_get}
 use Rattle.std.specs.Str.{bytes_eq}
 use Rattle.std.specs.Borrow.{Bor}
@@ -9,29 +9,29 @@ use Rattle.check_faults.specs.declared.parts.Part.TheVariants.{Plain, Row, ListO
 use Rattle.check_faults.specs.declared.parts.Row.{Row as Rows}
 use Rattle.check_faults.specs.declared.parts.Row.TheVariants as rows
 
--- an entry of a table of words, as its text and what it denotes
+-- a row of a table of words, as its text and its value
 abbrev pub spelled : {A : Type 0} → Bor (List ℕ) × A → List ℕ × A
 spelled entry = (entry.0.now, entry.1)
 
--- an entry that denotes a list
+-- a row with a list as its value
 abbrev pub listed : {A : Type 0} → Bor (List ℕ) × Bor (List A) → List ℕ × List A
 listed entry = (entry.0.now, entry.1.now)
 
--- what a word denotes in a table
+-- the value of a word in a table
 abbrev pub lookup : {A : Type 0} → List ℕ → List (List ℕ × A) → Option A
 lookup w [] = None
 lookup w (e ∷ es) = if bytes_eq w e.0 then Some e.1 else lookup w es
 
--- the list that a word denotes, none where it denotes nothing
+-- the list for a word, or empty if there is none
 abbrev pub list_for : {A : Type 0} → List ℕ → List (List ℕ × List A) → List A
 list_for w [] = []
 list_for w (e ∷ es) = if bytes_eq w e.0 then e.1 else list_for w es
 
--- what the handles of a kind name
+-- the items that handles of a kind reference
 abbrev pub kinds : List (List ℕ × Names)
 kinds = (codes "type", names.«Type») ∷ (codes "constant", names.Constant) ∷ (codes "override", names.Override) ∷ (codes "global", names.Global) ∷ (codes "function", names.Function) ∷ (codes "local", names.Local) ∷ (codes "expression", names.Expression) ∷ (codes "filter", names.Filter) ∷ []
 
--- the parts of an expression that name something, by its word
+-- the parts of an expression that are handles, by its word
 abbrev pub expression_forms : List (List ℕ × List (ℕ × Names))
 expression_forms =
     (codes "Constant", (1, names.Constant) ∷ []) ∷
@@ -66,7 +66,7 @@ expression_forms =
     (codes "CooperativeMultiplyAdd", (1, names.Expression) ∷ (2, names.Expression) ∷ (3, names.Expression) ∷ []) ∷
     []
 
--- the parts of a statement that name something, by its word
+-- the parts of a statement that are handles, by its word
 abbrev pub statement_forms : List (List ℕ × List (ℕ × Names))
 statement_forms =
     (codes "If", (1, names.Expression) ∷ []) ∷
@@ -88,7 +88,7 @@ statement_forms =
     (codes "Emit", []) ∷
     []
 
--- the words of each set, with spaces between
+-- the words of each word set, separated by spaces
 abbrev pub sets : List (List ℕ × List ℕ)
 sets =
     (codes "flag", codes "EXPRESSIONS BLOCKS CONTROL_FLOW_UNIFORMITY STRUCT_LAYOUTS CONSTANTS BINDINGS strict-scope") ∷
@@ -125,7 +125,7 @@ sets =
     (codes "statement", codes "Emit Block If Switch Loop Break Continue Return Kill ControlBarrier MemoryBarrier Store ImageStore Atomic ImageAtomic WorkGroupUniformLoad Call RayQuery SubgroupBallot SubgroupCollectiveOperation SubgroupGather CooperativeStore RayPipelineFunction") ∷
     []
 
--- the parts of an array whose parts have names
+-- the elements of an array that have names
 abbrev pub row_parts : Rows → List (List ℕ × Part)
 row_parts rows.Document = (codes "version", Plain) ∷ (codes "flags", Plain) ∷ (codes "capabilities", Plain) ∷ (codes "subgroups", Row rows.Subgroups) ∷ (codes "returns", Plain) ∷ (codes "types", ListOf rows.«Type») ∷ (codes "special types", Row rows.SpecialTypes) ∷ (codes "diagnostics", Row rows.Diagnostics) ∷ (codes "constants", ListOf rows.Constant) ∷ (codes "overrides", ListOf rows.Override) ∷ (codes "global expressions", Plain) ∷ (codes "globals", ListOf rows.Global) ∷ (codes "functions", ListOf rows.Function) ∷ (codes "entry points", ListOf rows.EntryPoint) ∷ []
 row_parts rows.Subgroups = (codes "stages", Plain) ∷ (codes "operations", Plain) ∷ []
@@ -153,13 +153,13 @@ abbrev pub part_or_plain : Option (List ℕ × Part) → Part
 part_or_plain None = Plain
 part_or_plain (Some e) = e.1
 
--- the name of what stands at an index, where it has one
+-- the name of the element at an index, if it has one
 abbrev pub name_inside : Part → ℕ → Option (List ℕ)
 name_inside Plain i = None
 name_inside (ListOf r) i = None
 name_inside (Row r) i = name_or_none (slice_get (row_parts r) i)
 
--- what stands there
+-- the kind of the element
 abbrev pub part_inside : Part → ℕ → Part
 part_inside Plain i = Plain
 part_inside (ListOf r) i = Row r

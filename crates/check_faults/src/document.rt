@@ -1,4 +1,4 @@
-// The document as a JSON value: what stands at which place.
+// The document as a JSON value: lookup of parts by path.
 
 ghost use Rattle.std.specs.Prelude.{◌≡◌, option_map};
 ghost use Rattle.serde_json.specs.View.{items_view, view};
@@ -14,7 +14,7 @@ pub fn at(value: &Value, index: usize) -> Option<&Value>
     value.get(index)
 }
 
-/// The part that these indexes lead to.
+/// The part at a path of indices.
 pub fn along<'a>(value: &'a Value, steps: &[usize]) -> Option<&'a Value>
     ensures { option_map (λ d. view d.now) result ≡ part_along steps.now (view value.now) }
 {
@@ -25,7 +25,7 @@ pub fn along<'a>(value: &'a Value, steps: &[usize]) -> Option<&'a Value>
     Some(found)
 }
 
-/// The parts of an array, none of anything else.
+/// The elements of an array, or none for any other value.
 pub fn parts(value: &Value) -> &[Value]
     ensures { items_view result.now ≡ parts_of (view value.now) }
 {
@@ -35,7 +35,7 @@ pub fn parts(value: &Value) -> &[Value]
     }
 }
 
-/// A word, or the word that an array begins with.
+/// A string, or the string that an array begins with.
 pub fn word(value: &Value) -> &str
     ensures { result.now ≡ word_of (view value.now) }
 {
@@ -48,7 +48,7 @@ pub fn word(value: &Value) -> &str
     }
 }
 
-/// The word that the part at an index is or begins with.
+/// The word at an index, or the first of the array there.
 pub fn word_at(value: &Value, index: usize) -> &str
     ensures { result.now ≡ word_in (view value.now) index }
 {

@@ -1,11 +1,11 @@
-// An error as its name tells it, cut into its parts: `Name`, `Name(part, part)` or `Name { field: part }`.
+// The parsing of an error in `Debug` form: `Name`, `Name(part, part)` or `Name { field: part }`.
 
 ghost use Rattle.std.specs.Prelude.{◌≡◌, ◌≤◌, [], IsUtf8, length, take};
 ghost use Rattle.check_faults.specs.Names.{head as head_of, is_name as is_of_name, name_length as length_of_name};
 
 use std::str::from_utf8;
 
-// Where a look through an error is: how many brackets are open, and whether it is inside a text.
+// The state of a scan of an error: the number of open brackets, and whether it is in a string.
 #[derive(Clone, Copy)]
 struct Scan {
     depth: u32,
@@ -22,7 +22,7 @@ impl Scan {
         }
     }
 
-    // After one byte more.
+    // The state after one more byte.
     fn after(self, byte: u8) -> Scan {
         if self.quoted {
             return Scan {
@@ -48,7 +48,7 @@ impl Scan {
     }
 }
 
-// How many bytes come before the first such byte that stands in no brackets, or before the end.
+// The number of bytes before the first such byte outside brackets, or before the end.
 fn length_before(text: &[u8], end: u8) -> usize {
     let mut scan = Scan::start();
     for (index, byte) in text.iter().enumerate() {
@@ -76,7 +76,7 @@ fn is_name(byte: u8) -> bool
     byte.is_ascii_alphanumeric() || byte == b'_'
 }
 
-// How many bytes of a name stand in front.
+// The length of the identifier at the start.
 fn name_length(text: &[u8]) -> usize
     ensures length { result ≡ length_of_name text.now }
     ensures within { result ≤ length text.now }
@@ -89,20 +89,20 @@ fn name_length(text: &[u8]) -> usize
     text.len()
 }
 
-// The bytes without a space in front and one at the end.
+// The bytes without a space at the start and one at the end.
 fn trimmed(text: &[u8]) -> &[u8] {
     let rest = text.strip_prefix(b" ").unwrap_or(text);
     rest.strip_suffix(b" ").unwrap_or(rest)
 }
 
-/// The name that an error begins with.
+/// The identifier that an error begins with.
 pub fn head(error: &[u8]) -> &[u8]
     ensures { result.now ≡ head_of error.now }
 {
     front(error, name_length(error))
 }
 
-/// What stands in the brackets after the name of an error.
+/// The contents of the brackets after the name of an error.
 pub fn inside(error: &[u8]) -> &[u8] {
     let rest = trimmed(back(error, name_length(error)));
     match rest.split_first() {
@@ -128,12 +128,12 @@ fn value_of(part: &[u8]) -> &[u8] {
     }
 }
 
-/// The part at an index, empty where there is none.
+/// The part at an index, or empty if there is none.
 pub fn part(error: &[u8], index: usize) -> &[u8] {
     value_of(named_part(error, index))
 }
 
-/// The part of this name, which is the name of a field or a digit, empty where there is none.
+/// The part with this name, which is a field name or a digit, or empty if there is none.
 pub fn field<'a>(error: &'a [u8], name: &str) -> &'a [u8] {
     if let Ok(index) = name.parse::<u8>() {
         return part(error, usize::from(index));
@@ -149,7 +149,7 @@ pub fn field<'a>(error: &'a [u8], name: &str) -> &'a [u8] {
     &[]
 }
 
-// What is there, of a part that may be missing.
+// The part, if it is not empty.
 fn given(part: &[u8]) -> &[u8] {
     if name_of(part) == "Some" {
         inside(part)
@@ -158,7 +158,7 @@ fn given(part: &[u8]) -> &[u8] {
     }
 }
 
-/// The bytes as a text, nothing where they are no UTF-8.
+/// The bytes as a string, or nothing if they are not UTF-8.
 pub fn text_of(bytes: &[u8]) -> &str
     ensures text { IsUtf8 bytes.now → result.now ≡ bytes.now }
     ensures none { ¬ IsUtf8 bytes.now → result.now ≡ [] }
@@ -166,14 +166,14 @@ pub fn text_of(bytes: &[u8]) -> &str
     from_utf8(bytes).unwrap_or("")
 }
 
-/// The name that an error begins with, as a text.
+/// The identifier that an error begins with, as a string.
 pub fn name_of(error: &[u8]) -> &str
     ensures { IsUtf8 (head_of error.now) → result.now ≡ head_of error.now }
 {
     text_of(head(error))
 }
 
-/// The number that a part is, or that of the handle that it is.
+/// A number, or the index of a handle.
 pub fn number(part: &[u8]) -> Option<usize> {
     let bare = given(part);
     let open = bare.strip_prefix(b"[").unwrap_or(bare);
@@ -181,13 +181,13 @@ pub fn number(part: &[u8]) -> Option<usize> {
     text_of(digits).parse::<usize>().ok()
 }
 
-/// A part that is a text, without its quotes.
+/// A string part, without its quotes.
 pub fn quoted(part: &[u8]) -> &[u8] {
     let rest = part.strip_prefix(b"\"").unwrap_or(part);
     rest.strip_suffix(b"\"").unwrap_or(rest)
 }
 
-// The part at an index with the name of its field.
+// The part at an index with its field name.
 fn named_part(error: &[u8], index: usize) -> &[u8] {
     let mut parts = inside(error);
     for _ in 0..index {
@@ -196,7 +196,7 @@ fn named_part(error: &[u8], index: usize) -> &[u8] {
     front(parts, length_before(parts, b','))
 }
 
-/// The name of the field at an index, empty where it has none.
+/// The field name at an index, or empty if it has none.
 pub fn field_name(error: &[u8], index: usize) -> &[u8] {
     let found = named_part(error, index);
     let count = length_before(found, b':');
@@ -207,7 +207,7 @@ pub fn field_name(error: &[u8], index: usize) -> &[u8] {
     }
 }
 
-/// How many parts an error has, of which it has 16 at most.
+/// The number of parts of an error, at most 16.
 pub fn part_count(error: &[u8]) -> usize {
     let mut parts = inside(error);
     for count in 0..16usize {
@@ -219,7 +219,7 @@ pub fn part_count(error: &[u8]) -> usize {
     16
 }
 
-/// The place of the handle that a part of an error is, nothing where it is something else.
+/// The index of the handle that a part of an error is, or nothing for any other part.
 pub fn handle(part: &[u8]) -> Option<usize> {
     if part.first() == Some(&b'[') {
         number(part)

@@ -1,13 +1,13 @@
-// An error as JSON, from its name with all that it holds.
+// An error as JSON, from its `Debug` form.
 
 use crate::error_text::{field_name, inside, name_of, number, part, part_count, quoted, text_of};
 use serde_json::{Map, Value, push, put};
 use std::alloc::{AllocError, Global};
 
-// Errors nest less deep.
+// The maximum nesting depth of an error.
 const DEEPEST: u32 = 64;
 
-// Sets of words, which are written as arrays.
+// Bitsets, which are written as arrays of words.
 static SETS: [&str; 7] = [
     "Capabilities",
     "TypeFlags",
@@ -38,7 +38,7 @@ fn words(alloc: Global, set: &[u8]) -> Result<Value, AllocError> {
     Ok(Value::Array(list))
 }
 
-// A part without parts of its own: a number or a handle, a truth value, a text or a word.
+// A part without nested parts: a number or a handle, a bool, a string or a word.
 fn leaf(alloc: Global, text: &[u8]) -> Result<Value, AllocError> {
     if let Some(found) = number(text) {
         return Ok(Value::from(found as u64));
@@ -51,7 +51,7 @@ fn leaf(alloc: Global, text: &[u8]) -> Result<Value, AllocError> {
     }
 }
 
-// The parts of an error: an object where they have names, else an array.
+// The parts of an error: an object if they have names, else an array.
 #[cycle(values)]
 fn parts_value(alloc: Global, error: &[u8], depth: u32) -> Result<Value, AllocError> {
     if depth == 0 {
@@ -116,7 +116,7 @@ fn inner_value(alloc: Global, text: &[u8], depth: u32) -> Result<Value, AllocErr
     Ok(Value::Object(map))
 }
 
-/// All that an error holds, or null where it holds nothing. The error is out of memory.
+/// All fields of an error, or null if it has none. The error is out of memory.
 pub(crate) fn fields_value(alloc: Global, error: &[u8]) -> Result<Value, AllocError> {
     if part_count(error) == 0 {
         return Ok(Value::Null);

@@ -1,4 +1,4 @@
-// Which parts of an expression or a statement name something, and what.
+// The handles of an expression or a statement, by position, and the kinds of item they reference.
 
 ghost use Rattle.std.specs.Prelude.{◌≡◌, map};
 ghost use Rattle.check_faults.specs.Parts.{word as word_of};
@@ -9,7 +9,7 @@ use crate::document::{at, number, number_at, parts, word};
 use crate::tables::find_in;
 use serde_json::Value;
 
-/// What a part names.
+/// The kind of item that a part references.
 #[derive(Clone, Copy, PartialEq, Eq)]
 pub enum Names {
     Type,
@@ -39,14 +39,14 @@ fn kinds() -> &'static [(&'static str, Names)]
     &KINDS
 }
 
-/// What the handles of a kind name, by the word of the kind.
+/// The items that handles of a kind reference, by the word of the kind.
 pub fn names_of(kind: &str) -> Option<Names>
     ensures { result ≡ lookup kind.now kinds_named }
 {
     find_in(kinds(), kind)
 }
 
-/// A part by its index: a number, or an array in which each number names the same.
+/// A part by its index: a number, or an array of numbers of the same kind.
 pub type Part = (usize, Names);
 
 type Form = (&'static str, &'static [Part]);
@@ -135,21 +135,21 @@ fn found_in(table: &'static [Form], item: &Value) -> &'static [Part]
     &[]
 }
 
-/// The parts of an expression that name something.
+/// The parts of an expression that are handles.
 pub fn expression_parts(expression: &Value) -> &'static [Part]
     ensures { result.now ≡ list_for (word_of (view expression.now)) expression_forms }
 {
     found_in(expressions(), expression)
 }
 
-/// The parts of a statement that name something.
+/// The parts of a statement that are handles.
 pub fn statement_parts(statement: &Value) -> &'static [Part]
     ensures { result.now ≡ list_for (word_of (view statement.now)) statement_forms }
 {
     found_in(statements(), statement)
 }
 
-// Whether a part is this number, or an array in which it stands.
+// Whether a part is this number, or an array with it.
 fn holds(part: &Value, wanted: usize) -> bool {
     if number(part) == Some(wanted) {
         return true;
@@ -162,7 +162,7 @@ fn holds(part: &Value, wanted: usize) -> bool {
     false
 }
 
-/// Whether the item names this number as such a thing, by these of its parts.
+/// Whether the item references this index as this kind, in one of these parts.
 pub fn does_name(item: &Value, form: &[Part], named: Names, wanted: usize) -> bool {
     for part in form {
         if part.1 == named {
@@ -176,7 +176,7 @@ pub fn does_name(item: &Value, form: &[Part], named: Names, wanted: usize) -> bo
     false
 }
 
-// The part of a statement that is its result.
+// The part of a statement that is its result expression.
 fn result_part(statement: &Value) -> Option<usize> {
     match word(statement) {
         "WorkGroupUniformLoad" => Some(2),

@@ -1,6 +1,6 @@
-//! What is read of an error and of a document when the reason of a refusal is written (the parts of an error, from its name with all
-//! that it holds; the parts of a document, as a JSON value, and their names), and the result as one JSON object: of a refusal the
-//! step, the item, the error with its fields, the path and the text; of an accepted document the report as data.
+//! The parsing of an error and of a document for the reason of an error (the fields of an error, from its
+//! `Debug` form; the parts of a document, as a JSON value, with their names), and the result as one JSON object: for an invalid one
+//! the step, the item, the error with its fields, the path and the text; for a valid one the report as data.
 #![tactic(auto)]
 
 pub mod document;

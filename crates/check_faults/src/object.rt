@@ -1,4 +1,4 @@
-// One object for what is found of a document.
+// The JSON object of a validation result.
 
 ghost use Rattle.std.specs.Prelude.{◌≡◌, IfOk, OnOk, codes, option_map};
 ghost use Rattle.serde_json.specs.Data.{boolean, put as with_member, string};
@@ -11,22 +11,22 @@ use crate::report::report_lists;
 use serde_json::{Map, Value, push, put};
 use std::alloc::{AllocError, Global};
 
-/// A refusal of a document that is read.
+/// The details of an invalid document.
 #[derive(Clone, Copy)]
 pub struct Refused<'a> {
-    /// The word for what is found.
+    /// The word for the finding.
     pub verdict: &'a str,
-    /// The word of the step.
+    /// The name of the step.
     pub step: &'a str,
-    /// The index of the item, where the step names one.
+    /// The index of the item, if the step has one.
     pub index: Option<usize>,
-    /// The name of the item, where it has one.
+    /// The name of the item, if it has one.
     pub name: Option<&'a str>,
-    /// The error by its name, with all that it holds.
+    /// The error in `Debug` form, with its fields.
     pub error: &'a str,
-    /// The path, in words.
+    /// The path, as text.
     pub path: &'a str,
-    /// The indexes that the path is made of.
+    /// The path, as indices.
     pub steps: &'a [u32],
     /// The reason.
     pub text: &'a str,
@@ -60,7 +60,7 @@ fn steps_value(alloc: Global, steps: &[u32]) -> Result<Value, AllocError>
     Ok(Value::Array(list))
 }
 
-// Puts a text at a key of an object.
+// Inserts a string at a key of an object.
 fn put_text(
     map: &mut Map<String, Value>,
     alloc: Global,
@@ -72,7 +72,7 @@ fn put_text(
     put(map, alloc, key, Value::try_from_str(alloc, text)?)
 }
 
-// Puts a text at a key of an object, or null.
+// Inserts a string, or null, at a key of an object.
 fn put_optional_text(
     map: &mut Map<String, Value>,
     alloc: Global,
@@ -85,14 +85,14 @@ fn put_optional_text(
     put(map, alloc, key, text_or_null(alloc, text)?)
 }
 
-// Puts the indexes of a path at the key `steps` of an object.
+// Inserts the indices of a path at the key `steps` of an object.
 fn put_steps(map: &mut Map<String, Value>, alloc: Global, steps: &[u32]) -> Result<(), AllocError>
     ensures { OnOk result (members_view map.new.entries ≡ with_member (codes "steps") (steps_data steps.now) (members_view map.old.entries)) }
 {
     put(map, alloc, "steps", steps_value(alloc, steps)?)
 }
 
-/// The object of a document that a step refuses, with where it stands in a function and which rule is broken. The error is out of
+/// The object of an invalid document, with the location in a function and the broken rule. The error is out of
 /// memory.
 pub fn refused_value(
     alloc: Global,
@@ -124,8 +124,8 @@ pub fn refused_value(
     Ok(Value::Object(map))
 }
 
-/// The object of bytes that spell no document, with the line and the byte in it where the JSON reader stopped, both counted from 1, if it
-/// is that. The error is out of memory.
+/// The object of bytes that are not a document, with the line and the byte column at which the JSON parser stopped, both from 1, if
+/// they are not JSON. The error is out of memory.
 pub fn no_document_value(
     alloc: Global,
     path: &str,
@@ -153,7 +153,7 @@ pub fn no_document_value(
     Ok(Value::Object(map))
 }
 
-/// The object of an accepted document, with its report, and with these lists of what its global variables and its entry points are.
+/// The object of a valid document, with its report, and with these lists of its global variables and its entry points.
 /// The error is out of memory.
 pub fn accepted_value(
     alloc: Global,

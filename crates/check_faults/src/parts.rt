@@ -1,8 +1,8 @@
-// The parts of a document that have names, in the order in which they are written.
+// The named parts of a document, in the order of the format.
 ghost use Rattle.std.specs.Prelude.{◌≡◌, map, option_map};
 ghost use Rattle.check_faults.specs.Tables.{name_inside, part_inside, row_parts, spelled};
 
-/// An array whose parts have names.
+/// An array whose elements have names.
 #[derive(Clone, Copy)]
 pub enum Row {
     Document,
@@ -24,10 +24,10 @@ pub enum Row {
     Mesh,
 }
 
-/// What stands at a place of a document.
+/// The kind of a value in a document.
 #[derive(Clone, Copy)]
 pub enum Part {
-    /// What has indexes alone.
+    /// A value with unnamed elements.
     Plain,
     Row(Row),
     ListOf(Row),
@@ -170,7 +170,7 @@ fn names(row: Row) -> &'static [Named]
 }
 
 impl Part {
-    /// What stands in it at an index: its name, where it has one, and what it is.
+    /// The element at an index: its name, if it has one, and its kind.
     #[tactic(auto, using(crate::proofs::Rows::entry_inside))]
     pub fn inside(self, index: usize) -> (Option<&'static str>, Part)
         ensures name { option_map (λ s. s.now) result.0 ≡ name_inside self index }

@@ -1,4 +1,4 @@
-// Places by the names of parts.
+// Paths by the names of parts.
 ghost use Rattle.std.specs.Prelude.{◌≡◌, IfOk, Some, codes};
 ghost use Rattle.std.specs.Fmt.{HasWritten, IsPlainFormatter};
 ghost use Rattle.check_faults.specs.Paths.{step_text, steps_text};
@@ -9,11 +9,11 @@ ghost use Rattle.check_faults.specs.declared.parts.Row.TheVariants as rows;
 use crate::parts::{Part, Row};
 use std::fmt::{self, Display};
 
-/// The indexes that lead to a place of a document, from the outermost on, as the names of the parts that have one.
+/// The path of indices to a part of a document, from the outermost inward, displayed by the names of parts where they have one.
 #[derive(Clone, Copy)]
 pub struct PathNames<'a>(pub &'a [u32]);
 
-// One step into a part, and what is there.
+// One step into a part, and the part's kind.
 fn write_step<W: fmt::Write>(
     f: &mut fmt::Formatter<W>,
     part: Part,

@@ -1,9 +1,9 @@
-// The report as data, from its lines.
+// The report as data, parsed from its lines.
 
 use serde_json::{Map, Value, push, put};
 use std::alloc::{AllocError, Global};
 
-// What is reported of an entry point.
+// The report of an entry point.
 #[derive(Drop)]
 struct Entry {
     payload: Value,
@@ -12,7 +12,7 @@ struct Entry {
     samples: Vec<Value>,
 }
 
-// The lists of a report, and the entry point whose lines are read.
+// The lists of a report, and the entry point being parsed.
 #[derive(Drop)]
 struct Lists {
     buffers: Vec<Value>,
@@ -20,7 +20,7 @@ struct Lists {
     entry: Option<Entry>,
 }
 
-// The word of a line at an index as a number.
+// The word at an index of a line, as a number.
 fn number_at(line: &str, index: usize) -> Value {
     match line.split_whitespace().nth(index) {
         Some(word) => match word.parse::<u64>() {
@@ -40,7 +40,7 @@ fn buffer(alloc: Global, line: &str) -> Result<Value, AllocError> {
     Ok(Value::Object(map))
 }
 
-// The words of a line `global G ..` after the number.
+// The words of a line `global G ..` after the index.
 fn uses(alloc: Global, line: &str) -> Result<Value, AllocError> {
     let mut list = Vec::new(alloc);
     for word in line.split_whitespace().skip(2) {
@@ -90,7 +90,7 @@ impl Entry {
         }
     }
 
-    // Reads a line of an entry point.
+    // Parses a line of an entry point.
     fn read(&mut self, alloc: Global, line: &str) -> Result<(), AllocError> {
         match first_word(line) {
             "payload" => self.payload = number_at(line, 1),
@@ -108,7 +108,7 @@ fn first_word(line: &str) -> &str {
 }
 
 impl Lists {
-    // Puts the entry point whose lines are read into the list.
+    // Appends the entry point being parsed to the list.
     fn finish(&mut self, alloc: Global) -> Result<(), AllocError> {
         match self.entry.take() {
             Some(entry) => push(&mut self.entries, entry_value(alloc, entry)?),

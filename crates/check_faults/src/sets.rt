@@ -1,4 +1,4 @@
-// The words of each set, and where in a document which set is meant.
+// The words of each word set, and which set applies at a path of a document.
 
 ghost use Rattle.std.specs.Prelude.{◌≡◌, map};
 ghost use Rattle.check_faults.specs.Tables.{list_for, listed, sets as sets_named};
@@ -6,7 +6,7 @@ ghost use Rattle.check_faults.specs.Tables.{list_for, listed, sets as sets_named
 use crate::document::{at, word};
 use serde_json::Value;
 
-// A set by its name, and its words with spaces between.
+// A word set by its name, and its words separated by spaces.
 type Set = (&'static str, &'static str);
 
 static SETS: [Set; 32] = [
@@ -86,7 +86,7 @@ static SETS: [Set; 32] = [
     ),
 ];
 
-// The set of the part of an array that begins with a word: the word, the index of the part, and the set's name.
+// The word set of an array element, by the array's first word, the element's index, and the set's name.
 type Place = (&'static str, usize, &'static str);
 
 static PLACES: [Place; 31] = [
@@ -123,7 +123,7 @@ static PLACES: [Place; 31] = [
     ("FrexpResult", 2, "scalar"),
 ];
 
-// The set of a word inside the settings, the filters, a variable or an entry point.
+// The word set inside the settings, the filters, a variable or an entry point.
 fn set_in_items(path: &[u32]) -> &'static str {
     let (Some(list), Some(last)) = (path.first(), path.last()) else {
         return "";
@@ -149,7 +149,7 @@ fn set_of_subgroups(path: &[u32]) -> &'static str {
     }
 }
 
-// The set of the word that a type, an expression or a statement begins with.
+// The word set of the first word of a type, an expression or a statement.
 fn set_of_kinds(path: &[u32]) -> &'static str {
     if path.last() != Some(&0) {
         return "";
@@ -168,7 +168,7 @@ fn set_of_kinds(path: &[u32]) -> &'static str {
     }
 }
 
-// The set of a part of an array that begins with this word.
+// The word set of an element of an array that begins with this word.
 fn set_in(word: &str, index: usize) -> &'static str {
     for place in &PLACES {
         if place.0 == word && place.1 == index {
@@ -178,7 +178,7 @@ fn set_in(word: &str, index: usize) -> &'static str {
     ""
 }
 
-// The value that holds the part at a path.
+// The value that contains the part at a path.
 fn holder<'a>(document: &'a Value, path: &[u32]) -> Option<&'a Value> {
     let mut found = document;
     for step in path.iter().take(path.len().saturating_sub(1)) {
@@ -187,7 +187,7 @@ fn holder<'a>(document: &'a Value, path: &[u32]) -> Option<&'a Value> {
     Some(found)
 }
 
-/// The name of the set of which the part at a path is no word, or nothing.
+/// The name of the word set that the part at a path is not in, or empty if none applies.
 pub fn set_of(document: &Value, path: &[u32]) -> &'static str {
     let by_path = set_in_items(path);
     if !by_path.is_empty() {
@@ -220,7 +220,7 @@ fn text_in(table: &'static [Set], word: &str) -> &'static str
     ""
 }
 
-/// The words of a set, with spaces between, nothing of what is no set.
+/// The words of a set, separated by spaces, or empty if it is not a set.
 pub fn words_of(set: &str) -> &'static str
     ensures { result.now ≡ list_for set.now sets_named }
 {

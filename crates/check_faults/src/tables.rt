@@ -1,8 +1,8 @@
-// What a word denotes in a table.
+// Lookup of words in tables.
 ghost use Rattle.std.specs.Prelude.{◌≡◌, map};
 ghost use Rattle.check_faults.specs.Tables.{lookup, spelled};
 
-/// What the word denotes, or `None` where it is none of the table's.
+/// The entry of a word in a table, or `None`.
 pub fn find_in<T: Copy>(table: &[(&str, T)], word: &str) -> Option<T>
     ensures { result ≡ lookup word.now (map spelled table.now) }
 {

@@ -1,4 +1,4 @@
-//! What is required where an expression is refused.
+//! The requirement text for an invalid expression.
 
 use crate::kinds::write_required;
 use crate::scene::Scene;
@@ -32,9 +32,9 @@ fn write_literal<W: fmt::Write>(f: &mut fmt::Formatter<W>, error: &LiteralError)
     }
 }
 
-// ---- compositions
+// ---- `Compose`
 
-// The type that a component of a composition needs, where that is one type.
+// The required type of a component, if there is only one.
 fn component_type(scene: &Scene<'_>, inner: &TypeInner, index: usize) -> Option<Form> {
     match inner {
         TypeInner::Matrix { rows, scalar, .. } => Some(Form::Vector {
@@ -50,7 +50,7 @@ fn component_type(scene: &Scene<'_>, inner: &TypeInner, index: usize) -> Option<
     }
 }
 
-// What a component of a composition must be.
+// The requirement of a component.
 fn write_component<W: fmt::Write>(
     f: &mut fmt::Formatter<W>,
     scene: &Scene<'_>,
@@ -79,7 +79,7 @@ fn write_component<W: fmt::Write>(
     }
 }
 
-// The same with what it is.
+// The requirement of a component, with its actual type.
 fn write_components<W: fmt::Write>(
     f: &mut fmt::Formatter<W>,
     scene: &Scene<'_>,
@@ -125,7 +125,7 @@ fn write_compose<W: fmt::Write>(
 
 // ---- types
 
-// How many parts a value has that are named by a number, where that is known.
+// The number of statically indexed parts of a value, if known.
 fn count_of(scene: &Scene<'_>, form: &Form) -> Option<usize> {
     match *form {
         Form::Vector { size, .. }
@@ -177,7 +177,7 @@ fn write_no_access<W: fmt::Write>(
     scene.write_given(f, "; it is ", expr)
 }
 
-// An operand that must be something else.
+// An operand that breaks a requirement.
 fn write_no<W: fmt::Write>(
     f: &mut fmt::Formatter<W>,
     scene: &Scene<'_>,
@@ -245,7 +245,7 @@ fn write_typing<W: fmt::Write>(
     }
 }
 
-// The rule of its kind that is broken.
+// The broken rule of its kind.
 fn write_rule<W: fmt::Write>(
     f: &mut fmt::Formatter<W>,
     scene: &Scene<'_>,
@@ -262,7 +262,7 @@ fn write_rule<W: fmt::Write>(
 
 // ---- expressions
 
-/// Writes what is required where an expression of a function is refused.
+/// Writes the requirement for an invalid expression of a function.
 pub(crate) fn write_expression<W: fmt::Write>(
     f: &mut fmt::Formatter<W>,
     scene: &Scene<'_>,
@@ -283,7 +283,7 @@ pub(crate) fn write_expression<W: fmt::Write>(
     }
 }
 
-// The word of a class of images.
+// The word for an image class.
 const fn class_word(class: ImageClass) -> &'static str {
     match class {
         ImageClass::Sampled { .. } => "Sampled",
@@ -293,7 +293,7 @@ const fn class_word(class: ImageClass) -> &'static str {
     }
 }
 
-/// Writes what is required of what looks at an image.
+/// Writes the requirement of an image expression.
 pub(crate) fn write_image<W: fmt::Write>(
     f: &mut fmt::Formatter<W>,
     scene: &Scene<'_>,
@@ -351,7 +351,7 @@ pub(crate) fn write_image<W: fmt::Write>(
     }
 }
 
-/// Writes what is required where a global expression is refused.
+/// Writes the requirement for an invalid global expression.
 pub fn write_global_expression<W: fmt::Write>(
     f: &mut fmt::Formatter<W>,
     scene: &Scene<'_>,

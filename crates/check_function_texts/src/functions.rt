@@ -1,4 +1,4 @@
-//! What is required where a function is refused.
+//! The requirement text for an invalid function.
 
 use crate::expressions::{write_expression, write_image};
 use crate::operations::{write_atomic, write_call, write_subgroup};
@@ -11,7 +11,7 @@ use ir_types::key;
 use std::fmt;
 use typing_errors::{FunctionError, LocalVariableError, UniformityDisruptor};
 
-// What is required where the error tells nothing else.
+// The requirement for an error without fields.
 fn plain_text(error: &FunctionError) -> &'static str {
     match error {
         FunctionError::NonConstructibleReturnType => {
@@ -45,7 +45,7 @@ fn plain_text(error: &FunctionError) -> &'static str {
     }
 }
 
-// What is required of the operand or of the result that an error names, beside its type.
+// The requirement of the operand or result that an error names, apart from its type.
 fn operand_text(error: &FunctionError) -> &'static str {
     match error {
         FunctionError::InvalidImageAtomicValue(_) => {
@@ -135,7 +135,7 @@ fn write_case<W: fmt::Write>(f: &mut fmt::Formatter<W>, value: &SwitchValue) -> 
     }
 }
 
-// An operand that must be something else.
+// An operand that breaks a requirement.
 fn write_operand<W: fmt::Write>(
     f: &mut fmt::Formatter<W>,
     scene: &Scene<'_>,
@@ -146,7 +146,7 @@ fn write_operand<W: fmt::Write>(
     scene.write_given(f, ", and it is ", operand)
 }
 
-// What stands among the statements of a body and names an expression.
+// An error of a statement that references an expression.
 fn write_named<W: fmt::Write>(
     f: &mut fmt::Formatter<W>,
     scene: &Scene<'_>,
@@ -205,7 +205,7 @@ fn write_named<W: fmt::Write>(
     }
 }
 
-// What is told by sets, spaces and what makes control flow differ.
+// An error about flags, address spaces or uniform control flow.
 fn write_setting<W: fmt::Write>(
     f: &mut fmt::Formatter<W>,
     scene: &Scene<'_>,
@@ -251,7 +251,7 @@ fn write_setting<W: fmt::Write>(
     }
 }
 
-/// Writes what is required where a function is refused.
+/// Writes the requirement for an invalid function.
 pub fn write_function<W: fmt::Write>(
     f: &mut fmt::Formatter<W>,
     scene: &Scene<'_>,

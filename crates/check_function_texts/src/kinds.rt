@@ -1,4 +1,4 @@
-//! What is required of an expression by its kind, where one rule alone is asked.
+//! The requirement of an expression by its kind, for kinds with a single rule.
 
 use crate::scene::Scene;
 use check_cause_texts::word_of;
@@ -7,7 +7,7 @@ use ir_kinds::{MathFunction, RelationalFunction, UnaryOperator};
 use ir_types::{Expression, key};
 use std::fmt;
 
-// What the operand of an operation on one value must be made of.
+// The required operand type of a unary operation.
 const fn of_unary(op: UnaryOperator) -> &'static str {
     match op {
         UnaryOperator::Negate => "signed integers or floats",
@@ -16,7 +16,7 @@ const fn of_unary(op: UnaryOperator) -> &'static str {
     }
 }
 
-// What the argument of a relational function must be.
+// The required argument type of a relational function.
 const fn of_relational(fun: RelationalFunction) -> &'static str {
     match fun {
         RelationalFunction::All | RelationalFunction::Any => "a vector of bool",
@@ -24,7 +24,7 @@ const fn of_relational(fun: RelationalFunction) -> &'static str {
     }
 }
 
-// What is required of what is made of nothing else.
+// The requirement of an expression without operands.
 fn of_others(expression: &Expression) -> &'static str {
     match expression {
         Expression::ZeroValue(_) => "the type must be constructible",
@@ -59,7 +59,7 @@ fn of_others(expression: &Expression) -> &'static str {
     }
 }
 
-// One operand that must be something else.
+// A single operand that breaks a requirement.
 fn write_operand<W: fmt::Write>(
     f: &mut fmt::Formatter<W>,
     scene: &Scene<'_>,
@@ -70,7 +70,7 @@ fn write_operand<W: fmt::Write>(
     scene.write_given(f, ", and it is ", operand)
 }
 
-// How many arguments this is.
+// A number of arguments as text.
 const fn count(argument: Option<Handle<key::Expression>>) -> usize {
     match argument {
         Some(_) => 1,
@@ -78,7 +78,7 @@ const fn count(argument: Option<Handle<key::Expression>>) -> usize {
     }
 }
 
-// A math function that takes another number of arguments.
+// A math function with a wrong number of arguments.
 fn write_arity<W: fmt::Write>(
     f: &mut fmt::Formatter<W>,
     fun: MathFunction,
@@ -103,7 +103,7 @@ fn write_first<W: fmt::Write>(
     scene.write_given(f, "", first)
 }
 
-// The type of an argument, if there is one.
+// The type of an argument, if present.
 fn write_further<W: fmt::Write>(
     f: &mut fmt::Formatter<W>,
     scene: &Scene<'_>,
@@ -123,7 +123,7 @@ struct Further {
     fourth: Option<Handle<key::Expression>>,
 }
 
-// A math function that doesn't take its arguments.
+// A math function with wrong argument types.
 fn write_math<W: fmt::Write>(
     f: &mut fmt::Formatter<W>,
     scene: &Scene<'_>,
@@ -144,7 +144,7 @@ fn write_math<W: fmt::Write>(
     write_further(f, scene, further.fourth)
 }
 
-// The expression at a handle, of the one operand that its rule speaks of.
+// The expression at a handle, by the single operand that its rule concerns.
 fn write_kind<W: fmt::Write>(
     f: &mut fmt::Formatter<W>,
     scene: &Scene<'_>,
@@ -213,7 +213,7 @@ fn write_kind<W: fmt::Write>(
     }
 }
 
-/// Writes what is required of the expression at a handle by its kind.
+/// Writes the requirement of the expression at a handle by its kind.
 pub(crate) fn write_required<W: fmt::Write>(
     f: &mut fmt::Formatter<W>,
     scene: &Scene<'_>,

@@ -1,4 +1,4 @@
-//! What is required where an expression or a function is refused, in words, by the error, its cause and the types of the expressions.
+//! Requirement texts for invalid expressions and functions, from the error, the broken rule and the types of expressions.
 #![tactic(auto)]
 
 mod expressions;

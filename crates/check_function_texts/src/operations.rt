@@ -1,4 +1,4 @@
-//! What is required where a call, an atomic operation or an operation of a subgroup is refused.
+//! Requirement texts for invalid calls, atomic operations and subgroup operations.
 
 use crate::expressions::write_image;
 use crate::scene::Scene;
@@ -8,7 +8,7 @@ use ir_types::{Expression, key};
 use std::fmt;
 use typing_errors::{AtomicError, CallError, ExpressionError, SubgroupError};
 
-// An argument that is refused by itself.
+// An argument with its own error.
 fn write_argument<W: fmt::Write>(
     f: &mut fmt::Formatter<W>,
     scene: &Scene<'_>,
@@ -25,7 +25,7 @@ fn write_argument<W: fmt::Write>(
     }
 }
 
-// A result that goes with another function, or with none.
+// A result that belongs to another function, or to none.
 fn write_result<W: fmt::Write>(
     f: &mut fmt::Formatter<W>,
     scene: &Scene<'_>,
@@ -57,7 +57,7 @@ fn write_result<W: fmt::Write>(
     }
 }
 
-/// Writes what is required where a call is refused.
+/// Writes the requirement for an invalid call.
 pub(crate) fn write_call<W: fmt::Write>(
     f: &mut fmt::Formatter<W>,
     scene: &Scene<'_>,
@@ -93,7 +93,7 @@ pub(crate) fn write_call<W: fmt::Write>(
     }
 }
 
-/// Writes what is required where an atomic operation is refused.
+/// Writes the requirement for an invalid atomic operation.
 pub(crate) fn write_atomic<W: fmt::Write>(
     f: &mut fmt::Formatter<W>,
     scene: &Scene<'_>,
@@ -149,7 +149,7 @@ pub(crate) fn write_atomic<W: fmt::Write>(
     }
 }
 
-/// Writes what is required where an operation of a subgroup is refused.
+/// Writes the requirement for an invalid subgroup operation.
 pub(crate) fn write_subgroup<W: fmt::Write>(
     f: &mut fmt::Formatter<W>,
     scene: &Scene<'_>,

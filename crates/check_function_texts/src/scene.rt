@@ -1,4 +1,4 @@
-//! What a sentence looks at.
+//! The context of a requirement text.
 
 use check_cause_texts::Types;
 use check_causes::Cause;
@@ -10,11 +10,11 @@ use module_context::CheckContext;
 use std::fmt;
 use typing_forms::form_of_type;
 
-/// What a sentence looks at: the expressions among which the one at fault stands, with their types as far as they are known; the
-/// global variables; and which rule of that expression is broken, where its kind has several.
+/// The context of a requirement text: the expressions around the error, with their types as far as they are known; the
+/// global variables; and the broken rule of the expression, if its kind has several.
 #[derive(Clone, Copy)]
 pub struct Scene<'a> {
-    /// The expressions of the function that is refused, or those of the module.
+    /// The expressions of the invalid function, or those of the module.
     pub context: CheckContext<'a>,
     /// The global variables of the module.
     pub globals: &'a Arena<GlobalVariable, key::GlobalVariable>,
@@ -28,7 +28,7 @@ impl<'a> Scene<'a> {
         Types(self.context.types)
     }
 
-    /// Writes the type of an expression, after a word that leads to it; nothing where it is not known.
+    /// Writes the type of an expression, after a given word; nothing if the type is not known.
     pub fn write_given<W: fmt::Write>(
         &self,
         f: &mut fmt::Formatter<W>,

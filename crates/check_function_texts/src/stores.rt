@@ -1,4 +1,4 @@
-//! What is required where a return or a store is refused.
+//! Requirement texts for invalid returns and stores.
 
 use crate::scene::Scene;
 use check_cause_texts::space_word;
@@ -11,10 +11,10 @@ use std::fmt;
 use typing_errors::FunctionError;
 use typing_forms::form_in;
 
-// What a pointer is made from is followed so far.
+// The maximum number of steps to follow from a pointer to its origin.
 const MOST_STEPS: usize = 64;
 
-/// Writes what is required where a return is refused.
+/// Writes the requirement for an invalid return.
 pub(crate) fn write_return<W: fmt::Write>(
     f: &mut fmt::Formatter<W>,
     scene: &Scene<'_>,
@@ -46,7 +46,7 @@ pub(crate) fn write_return<W: fmt::Write>(
     }
 }
 
-/// The global variable that a pointer is made from, if it is from one.
+/// The global variable that a pointer originates from, if any.
 pub(crate) fn root_of(
     expressions: &Arena<Expression, key::Expression>,
     pointer: Handle<key::Expression>,
@@ -67,7 +67,7 @@ pub(crate) fn root_of(
     None
 }
 
-// Why the memory that a pointer leads to is not written.
+// Why the memory of a pointer is not writable.
 fn write_space<W: fmt::Write>(
     f: &mut fmt::Formatter<W>,
     scene: &Scene<'_>,
@@ -94,7 +94,7 @@ fn write_space<W: fmt::Write>(
     }
 }
 
-// Why a pointer is not stored through.
+// Why a pointer can't be stored through.
 fn write_pointer<W: fmt::Write>(
     f: &mut fmt::Formatter<W>,
     scene: &Scene<'_>,
@@ -116,7 +116,7 @@ fn write_pointer<W: fmt::Write>(
     }
 }
 
-// Why a value is not stored.
+// Why a value can't be stored.
 fn write_value<W: fmt::Write>(
     f: &mut fmt::Formatter<W>,
     scene: &Scene<'_>,
@@ -147,7 +147,7 @@ fn write_inner<W: fmt::Write>(
     write!(f, "{before}{}", scene.types().text(&form))
 }
 
-/// Writes what is required where a store is refused.
+/// Writes the requirement for an invalid store.
 pub(crate) fn write_store<W: fmt::Write>(
     f: &mut fmt::Formatter<W>,
     scene: &Scene<'_>,

@@ -1,4 +1,4 @@
--- Which rule of the level at which an image is sampled, of what is gathered and of what is clamped is broken.
+-- The broken rules of the level of detail, of gather and of clamping in `ImageSample`.
 use Rattle.std.specs.Prelude.{◌≡◌, ◌≢◌, ◌⊎◌, ℕ, List, Bool, true, false, IsSome, IsSomeAnd}
 use Rattle.ir_types.specs.declared.expressions.SampleLevel.{SampleLevel}
 use Rattle.ir_types.specs.declared.expressions.SampleLevel.TheVariants as level
@@ -18,7 +18,7 @@ use Rattle.check_image_causes.specs.declared.image_levels.DetailCause.TheVariant
 use Rattle.check_image_causes.specs.declared.image_levels.EdgeCause.{EdgeCause}
 use Rattle.check_image_causes.specs.declared.image_levels.EdgeCause.TheVariants as edge
 
--- ---- what is gathered, and the level
+-- ---- gather, and the level
 
 abbrev pub BrokenGather : ImageType → SampleLevel → SwizzleComponent → DetailCause → Type 0
 BrokenGather image l letter (detail.Neighbours dim) = (dim ≡ image.dim) × ¬ HasNeighbours image.dim
@@ -28,7 +28,7 @@ BrokenGather image l letter (detail.Exact given) = ⊥
 BrokenGather image l letter (detail.Bias given) = ⊥
 BrokenGather image l letter (detail.Gradient given wanted) = ⊥
 
--- the level is that of an expression of this type, which may not be one
+-- an expression of this type is not a valid level
 abbrev pub IsBadExact : (forms : List Form) → ImageClass → SampleLevel → Form → Type 0
 IsBadExact forms class l given = elim l [
   | level.Exact e ↦ (given ≡ form_among forms e) × ¬ IsFloat32 (form_among forms e) × ¬ ((is_depth class ≡ true) × IsIntegerScalar (form_among forms e))
@@ -52,7 +52,7 @@ BrokenLevel forms class coordinate l (detail.Gradient given wanted) = (wanted �
 abbrev pub BrokenDetail : (forms : List Form) → ImageType → Sampling → DetailCause → Type 0
 BrokenDetail forms image by cause = IsSomeAnd by.gather (λ letter. BrokenGather image by.level letter cause) ⊎ BrokenLevel forms image.class (form_among forms by.coordinate) by.level cause
 
--- ---- the edge, and external images
+-- ---- clamping, and external images
 
 abbrev pub BrokenClamp : ImageType → (clamp_to_edge : Bool) → EdgeCause → Type 0
 BrokenClamp image clamp edge.Clamped = (clamp ≡ true) × (image.class ≢ External) × ¬ IsClamped image

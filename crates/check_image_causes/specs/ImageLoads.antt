@@ -1,4 +1,4 @@
--- Which rule of a load from an image or of a query of one is broken.
+-- The broken rules of `ImageLoad` and `ImageQuery`.
 use Rattle.std.specs.Prelude.{◌≡◌, ◌≢◌, ℕ, List, None, false, IsSomeAnd}
 use Rattle.ir_types.specs.declared.expressions.ImageQuery.{ImageQuery}
 use Rattle.ir_types.specs.declared.expressions.ImageQuery.TheVariants as query
@@ -33,7 +33,7 @@ BrokenTexelLoad forms image by (load.Sample cause) = BrokenNumber forms (is_mult
 BrokenTexelLoad forms image by (load.Level cause) = BrokenNumber forms (is_mipmapped image.class) by.level cause
 BrokenTexelLoad forms image by load.NoLoad = ¬ IsReadable image.class
 
--- the operand is no image, or a rule of its texels is broken
+-- the operand is not an image, or a rule of the load is broken
 abbrev pub BrokenLoad : (forms : List Form) → (image : Form) → TexelLoad → LoadCause → Type 0
 BrokenLoad forms image by (load.NoImage given) = (given ≡ image) × (image_type_of image ≡ None)
 BrokenLoad forms image by (load.Texel cause) = IsSomeAnd (image_type_of image) (λ i. BrokenTexelLoad forms i by (load.Texel cause))
@@ -44,14 +44,14 @@ BrokenLoad forms image by load.NoLoad = IsSomeAnd (image_type_of image) (λ i. B
 
 -- ---- queries
 
--- the query asks for what only images with levels have
+-- the query requires an image with levels
 abbrev pub AsksLevels : ImageQuery → Type 0
 AsksLevels (query.Size level) = IsSomeAnd level (λ e. Unit {0})
 AsksLevels query.NumLevels = Unit {0}
 AsksLevels query.NumLayers = ⊥
 AsksLevels query.NumSamples = ⊥
 
--- the level of the size that is asked for is no integer
+-- the level of a size query is not an integer
 abbrev pub AsksBadLevel : (forms : List Form) → ImageQuery → Form → Type 0
 AsksBadLevel forms (query.Size level) given = IsSomeAnd level (λ e. (given ≡ form_among forms e) × ¬ IsIntegerScalar (form_among forms e))
 AsksBadLevel forms query.NumLevels given = ⊥

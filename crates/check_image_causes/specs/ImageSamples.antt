@@ -1,4 +1,4 @@
--- Which rule of a sample of an image is broken.
+-- The broken rules of `ImageSample`.
 use Rattle.std.specs.Prelude.{◌≡◌, ◌≢◌, ℕ, List, Option, None, Bool, true, false, is_some, IfSome, IsSomeAnd}
 use Rattle.ir_types.specs.judged.ExpressionPlain.{PlainExpression}
 use Rattle.ir_kinds.specs.judged.Images.{is_depth, is_multisampled}
@@ -28,9 +28,9 @@ use Rattle.check_image_causes.specs.declared.image_samples.PlaceCause.TheVariant
 use Rattle.check_image_causes.specs.declared.image_samples.SampleCause.{SampleCause}
 use Rattle.check_image_causes.specs.declared.image_samples.SampleCause.TheVariants as sample
 
--- ---- the sampler, and what is compared with
+-- ---- the sampler, and the depth reference
 
--- the two fields of a sample that speak of it
+-- the fields of a sample that the rule concerns
 abbrev pub SamplerOK : (forms : List Form) → ImageClass → Sampling → Type 0
 SamplerOK forms c by = IsSomeAnd (sampler_of (form_among forms by.sampler)) (λ comparison. comparison ≡ is_some by.depth_ref)
     × IfSome by.depth_ref (λ reference. IsFloat32 (form_among forms reference) × (is_depth c ≡ true))
@@ -47,13 +47,13 @@ BrokenSampler forms c by (sampler.Comparison compares) = IsSomeAnd (sampler_of (
 BrokenSampler forms c by (sampler.Reference given) = BrokenCompare forms c by.depth_ref (sampler.Reference given)
 BrokenSampler forms c by sampler.NoDepth = BrokenCompare forms c by.depth_ref sampler.NoDepth
 
--- ---- what is sampled
+-- ---- the sampled image
 
 abbrev pub BrokenTexels : ImageClass → (gather : Option SwizzleComponent) → TexelsCause → Type 0
 BrokenTexels c gather texels.Multisampled = is_multisampled c ≡ true
 BrokenTexels c gather (texels.Unfiltered kind) = ((multi : Bool) × (c ≡ class.Sampled kind multi)) × ¬ IsFiltered c gather
 
--- ---- the place
+-- ---- the coordinate
 
 abbrev pub BrokenOffset : (expressions : List PlainExpression) → (forms : List Form) → ImageDimension → (offset : ℕ) → PlaceCause → Type 0
 BrokenOffset expressions forms dim offset (place.Coordinate given wanted) = ⊥
@@ -80,7 +80,7 @@ BrokenSampled expressions forms image by (sample.Place cause) = BrokenPlace expr
 BrokenSampled expressions forms image by (sample.Detail cause) = BrokenDetail forms image by cause
 BrokenSampled expressions forms image by (sample.Edge cause) = BrokenEdge image by cause
 
--- the operand is no image, or a rule of its samples is broken
+-- the operand is not an image, or a rule of the sample is broken
 abbrev pub BrokenSample : (expressions : List PlainExpression) → (forms : List Form) → (image : Form) → Sampling → SampleCause → Type 0
 BrokenSample expressions forms image by (sample.NoImage given) = (given ≡ image) × (image_type_of image ≡ None)
 BrokenSample expressions forms image by (sample.Sampler cause) = IsSomeAnd (image_type_of image) (λ i. BrokenSampled expressions forms i by (sample.Sampler cause))

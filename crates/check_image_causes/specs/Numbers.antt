@@ -1,4 +1,4 @@
--- Which rule is broken of a number that is given exactly where one is wanted.
+-- The broken rules of an optional integer operand.
 use Rattle.std.specs.Prelude.{◌≡◌, ℕ, List, Option, None, Bool, true, false, IsSome, IsSomeAnd}
 use Rattle.typing_forms.specs.declared.form.Form.{Form}
 use Rattle.spec_statements.specs.judged.Scene.{form_among}

@@ -1,4 +1,4 @@
-//! Which rule of the level at which an image is sampled, of what is gathered and of what is clamped is broken.
+//! The broken rules of the level of detail, of gather and of clamping in `ImageSample`.
 
 ghost use Rattle.std.specs.Prelude.{◌≡◌, ◌↔◌, IsTrue, IfSome, MatchOption, Bool};
 ghost use Rattle.check_image_causes.specs.ImageLevels.{BrokenClamp, BrokenDetail, BrokenEdge, BrokenGather, BrokenLevel, BrokenOutside};
@@ -13,39 +13,39 @@ use module_context::{CheckContext, are_same, is_integer_scalar};
 use spec_statements::{ImageType, Sampling};
 use typing_forms::Form;
 
-/// Which rule of what is gathered, and of the level, is broken.
+/// A broken rule of gather or of the level.
 #[derive(Clone, Copy)]
 pub enum DetailCause {
-    /// Four texels are gathered of an image that is neither two-dimensional nor a cube.
+    /// A gather requires a two-dimensional image or a cube.
     Neighbours(ImageDimension),
-    /// Texels are gathered at another level than zero.
+    /// A gather takes level zero only.
     GatherLevel,
-    /// Of depths another component than the first is gathered.
+    /// A gather from a depth image takes the first component only.
     GatherDepth(SwizzleComponent),
-    /// The level has this type, which is not f32, nor an integer of a depth image.
+    /// The level has this type, which is neither f32 nor, for a depth image, an integer.
     Exact(Form),
     /// The bias has this type, which is not f32.
     Bias(Form),
-    /// A gradient has the first type, and the coordinate the second.
+    /// A gradient has the first type, but must have the coordinate's, the second.
     Gradient(Form, Form),
 }
 
-/// Which rule of the edge, and of external images, is broken.
+/// A broken rule of clamping or of external images.
 #[derive(Clone, Copy)]
 pub enum EdgeCause {
-    /// The coordinate is clamped, and the image is not a two-dimensional one of floats without layers.
+    /// The coordinate is clamped, but the image is not a non-arrayed two-dimensional image of floats.
     Clamped,
-    /// The image is external, and the coordinate is not clamped.
+    /// The image is external, but the coordinate is not clamped.
     Unclamped,
-    /// The image is external, and sampled at another level than zero.
+    /// The image is external, but not sampled at level zero.
     Level,
-    /// The image is external, and gathered.
+    /// An external image does not support gather.
     Gathered,
-    /// The image is external, and there is an offset.
+    /// An external image does not support an offset.
     Offset,
 }
 
-/// Whether a type is that of a 32-bit float.
+/// Whether a type is `f32`.
 pub(crate) fn is_float32(of: Form) -> bool
     ensures { IsTrue result ↔ IsFloat32 of }
 {
@@ -54,7 +54,7 @@ pub(crate) fn is_float32(of: Form) -> bool
 
 // ---- levels
 
-// Whether a level is the finest.
+// Whether a level is level zero.
 const fn is_finest(level: SampleLevel) -> bool
     ensures { IsTrue result ↔ (level ≡ SampleLevel.Zero) }
 {
@@ -67,7 +67,7 @@ const fn is_finest(level: SampleLevel) -> bool
     }
 }
 
-// The rule of an exact level that is broken.
+// The broken rule of an exact level.
 fn broken_exact(
     context: &CheckContext<'_>,
     class: ImageClass,
@@ -87,7 +87,7 @@ fn broken_exact(
     Some(DetailCause::Exact(context.form_at(level)))
 }
 
-// The rule of gradients of a coordinate that is broken.
+// The broken rule of the gradients of a coordinate.
 fn broken_gradient(
     context: &CheckContext<'_>,
     class: ImageClass,
@@ -110,7 +110,7 @@ fn broken_gradient(
     None
 }
 
-// The rule of a level that is broken.
+// The broken rule of a level.
 fn broken_level(
     context: &CheckContext<'_>,
     class: ImageClass,
@@ -135,9 +135,9 @@ fn broken_level(
     }
 }
 
-// ---- what is gathered
+// ---- gather
 
-// Whether images of so many dimensions have four texels around a place.
+// Whether images of these dimensions support gather.
 const fn has_neighbours(dim: ImageDimension) -> bool
     ensures { IsTrue result ↔ HasNeighbours dim }
 {
@@ -147,7 +147,7 @@ const fn has_neighbours(dim: ImageDimension) -> bool
     }
 }
 
-// The first rule of what is gathered that is broken.
+// The first broken rule of gather.
 fn broken_gather(
     image: &ImageType,
     level: SampleLevel,
@@ -167,7 +167,7 @@ fn broken_gather(
     None
 }
 
-/// The first rule of what is gathered, and of the level, that is broken.
+/// The first broken rule of gather or of the level.
 pub(crate) fn broken_detail(
     context: &CheckContext<'_>,
     image: &ImageType,
@@ -188,7 +188,7 @@ pub(crate) fn broken_detail(
     }
 }
 
-// ---- what is clamped
+// ---- clamping to the edge
 
 // Whether an image is external.
 const fn is_external(class: ImageClass) -> bool
@@ -210,14 +210,14 @@ fn is_of_floats(class: ImageClass) -> bool
     }
 }
 
-// Whether places in an image may be clamped.
+// Whether coordinates of an image may be clamped to the edge.
 fn is_clamped(image: &ImageType) -> bool
     ensures { IsTrue result ↔ IsClamped image.now }
 {
     image.dim == ImageDimension::D2 && !image.arrayed && is_of_floats(image.class)
 }
 
-// The rule of the edge that is broken.
+// The broken rule of clamping.
 fn broken_clamp(image: &ImageType, clamp_to_edge: bool) -> Option<EdgeCause>
     ensures { MatchOption result (ClampOK image.now clamp_to_edge) (BrokenClamp image.now clamp_to_edge) }
 {
@@ -234,7 +234,7 @@ fn broken_clamp(image: &ImageType, clamp_to_edge: bool) -> Option<EdgeCause>
     }
 }
 
-// The first rule of external images that is broken.
+// The first broken rule of external images.
 fn broken_outside(class: ImageClass, by: &Sampling) -> Option<EdgeCause>
     ensures { MatchOption result
         (ExternalOK class by.now.gather by.now.offset by.now.level)
@@ -255,7 +255,7 @@ fn broken_outside(class: ImageClass, by: &Sampling) -> Option<EdgeCause>
     None
 }
 
-/// The first rule of the edge, and of external images, that is broken.
+/// The first broken rule of clamping or of external images.
 pub(crate) fn broken_edge(image: &ImageType, by: &Sampling) -> Option<EdgeCause>
     ensures { MatchOption result
         (ClampOK image.now by.now.clamp_to_edge × ExternalOK image.now.class by.now.gather by.now.offset by.now.level)

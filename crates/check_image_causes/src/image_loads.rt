@@ -1,4 +1,4 @@
-//! Which rule of a load from an image or of a query of one is broken.
+//! The broken rules of `ImageLoad` and `ImageQuery`.
 
 ghost use Rattle.std.specs.Prelude.{◌≡◌, ◌↔◌, IsTrue, MatchOption};
 ghost use Rattle.check_image_causes.specs.ImageLoads.{BrokenTexel, BrokenTexelLoad, BrokenLoad, BrokenAnswer, BrokenQuery};
@@ -18,42 +18,42 @@ use module_context::{
 use spec_statements::ImageType;
 use typing_forms::Form;
 
-/// Which rule of the coordinate of a texel is broken.
+/// A broken rule of a texel coordinate.
 #[derive(Clone, Copy)]
 pub enum TexelCause {
-    /// The image is a cube, and its texels have no number each way.
+    /// The image is a cube, whose texels have no integer coordinates.
     Cube,
-    /// The coordinate has this type, which is not made of integers.
+    /// The coordinate has this type, which is not an integer scalar or vector.
     NoInteger(Form),
-    /// The coordinate has the first type, and needs the second.
+    /// The coordinate has the first type, but must have the second.
     Coordinate(Form, Form),
 }
 
-/// Which rule of a load from an image is broken.
+/// A broken rule of an `ImageLoad`.
 #[derive(Clone, Copy)]
 pub enum LoadCause {
-    /// The operand has this type, which is not that of an image.
+    /// The operand has this type, which is not an image.
     NoImage(Form),
-    /// One of the coordinate.
+    /// A rule of the coordinate.
     Texel(TexelCause),
-    /// One of the layer.
+    /// A rule of the array index.
     Layer(NumberCause),
-    /// One of the sample.
+    /// A rule of the sample index.
     Sample(NumberCause),
-    /// One of the level.
+    /// A rule of the level.
     Level(NumberCause),
-    /// The access to the storage image does not have LOAD.
+    /// The storage image's access does not include LOAD.
     NoLoad,
 }
 
-/// Which rule of a query of an image is broken.
+/// A broken rule of an `ImageQuery`.
 #[derive(Clone, Copy)]
 pub enum QueryCause {
-    /// The operand has this type, which is not that of an image.
+    /// The operand has this type, which is not an image.
     NoImage(Form),
     /// The image has no mip levels.
     NoLevels,
-    /// The level has this type, which is not that of an integer scalar.
+    /// The level has this type, which is not an integer scalar.
     Level(Form),
     /// The image is not arrayed.
     NoLayers,
@@ -63,7 +63,7 @@ pub enum QueryCause {
 
 // ---- loads
 
-// Whether texels of images of so many dimensions have numbers.
+// Whether texels of images of these dimensions have integer coordinates.
 const fn is_flat(dim: ImageDimension) -> bool
     ensures { IsTrue result ↔ IsFlat dim }
 {
@@ -73,7 +73,7 @@ const fn is_flat(dim: ImageDimension) -> bool
     }
 }
 
-// The first rule of the number of a texel each way that is broken.
+// The first broken rule of an integer texel coordinate.
 fn broken_texel(dim: ImageDimension, coordinate: &Form) -> Option<TexelCause>
     ensures { MatchOption result (IsTexelCoordinate dim coordinate.now) (BrokenTexel dim coordinate.now) }
 {
@@ -92,7 +92,7 @@ fn broken_texel(dim: ImageDimension, coordinate: &Form) -> Option<TexelCause>
     None
 }
 
-// Whether images of a class are loaded from.
+// Whether an image class supports loads.
 fn is_readable(class: ImageClass) -> bool
     ensures { IsTrue result ↔ IsReadable class }
 {
@@ -102,20 +102,20 @@ fn is_readable(class: ImageClass) -> bool
     }
 }
 
-/// The operands of a load from an image, beside the image.
+/// The operands of an `ImageLoad`, apart from the image.
 #[derive(Clone, Copy)]
 pub struct TexelLoad {
     /// The coordinate.
     pub coordinate: Handle<key::Expression>,
-    /// The layer.
+    /// The array index.
     pub array_index: Option<Handle<key::Expression>>,
-    /// The sample.
+    /// The sample index.
     pub sample: Option<Handle<key::Expression>>,
     /// The level.
     pub level: Option<Handle<key::Expression>>,
 }
 
-// The first rule that is broken where a texel is loaded from an image.
+// The first broken rule of a load from an image.
 fn broken_texel_load(
     context: &CheckContext<'_>,
     image: &ImageType,
@@ -145,8 +145,8 @@ fn broken_texel_load(
     }
 }
 
-/// The first rule of a load from an image that is broken, if one is: a texel has a number each way, a layer, a sample and a level
-/// exactly where the image has several, and the image may be read.
+/// The first broken rule of an `ImageLoad`, if any: an integer coordinate, an array index, a sample index and a level
+/// exactly if the image has several, and a readable image.
 pub fn broken_load(context: &CheckContext<'_>, image: &Form, by: &TexelLoad) -> Option<LoadCause>
     ensures { MatchOption result
         (ImageLoadOK (scene_in context.now).forms image.now by.now.coordinate by.now.array_index by.now.sample by.now.level)
@@ -160,7 +160,7 @@ pub fn broken_load(context: &CheckContext<'_>, image: &Form, by: &TexelLoad) -> 
 
 // ---- queries
 
-// The rule of the size of an image at a level that is broken, if one is named.
+// The broken rule of the level of a size query, if one is given.
 fn broken_size(
     context: &CheckContext<'_>,
     image: &ImageType,
@@ -184,14 +184,14 @@ fn broken_size(
     }
 }
 
-// A cause unless a test holds.
+// A rule as broken, unless a test holds.
 const fn unless(holds: bool, cause: QueryCause) -> Option<QueryCause>
     ensures { MatchOption result (IsTrue holds) (λ found. (found ≡ cause) × ¬ IsTrue holds) }
 {
     if holds { None } else { Some(cause) }
 }
 
-// The rule of a query of an image that is broken.
+// The broken rule of a query of an image.
 fn broken_answer(
     context: &CheckContext<'_>,
     image: &ImageType,
@@ -209,8 +209,8 @@ fn broken_answer(
     }
 }
 
-/// The first rule of a query of an image that is broken, if one is: a level is named, levels, layers and samples are counted only where
-/// there are several.
+/// The first broken rule of an `ImageQuery`, if any: levels, layers and samples are queried only if the
+/// image has several.
 pub fn broken_query(
     context: &CheckContext<'_>,
     image: &Form,

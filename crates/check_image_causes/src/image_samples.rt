@@ -1,4 +1,4 @@
-//! Which rule of a sample of an image is broken.
+//! The broken rules of `ImageSample`.
 
 ghost use Rattle.std.specs.Prelude.{◌≡◌, ◌↔◌, IsTrue, IfSome, IsSomeAnd, MatchOption, true, false};
 ghost use Rattle.check_image_causes.specs.ImageSamples.{BrokenCompare, BrokenPlace, BrokenOffset, BrokenSampled, BrokenSample, BrokenSampler, BrokenTexels, SamplerOK};
@@ -20,66 +20,66 @@ use module_context::{CheckContext, are_same, image_type_of, sampler_of};
 use spec_statements::{ImageType, Sampling};
 use typing_forms::Form;
 
-/// Which rule of the sampler, and of what is compared with, is broken.
+/// A broken rule of the sampler or of the depth reference.
 #[derive(Clone, Copy)]
 pub enum SamplerCause {
-    /// The operand has this type, which is not that of a sampler.
+    /// The operand has this type, which is not a sampler.
     NoSampler(Form),
-    /// The sampler compares, and there is nothing to compare with; or the other way round.
+    /// A comparison sampler without a depth reference, or a depth reference with another sampler.
     Comparison {
         /// Whether it is a comparison sampler.
         compares: bool,
     },
     /// The depth reference has this type, which is not f32.
     Reference(Form),
-    /// There is a depth reference, and the image is not one of depths.
+    /// There is a depth reference, but the image is not a depth image.
     NoDepth,
 }
 
-/// Which rule of what is sampled is broken.
+/// A broken rule of the sampled image.
 #[derive(Clone, Copy)]
 pub enum TexelsCause {
     /// The image is multisampled.
     Multisampled,
-    /// Its texels are of this kind, and only floats are filtered.
+    /// Its texels have this scalar kind, but only floats can be filtered.
     Unfiltered(ScalarKind),
 }
 
-/// Which rule of the place that is sampled is broken.
+/// A broken rule of the coordinate, the array index or the offset.
 #[derive(Clone, Copy)]
 pub enum PlaceCause {
-    /// The coordinate has the first type, and needs the second.
+    /// The coordinate has the first type, but must have the second.
     Coordinate(Form, Form),
-    /// One of the layer.
+    /// A rule of the array index.
     Layer(NumberCause),
     /// The offset is not a const-expression.
     Varying,
-    /// The offset has the first type, and needs the second.
+    /// The offset has the first type, but must have the second.
     Offset(Form, Form),
-    /// There is an offset, and the image is a cube.
+    /// There is an offset, but the image is a cube.
     Cube,
 }
 
-/// Which rule of a sample of an image is broken.
+/// A broken rule of an `ImageSample`.
 #[derive(Clone, Copy)]
 pub enum SampleCause {
-    /// The operand has this type, which is not that of an image.
+    /// The operand has this type, which is not an image.
     NoImage(Form),
-    /// One of the sampler.
+    /// A rule of the sampler.
     Sampler(SamplerCause),
-    /// One of what is sampled.
+    /// A rule of the sampled image.
     Texels(TexelsCause),
-    /// One of the place.
+    /// A rule of the coordinate, the array index or the offset.
     Place(PlaceCause),
-    /// One of what is gathered, and of the level.
+    /// A rule of gather or of the level.
     Detail(DetailCause),
-    /// One of the edge, and of external images.
+    /// A rule of clamping or of external images.
     Edge(EdgeCause),
 }
 
 // ---- samplers
 
-// The rule of what is compared with that is broken, if there is something.
+// The broken rule of the depth reference, if there is one.
 fn broken_compare(
     context: &CheckContext<'_>,
     class: ImageClass,
@@ -103,7 +103,7 @@ fn broken_compare(
     }
 }
 
-// The first rule of the sampler, and of what is compared with, that is broken.
+// The first broken rule of the sampler or of the depth reference.
 fn broken_sampler(
     context: &CheckContext<'_>,
     class: ImageClass,
@@ -127,7 +127,7 @@ fn broken_sampler(
 
 // ---- texels
 
-// The first rule of what is sampled that is broken.
+// The first broken rule of the sampled image.
 fn broken_texels(class: ImageClass, by: &Sampling) -> Option<TexelsCause>
     ensures { MatchOption result
         ((is_multisampled class ≡ false) × IsFiltered class by.now.gather)
@@ -148,9 +148,9 @@ fn broken_texels(class: ImageClass, by: &Sampling) -> Option<TexelsCause>
     }
 }
 
-// ---- places
+// ---- coordinates
 
-// Whether the value of an expression is known as the module is written.
+// Whether an expression is a const-expression.
 fn is_const(context: &CheckContext<'_>, handle: Handle<key::Expression>) -> bool
     requires { AreKinds (expressions_in context.now) context.now.kinds.now }
     ensures { IsTrue result ↔ IsOfKind (expressions_in context.now) handle Const }
@@ -158,7 +158,7 @@ fn is_const(context: &CheckContext<'_>, handle: Handle<key::Expression>) -> bool
     handle.index() < context.expressions.len() && context.kinds.is_const(handle)
 }
 
-// The first rule of an offset that is broken.
+// The first broken rule of an offset.
 fn broken_offset(
     context: &CheckContext<'_>,
     dim: ImageDimension,
@@ -183,7 +183,7 @@ fn broken_offset(
     }
 }
 
-// The same where there may be one.
+// The first broken rule of an optional offset.
 fn broken_offset_if(
     context: &CheckContext<'_>,
     dim: ImageDimension,
@@ -200,7 +200,7 @@ fn broken_offset_if(
     }
 }
 
-// The first rule of the place that is sampled that is broken.
+// The first broken rule of the coordinate, the array index or the offset.
 fn broken_place(context: &CheckContext<'_>, image: &ImageType, by: &Sampling) -> Option<PlaceCause>
     requires { AreKinds (expressions_in context.now) context.now.kinds.now }
     ensures { MatchOption result
@@ -224,7 +224,7 @@ fn broken_place(context: &CheckContext<'_>, image: &ImageType, by: &Sampling) ->
 
 // ---- samples
 
-// The first rule that is broken where an image is sampled.
+// The first broken rule of a sample of an image.
 fn broken_sampled(
     context: &CheckContext<'_>,
     image: &ImageType,
@@ -253,8 +253,8 @@ fn broken_sampled(
     }
 }
 
-/// The first rule of a sample of an image that is broken, if one is: of the sampler, of what is sampled, of the place, of what is
-/// gathered and of the level, of the edge and of external images.
+/// The first broken rule of an `ImageSample`, if any: of the sampler, of the sampled image, of the coordinate, of gather
+/// and of the level, of clamping and of external images.
 pub fn broken_sample(context: &CheckContext<'_>, image: &Form, by: &Sampling) -> Option<SampleCause>
     requires { AreKinds (expressions_in context.now) context.now.kinds.now }
     ensures { MatchOption result

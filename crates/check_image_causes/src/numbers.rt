@@ -1,4 +1,4 @@
-//! Which rule is broken of a number that is given exactly where one is wanted.
+//! The broken rules of an optional integer operand.
 
 ghost use Rattle.std.specs.Prelude.{◌≡◌, ◌↔◌, IsTrue, MatchOption};
 ghost use Rattle.check_image_causes.specs.Numbers.{BrokenNumber};
@@ -12,18 +12,18 @@ use ir_types::key;
 use module_context::{CheckContext, is_integer_scalar};
 use typing_forms::Form;
 
-/// Which rule is broken of a number that is given exactly where one is wanted.
+/// A broken rule of an integer operand that must be present exactly if the image has such a dimension.
 #[derive(Clone, Copy)]
 pub enum NumberCause {
-    /// One is wanted, and none is given.
+    /// The operand is required, but missing.
     Missing,
-    /// One is given, and none is wanted.
+    /// The operand is present, but not allowed.
     Unwanted,
-    /// It has this type, which is not that of an integer scalar.
+    /// The operand has this type, which is not an integer scalar.
     NoInteger(Form),
 }
 
-/// The rule that is broken of a number that is given exactly where one is wanted, and is an integer scalar.
+/// The broken rule of an operand that must be present exactly if it is required, and an integer scalar.
 pub(crate) fn broken_number(
     context: &CheckContext<'_>,
     wanted: bool,
@@ -53,7 +53,7 @@ pub(crate) fn broken_number(
     }
 }
 
-/// The type of a place in an image of so many dimensions.
+/// The type of a coordinate for an image of these dimensions.
 pub(crate) const fn along(dim: ImageDimension, scalar: Scalar) -> Form
     ensures { result ≡ coordinate_form dim scalar }
 {

@@ -1,4 +1,4 @@
-// What the parts of a module are, as data.
+// The global variables and entry points of a module, as data.
 
 use crate::names::{EntryName, GlobalName, Names};
 use crate::roles::{Bound, Role, Roles};
@@ -6,10 +6,10 @@ use crate::words::{space_word, stage_word};
 use serde_json::{Map, Value, push, put};
 use std::alloc::{AllocError, Global};
 
-// The ways in which global variables are used, in the order of a report.
+// The uses of global variables, in the order of a report.
 const WAYS: [&str; 4] = ["read", "write", "query", "atomic"];
 
-// The bit of a way.
+// The flag of a use.
 fn way_of(word: &str) -> u8 {
     let mut bit = 1u8;
     for way in &WAYS {
@@ -21,7 +21,7 @@ fn way_of(word: &str) -> u8 {
     0
 }
 
-// For each global variable the ways in which some entry point uses it.
+// For each global variable, its uses by any entry point.
 fn ways_in(alloc: Global, names: &Names, lines: &str) -> Result<Vec<u8>, AllocError> {
     let mut all = vec![in alloc; 0u8; names.globals.len()]?;
     for line in lines.lines() {
@@ -49,7 +49,7 @@ fn ways_value(alloc: Global, ways: u8) -> Result<Value, AllocError> {
     Ok(Value::Array(list))
 }
 
-// Puts a text at a key of an object.
+// Inserts a string at a key of an object.
 fn put_text(
     map: &mut Map<String, Value>,
     alloc: Global,
@@ -59,7 +59,7 @@ fn put_text(
     put(map, alloc, key, Value::try_from_str(alloc, text)?)
 }
 
-// Puts a number at a key of an object, or null.
+// Inserts a number, or null, at a key of an object.
 fn put_number(
     map: &mut Map<String, Value>,
     alloc: Global,
@@ -73,7 +73,7 @@ fn put_number(
     put(map, alloc, key, value)
 }
 
-// Where an input or an output goes.
+// The location or built-in of an input or an output.
 fn put_bound(map: &mut Map<String, Value>, alloc: Global, bound: Bound) -> Result<(), AllocError> {
     match bound {
         Bound::Location(location) => put_number(map, alloc, "location", Some(location)),
@@ -82,7 +82,7 @@ fn put_bound(map: &mut Map<String, Value>, alloc: Global, bound: Bound) -> Resul
     }
 }
 
-// Where a variable lies, or what it is in SPIR-V.
+// The address space of a variable, or its role in SPIR-V.
 fn put_role(
     map: &mut Map<String, Value>,
     alloc: Global,
@@ -136,8 +136,8 @@ fn global_value(
     Ok(Value::Object(map))
 }
 
-/// The list of the global variables of a module: of each its place, its name, where it is bound, where it lies, its type in short, and
-/// the ways in which the entry points of this report use it. The error is out of memory.
+/// The list of a module's global variables: for each its index, name, binding, address space, type in short, and
+/// its uses by the entry points of this report. The error is out of memory.
 pub fn globals_value(
     alloc: Global,
     names: &Names,
@@ -163,7 +163,7 @@ fn entry_value(alloc: Global, place: usize, entry: &EntryName) -> Result<Value, 
     Ok(Value::Object(map))
 }
 
-/// The list of the entry points of a module: of each its place, its name and its stage. The error is out of memory.
+/// The list of a module's entry points: for each its index, its name and its stage. The error is out of memory.
 pub fn entries_value(alloc: Global, names: &Names) -> Result<Value, AllocError> {
     let mut list = Vec::new(alloc);
     for (place, entry) in names.entries.iter().enumerate() {

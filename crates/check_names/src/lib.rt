@@ -1,7 +1,7 @@
-//! What the parts of an accepted module are for a host: of each global variable its name, where it is bound, where it lies, its type
-//! and how it is used, of each entry point its name and its stage; after the numbers of a report, or as data. And which global
-//! variables of a module of SPIR-V are its inputs and outputs, and which the samplers beside combined images; where an
-//! instruction is, as data.
+//! The parts of a valid module that a host uses: for each global variable its name, binding, address space, type
+//! and uses, for each entry point its name and its stage; after the indices of a report, or as data. Also which global
+//! variables of a SPIR-V module are its inputs and outputs, or the samplers of combined image samplers; and the location of
+//! an instruction, as data.
 #![tactic(auto)]
 
 mod data;

@@ -1,4 +1,4 @@
-// A report with what its numbers are.
+// A report with names after its indices.
 
 use crate::names::{GlobalName, Names};
 use crate::roles::{Bound, Role, Roles};
@@ -6,12 +6,12 @@ use crate::words::{beginning, space_word, stage_word};
 use ir_kinds::AddressSpace;
 use std::fmt::{self, Display};
 
-/// The lines of a report or of the leaves of buffers, with what each global variable and each entry point is after its number.
+/// The lines of a report or of the leaves of buffers, with a description of each global variable and entry point after its index.
 #[derive(Clone, Copy)]
 pub struct NamedLines<'a> {
-    /// What they are.
+    /// The descriptions.
     pub names: &'a Names,
-    /// What they are in SPIR-V, of a module of that.
+    /// The roles in SPIR-V, for a SPIR-V module.
     pub roles: &'a Roles,
     /// The lines.
     pub lines: &'a str,
@@ -25,7 +25,7 @@ fn write_bound<W: fmt::Write>(f: &mut fmt::Formatter<W>, bound: Bound) -> fmt::R
     }
 }
 
-// Where a variable lies, or what it is in SPIR-V.
+// The address space of a variable, or its role in SPIR-V.
 fn write_role<W: fmt::Write>(
     f: &mut fmt::Formatter<W>,
     role: Role,
@@ -46,7 +46,7 @@ fn write_role<W: fmt::Write>(
     }
 }
 
-// What a global variable is, after its number.
+// The description of a global variable, after its index.
 fn write_global<W: fmt::Write>(
     f: &mut fmt::Formatter<W>,
     global: &GlobalName,
@@ -62,7 +62,7 @@ fn write_global<W: fmt::Write>(
 }
 
 impl NamedLines<'_> {
-    // A number of a global variable, with what that is.
+    // The index of a global variable, with its description.
     fn write_number<W: fmt::Write>(&self, f: &mut fmt::Formatter<W>, word: &str) -> fmt::Result {
         write!(f, " {word}")?;
         let place = word.parse::<usize>().unwrap_or(usize::MAX);
@@ -72,7 +72,7 @@ impl NamedLines<'_> {
         }
     }
 
-    // A number of an entry point, with what that is.
+    // The index of an entry point, with its description.
     fn write_entry<W: fmt::Write>(&self, f: &mut fmt::Formatter<W>, word: &str) -> fmt::Result {
         write!(f, " {word}")?;
         let place = word.parse::<usize>().unwrap_or(usize::MAX);
@@ -85,7 +85,7 @@ impl NamedLines<'_> {
         }
     }
 
-    // A line, whose first word says how many of those after it are numbers of global variables.
+    // A line, whose first word determines how many of the following words are indices of global variables.
     fn write_line<W: fmt::Write>(&self, f: &mut fmt::Formatter<W>, line: &str) -> fmt::Result {
         let first = line.split_whitespace().next().unwrap_or("");
         let globals = match first {

@@ -1,4 +1,4 @@
-// What the parts of a module are.
+// Descriptions of the parts of a module.
 
 use crate::types::ShortType;
 use crate::words::beginning;
@@ -6,22 +6,22 @@ use ir_items::{EntryPoint, GlobalVariable, Module};
 use ir_kinds::{AddressSpace, ResourceBinding, ShaderStage};
 use std::alloc::{AllocError, Global};
 
-/// What a global variable is.
+/// The description of a global variable.
 #[derive(Drop)]
 pub(crate) struct GlobalName {
-    /// Its name, where it has one.
+    /// Its name, if it has one.
     pub name: Option<String>,
-    /// That, or where it is none or empty, the name of its struct, as of a block that has no name of its own.
+    /// Its name, or if it has none, the name of its struct, as for a block without an instance name.
     pub shown: Option<String>,
-    /// Where it is bound, if it is.
+    /// Its binding, if any.
     pub binding: Option<ResourceBinding>,
-    /// Where it lies.
+    /// Its address space.
     pub space: AddressSpace,
     /// Its type in short.
     pub ty: String,
 }
 
-/// What an entry point is.
+/// The description of an entry point.
 #[derive(Drop)]
 pub(crate) struct EntryName {
     /// Its name.
@@ -30,7 +30,7 @@ pub(crate) struct EntryName {
     pub stage: ShaderStage,
 }
 
-/// What the global variables and the entry points of a module are, each by its place in the module.
+/// The descriptions of a module's global variables and entry points, by index.
 #[derive(Drop)]
 pub struct Names {
     pub(crate) globals: Vec<GlobalName>,
@@ -44,7 +44,7 @@ fn copied(alloc: Global, name: Option<&str>) -> Result<Option<String>, AllocErro
     }
 }
 
-// A name that is not empty.
+// A non-empty name.
 fn given(name: &Option<String>) -> Option<&str> {
     match name {
         Some(name) if !name.is_empty() => Some(name.as_str()),
@@ -52,7 +52,7 @@ fn given(name: &Option<String>) -> Option<&str> {
     }
 }
 
-// The name of the struct that a variable is.
+// The name of a variable's struct type.
 fn struct_name<'a>(module: &'a Module, global: &GlobalVariable) -> Option<&'a str> {
     match module.types.get_handle(global.ty) {
         Ok(ty) => given(&ty.name),
@@ -95,7 +95,7 @@ fn entry_name(alloc: Global, entry: &EntryPoint) -> Result<EntryName, AllocError
 }
 
 impl Names {
-    /// Of no parts.
+    /// The descriptions of an empty module.
     pub fn none(alloc: Global) -> Names {
         Names {
             globals: Vec::new(alloc),
@@ -103,7 +103,7 @@ impl Names {
         }
     }
 
-    /// Of a module. The error is out of memory.
+    /// The descriptions of a module's parts. The error is out of memory.
     pub fn of_module(alloc: Global, module: &Module) -> Result<Names, AllocError> {
         let mut globals = Vec::new(alloc);
         for (_, global) in module.global_variables.iter() {

@@ -1,11 +1,11 @@
-// Where instructions of SPIR-V are, as data.
+// The locations of SPIR-V instructions, as data.
 
 use serde_json::{Map, Value, put};
 use spirv_lines::{Position, error_text, position_in};
 use spirv_words::SpirvError;
 use std::alloc::{AllocError, Global};
 
-/// Puts where an instruction is into an object: in words, and its file and its line, or null where no line is said. The error is out
+/// Inserts the location of an instruction into an object: as text, and its file and line, or null if unknown. The error is out
 /// of memory.
 pub fn put_position(
     map: &mut Map<String, Value>,
@@ -25,7 +25,7 @@ pub fn put_position(
     put(map, alloc, "line", line)
 }
 
-/// One JSON object that tells why no module was read of these bytes, in one line without its end. The error is out of memory.
+/// One JSON object with the reason why no module was read, in one line without a line feed. The error is out of memory.
 pub fn unread_json(alloc: Global, bytes: &[u8], error: &SpirvError) -> Result<String, AllocError> {
     let (verdict, word) = match error {
         SpirvError::Memory => return Err(AllocError),

@@ -1,4 +1,4 @@
-// What global variables are in SPIR-V.
+// The roles of global variables in SPIR-V.
 
 use ir_items::Module;
 use spirv_numbers::names::Names as NumberNames;
@@ -6,37 +6,37 @@ use spirv_numbers::{numbers, ops};
 use spirv_words::{Instruction, Listing, SpirvError, list};
 use std::alloc::{AllocError, Global};
 
-/// Where an input or an output goes between stages.
+/// The interface location of an input or an output.
 #[derive(Clone, Copy)]
 pub enum Bound {
     /// At a location.
     Location(u32),
-    /// As a built-in value, by the name that SPIR-V gives it.
+    /// A built-in value, by its SPIR-V name.
     BuiltIn(&'static str),
-    /// By its members.
+    /// A block, whose members have locations or built-ins.
     Members,
 }
 
-/// What a global variable is in a module of SPIR-V.
+/// The role of a global variable in a SPIR-V module.
 #[derive(Clone, Copy)]
 pub enum Role {
-    /// What it is in the IR, too.
+    /// The same as in the IR.
     Same,
     /// An input.
     Input(Bound),
     /// An output.
     Output(Bound),
-    /// The sampler of the combined image sampler that is the global variable at this place, at a binding that the module does not have.
+    /// The sampler of the combined image sampler at this index of the global variables, at a binding that is not in the module.
     SamplerOf(u32),
 }
 
-/// What the global variables of a module of SPIR-V are, each by its place.
+/// The roles of a SPIR-V module's global variables, by index.
 #[derive(Drop)]
 pub struct Roles {
     all: Vec<Role>,
 }
 
-// Where a variable goes between stages.
+// The interface location of a variable.
 fn bound_of(listing: &Listing, id: u32) -> Bound {
     for place in listing.decorations(id, None) {
         let said = listing.at(*place);
@@ -52,7 +52,7 @@ fn bound_of(listing: &Listing, id: u32) -> Bound {
     Bound::Members
 }
 
-// What the variable is that this instruction declares.
+// The role of the variable that this instruction declares.
 fn role_of(listing: &Listing, variable: &Instruction) -> Role {
     match listing.operand(variable, 0) {
         Some(numbers::CLASS_INPUT) => Role::Input(bound_of(listing, variable.id)),
@@ -61,7 +61,7 @@ fn role_of(listing: &Listing, variable: &Instruction) -> Role {
     }
 }
 
-// The place of the first declaration from this place on that begins at this word or after it.
+// The index of the first declaration, from this index on, that begins at or after this word.
 fn next_at(listing: &Listing, from: usize, word: u32) -> usize {
     let mut at = from;
     for place in listing.parts.declarations.get(from..).unwrap_or(&[]) {
@@ -73,7 +73,7 @@ fn next_at(listing: &Listing, from: usize, word: u32) -> usize {
     at
 }
 
-// What the variable is that the declaration at this place is, where it begins at this word.
+// The role of the variable declared at this index, if the declaration begins at this word.
 fn role_at(listing: &Listing, at: usize, word: u32) -> Role {
     let place = listing.parts.declarations.get(at).copied();
     let found = listing.at(place.unwrap_or(u32::MAX));
@@ -85,14 +85,14 @@ fn role_at(listing: &Listing, at: usize, word: u32) -> Role {
 }
 
 impl Roles {
-    /// Of a module that is none of SPIR-V.
+    /// The roles for a module not from SPIR-V.
     pub fn none(alloc: Global) -> Roles {
         Roles {
             all: Vec::new(alloc),
         }
     }
 
-    /// Of a module that was read from these bytes of SPIR-V, with its spans.
+    /// The roles for a module translated from this SPIR-V binary, with its spans.
     pub fn of_bytes(alloc: Global, module: &Module, bytes: &[u8]) -> Result<Roles, SpirvError> {
         let listing = list(alloc, bytes)?;
         let roles = Roles::of_module(alloc, module, &listing);
@@ -103,12 +103,12 @@ impl Roles {
         }
     }
 
-    // The same of what the bytes are.
+    // The roles for a module translated from these bytes.
     fn of_module(alloc: Global, module: &Module, listing: &Listing) -> Result<Roles, AllocError> {
         let mut all = Vec::new(alloc);
-        // how many declarations were gone through
+        // the number of declarations visited
         let mut at = 0usize;
-        // the word where the variable before begins, and its place: a combined image has the same as its sampler
+        // the first word of the previous variable, and its index: a combined image has the same as its sampler
         let mut before = (0u32, 0u32);
         let mut place = 0u32;
         for (handle, _) in module.global_variables.iter() {
@@ -129,7 +129,7 @@ impl Roles {
         Ok(Roles { all })
     }
 
-    /// What the global variable at this place is.
+    /// The role of the global variable at this index.
     pub fn at(&self, place: usize) -> Role {
         self.all.get(place).copied().unwrap_or(Role::Same)
     }

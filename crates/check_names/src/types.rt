@@ -1,4 +1,4 @@
-// Types in short.
+// Short names of types.
 
 use crate::words::beginning;
 use ir_arena::handle::Handle;
@@ -8,10 +8,10 @@ use ir_sets::unique_arena::UniqueArena;
 use ir_types::ArraySize;
 use std::fmt::{self, Display};
 
-// Arrays in arrays are followed so far.
+// The maximum depth to which nested arrays are displayed.
 const MOST_ARRAYS: usize = 4;
 
-/// A type of a module in short: as WGSL has it, a struct by its name, and an array with what it is made of.
+/// A type of a module in short: as in WGSL, a struct by its name, and an array with its element type.
 #[derive(Clone, Copy)]
 pub(crate) struct ShortType<'a> {
     /// The types of the module.
@@ -20,7 +20,7 @@ pub(crate) struct ShortType<'a> {
     pub ty: Handle<key::IrType>,
 }
 
-// The word for a kind of scalars, before how many bits they have.
+// The word for a scalar kind, before the number of bits.
 fn kind_word(kind: ScalarKind) -> &'static str {
     match kind {
         ScalarKind::Sint => "i",
@@ -61,7 +61,7 @@ fn dimension_word(dim: ImageDimension) -> &'static str {
     }
 }
 
-// What an image is, before its dimension, and after it what its texels are.
+// An image type: the word before its dimension, and its texel type after it.
 fn write_image<W: fmt::Write>(
     f: &mut fmt::Formatter<W>,
     dim: ImageDimension,
@@ -95,7 +95,7 @@ fn write_struct<W: fmt::Write>(f: &mut fmt::Formatter<W>, ty: &IrType) -> fmt::R
     }
 }
 
-// A type that is no array.
+// A type that is not an array.
 fn write_plain<W: fmt::Write>(f: &mut fmt::Formatter<W>, ty: &IrType) -> fmt::Result {
     match ty.inner {
         TypeInner::Scalar(scalar) => write_scalar(f, scalar),
@@ -135,7 +135,7 @@ fn write_plain<W: fmt::Write>(f: &mut fmt::Formatter<W>, ty: &IrType) -> fmt::Re
     }
 }
 
-// The end of an array of so many.
+// The end of an array type with this size.
 fn write_size<W: fmt::Write>(f: &mut fmt::Formatter<W>, size: ArraySize) -> fmt::Result {
     match size {
         ArraySize::Constant(count) => write!(f, ", {count}>"),
@@ -144,7 +144,7 @@ fn write_size<W: fmt::Write>(f: &mut fmt::Formatter<W>, size: ArraySize) -> fmt:
     }
 }
 
-// What a type is an array of, with how many.
+// The element type of an array type, with its size.
 fn element_of(
     types: &UniqueArena<IrType, key::IrType>,
     ty: Handle<key::IrType>,
@@ -160,7 +160,7 @@ fn element_of(
     }
 }
 
-// The beginning of an array, of resources or of values.
+// The beginning of an array type, for binding arrays and others.
 fn write_array<W: fmt::Write>(
     f: &mut fmt::Formatter<W>,
     types: &UniqueArena<IrType, key::IrType>,
@@ -174,7 +174,7 @@ fn write_array<W: fmt::Write>(
     }
 }
 
-// A type, along so many arrays: how many there are of each, the innermost last.
+// A type, with the sizes of the arrays around it, the innermost last.
 fn write_type<W: fmt::Write>(
     f: &mut fmt::Formatter<W>,
     types: &UniqueArena<IrType, key::IrType>,

@@ -1,4 +1,4 @@
-// Words of what hosts bind.
+// Words for descriptions of bindings.
 
 use ir_kinds::{AddressSpace, ShaderStage};
 
@@ -17,7 +17,7 @@ pub(crate) fn stage_word(stage: ShaderStage) -> &'static str {
     }
 }
 
-/// The word for where a variable lies.
+/// The word for the address space of a variable.
 pub(crate) fn space_word(space: AddressSpace) -> &'static str {
     match space {
         AddressSpace::Function => "function",
@@ -33,15 +33,15 @@ pub(crate) fn space_word(space: AddressSpace) -> &'static str {
     }
 }
 
-// As many bytes of a name are shown, so that a report is no longer than so many times its lines.
+// The maximum number of bytes of a name to display, so that the size of a report is linear in its number of lines.
 const MOST_BYTES: usize = 64;
 
-/// A name, or its beginning where it is long.
+/// A name, or a prefix of it if it is long.
 pub(crate) fn beginning(name: &str) -> &str {
     if name.len() <= MOST_BYTES {
         return name;
     }
-    // a character has at most four bytes
+    // a UTF-8 character has at most four bytes
     for less in 0..4usize {
         if let Some(short) = name.get(..MOST_BYTES.saturating_sub(less)) {
             return short;

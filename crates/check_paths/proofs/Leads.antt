@@ -1,4 +1,4 @@
--- The path of a place leads to what stands there.
+-- The path of a position leads to the statement there.
 use Rattle.std.proofs.Common.{◌≡◌, ◌<◌, ◌≤◌, ◌-◌, ◌+◌, arith, zero, suc, ℕ, length, drop, get_or, Bool, true, false, List, [], ◌∷◌, ◌++◌, Option, Some, None, refl, sym, ap, ◌∙◌, subst, option_and_then}
 use Rattle.std.proofs.Math.Seq.{drop-cons}
 use Rattle.std.proofs.lemmas.List.{append_assoc, append-nil}
@@ -70,7 +70,7 @@ items_of q (object m) h = absurd h
 go_on : (i : ℕ) (path : List ℕ) (d e : Data) → at i d ≡ Some e → along (i ∷ path) d ≡ along path e
 go_on i path d e is = ap (option_and_then (along path)) is
 
--- ---- the statements of a block, the cases of a switch, the parts of a statement
+-- ---- the statements of a block, the cases of a switch, the blocks of a statement
 
 pub record Found (p : Place) (s : PlainStatement) (k : ℕ) (d : Data) : Type 0 where
   pub by : PlainStatement
@@ -182,7 +182,7 @@ last_leads k false = own_leads k
 pub all_lead : PathsLead
 all_lead place b s d e h = along_leads place.steps.items (later_by place.index (last_place place.condition)) (place.index ∷ last_path place.condition) (last_leads place.index place.condition) b s d e h
 
--- ---- the path is made step by step, from the first on
+-- ---- the path is built step by step, from the first on
 
 along_append : (steps : List Step) (path : List ℕ) → path_along steps path ≡ path_along steps [] ++ path
 along_append [] path = refl

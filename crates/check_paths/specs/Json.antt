@@ -1,4 +1,4 @@
--- The path of a place of a body in its document, from the array of the body's statements on.
+-- The path in a document of a position in a body, from the array of the body's statements on.
 use Rattle.std.specs.Prelude.{◌≡◌, Bool, true, false, ℕ, List, [], ◌∷◌, ◌++◌, Option, Some}
 use Rattle.serde_json.specs.Data.{Data}
 use Rattle.check_faults.specs.Parts.{along}
@@ -12,7 +12,7 @@ use Rattle.ir_places.specs.declared.trail.Trail.{Trail}
 use Rattle.ir_places.specs.Paths.{place_of}
 use Rattle.document_reader.specs.judged.StatementForm.{AStatement, TheStatements}
 
--- the path from the array of a statement to that of the statements of a part
+-- the path from a statement's array to the statements of one of its blocks
 abbrev pub part_path : Part → List ℕ
 part_path part.Inner = 1 ∷ []
 part_path part.Accepting = 2 ∷ []
@@ -24,7 +24,7 @@ part_path part.LoopContinuing = 2 ∷ []
 abbrev pub step_path : Step → List ℕ
 step_path s = s.index ∷ part_path s.part
 
--- the steps, the last of them first, and then this path
+-- the steps in reverse order, followed by this path
 abbrev pub path_along : List Step → List ℕ → List ℕ
 path_along [] path = path
 path_along (s ∷ rest) path = path_along rest (step_path s ++ path)
@@ -36,7 +36,7 @@ last_path false = []
 abbrev pub json_path : Trail → List ℕ
 json_path b = path_along b.steps.items (b.index ∷ last_path b.condition)
 
--- In each array that says a body, the path of where a trail leads is that of the array that says the statement there.
+-- In the array of a body, the path of a trail leads to the array of the statement there.
 abbrev pub PathsLead : Type 0
 PathsLead = (place : Trail) (b : PlainBlock) (s : PlainStatement) (d : Data) → OccursAt b (place_of place) s → AnArray (TheStatements b) d
     → (w : Data) × (along (json_path place) d ≡ Some w) × AStatement s w

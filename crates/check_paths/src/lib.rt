@@ -1,4 +1,4 @@
-//! The path in a document of where an error stands in a body, from the trail that the error has.
+//! The path in a document of an error in a body, from the error's trail.
 #![tactic(auto)]
 
 mod path;

@@ -1,4 +1,4 @@
-//! The path of a place of a body in its document.
+//! The path in a document of a position in a body.
 
 ghost use Rattle.std.specs.Prelude.{◌≡◌, ◌∷◌, [], ◌++◌, IfOk, OnOk};
 ghost use Rattle.check_paths.specs.Json.{PathsLead, part_path, step_path, path_along, last_path, json_path};
@@ -6,7 +6,7 @@ ghost use Rattle.check_paths.specs.Json.{PathsLead, part_path, step_path, path_a
 use ir_places::{Part, Step, Trail};
 use std::alloc::AllocError;
 
-// Appends the path from the array of a statement to that of the statements of a part.
+// Appends the path from a statement's array to the statements of one of its blocks.
 fn push_part(path: &mut Vec<usize>, part: Part) -> Result<(), AllocError>
     ensures { OnOk result (path.new.items ≡ path.old.items ++ part_path part) }
 {
@@ -31,7 +31,7 @@ fn push_step(path: &mut Vec<usize>, step: &Step) -> Result<(), AllocError>
     push_part(path, step.part)
 }
 
-// Appends the index of a statement to a path, and that of its condition where this is meant.
+// Appends the index of a statement to a path, and that of its `break_if` condition if that is meant.
 fn push_last(path: &mut Vec<usize>, index: usize, condition: bool) -> Result<(), AllocError>
     ensures { OnOk result (path.new.items ≡ path.old.items ++ index ∷ last_path condition) }
 {
@@ -42,7 +42,7 @@ fn push_last(path: &mut Vec<usize>, index: usize, condition: bool) -> Result<(),
     Ok(())
 }
 
-// Appends steps to a path, the last of them first. The error is out of memory.
+// Appends steps, in reverse order, to a path. The error is out of memory.
 fn push_steps(path: &mut Vec<usize>, steps: &[Step]) -> Result<(), AllocError>
     ensures { OnOk result (path.new.items ≡ path.old.items ++ path_along steps.now []) }
 {
@@ -54,11 +54,11 @@ fn push_steps(path: &mut Vec<usize>, steps: &[Step]) -> Result<(), AllocError>
     Ok(())
 }
 
-/// Appends the path of where a trail leads to a path that leads to the array of the body's statements.
+/// Appends the path of a trail to the path of the array of a body's statements.
 ///
 /// # Errors
 ///
-/// Out of memory, with some of it appended.
+/// Out of memory; part of the path may be appended.
 #[tactic(auto, using(crate::proofs::Leads::whole))]
 pub fn json_path(path: &mut Vec<usize>, trail: &Trail) -> Result<(), AllocError>
     ensures { OnOk result (path.new.items ≡ path.old.items ++ json_path trail.now) }
@@ -67,7 +67,7 @@ pub fn json_path(path: &mut Vec<usize>, trail: &Trail) -> Result<(), AllocError>
     push_last(path, trail.index(), trail.is_condition())
 }
 
-/// In each array that says a body, the path of where a trail leads is that of the array that says the statement there.
+/// In the array of a body, the path of a trail leads to the array of the statement there.
 pub fn paths_lead()
     ensures { PathsLead }
 {}

@@ -1,4 +1,4 @@
--- As many steps of a path as lead to something lead to something.
+-- The longest prefix that leads to a part does lead to one.
 use Rattle.std.proofs.Common.{◌≡◌, ℕ, List, [], ◌∷◌, Option, Some, None, IsSome, option_and_then, option_map, subst, sym, take, refl}
 use Rattle.serde_json.specs.Data.{Data}
 use Rattle.serde_json.specs.Find.{at}

@@ -1,4 +1,4 @@
--- How far a path leads inside a document.
+-- Prefixes of a path that lead to a part of a document.
 use Rattle.std.specs.Prelude.{ℕ, suc, List, [], ◌∷◌, Option, Some, None, IsSome, option_map}
 use Rattle.serde_json.specs.Data.{Data}
 use Rattle.serde_json.specs.Find.{at}
@@ -12,7 +12,7 @@ abbrev pub one_more : Option ℕ → ℕ
 one_more None = 0
 one_more (Some n) = suc n
 
--- how many steps of a path lead to something
+-- the length of the longest such prefix
 abbrev pub lead_length : List ℕ → Data → ℕ
 lead_length [] d = 0
 lead_length (i ∷ is) d = one_more (option_map (lead_length is) (at i d))

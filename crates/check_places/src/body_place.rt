@@ -1,4 +1,4 @@
-// Where in a body an error stands, and the path there.
+// The location of an error in a body, and its path.
 
 ghost use Rattle.std.specs.Prelude.{◌≡◌, ◌++◌, IfOk, OnOk, map};
 ghost use Rattle.check_places.specs.Placed.{body_path, clamped, path_to};
@@ -7,18 +7,18 @@ use check_paths::json_path;
 use ir_places::Trail;
 use std::alloc::{AllocError, Global};
 
-/// Where in a body an error stands.
+/// The location of an error in a body.
 #[derive(Clone, Copy)]
 pub struct BodyPlace<'a> {
     /// Whether the body is that of an entry point.
     pub of_entry: bool,
     /// The index of the function or of the entry point.
     pub index: usize,
-    /// Where in the body: a trail that is not lost.
+    /// The position in the body: a trail that is not lost.
     pub trail: &'a Trail,
 }
 
-/// An index as a step of a path: the greatest there is for any past it.
+/// An index as a step of a path, saturated at the maximum.
 pub fn step(index: usize) -> u32
     ensures { result ≡ clamped index }
 {
@@ -28,7 +28,7 @@ pub fn step(index: usize) -> u32
     }
 }
 
-// Appends the path of the array of the statements of a body.
+// Appends the path of the array of a body's statements.
 fn push_body(path: &mut Vec<usize>, place: BodyPlace<'_>) -> Result<(), AllocError>
     ensures { OnOk result (path.new.items ≡ path.old.items ++ body_path place.exit.of_entry place.exit.index) }
 {
@@ -41,7 +41,7 @@ fn push_body(path: &mut Vec<usize>, place: BodyPlace<'_>) -> Result<(), AllocErr
     path.push(5).map_err(AllocError::from)
 }
 
-/// The indexes as steps of a path. The error is out of memory.
+/// The indices as steps of a path. The error is out of memory.
 pub(crate) fn steps_of(alloc: Global, indexes: &[usize]) -> Result<Vec<u32>, AllocError>
     ensures { IfOk result (λ path. path.items ≡ map clamped indexes.now) }
 {
@@ -52,7 +52,7 @@ pub(crate) fn steps_of(alloc: Global, indexes: &[usize]) -> Result<Vec<u32>, All
     Ok(path)
 }
 
-/// The path of a place of a body. The error is out of memory.
+/// The path of a position in a body. The error is out of memory.
 pub(crate) fn place_path(alloc: Global, place: BodyPlace<'_>) -> Result<Vec<u32>, AllocError>
     ensures { IfOk result (λ path. path.items ≡ path_to place.exit) }
 {

@@ -1,4 +1,4 @@
-// The first item that names something which is not there, or comes too late.
+// Search for the first item with a given invalid handle.
 
 use crate::body_place::step;
 use crate::walk::{Search, find_statement};
@@ -7,16 +7,16 @@ use check_faults::forms::{Names, Part, does_name, expression_parts};
 use serde_json::Value;
 use std::alloc::AllocError;
 
-/// What is named, and by which item where that is known.
+/// The target of an invalid handle, and the item with the handle, if known.
 #[derive(Clone, Copy)]
 pub struct Target {
-    /// What is named.
+    /// The kind of the target.
     pub named: Names,
     /// Its index.
     pub index: usize,
-    /// The index of the item that names it, where that is known.
+    /// The index of the item with the handle, if known.
     pub subject: Option<usize>,
-    /// Whether it is there, and does not come before the item.
+    /// Whether the target exists, and the handle is a forward dependency.
     pub is_later: bool,
 }
 
@@ -49,7 +49,7 @@ static SPECIAL: [Part; 3] = [(0, T), (1, T), (2, T)];
 static FUNCTION: [Part; 1] = [(6, Names::Filter)];
 
 impl Target {
-    // Whether it can be the item at this index that names it.
+    // Whether the item at this index may have the invalid handle.
     fn may_be(&self, index: usize) -> bool {
         match self.subject {
             Some(subject) => subject == index,
@@ -61,7 +61,7 @@ impl Target {
         does_name(item, form, self.named, self.index)
     }
 
-    // The index of the first item of a list that names it by these parts.
+    // The index of the first item of a list that references the target in these parts.
     fn found_in(&self, list: Option<&Value>, form: &[Part]) -> Option<usize> {
         for (index, item) in parts(list?).iter().enumerate() {
             if self.may_be(index) && self.is_named(item, form) {
@@ -71,7 +71,7 @@ impl Target {
         None
     }
 
-    // The same of expressions.
+    // The same for expressions.
     fn expression_in(&self, list: Option<&Value>) -> Option<usize> {
         for (index, item) in parts(list?).iter().enumerate() {
             let form = expression_parts(item);
@@ -102,7 +102,7 @@ impl Target {
         }
     }
 
-    // The same of types.
+    // The same for types.
     fn type_in(&self, document: &Value) -> Option<usize> {
         for (index, item) in parts(at(document, 5)?).iter().enumerate() {
             if let Some(inner) = at(item, 1) {
@@ -114,7 +114,7 @@ impl Target {
         None
     }
 
-    // The list of the document's own items and the index in it.
+    // The list of module-level items for a kind, and its index.
     fn item_in(&self, document: &Value) -> Option<(u32, usize)> {
         if let Some(index) = self.type_in(document) {
             return Some((5, index));
@@ -135,7 +135,7 @@ impl Target {
         Some((10, index))
     }
 
-    // Whether a list of so many may lack it: a handle of a list that has it is none that is refused.
+    // Whether the target is out of bounds of a list of this length: a handle within bounds is not the invalid one.
     fn may_lack(&self, list: Option<&Value>) -> bool {
         match list {
             Some(list) => self.subject.is_some() || self.index >= parts(list).len(),
@@ -143,7 +143,7 @@ impl Target {
         }
     }
 
-    // Whether it may be named in a function.
+    // Whether a function may reference the target.
     fn may_be_in(&self, function: &Value) -> bool {
         match self.named {
             Names::Expression => self.may_lack(at(function, 4)),
@@ -157,7 +157,7 @@ impl Target {
         }
     }
 
-    // The list of a function's items and the index in it.
+    // The list of a function's items for a kind, and its index.
     fn item_of(&self, function: &Value) -> Option<(u32, usize)> {
         if let Some(index) = self.found_in(at(function, 1), &ARGUMENT) {
             return Some((1, index));
@@ -169,7 +169,7 @@ impl Target {
         Some((4, index))
     }
 
-    // The part of a function that names it by itself.
+    // The part of a function that references the target directly.
     fn part_of(&self, function: &Value) -> Option<u32> {
         if let Some(output) = at(function, 2) {
             if self.is_named(output, &OUTPUT) {
@@ -184,7 +184,7 @@ impl Target {
     }
 }
 
-// Looks through a function, and puts the way at the end of the path.
+// Searches a function, and appends the path of the handle.
 fn find_in_function(
     target: &Target,
     function: &Value,
@@ -223,7 +223,7 @@ fn find_in_body(
     }
 }
 
-// Looks through the functions, of which only one may be it where what names and what is named are functions.
+// Searches all functions, or only the known one if both the item and the target are in functions.
 fn find_in_functions(
     target: &Target,
     document: &Value,
@@ -284,7 +284,7 @@ fn find_in_entries(
     Ok(false)
 }
 
-// The special types and the filters.
+// Searches the special types and the diagnostic filters.
 fn find_beside(target: &Target, document: &Value, path: &mut Vec<u32>) -> Result<bool, AllocError> {
     if let Some(index) = target.found_in(along(document, &[7, 0]), &FILTER) {
         path.extend_from_slice(&[7, 0, step(index)])?;
@@ -303,7 +303,7 @@ fn find_beside(target: &Target, document: &Value, path: &mut Vec<u32>) -> Result
     Ok(false)
 }
 
-// Whether the filter that counts in the whole module is this one.
+// Whether the module's diagnostic filter leaf is the target.
 fn is_filter_of_module(document: &Value, index: usize) -> bool {
     match at(document, 7) {
         Some(diagnostics) => number_at(diagnostics, 1) == Some(index),
@@ -311,7 +311,7 @@ fn is_filter_of_module(document: &Value, index: usize) -> bool {
     }
 }
 
-// Puts the way to the first item that names it at the end of the path, which is empty. The error is out of memory.
+// Appends the path of the first item that references the target to an empty path. The error is out of memory.
 fn find_item(target: &Target, document: &Value, path: &mut Vec<u32>) -> Result<bool, AllocError> {
     let is_filter = target.named == Names::Filter && target.subject.is_none();
     if is_filter && is_filter_of_module(document, target.index) {
@@ -328,7 +328,7 @@ fn find_item(target: &Target, document: &Value, path: &mut Vec<u32>) -> Result<b
     find_beside(target, document, path)
 }
 
-// Looks for a range in the bodies of a list of functions, or of entry points.
+// Searches the bodies of functions, or of entry points, for a range.
 fn find_range_in(
     search: Search,
     document: &Value,
@@ -354,7 +354,7 @@ fn find_range_in(
     Ok(false)
 }
 
-/// Puts the way to the first emit of this range at the end of the path, which is empty. The error is out of memory.
+/// Appends the path of the first `Emit` of this range to an empty path. The error is out of memory.
 pub fn find_range(
     first: usize,
     end: usize,
@@ -368,7 +368,7 @@ pub fn find_range(
     )
 }
 
-/// Puts the way to what names a handle at the end of the path, which is empty; or to the item that is said to.
+/// Appends the path of the invalid handle to an empty path; or that of the item that is reported to have it.
 pub fn find_target(
     document: &Value,
     target: &Target,

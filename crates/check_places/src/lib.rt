@@ -1,5 +1,5 @@
-//! Where in a document an error stands: of one in a body by its trail, of one at an item by the indexes of the item, of one of a handle
-//! at what names it.
+//! The location of an error in a document: in a body by its trail, at an item by the item's indices, for an invalid handle by a
+//! search for the handle.
 #![tactic(auto)]
 
 mod body_place;

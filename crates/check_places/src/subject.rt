@@ -1,4 +1,4 @@
-// Where in a document the item stands that a refusal speaks of.
+// The location in a document of the item that an error concerns.
 
 ghost use Rattle.std.specs.Prelude.{◌≡◌, IfOk, IfSome, take};
 ghost use Rattle.serde_json.specs.View.{view};
@@ -12,59 +12,59 @@ use check_faults::document::{along, at};
 use serde_json::Value;
 use std::alloc::{AllocError, Global};
 
-/// Where an error stands.
+/// The location of an error.
 #[derive(Clone, Copy)]
 pub enum Site<'a> {
     /// In a body.
     Body(BodyPlace<'a>),
-    /// At the part of the document that these indexes lead to, from the outermost on.
+    /// At the part of the document at this path, from the outermost inward.
     Part(&'a [usize]),
-    /// At the statement of a body that brings an expression.
+    /// At the statement of a body that evaluates an expression.
     Brought(Brought<'a>),
-    /// At what names a handle.
+    /// At the invalid handle.
     Handle(Target),
-    /// At the emit of a range of expressions, from here on, below there.
+    /// At the `Emit` of a range of expressions, from the first index up to, but without, the second.
     Range(usize, usize),
 }
 
 /// An expression that a statement of a body brings into scope.
 #[derive(Clone, Copy)]
 pub struct Brought<'a> {
-    /// The indexes of the array of the body's statements, from the outermost on.
+    /// The path of the array of the body's statements, from the outermost inward.
     pub body: &'a [usize],
     /// The expression.
     pub expression: usize,
-    /// The part of the document that is meant where there is no such statement.
+    /// The part of the document to use if there is no such statement.
     pub part: &'a [usize],
 }
 
 /// The type of an expression.
 #[derive(Drop)]
 pub struct OperandType {
-    /// In words.
+    /// As text.
     pub text: String,
-    /// Its index among the types, or that of what it points to, where it has one.
+    /// Its index among the types, or that of its pointer base, if it has one.
     pub index: Option<usize>,
 }
 
-/// A refusal of a document that is read: the step that fails, the item, where the error stands and what is required there.
+/// The details of an invalid document: the failing step, the item, the location of the error and the requirement.
 #[derive(Clone, Copy)]
 pub struct Refusal<'a> {
     /// The whole document.
     pub document: &'a Value,
-    /// The word of the step, as the verdict has it.
+    /// The name of the step, as in the verdict.
     pub step: &'a str,
     /// The index of the item.
     pub index: usize,
     /// The types of the expressions of the function or of the global expressions, as far as they are known.
     pub types: &'a [OperandType],
-    /// Where the error stands.
+    /// The location of the error.
     pub site: Site<'a>,
-    /// What is required there; of handles nothing.
+    /// The requirement; empty for errors of handles.
     pub required: &'a str,
 }
 
-// How many steps of a path lead to something in the document.
+// The length of the longest prefix of a path that leads to a part of the document.
 fn lead_length(document: &Value, path: &[u32]) -> usize
     ensures { result ≡ length_leading path.now (view document.now) }
 {
@@ -80,14 +80,14 @@ fn lead_length(document: &Value, path: &[u32]) -> usize
     count
 }
 
-// The path to what names a handle. The error is out of memory.
+// The path to an invalid handle. The error is out of memory.
 fn target_path(alloc: Global, document: &Value, target: &Target) -> Result<Vec<u32>, AllocError> {
     let mut path = Vec::new(alloc);
     find_target(document, target, &mut path)?;
     Ok(path)
 }
 
-// The path to the emit of a range. The error is out of memory.
+// The path to the `Emit` of a range. The error is out of memory.
 fn range_path(
     alloc: Global,
     document: &Value,
@@ -99,7 +99,7 @@ fn range_path(
     Ok(path)
 }
 
-// The path to the first statement of a body that brings an expression, or to the part that is meant where there is none. The error is
+// The path to the first statement of a body that evaluates an expression, or to the given part if there is none. The error is
 // out of memory.
 fn brought_path(
     alloc: Global,
@@ -115,7 +115,7 @@ fn brought_path(
     steps_of(alloc, brought.part)
 }
 
-// The path to where an error stands, which may lead to more than the document has. The error is out of memory.
+// The path to an error's location, which may be longer than the document's nesting. The error is out of memory.
 fn path_of_site(alloc: Global, document: &Value, site: &Site<'_>) -> Result<Vec<u32>, AllocError>
     ensures { IfSome (site_path site.now) (λ whole. IfOk result (λ path. path.items ≡ whole)) }
 {
@@ -128,8 +128,8 @@ fn path_of_site(alloc: Global, document: &Value, site: &Site<'_>) -> Result<Vec<
     }
 }
 
-/// The indexes that lead to where the error stands, from the outermost on: always to a part of the document. Of an error that stands
-/// in a body, or at a part, they are those of the place, as far as the document has it. The error is out of memory.
+/// The path of indices to the error's location, from the outermost inward: always to a part of the document. For an error
+/// in a body, or at a part, it is the location's path, as far as the document has it. The error is out of memory.
 #[tactic(auto, using(crate::proofs::Leading::leads))]
 pub fn path_of(alloc: Global, refusal: &Refusal<'_>) -> Result<Vec<u32>, AllocError>
     ensures leads { IfOk result (λ path. Leads path.items (view refusal.now.document.now)) }

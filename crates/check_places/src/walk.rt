@@ -1,4 +1,4 @@
-// A statement of a body that is looked for, in the order in which statements are judged.
+// Search for a statement of a body, in validation order.
 
 use crate::body_place::step;
 use check_faults::document::{at, number_at, parts, word};
@@ -6,18 +6,18 @@ use check_faults::forms::{Names, answers_by, does_name, statement_parts};
 use serde_json::Value;
 use std::alloc::AllocError;
 
-/// What is so of the statement that is looked for.
+/// The property of the statement that is searched for.
 #[derive(Clone, Copy)]
 pub enum Search {
-    /// Its range goes from here to there.
+    /// It emits exactly this range.
     Range(usize, usize),
-    /// It names this one of a sort.
+    /// It references this item of a kind.
     Refers(Names, usize),
-    /// Its range holds this expression, or that is its result.
+    /// It emits this expression, or has it as its result.
     Brings(usize),
 }
 
-// A bound on how deep a look goes: two for each block, of which JSON nests no more than 127.
+// The maximum depth of a search: two levels for each block, and JSON nests at most 127 deep.
 const DEEPEST: u32 = 256;
 
 fn cases(statement: &Value) -> &[Value] {
@@ -27,7 +27,7 @@ fn cases(statement: &Value) -> &[Value] {
     }
 }
 
-// Whether the range of an emit holds this expression.
+// Whether an `Emit`'s range includes this expression.
 fn emits(statement: &Value, wanted: usize) -> bool {
     let first = number_at(statement, 1).unwrap_or(0);
     let end = number_at(statement, 2).unwrap_or(0);
@@ -35,7 +35,7 @@ fn emits(statement: &Value, wanted: usize) -> bool {
 }
 
 impl Search {
-    // Whether it is the statement.
+    // Whether this is the statement searched for.
     fn is_met(self, statement: &Value) -> bool {
         match self {
             Search::Range(first, end) => {
@@ -51,7 +51,7 @@ impl Search {
     }
 }
 
-// The blocks inside a statement that is no switch, by the index of their parts.
+// The nested blocks of a statement other than a switch, by index.
 fn blocks(statement: &Value) -> &'static [usize] {
     match word(statement) {
         "Block" => &[1],
@@ -61,7 +61,7 @@ fn blocks(statement: &Value) -> &'static [usize] {
     }
 }
 
-// Looks through the cases of a switch.
+// Searches the cases of a switch.
 #[cycle(finding)]
 fn find_in_cases(
     search: Search,
@@ -83,7 +83,7 @@ fn find_in_cases(
     Ok(false)
 }
 
-// Looks through the blocks inside a statement that is no switch.
+// Searches the nested blocks of a statement other than a switch.
 #[cycle(finding)]
 fn find_in_blocks(
     search: Search,
@@ -105,7 +105,7 @@ fn find_in_blocks(
     Ok(false)
 }
 
-// Looks through the statements of a body. Puts the way to the one that is found at the end of the trail, its last step first.
+// Searches the statements of a body. Appends the position found to the trail, its last step first.
 #[cycle(finding)]
 fn find(
     search: Search,
@@ -128,8 +128,8 @@ fn find(
     Ok(false)
 }
 
-/// Looks for a statement of the body of a function, and puts the way to the first one at the end of the path. The error is out of
-/// memory, and leaves the path longer or as it was.
+/// Searches the body of a function for a statement, and appends the path of the first one found. The error is out of
+/// memory; part of the path may be appended.
 pub fn find_statement(
     search: Search,
     body: &Value,

@@ -1,4 +1,4 @@
--- A run of calls, one call further or at its end.
+-- A sequence of calls, with one more call or at its end.
 use Rattle.std.proofs.Common.{◌≡◌, ◌≢◌, ◌<◌, ◌≤◌, ◌+◌, ℕ, List, [], ◌∷◌, ◌++◌, length, take, drop, Ok, Err, Result, OnErr, refl, sym, ap, subst, ◌∙◌, inl, inr, arith, append-nil, take-append-drop}
 use Rattle.std.proofs.lemmas.List.{take-append-le, take_all}
 use Rattle.std.proofs.Math.Seq.{take-add}
@@ -9,7 +9,7 @@ use Rattle.check_ports.specs.Calls.{Call, passed, Made, Each, PassesSome}
 use Rattle.check_ports.specs.Source.{GoesOn, RequiresFor, AreReads, ReadsAll, ReadingFails, ReadingStops}
 use Rattle.check_ports.specs.Sink.{TakesNothing, Offers, WritesAll, WritingFails}
 
--- So many calls of a reader were made, and gave these bytes. Another may follow.
+-- This many calls of a reader were made, and returned these bytes. Another may follow.
 pub record ReadsOn {R : Type 0} (reads : R → R → Call → Type 0) (old new : R) (most count : ℕ) (taken : List ℕ) : Type 0 where
   pub calls : List Call
   pub made : Made reads old new calls
@@ -18,11 +18,11 @@ pub record ReadsOn {R : Type 0} (reads : R → R → Call → Type 0) (old new :
   pub going : Each GoesOn calls
   pub taken_is : taken ≡ passed calls
 
--- none yet
+-- no calls yet
 pub reads_none : {R : Type 0} (reads : R → R → Call → Type 0) (r : R) (most : ℕ) → ReadsOn reads r r most 0 []
 reads_none reads r most = record { calls = []; made = refl; count_is = refl; asked = tt; going = tt; taken_is = refl }
 
--- what one more call of a run does
+-- the effect of one more call
 pub reads_call : {R : Type 0} (reads : R → R → Call → Type 0) (old mid new : R) (most limit count : ℕ) (taken : List ℕ) (answer : Result ℕ Error) (buf : List ℕ)
     → (run : ReadsOn reads old mid most count taken) → count < limit → 0 < length buf → length taken + length buf ≤ most
     → reads mid new (record { answer = answer; buffer = buf })
@@ -33,7 +33,7 @@ reads_call reads old mid new most limit count taken answer buf run few some room
   asked = (run.asked, some, subst (λ (xs : List ℕ). length xs + length buf ≤ most) run.taken_is room);
 }
 
--- the call gave bytes
+-- the call returned bytes
 pub reads_more : {R : Type 0} (reads : R → R → Call → Type 0) (old mid new : R) (most count : ℕ) (taken : List ℕ) (n : ℕ) (buf rest : List ℕ)
     → ReadsOn reads old mid most count taken → n ≤ length buf → 0 < n → length taken + length buf ≤ most
     → reads mid new (record { answer = Ok n; buffer = buf })
@@ -71,7 +71,7 @@ reads_full reads old new most limit count taken run few full = record {
   stopped = inr (run.going, full);
 }
 
--- the call gave nothing
+-- the call returned zero bytes
 pub reads_end : {R : Type 0} (reads : R → R → Call → Type 0) (old mid new : R) (most limit count : ℕ) (taken : List ℕ) (n : ℕ) (buf : List ℕ)
     → ReadsOn reads old mid most count taken → count < limit → n ≡ 0 → 0 < length buf → length taken + length buf ≤ most
     → reads mid new (record { answer = Ok n; buffer = buf }) → ReadsAll reads old new most limit taken
@@ -94,7 +94,7 @@ reads_fail reads old mid new most limit count taken e buf run few kind some room
   stopped = inl (kind, run.going);
 }
 
--- as many calls as may be
+-- the maximum number of calls was made
 pub reads_too_often : {R : Type 0} (reads : R → R → Call → Type 0) (old new : R) (most limit count : ℕ) (taken : List ℕ)
     → ReadsOn reads old new most count taken → count ≡ limit → ReadingFails reads old new most limit
 reads_too_often reads old new most limit count taken run spent = record {
@@ -103,7 +103,7 @@ reads_too_often reads old new most limit count taken run spent = record {
   stopped = inr (run.going, run.count_is ∙ spent);
 }
 
--- the call gave bytes for which there is no memory
+-- out of memory for the bytes that the call returned
 pub reads_lost : {R : Type 0} (reads : R → R → Call → Type 0) (old mid new : R) (most limit count : ℕ) (taken : List ℕ) (n : ℕ) (buf : List ℕ)
     → ReadsOn reads old mid most count taken → count < limit → 0 < n → 0 < length buf → length taken + length buf ≤ most
     → reads mid new (record { answer = Ok n; buffer = buf }) → ReadingStops reads old new most limit
@@ -113,7 +113,7 @@ reads_lost reads old mid new most limit count taken n buf run few gave some room
   stopped = (gave, run.going);
 }
 
--- So many of these bytes were written, by calls of a writer each of which took some.
+-- This many of these bytes were written, by calls of a writer each of which accepted some.
 pub record WritesOn {W : Type 0} (writes : W → W → Call → Type 0) (old new : W) (bytes : List ℕ) (written : ℕ) : Type 0 where
   pub calls : List Call
   pub made : Made writes old new calls
@@ -121,15 +121,15 @@ pub record WritesOn {W : Type 0} (writes : W → W → Call → Type 0) (old new
   pub took : Each PassesSome calls
   pub written_is : passed calls ≡ take written bytes
 
--- none yet
+-- no calls yet
 pub writes_none : {W : Type 0} (writes : W → W → Call → Type 0) (w : W) (bytes : List ℕ) → WritesOn writes w w bytes 0
 writes_none writes w bytes = record { calls = []; made = refl; offered = tt; took = tt; written_is = refl }
 
--- what a call is offered
+-- the bytes that a call is offered
 rest_is : (calls : List Call) (bytes : List ℕ) (written : ℕ) → passed calls ≡ take written bytes → bytes ≡ passed calls ++ drop written bytes
 rest_is calls bytes written is = sym (ap (λ xs. xs ++ drop written bytes) is ∙ take-append-drop written bytes)
 
--- the call took bytes
+-- the call accepted bytes
 pub writes_more : {W : Type 0} (writes : W → W → Call → Type 0) (old mid new : W) (bytes : List ℕ) (written n : ℕ)
     → WritesOn writes old mid bytes written → 0 < n → writes mid new (record { answer = Ok n; buffer = drop written bytes })
     → WritesOn writes old new bytes (written + n)
@@ -141,7 +141,7 @@ writes_more writes old mid new bytes written n run some call = record {
   written_is = ap (λ xs. xs ++ take n (drop written bytes)) run.written_is ∙ sym (take-add written n bytes);
 }
 
--- all is written
+-- everything is written
 pub writes_all : {W : Type 0} (writes : W → W → Call → Type 0) (old new : W) (bytes : List ℕ) (written : ℕ)
     → WritesOn writes old new bytes written → length bytes ≤ written → WritesAll writes old new bytes
 writes_all writes old new bytes written run whole = record {
@@ -152,7 +152,7 @@ writes_all writes old new bytes written run whole = record {
   whole = run.written_is ∙ take_all written bytes whole;
 }
 
--- the call took nothing
+-- the call accepted zero bytes
 pub writes_fail : {W : Type 0} (writes : W → W → Call → Type 0) (old mid new : W) (bytes : List ℕ) (written : ℕ) (c : Call)
     → WritesOn writes old mid bytes written → c.buffer ≡ drop written bytes → TakesNothing c → writes mid new c
     → WritingFails writes old new bytes

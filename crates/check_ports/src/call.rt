@@ -1,19 +1,19 @@
-// One call of a reader or of a writer, as a contract can speak of it.
+// Contracts of single calls of a reader or a writer.
 ghost use Rattle.std.specs.Io.{ReadsAtMost, WritesAtMost};
 ghost use Rattle.std.specs.Io.KnownBytes.{ReadConsumes, WriteAppends};
 ghost use Rattle.check_ports.specs.Calls.{Call};
 
 use std::io::{self, Read, Write};
 
-/// A reader whose calls a contract can speak of. Every [`Read`] is one.
+/// A reader with a contract for each call. Every [`Read`] is one.
 ///
-/// `reads` says what one call makes of the reader: how it was before, how it is after, and the call with its answer
-/// and the bytes that are in the buffer after it. Code that is generic over the reader knows nothing of `reads`, so
-/// that it can prove only of the calls that it made that they were made.
+/// `reads` relates the reader before and after a call, and the call with its result
+/// and the buffer's bytes after it. Code that is generic over the reader knows nothing of `reads`, so
+/// it can only prove that the calls it made were made.
 pub trait ReadCall: Read {
     ghost reads: { Self → Self → Call → Type 0 };
 
-    /// One call of [`Read::read`], with its answer as it is.
+    /// One call of [`Read::read`], with its result unchanged.
     fn read_once(&mut self, buf: &mut [u8]) -> io::Result<usize>
         ensures bound { ReadsAtMost result buf.new }
         ensures bytes { ReadConsumes (Self.remaining self.old) (Self.remaining self.new) result buf.new }
@@ -29,14 +29,14 @@ impl<R: Read> ReadCall for R {
     }
 }
 
-/// A writer whose calls a contract can speak of. Every [`Write`] is one.
+/// A writer with a contract for each call. Every [`Write`] is one.
 ///
-/// `writes` says what one call makes of the writer: how it was before, how it is after, and the call with its answer
+/// `writes` relates the writer before and after a call, and the call with its result
 /// and the bytes that it was offered.
 pub trait WriteCall: Write {
     ghost writes: { Self → Self → Call → Type 0 };
 
-    /// One call of [`Write::write`], with its answer as it is.
+    /// One call of [`Write::write`], with its result unchanged.
     fn write_once(&mut self, bytes: &[u8]) -> io::Result<usize>
         ensures bound { WritesAtMost result bytes.now }
         ensures bytes { WriteAppends (Self.contents self.old) (Self.contents self.new) result bytes.now }

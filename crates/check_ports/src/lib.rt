@@ -1,10 +1,10 @@
-//! Where a program's bytes come in and its text goes out.
+//! A program's input and output.
 //!
-//! A [`Source`] wraps a reader and a [`Sink`] wraps a writer. Each keeps a mark that a failed call sets and nothing
-//! clears, so that whoever reports a fault of reading or writing can be bound to it: the mark is a private field, and
-//! one method alone sets it.
+//! A [`Source`] wraps a reader and a [`Sink`] wraps a writer. Each has a flag that a failed call sets and nothing
+//! clears, so that a contract can tie an I/O error to it: the flag is a private field, and
+//! a single method sets it.
 //!
-//! [`ReadCall`] and [`WriteCall`] let a contract say which calls were made, and with which answers.
+//! With [`ReadCall`] and [`WriteCall`] a contract can state which calls were made, and their results.
 #![tactic(auto)]
 
 mod call;

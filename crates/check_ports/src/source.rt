@@ -1,4 +1,4 @@
-// A reader with a mark that its failed calls leave.
+// A reader with a flag for failed calls.
 ghost use Rattle.std.specs.Prelude.{◌≡◌, ◌↔◌, ◌||◌, ◌<◌, ℕ, false, true, is_err, IfOk, IsTrue};
 ghost use Rattle.std.specs.Io.{ReadsAtMost};
 ghost use Rattle.std.specs.Io.KnownBytes.{ReadConsumes};
@@ -9,18 +9,18 @@ use std::alloc::{AllocError, Global};
 use std::io::{self, ErrorKind};
 use thiserror::Error;
 
-/// How many times [`Source::take_all`] calls the reader at most.
+/// The maximum number of reader calls of [`Source::take_all`].
 ///
-/// This is room for 16777217 bytes (16 MiB and one byte) that come one at a time, each after one interrupted call.
+/// Enough for 16777217 bytes (16 MiB and one byte) read one at a time, each after one interrupted call.
 pub const MAX_CALLS: u32 = 33554434;
 
-/// How many bytes one call of the reader requests at most.
+/// The maximum number of bytes that one call of the reader requests.
 const CHUNK: usize = 4096;
 
-/// Why no bytes were taken from a [`Source`].
+/// The error of reading from a [`Source`].
 #[derive(Clone, Copy, Debug, PartialEq, Eq, Error)]
 pub enum TakeError {
-    /// There was no memory for bytes that the reader had given. They are lost.
+    /// Out of memory for bytes that the reader returned. They are lost.
     #[error("out of memory")]
     Memory,
     /// A call of the reader failed and was not merely interrupted, or [`MAX_CALLS`] calls did not reach the end.
@@ -44,7 +44,7 @@ fn is_interrupted(e: &io::Error) -> bool
     e.kind() == ErrorKind::Interrupted
 }
 
-/// A reader with a mark: it is set by each call of the reader that fails, an interrupted one too, and never cleared.
+/// A reader with a flag: it is set by each call of the reader that fails, including an interrupted one, and never cleared.
 #[derive(Drop)]
 pub struct Source<R> {
     reader: R,
@@ -54,7 +54,7 @@ pub struct Source<R> {
 impl<R> Source<R> {
     ghost use Rattle.check_ports.specs.Source.{has_failed, reader_of};
 
-    /// A source of the bytes that `reader` gives from here on, with no mark.
+    /// A source of the bytes that `reader` returns from now on, with the flag not set.
     pub fn new(reader: R) -> Source<R>
         ensures unmarked { has_failed result ≡ false }
         ensures inside { reader_of result ≡ reader }
@@ -76,11 +76,11 @@ impl<R> Source<R> {
 impl<R: ReadCall> Source<R> {
     ghost use Rattle.check_ports.specs.Source.{has_failed, reader_of, TakesAll, TakesFront, ReadsAll, ReadingFails, ReadingStops};
 
-    /// One call of the reader: how many bytes it put at the start of `buf`, or its own error, which sets the mark.
+    /// One call of the reader: how many bytes it put at the start of `buf`, or its own error, which sets the flag.
     ///
-    /// No bytes are given at the end of the input, or where `buf` is empty.
-    // Never inlined: LLVM is known to lose a test of the count for 0, as `take_all` makes it, where it occurs in one
-    // function with the call. The end of the input would then not be seen, and the reader be called MAX_CALLS times.
+    /// Zero bytes are returned at the end of the input, or if `buf` is empty.
+    // Never inlined: LLVM is known to remove a test of the count for 0, as in `take_all`, if it is in the same
+    // function as the call. The end of the input would then be missed, and the reader called MAX_CALLS times.
     #[inline(never)]
     pub fn read(&mut self, buf: &mut [u8]) -> io::Result<usize>
         ensures bound { ReadsAtMost result buf.new }
@@ -88,7 +88,7 @@ impl<R: ReadCall> Source<R> {
             (R.remaining (reader_of self.new)) result buf.new }
         ensures mark { has_failed self.new ≡ (has_failed self.old || is_err result) }
 
-        // Just one call was made, and this is its answer.
+        // Exactly one call was made, and this is its result.
         ensures call { R.reads (reader_of self.old) (reader_of self.new)
             (record { answer = result; buffer = buf.new }) }
     {
@@ -99,28 +99,28 @@ impl<R: ReadCall> Source<R> {
         result
     }
 
-    /// Takes the bytes up to the end of the input, or the first `most` of them where there are more.
+    /// Reads the bytes up to the end of the input, or the first `most` of them if there are more.
     ///
-    /// An interrupted call is repeated, so that the mark may be set after an `Ok` too. Since `most` is below
-    /// [`MAX_CALLS`] and each other call gives a byte or the end, that number is used up only where calls were
+    /// An interrupted call is repeated, so the flag may be set after an `Ok` too. Since `most` is less than
+    /// [`MAX_CALLS`] and each other call returns a byte or the end, that limit is reached only if calls were
     /// interrupted.
     ///
     /// # Errors
     ///
     /// [`TakeError::Read`] if a call failed and was not merely interrupted, or if [`MAX_CALLS`] calls were made, and
-    /// [`TakeError::Memory`] if there was no memory for the bytes. The bytes that the reader gave are then lost.
+    /// [`TakeError::Memory`] if out of memory for the bytes. The bytes that the reader returned are then lost.
     pub fn take_all(&mut self, alloc: Global, most: usize) -> Result<Vec<u8>, TakeError>
         requires { most < MAX_CALLS }
         ensures ok { IfOk result (λ given. TakesAll (R.remaining (reader_of self.old))
             (R.remaining (reader_of self.new)) most given.items) }
 
-        // What is not answered may still be gone from the reader. Memory is wanted only for bytes that it gave.
+        // Bytes that are not returned may still be consumed from the reader. Memory is allocated only for bytes that it returned.
         ensures memory { result ≡ Err TakeError.Memory → TakesFront (R.remaining (reader_of self.old))
             (R.remaining (reader_of self.new)) 1 most }
         ensures read { result ≡ Err TakeError.Read → TakesFront (R.remaining (reader_of self.old))
             (R.remaining (reader_of self.new)) 0 most }
 
-        // The calls that were made, whatever the reader is.
+        // The calls that were made, for any reader.
         ensures ok_calls { IfOk result (λ given. ReadsAll R.reads (reader_of self.old)
             (reader_of self.new) most MAX_CALLS given.items) }
         ensures memory_calls { result ≡ Err TakeError.Memory → ReadingStops R.reads (reader_of self.old)

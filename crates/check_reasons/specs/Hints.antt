@@ -1,14 +1,14 @@
--- What is said of bytes that are no JSON, by what they begin with.
+-- Hints at bytes that are not JSON, by their prefix.
 use Rattle.std.specs.Prelude.{ℕ, List, [], ◌∷◌, codes, if◌then◌else◌, nat_eq}
 use Rattle.std.specs.Char.{is_ascii_whitespace}
 use Rattle.std.specs.List.{starts_with}
 
--- the bytes after the white space in front
+-- the bytes after leading whitespace
 abbrev pub after_space : List ℕ → List ℕ
 after_space [] = []
 after_space (b ∷ bs) = if is_ascii_whitespace b then after_space bs else b ∷ bs
 
--- what is said of the first row that the bytes begin with
+-- the hint of the first row that is a prefix of the bytes
 abbrev pub hint_for : List ℕ → List (List ℕ × List ℕ) → List ℕ
 hint_for bytes [] = []
 hint_for bytes (e ∷ es) = if starts_with nat_eq bytes e.0 then e.1 else hint_for bytes es

@@ -1,11 +1,11 @@
--- The name of the item that a step refuses.
+-- The name of the item that a step rejects.
 use Rattle.std.specs.Prelude.{ℕ, List, [], ◌∷◌, Option, codes, option_and_then}
 use Rattle.serde_json.specs.Data.{Data}
 use Rattle.serde_json.specs.Find.{as_str}
 use Rattle.check_faults.specs.Parts.{along}
 use Rattle.check_faults.specs.Tables.{lookup}
 
--- the list of a step, and which part of an item of it is the name
+-- the list of a step, and the index of the name in its items
 abbrev pub named : List (List ℕ × (ℕ × ℕ))
 named = (codes "layout", (5, 0)) ∷ (codes "type", (5, 0)) ∷ (codes "constant", (8, 0)) ∷ (codes "override", (9, 0)) ∷ (codes "global", (11, 0)) ∷ (codes "function", (12, 0)) ∷ (codes "entry", (13, 1)) ∷ []
 

@@ -1,4 +1,4 @@
-// What bytes look like that are no JSON, and what stands where a document is not of its form.
+// Hints at what bytes look like that are not JSON, and at the value where a document is not in its format.
 
 ghost use Rattle.std.specs.Prelude.{◌≡◌, map};
 ghost use Rattle.check_faults.specs.Tables.{listed};
@@ -10,7 +10,7 @@ use check_faults::sets::{set_of, words_of};
 use serde_json::Value;
 use std::fmt::{self, Display};
 
-// What the bytes begin with, and what is said of that.
+// A prefix of the bytes, and the hint for it.
 type Hint = (&'static [u8], &'static str);
 
 static HINTS: [Hint; 16] = [
@@ -47,7 +47,7 @@ static HINTS: [Hint; 16] = [
     (b"{", "a document is an array of arrays, and has no object"),
 ];
 
-// The bytes after the white space in front.
+// The bytes after leading whitespace.
 fn after_space(bytes: &[u8]) -> &[u8]
     ensures { result.now ≡ past_space bytes.now }
 {
@@ -76,7 +76,7 @@ fn hint_on(table: &'static [Hint], begin: &[u8]) -> &'static str
     ""
 }
 
-/// What bytes look like that are no JSON, in one line without its end, or nothing.
+/// A hint at what bytes look like that are not JSON, in one line without a line feed, or nothing.
 pub fn hint(bytes: &[u8]) -> &'static str
     ensures { result.now ≡ hint_of bytes.now }
 {
@@ -87,21 +87,21 @@ pub fn hint(bytes: &[u8]) -> &'static str
     hint_on(hints(), begin)
 }
 
-// Words of a set that are listed, at most.
+// The maximum number of words of a set that are listed.
 const MOST_WORDS: usize = 12;
 
-/// What is wrong with the part of a document that is not of its form, beside what is wanted there.
+/// The details of a value of a document that is not in its format.
 #[derive(Clone, Copy)]
 pub struct Slip<'a> {
     /// The document as a JSON value.
     pub document: &'a Value,
-    /// The indexes that lead to the part.
+    /// The path of indices to the value.
     pub path: &'a [u32],
-    /// What is wanted there, in words.
+    /// The requirement, as text.
     pub wanted: &'a str,
 }
 
-// Whether two words begin with one letter, great or small.
+// Whether two words begin with the same letter, ignoring case.
 fn begin_alike(word: &str, other: &str) -> bool {
     match (word.as_bytes().first(), other.as_bytes().first()) {
         (Some(a), Some(b)) => a.to_ascii_lowercase() == b.to_ascii_lowercase(),
@@ -109,7 +109,7 @@ fn begin_alike(word: &str, other: &str) -> bool {
     }
 }
 
-// How many words of a set begin as this one does.
+// How many words of a set begin like this one.
 fn count_alike(set: &str, word: &str) -> usize {
     let mut count: usize = 0;
     for other in words_of(set).split_whitespace() {
@@ -120,7 +120,7 @@ fn count_alike(set: &str, word: &str) -> usize {
     count
 }
 
-// A word of a list, of which so many are written.
+// A word of a list, with the number of words written so far.
 fn write_word<W: fmt::Write>(f: &mut fmt::Formatter<W>, word: &str, count: usize) -> fmt::Result {
     if count > 0 {
         write!(f, ", ")?;
@@ -133,7 +133,7 @@ impl Slip<'_> {
         value_at(self.document, self.path)
     }
 
-    // Writes words of a set: all of a small one; of another one those that begin as the word that stands there does, or the
+    // Writes the words of a set: all of a small one; of a large one those that begin like the actual word, or the
     // first ones.
     fn write_words<W: fmt::Write>(
         &self,
@@ -153,7 +153,7 @@ impl Slip<'_> {
         if is_small { Ok(()) } else { write!(f, ", ..") }
     }
 
-    // Writes which words there are where another one stands.
+    // Writes which words are allowed, if the actual one is not.
     fn write_set<W: fmt::Write>(&self, f: &mut fmt::Formatter<W>) -> fmt::Result {
         let set = set_of(self.document, self.path);
         let Some(item) = self.item() else {
@@ -166,7 +166,7 @@ impl Slip<'_> {
         self.write_words(f, set, item.as_str().unwrap_or(""))
     }
 
-    // Writes what stands there, and in what.
+    // Writes the actual value, and its parent.
     fn write_found<W: fmt::Write>(&self, f: &mut fmt::Formatter<W>) -> fmt::Result {
         let Some(item) = self.item() else {
             return Ok(());
@@ -183,7 +183,7 @@ impl Slip<'_> {
         }
     }
 
-    // Writes how many parts there are where one is missing, or is one too many.
+    // Writes the number of elements, if one is missing or superfluous.
     fn write_count<W: fmt::Write>(&self, f: &mut fmt::Formatter<W>) -> fmt::Result {
         let around = self
             .path

@@ -1,5 +1,5 @@
-//! Why a document is refused, in words: what stands where the refusal points, the types of its operands, and what is required
-//! there.
+//! The reason why a document is invalid, as text: the actual value at the error's path, the types of its operands, and the
+//! requirement.
 #![tactic(auto)]
 
 mod hints;

@@ -1,4 +1,4 @@
-// Why a document is refused, in words.
+// The reason why a document is invalid, as text.
 
 ghost use Rattle.std.specs.Prelude.{◌≡◌, map, option_map};
 ghost use Rattle.serde_json.specs.View.{view};
@@ -14,21 +14,21 @@ use check_places::{Refusal, Site, Target};
 use serde_json::Value;
 use std::fmt::{self, Display};
 
-// More operands than these are shown without their types.
+// The maximum number of operands displayed with their types.
 const MOST_OPERANDS: usize = 4;
-// What a pointer is made from is followed so far.
+// The maximum number of steps to follow from a pointer to its origin.
 const MOST_STEPS: usize = 64;
 
-/// Why a document is refused: the refusal, and the way to what it speaks of.
+/// The reason why a document is invalid: the error, and the path to the part it concerns.
 #[derive(Clone, Copy)]
 pub struct Reason<'a> {
-    /// The refusal.
+    /// The error's details.
     pub refusal: Refusal<'a>,
-    /// The indexes that lead to what it speaks of.
+    /// The path to the part it concerns.
     pub path: &'a [u32],
 }
 
-// The part of a path inside the function that it leads into.
+// The rest of a path inside the function that it leads into.
 fn inside_function<'p>(path: &'p [u32]) -> &'p [u32] {
     match path.first() {
         Some(12) => path.get(2..).unwrap_or(&[]),
@@ -58,7 +58,7 @@ static GLOBAL: [Part; 2] = [(3, Names::Type), (4, Names::Expression)];
 
 static OUTPUT: [Part; 1] = [(0, Names::Type)];
 
-// The parts of the item inside a function that name something.
+// The handle parts of the item inside a function.
 fn form_inside(inside: &[u32], item: &Value) -> &'static [Part] {
     match inside.first() {
         Some(1) => &ARGUMENT,
@@ -70,7 +70,7 @@ fn form_inside(inside: &[u32], item: &Value) -> &'static [Part] {
     }
 }
 
-// The parts of the item at a path that name something.
+// The handle parts of the item at a path.
 fn form_at(path: &[u32], item: &Value) -> &'static [Part] {
     match path.first() {
         Some(8) => &CONSTANT,
@@ -81,7 +81,7 @@ fn form_at(path: &[u32], item: &Value) -> &'static [Part] {
     }
 }
 
-// Whether the item at a path is shown: not a whole function or entry point, and not a whole body.
+// Whether the item at a path is displayed: not a whole function or entry point, and not a whole body.
 fn is_shown(path: &[u32]) -> bool {
     let inside = inside_function(path);
     let is_part = inside.len() > 1 || inside.first() == Some(&2);
@@ -93,7 +93,7 @@ fn is_shown(path: &[u32]) -> bool {
     }
 }
 
-// The values of a part: itself, or what is in it.
+// The elements of an array, or the value itself.
 fn values(item: &Value) -> &[Value] {
     if item.is_array() {
         parts(item)
@@ -102,7 +102,7 @@ fn values(item: &Value) -> &[Value] {
     }
 }
 
-// The name of the list of what is named.
+// The name of the list of a kind of item.
 fn list_of(named: Names) -> &'static str {
     match named {
         Names::Type => "types",
@@ -121,7 +121,7 @@ impl Reason<'_> {
         value_at(self.refusal.document, self.path)
     }
 
-    // Writes the type of an operand, after a word that says whether it is the first. Answers whether it is known.
+    // Writes the type of an operand, after a separator that depends on whether it is the first. Returns whether it is known.
     fn write_operand<W: fmt::Write>(
         &self,
         f: &mut fmt::Formatter<W>,
@@ -140,7 +140,7 @@ impl Reason<'_> {
         Ok(true)
     }
 
-    // Writes the type of the document and the global variable that an operand comes from.
+    // Writes the type's index in the document, and the global variable that an operand originates from.
     fn write_origin<W: fmt::Write>(
         &self,
         f: &mut fmt::Formatter<W>,
@@ -155,7 +155,7 @@ impl Reason<'_> {
         }
     }
 
-    // Writes the types of these operands. Answers whether the next one is the first.
+    // Writes the types of these operands. Returns whether the next one is the first.
     fn write_each<W: fmt::Write>(
         &self,
         f: &mut fmt::Formatter<W>,
@@ -170,7 +170,7 @@ impl Reason<'_> {
         Ok(still)
     }
 
-    // Writes a type that the item names. Answers whether the next one is the first.
+    // Writes a type that the item references. Returns whether the next one is the first.
     fn write_type<W: fmt::Write>(
         &self,
         f: &mut fmt::Formatter<W>,
@@ -186,7 +186,7 @@ impl Reason<'_> {
         Ok(false)
     }
 
-    // Writes the types of a part of the item. Answers whether the next one is the first.
+    // Writes the types of a part of the item. Returns whether the next one is the first.
     fn write_part<W: fmt::Write>(
         &self,
         f: &mut fmt::Formatter<W>,
@@ -221,7 +221,7 @@ impl Reason<'_> {
         Ok(())
     }
 
-    // Writes the path, and what stands there.
+    // Writes the path, and the actual value.
     fn write_item<W: fmt::Write>(&self, f: &mut fmt::Formatter<W>) -> fmt::Result {
         if self.path.is_empty() {
             return Ok(());
@@ -236,7 +236,7 @@ impl Reason<'_> {
         write!(f, ": ")
     }
 
-    // How many items there are of what a handle names.
+    // The number of items of the kind that a handle references.
     fn count_of(&self, named: Names) -> usize {
         let document = self.refusal.document;
         let inside = function_of(document, self.path);
@@ -262,7 +262,7 @@ impl Reason<'_> {
         }
     }
 
-    // Writes what is wrong with a handle.
+    // Writes the error of a handle.
     fn write_handle<W: fmt::Write>(
         &self,
         f: &mut fmt::Formatter<W>,
@@ -276,7 +276,7 @@ impl Reason<'_> {
         write!(f, "it names {list}[{index}], and there are {count}")
     }
 
-    // The global variable that a pointer is made from.
+    // The global variable that a pointer originates from.
     fn root_of(&self, pointer: usize) -> Option<usize> {
         let function = function_of(self.refusal.document, self.path)?;
         let expressions = at(function, 4)?;
@@ -292,7 +292,7 @@ impl Reason<'_> {
         None
     }
 
-    // Writes what is required.
+    // Writes the requirement.
     fn write_required<W: fmt::Write>(&self, f: &mut fmt::Formatter<W>) -> fmt::Result {
         match &self.refusal.site {
             Site::Handle(target) => self.write_handle(f, target),
@@ -316,7 +316,7 @@ impl Display for Reason<'_> {
     }
 }
 
-// The list of a step, and which part of an item of it is the name.
+// The list of a step, and the index of the name in its items.
 static NAMED: [(&str, (usize, usize)); 7] = [
     ("layout", (5, 0)),
     ("type", (5, 0)),
@@ -333,7 +333,7 @@ fn named() -> &'static [(&'static str, (usize, usize))]
     &NAMED
 }
 
-/// The name of the item that a step refuses, where it has one.
+/// The name of the item that a step rejects, if it has one.
 pub fn name_of<'a>(document: &'a Value, step: &str, index: usize) -> Option<&'a str>
     ensures { option_map (λ t. t.now) result ≡ item_name (view document.now) step.now index }
 {

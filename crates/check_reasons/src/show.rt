@@ -1,21 +1,21 @@
-// Parts of a document in words: JSON in short, types and their expressions in words.
+// Displays of parts of a document: JSON in short, types and their expressions as text.
 
 use check_faults::document::{along, at, number_at, parts, word, word_at};
 use serde_json::Value;
 use std::fmt::{self, Display};
 
-// More parts than these are left out.
+// The maximum number of parts displayed.
 const MOST_PARTS: usize = 12;
-// More characters of a text are left out.
+// The maximum number of characters of a string displayed.
 const MOST_CHARACTERS: usize = 60;
-// Pointers and arrays are followed so far.
+// The maximum depth to which pointers and arrays are displayed.
 const MOST_TYPES: u32 = 4;
 
-/// A part of the document as JSON, without what lies deeper inside, and not all of a long list.
+/// A part of the document as JSON, without deeper levels, and with long lists abbreviated.
 #[derive(Clone, Copy)]
 pub(crate) struct Shown<'a>(pub(crate) &'a Value);
 
-// A text in quotes, and not all of a long one.
+// A string in quotes, abbreviated if it is long.
 fn write_text<W: fmt::Write>(f: &mut fmt::Formatter<W>, text: &str) -> fmt::Result {
     let end = match text.char_indices().nth(MOST_CHARACTERS) {
         Some((end, _)) => end,
@@ -35,7 +35,7 @@ fn write_number<W: fmt::Write>(f: &mut fmt::Formatter<W>, value: &Value) -> fmt:
     }
 }
 
-// What is no array.
+// A value that is not an array.
 fn write_leaf<W: fmt::Write>(f: &mut fmt::Formatter<W>, value: &Value) -> fmt::Result {
     match value {
         Value::Null => write!(f, "null"),
@@ -74,7 +74,7 @@ impl Display for Shown<'_> {
     }
 }
 
-/// The value that a path leads to.
+/// The value at a path.
 pub(crate) fn value_at<'a>(document: &'a Value, path: &[u32]) -> Option<&'a Value> {
     let mut found = document;
     for step in path {
@@ -83,10 +83,10 @@ pub(crate) fn value_at<'a>(document: &'a Value, path: &[u32]) -> Option<&'a Valu
     Some(found)
 }
 
-/// The index of the types in the document.
+/// The index of the list of types in the document.
 pub(crate) const TYPES: usize = 5;
 
-// What a type of the document is made of.
+// The type inner of a type of the document.
 fn inner_of(document: &Value, index: usize) -> Option<&Value> {
     along(document, &[TYPES, index, 1])
 }
@@ -102,7 +102,7 @@ fn write_vector<W: fmt::Write>(
     }
 }
 
-// A type of the document that is none of those with another type inside.
+// A type of the document that contains no other type.
 fn write_plain<W: fmt::Write>(f: &mut fmt::Formatter<W>, inner: &Value) -> fmt::Result {
     match word(inner) {
         "Scalar" => write!(f, "{}", word_at(inner, 1)),
@@ -118,13 +118,13 @@ fn write_plain<W: fmt::Write>(f: &mut fmt::Formatter<W>, inner: &Value) -> fmt::
     }
 }
 
-// A pointer to one of so many components, or to a scalar.
+// A pointer to a vector or a scalar.
 fn write_value_pointer<W: fmt::Write>(f: &mut fmt::Formatter<W>, inner: &Value) -> fmt::Result {
     write!(f, "a pointer in {} to ", word_at(inner, 3))?;
     write_vector(f, number_at(inner, 1), word_at(inner, 2))
 }
 
-// The type at an index, along what it points to or is an array of.
+// The type at an index, followed through pointer bases and array elements.
 fn write_type_at<W: fmt::Write>(
     f: &mut fmt::Formatter<W>,
     document: &Value,

@@ -1,4 +1,4 @@
--- The path of the part of a document at which an error stands that stands in no body.
+-- The path in a document of an error that is not in a body.
 use Rattle.std.specs.Prelude.{◌≡◌, ℕ, List, [], ◌∷◌, ◌++◌, Option, Some, None, option_to_list}
 use Rattle.typing_errors.specs.declared.error.FunctionError.{FunctionError}
 use Rattle.typing_errors.specs.declared.error.FunctionError.TheVariants as f
@@ -19,8 +19,8 @@ steps_in s = option_to_list s.first ++ option_to_list s.second
 abbrev pub member_steps : (member : Option ℕ) → List ℕ
 member_steps o = elim o [ Some member ↦ 1 ∷ 1 ∷ member ∷ [] | None ↦ [] ]
 
--- The part of a function at which its error stands: the expression, the variable, the argument, the result or the body that the error
--- names; of an argument that is bound one of them, and of an error that names none of these the function.
+-- The part of a function that its error concerns: the expression, the variable, the argument, the result or the body that the error
+-- names; for an argument with a binding any such, and for an error that names none of these the function.
 abbrev pub IsInner : FunctionError → (path : List ℕ) → Type 0
 IsInner (f.Expression handle source) path = path ≡ 4 ∷ handle ∷ []
 IsInner (f.UnvisitedExpression handle) path = path ≡ 4 ∷ handle ∷ []
@@ -34,7 +34,7 @@ IsInner f.PipelineOutputRegularFunction path = path ≡ 2 ∷ []
 IsInner (f.InvalidReturnType expression declared) path = path ≡ 5 ∷ []
 IsInner _ path = path ≡ []
 
--- that of a step up to overrides; of what is wrong with handles it is looked for
+-- that of a step up to overrides; that of an invalid handle is searched for
 abbrev pub IsModulePath : ModuleError → (path : List ℕ) → Type 0
 IsModulePath (step.InvalidHandle e) path = Unit {0}
 IsModulePath (step.Layouter e) path = path ≡ 5 ∷ e.ty ∷ []
@@ -43,12 +43,12 @@ IsModulePath (step.ConstExpression e) path = path ≡ 10 ∷ e.expression ∷ []
 IsModulePath (step.Constant e) path = path ≡ 8 ∷ e.constant ∷ []
 IsModulePath (step.Override e) path = path ≡ 9 ∷ e.id ∷ []
 
--- that of a global variable, or the type that its space can't have
+-- that of a global variable, or its type, if that is not allowed in the address space
 abbrev pub IsVariablePath : (global : ℕ) → GlobalVariableError → (path : List ℕ) → Type 0
 IsVariablePath global (variable.Alignment space type e) path = (member : Option ℕ) × (path ≡ 5 ∷ type ∷ member_steps member)
 IsVariablePath global _ path = path ≡ 11 ∷ global ∷ []
 
--- that of an entry point: in its function, or the variable that the error names; of its interface it is looked for
+-- that of an entry point: in its function, or the variable that the error names; a part of its interface is searched for
 abbrev pub IsEntryPath : (index : ℕ) → EntryPointError → (path : List ℕ) → Type 0
 IsEntryPath index (entry.Function e) path = (inner : List ℕ) × (path ≡ 13 ∷ index ∷ 6 ∷ inner) × IsInner e inner
 IsEntryPath index (entry.InvalidGlobalUsage global uses) path = path ≡ 11 ∷ global ∷ []

@@ -1,9 +1,9 @@
-//! Built-in values in words.
+//! Built-in values as text.
 
 use check_cause_texts::word_of;
 use ir_kinds::BuiltIn;
 
-/// The word of a built-in value.
+/// The word for a built-in value.
 pub(crate) fn built_in_word(value: &BuiltIn) -> &'static str {
     match *value {
         BuiltIn::Position { .. } => "Position",

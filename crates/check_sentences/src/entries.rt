@@ -1,4 +1,4 @@
-//! What is required where an entry point is refused.
+//! The requirement text for an invalid entry point.
 
 use crate::built_ins::built_in_word;
 use check_cause_texts::{SetText, word_of};
@@ -26,7 +26,7 @@ pub(crate) const fn stage_word(stage: ShaderStage) -> &'static str {
     }
 }
 
-// ---- what goes between stages
+// ---- varyings
 
 fn blend_text(error: &VaryingError) -> &'static str {
     match error {
@@ -55,7 +55,7 @@ fn blend_text(error: &VaryingError) -> &'static str {
     }
 }
 
-// What is wrong with blend sources.
+// The error of blend sources.
 fn write_blend<W: fmt::Write>(f: &mut fmt::Formatter<W>, error: &VaryingError) -> fmt::Result {
     match error {
         VaryingError::BindingCollisionBlendSrc { blend_src } => {
@@ -147,7 +147,7 @@ fn write_varying<W: fmt::Write>(
     }
 }
 
-// What is wrong with a built-in value.
+// The error of a built-in value.
 fn write_built_in<W: fmt::Write>(f: &mut fmt::Formatter<W>, error: &VaryingError) -> fmt::Result {
     match error {
         VaryingError::InvalidBuiltInStage(value) => write!(
@@ -169,7 +169,7 @@ fn write_built_in<W: fmt::Write>(f: &mut fmt::Formatter<W>, error: &VaryingError
 
 // ---- entry points
 
-// What is required where the error tells nothing else.
+// The requirement for an error without fields.
 fn plain_text(error: &EntryPointError) -> &'static str {
     match error {
         EntryPointError::Conflict => {
@@ -206,7 +206,7 @@ fn plain_text(error: &EntryPointError) -> &'static str {
     }
 }
 
-// The same of mesh shaders.
+// The same for mesh shaders.
 fn mesh_text(error: &EntryPointError) -> &'static str {
     match error {
         EntryPointError::ExpectedMeshShaderAttributes => {
@@ -234,7 +234,7 @@ fn mesh_text(error: &EntryPointError) -> &'static str {
     }
 }
 
-// The only variable before this one with its group and its binding.
+// The only other global variable with the same group and binding.
 fn other_bound(scene: &Scene<'_>, global: Handle<key::GlobalVariable>) -> Option<usize> {
     let wanted = scene.globals.try_get(global).ok()?.binding?;
     let mut found = None;
@@ -249,7 +249,7 @@ fn other_bound(scene: &Scene<'_>, global: Handle<key::GlobalVariable>) -> Option
     found
 }
 
-// Two variables at one binding.
+// Two variables with the same binding.
 fn write_collision<W: fmt::Write>(
     f: &mut fmt::Formatter<W>,
     scene: &Scene<'_>,
@@ -266,7 +266,7 @@ fn write_collision<W: fmt::Write>(
     }
 }
 
-// A size of the workgroup that is out of range.
+// A workgroup size that is out of range.
 fn write_size<W: fmt::Write>(f: &mut fmt::Formatter<W>, size: [u32; 3]) -> fmt::Result {
     write!(
         f,
@@ -275,7 +275,7 @@ fn write_size<W: fmt::Write>(f: &mut fmt::Formatter<W>, size: [u32; 3]) -> fmt::
     )
 }
 
-// What is required where something of the entry point by itself is refused.
+// The requirement for an error of the entry point itself.
 fn write_own<W: fmt::Write>(
     f: &mut fmt::Formatter<W>,
     scene: &Scene<'_>,
@@ -314,7 +314,7 @@ fn write_own<W: fmt::Write>(
     }
 }
 
-// The output that the mesh part of an entry point names, where the error speaks of it.
+// The mesh output that the error concerns.
 fn write_output<W: fmt::Write>(
     f: &mut fmt::Formatter<W>,
     scene: &Scene<'_>,
@@ -338,7 +338,7 @@ fn write_output<W: fmt::Write>(
     }
 }
 
-/// Writes what is required where an entry point is refused.
+/// Writes the requirement for an invalid entry point.
 pub(crate) fn write_entry<W: fmt::Write>(
     f: &mut fmt::Formatter<W>,
     scene: &Scene<'_>,

@@ -1,4 +1,4 @@
-//! What is required where an item of a module is refused.
+//! The requirement text for an invalid item of a module.
 
 use bitflags::Flags;
 use check_cause_texts::{ScalarText, SetText, space_word, word_of};
@@ -67,13 +67,13 @@ fn write_blend<W: fmt::Write>(f: &mut fmt::Formatter<W>, error: &VaryingError) -
     }
 }
 
-// The first byte after a member, where its type is known.
+// The end offset of a member, if its type is known.
 fn end_of(scene: &Scene<'_>, member: &StructMember) -> Option<u64> {
     let inner = inner_of(scene.context.types, member.ty)?;
     Some(u64::from(member.offset).saturating_add(inner.size()))
 }
 
-// Where the member of a struct before this one ends.
+// The end offset of the previous member of a struct.
 fn end_before(scene: &Scene<'_>, ty: Handle<key::IrType>, index: usize) -> Option<u64> {
     match inner_of(scene.context.types, ty)? {
         TypeInner::Struct { members, .. } => end_of(scene, members.get(index.checked_sub(1)?)?),
@@ -135,7 +135,7 @@ fn write_member<W: fmt::Write>(
     }
 }
 
-/// Writes what is required where a type is refused.
+/// Writes the requirement for an invalid type.
 pub(crate) fn write_type<W: fmt::Write>(
     f: &mut fmt::Formatter<W>,
     scene: &Scene<'_>,
@@ -182,7 +182,7 @@ pub(crate) fn write_type<W: fmt::Write>(
 
 // ---- constants and overrides
 
-// A value of another type than is declared.
+// A value whose type is not the declared one.
 fn write_initializer<W: fmt::Write>(
     f: &mut fmt::Formatter<W>,
     scene: &Scene<'_>,
@@ -195,7 +195,7 @@ fn write_initializer<W: fmt::Write>(
     scene.write_given(f, ", and it is ", value)
 }
 
-/// Writes what is required where a constant is refused.
+/// Writes the requirement for an invalid constant.
 pub(crate) fn write_constant<W: fmt::Write>(
     f: &mut fmt::Formatter<W>,
     scene: &Scene<'_>,
@@ -217,7 +217,7 @@ pub(crate) fn write_constant<W: fmt::Write>(
     }
 }
 
-// The value of an override that has another type.
+// The initializer of an override that has another type.
 fn write_override_value<W: fmt::Write>(
     f: &mut fmt::Formatter<W>,
     scene: &Scene<'_>,
@@ -231,7 +231,7 @@ fn write_override_value<W: fmt::Write>(
     write!(f, "the initializer must have the type of the override")
 }
 
-/// Writes what is required where an override is refused.
+/// Writes the requirement for an invalid override.
 pub(crate) fn write_override<W: fmt::Write>(
     f: &mut fmt::Formatter<W>,
     scene: &Scene<'_>,
@@ -300,7 +300,7 @@ fn write_disalignment<W: fmt::Write>(
     }
 }
 
-// What types of a flag do.
+// The meaning of a type flag.
 fn flag_words(flag: &str) -> &str {
     match flag {
         "DATA" => "can be stored",
@@ -315,7 +315,7 @@ fn flag_words(flag: &str) -> &str {
     }
 }
 
-// What types of these flags do.
+// The meaning of these type flags.
 fn write_flags<W: fmt::Write>(f: &mut fmt::Formatter<W>, set: TypeFlags) -> fmt::Result {
     let mut before = "";
     for flag in TypeFlags::flags() {
@@ -327,7 +327,7 @@ fn write_flags<W: fmt::Write>(f: &mut fmt::Formatter<W>, set: TypeFlags) -> fmt:
     Ok(())
 }
 
-// What is required of a variable where the error tells nothing else.
+// The requirement of a variable for an error without fields.
 fn variable_text(error: &GlobalVariableError) -> &'static str {
     match error {
         GlobalVariableError::InitializerExprType => {
@@ -352,7 +352,7 @@ fn variable_text(error: &GlobalVariableError) -> &'static str {
     }
 }
 
-// A binding where there can be none, or none where there must be one.
+// A binding that is not allowed, or a missing one.
 fn write_binding<W: fmt::Write>(
     f: &mut fmt::Formatter<W>,
     variable: Option<&GlobalVariable>,
@@ -378,7 +378,7 @@ fn write_binding<W: fmt::Write>(
     }
 }
 
-/// Writes what is required where a global variable is refused.
+/// Writes the requirement for an invalid global variable.
 pub(crate) fn write_variable<W: fmt::Write>(
     f: &mut fmt::Formatter<W>,
     variable: Option<&GlobalVariable>,

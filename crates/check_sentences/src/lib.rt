@@ -1,5 +1,5 @@
-//! Why a module is refused, in words: what is required where the error is found, by the error, its cause and the module; and the part of
-//! the document at which an error stands that stands in no body.
+//! The reason why a module is invalid, as text: the requirement, from the error, the broken rule and the module; and the path of an
+//! error that is not in a body.
 #![tactic(auto)]
 
 mod built_ins;

@@ -1,4 +1,4 @@
-//! The member of a struct that an error speaks of.
+//! Search for the struct member that an error concerns.
 
 use function_varying_checks::VaryingError;
 use ir_arena::handle::Handle;
@@ -8,22 +8,22 @@ use ir_types::{IrType, StructMember, TypeInner, key};
 use typing_forms::inner_of;
 use typing_layout::{TypeError, VaryingError as BlendError};
 
-/// What is sought among members.
+/// The property of the member that is searched for.
 #[derive(Clone, Copy)]
 enum Sought {
-    /// One at this location.
+    /// It has this location.
     Location(u32),
-    /// One at a location, of this type.
+    /// It has a location, and this type.
     Type(Handle<key::IrType>),
-    /// One that is this built-in value.
+    /// It is this built-in value.
     BuiltIn(BuiltIn),
-    /// One at a location, without interpolation.
+    /// It has a location, without interpolation.
     Plain,
-    /// One at a location that is not flat.
+    /// It has a location, and its interpolation is not flat.
     NotFlat,
 }
 
-// What an error of what goes between stages speaks of.
+// The member that an error of varyings concerns.
 fn sought_by(error: &VaryingError) -> Option<Sought> {
     match error {
         VaryingError::MissingInterpolation => Some(Sought::Plain),
@@ -43,7 +43,7 @@ fn sought_by(error: &VaryingError) -> Option<Sought> {
     }
 }
 
-// What an error of the blend sources of a struct speaks of.
+// The member that an error of a struct's blend sources concerns.
 fn sought_by_blend(error: &BlendError) -> Option<Sought> {
     match error {
         BlendError::NotIOShareableType(ty) => Some(Sought::Type(*ty)),
@@ -55,7 +55,7 @@ fn sought_by_blend(error: &BlendError) -> Option<Sought> {
     }
 }
 
-// Whether a member is the one that is sought.
+// Whether a member is the one searched for.
 fn is_sought(member: &StructMember, sought: &Sought) -> bool {
     let Some(binding) = member.binding else {
         return false;
@@ -72,7 +72,7 @@ fn is_sought(member: &StructMember, sought: &Sought) -> bool {
     }
 }
 
-// The first of the members that is sought.
+// The first such member.
 fn member_among(members: &[StructMember], sought: &Sought) -> Option<usize> {
     for (place, member) in members.iter().enumerate() {
         if is_sought(member, sought) {
@@ -82,7 +82,7 @@ fn member_among(members: &[StructMember], sought: &Sought) -> Option<usize> {
     None
 }
 
-// The member of a type, where that is a struct.
+// The member of a type, if that is a struct.
 fn member_in(
     types: &UniqueArena<IrType, key::IrType>,
     ty: Handle<key::IrType>,
@@ -94,7 +94,7 @@ fn member_in(
     }
 }
 
-/// The member of a struct type that goes between stages, which the error speaks of.
+/// The member of a struct of varyings that the error concerns.
 pub(crate) fn varying_member(
     types: &UniqueArena<IrType, key::IrType>,
     ty: Handle<key::IrType>,
@@ -106,7 +106,7 @@ pub(crate) fn varying_member(
     }
 }
 
-/// The member of a type that the error speaks of.
+/// The member of a type that the error concerns.
 pub(crate) fn type_member(
     types: &UniqueArena<IrType, key::IrType>,
     ty: Handle<key::IrType>,

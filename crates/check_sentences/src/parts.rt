@@ -1,4 +1,4 @@
-//! The part of a document at which an error stands that stands in no body.
+//! The path in a document of an error that is not in a body.
 
 ghost use Rattle.std.specs.Prelude.{◌≡◌, ◌++◌, ◌∷◌, IfOk, OnOk, Some, None, option_to_list};
 ghost use Rattle.check_sentences.specs.Parts.{IsInner, IsPartPath, member_steps, steps_in};
@@ -17,7 +17,7 @@ use std::alloc::{AllocError, Global};
 use typing_errors::FunctionError;
 use typing_layout::Disalignment;
 
-/// The last steps of a path, of which there are two at most.
+/// The last steps of a path, at most two.
 #[derive(Clone, Copy)]
 pub struct Steps {
     /// The first, if there is one.
@@ -26,7 +26,7 @@ pub struct Steps {
     pub second: Option<usize>,
 }
 
-// No step.
+// No steps.
 const fn no_steps() -> Steps
     ensures { result ≡ record { first = None; second = None } }
 {
@@ -56,7 +56,7 @@ const fn two_steps(first: usize, second: usize) -> Steps
     }
 }
 
-// Appends a step to a path, if there is one.
+// Appends an optional step to a path.
 fn push_if(path: &mut Vec<usize>, step: Option<usize>) -> Result<(), AllocError>
     ensures { OnOk result (path.new.items ≡ path.old.items ++ option_to_list step) }
 {
@@ -66,7 +66,7 @@ fn push_if(path: &mut Vec<usize>, step: Option<usize>) -> Result<(), AllocError>
     }
 }
 
-// The path that begins so and goes on by these steps. The error is out of memory.
+// The path with this prefix and these steps. The error is out of memory.
 fn path_from(alloc: Global, start: &[usize], last: Steps) -> Result<Vec<usize>, AllocError>
     ensures { IfOk result (λ path. path.items ≡ start.now ++ steps_in last) }
 {
@@ -92,7 +92,7 @@ fn bound_argument(function: Option<&Function>) -> usize {
     0
 }
 
-/// The part of a function at which its error stands, where it stands in no body.
+/// The part of a function that its error concerns, if that is not in a body.
 pub(crate) fn inner_of(function: Option<&Function>, error: &FunctionError) -> Steps
     ensures { IsInner error.now (steps_in result) }
 {
@@ -127,7 +127,7 @@ fn function_path(
 
 // ---- items
 
-// The path of a type, and of the member of it that is meant.
+// The path of a type, and of the member that the error concerns.
 fn type_path(
     alloc: Global,
     ty: Handle<key::IrType>,
@@ -141,7 +141,7 @@ fn type_path(
     }
 }
 
-// The member that makes a type misaligned.
+// The misaligned member of a type.
 const fn misaligned(error: &Disalignment) -> Option<usize> {
     match *error {
         Disalignment::MemberOffset { index, .. }
@@ -162,7 +162,7 @@ fn variable_path(alloc: Global, refused: &InvalidGlobalVariable) -> Result<Vec<u
     }
 }
 
-// The path of an error of a step up to overrides; of handles it is empty.
+// The path of an error of a step up to overrides; empty for errors of handles.
 fn module_path(
     alloc: Global,
     types: &UniqueArena<IrType, key::IrType>,
@@ -188,7 +188,7 @@ fn module_path(
 
 // ---- entry points
 
-// The path of what an entry point is given.
+// The path of an entry point's inputs.
 fn argument_path(
     alloc: Global,
     types: &UniqueArena<IrType, key::IrType>,
@@ -206,7 +206,7 @@ fn argument_path(
     path_from(alloc, &[13, index, 6], two_steps(1, place))
 }
 
-// The types of what an entry point gives: of its result, or of a mesh shader of its vertices and of its primitives.
+// The types of an entry point's outputs: its result, or for a mesh shader its vertex and its primitive types.
 fn given_types(entry: &EntryPoint) -> [Option<Handle<key::IrType>>; 2] {
     match (&entry.mesh_info, &entry.function.result) {
         (Some(mesh), _) => [
@@ -218,7 +218,7 @@ fn given_types(entry: &EntryPoint) -> [Option<Handle<key::IrType>>; 2] {
     }
 }
 
-// The path of what an entry point gives: its result, or of a mesh shader its mesh part.
+// The path of an entry point's outputs: its result, or for a mesh shader its mesh info.
 fn result_path(
     alloc: Global,
     types: &UniqueArena<IrType, key::IrType>,
@@ -241,7 +241,7 @@ fn result_path(
     path_from(alloc, &[13, index], two_steps(6, 2))
 }
 
-// The part of an entry point that an error speaks of.
+// The part of an entry point that an error concerns.
 fn entry_part(error: &EntryPointError) -> Steps {
     match error {
         EntryPointError::UnsupportedCapability(_) => one_step(0),
@@ -270,7 +270,7 @@ fn entry_part(error: &EntryPointError) -> Steps {
     }
 }
 
-// The path of an error of what goes between stages.
+// The path of an error of varyings.
 fn varying_path(
     alloc: Global,
     types: &UniqueArena<IrType, key::IrType>,
@@ -290,7 +290,7 @@ fn varying_path(
     }
 }
 
-// The function of an entry point, where there is one.
+// The function of an entry point, if it exists.
 fn function_of(entry: Option<&EntryPoint>) -> Option<&Function> {
     match entry {
         Some(entry) => Some(&entry.function),
@@ -320,7 +320,7 @@ fn entry_path(
     }
 }
 
-/// The path of the part of a document at which an error stands that stands in no body, from the outermost on; of handles it is empty.
+/// The path in a document of an error that is not in a body, from the outermost inward; empty for errors of handles.
 /// The error is out of memory.
 pub fn part_path(
     alloc: Global,

@@ -1,4 +1,4 @@
-//! What is required where a module is refused.
+//! The requirement text for an invalid module.
 
 use crate::entries::write_entry;
 use crate::items::{write_constant, write_layout, write_override, write_type, write_variable};
@@ -8,14 +8,14 @@ use ir_items::Module;
 use module_steps::ModuleError;
 use std::fmt::{self, Display};
 
-/// What is required where a module is refused, in one sentence without its end: of handles nothing.
+/// The requirement text for an invalid module, as one sentence without a full stop: empty for errors of handles.
 #[derive(Clone, Copy)]
 pub struct Sentence<'a> {
-    /// What it looks at.
+    /// The context.
     pub scene: Scene<'a>,
     /// The module.
     pub module: &'a Module,
-    /// Why it is refused.
+    /// The error.
     pub error: &'a ValidationError,
 }
 

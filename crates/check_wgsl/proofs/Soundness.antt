@@ -1,4 +1,4 @@
--- The text of an accepted text of WGSL comes with all that is promised.
+-- The output for a valid WGSL text comes with all guarantees.
 use Rattle.std.proofs.Common.{◌≡◌, ◌++◌, ℕ, List, string_bytes, ap, subst}
 use Rattle.std.specs.Int.RustNames.{bit_and}
 use Rattle.ir_flags.specs.declared.settings.TheConstants.ValidationFlags.{BLOCKS, EXPRESSIONS, STRUCT_LAYOUTS}
@@ -17,7 +17,7 @@ use Rattle.check_wgsl.specs.Answered.{IsAnswered, IsTextOfSome, IsSoundText, ver
 use Rattle.check_wgsl.specs.declared.judged.WgslVerdict.{WgslVerdict}
 use Rattle.check_wgsl.specs.declared.judged.WgslVerdict.TheVariants as verdict
 
--- the six checks are those for layouts, bodies and expressions, and three more
+-- the six checks include those for layouts, bodies and expressions
 pub checked : (s : Settings) → MakesSixChecks s.flags → AreChecked s
 checked s h = record {
   layouts = ap (λ n. bit_and n STRUCT_LAYOUTS.0) h;

@@ -1,4 +1,4 @@
-// What is answered of a text of WGSL.
+// The result for a WGSL text.
 ghost use Rattle.std.specs.Prelude.{◌≡◌, IfOk, string_bytes};
 ghost use Rattle.wgsl_reader.specs.Checks.{MakesSixChecks};
 ghost use Rattle.check_wgsl.specs.Answered.{IsOfSome, IsAnswered, IsSoundText, verdict_of};
@@ -10,21 +10,21 @@ use shader_check::{Finding, Judgement, judge_document};
 use std::alloc::{AllocError, Global};
 use wgsl_reader::{Cause, WgslError, message_of, read_wgsl};
 
-/// What the text was found to be.
+/// The verdict on the text.
 #[derive(Clone, Copy, Debug, PartialEq, Eq)]
 pub enum WgslVerdict {
-    /// No step of the judgement fails.
+    /// The module is valid.
     Accepted,
-    /// Some step fails.
+    /// The module is invalid.
     Refused,
-    /// No module was read: the text is no WGSL, or says what is not translated.
+    /// No module was read: the text is not WGSL, or not supported by the translation.
     Unread,
 }
 
-/// What the text was found to be, with the text that tells it: the verdict and the report, or why no module was read.
+/// The verdict on the text, with its output: the line of the finding and the report, or why no module was read.
 #[derive(Drop)]
 pub struct WgslAnswer {
-    /// What it was found to be.
+    /// The verdict.
     pub verdict: WgslVerdict,
     /// The text.
     pub text: String,
@@ -40,7 +40,7 @@ fn verdict_of(finding: Finding) -> WgslVerdict
     }
 }
 
-// What is found of a document, and the report on it.
+// The validation result of a document, with its report.
 fn judge_read(alloc: Global, document: &mut Document) -> Result<Judgement, WgslError>
     requires { MakesSixChecks document.old.settings.flags }
     ensures { IfOk result IsOfSome }
@@ -51,7 +51,7 @@ fn judge_read(alloc: Global, document: &mut Document) -> Result<Judgement, WgslE
     }
 }
 
-// What is found of the document that the text says, and the report on it.
+// The validation result of the document that the text is translated to, with its report.
 fn judge_wgsl(alloc: Global, bytes: &[u8]) -> Result<Judgement, WgslError>
     ensures { IfOk result IsOfSome }
 {
@@ -65,7 +65,7 @@ fn judge_wgsl(alloc: Global, bytes: &[u8]) -> Result<Judgement, WgslError>
     }
 }
 
-// The answer of a judgement.
+// The result of a validation.
 fn answer_of(alloc: Global, judgement: &Judgement) -> Result<WgslAnswer, AllocError>
     requires { IsOfSome judgement.now }
     ensures { IfOk result (λ a. IsAnswered a.verdict (string_bytes a.text)) }
@@ -77,8 +77,8 @@ fn answer_of(alloc: Global, judgement: &Judgement) -> Result<WgslAnswer, AllocEr
     })
 }
 
-/// What the module is found to be that these bytes of WGSL say. Where it is accepted, the document that it is read as has good runs and
-/// sound buffers, with the report that is in the text. The error is out of memory.
+/// The validation result of the module in this WGSL text. If it is valid, the document that it is translated to has safe runs and
+/// well laid out buffers, with the report in the output. The error is out of memory.
 #[tactic(auto, using(crate::proofs::Soundness::sound_answer))]
 pub fn check_wgsl(alloc: Global, bytes: &[u8]) -> Result<WgslAnswer, AllocError>
     ensures answered { IfOk result (λ a. IsAnswered a.verdict (string_bytes a.text)) }
@@ -90,7 +90,7 @@ pub fn check_wgsl(alloc: Global, bytes: &[u8]) -> Result<WgslAnswer, AllocError>
     }
 }
 
-// Why no module was read.
+// The reason why no module was read.
 fn unread(alloc: Global, bytes: &[u8], error: &WgslError) -> Result<WgslAnswer, AllocError>
     ensures { IfOk result (λ a. a.verdict ≡ Unread) }
 {
@@ -105,7 +105,7 @@ fn unread(alloc: Global, bytes: &[u8], error: &WgslError) -> Result<WgslAnswer, 
     })
 }
 
-// A document as JSON in one line without its end.
+// A document as JSON in one line without a line feed.
 fn written(alloc: Global, document: &Document) -> Result<String, WgslError> {
     match write_document(alloc, document) {
         Ok(text) => Ok(text),
@@ -113,7 +113,7 @@ fn written(alloc: Global, document: &Document) -> Result<String, WgslError> {
     }
 }
 
-/// The document that the text says, as JSON in one line without its end.
+/// The document that the text is translated to, as JSON in one line without a line feed.
 pub fn wgsl_document(alloc: Global, bytes: &[u8]) -> Result<String, WgslError> {
     match read_wgsl(alloc, bytes) {
         Ok(document) => {

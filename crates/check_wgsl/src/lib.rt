@@ -1,4 +1,4 @@
-//! WGSL judged: the module that a text says goes to the check as it is. What is no WGSL, or is not translated, is told with its line and
+//! Validation of WGSL: the module of a text is validated unchanged. Text that is not WGSL or not supported is reported by line and
 //! column.
 #![tactic(auto)]
 

@@ -1,4 +1,4 @@
-// Modules of SPIR-V that are judged under choices.
+// Validation of SPIR-V modules with options.
 
 use check_choices::Choices;
 use check_explanation::{Requested, SpirvError, Traced, explain_made};
@@ -7,8 +7,8 @@ use serde_json::{Value, put};
 use spirv_reader::read_spirv;
 use std::alloc::{AllocError, Global};
 
-/// The explanation of the document that these bytes of SPIR-V say, with the settings that are chosen, and with the lines that are
-/// wanted, where it is accepted.
+/// The explanation of the document that this SPIR-V binary is translated to, with these options, and with the requested
+/// lines, if it is valid.
 pub fn explain_chosen(
     alloc: Global,
     requested: Requested,
@@ -26,7 +26,7 @@ pub fn explain_chosen(
     }
 }
 
-/// The document that the module says, with the settings that are chosen, as JSON in one line without its end.
+/// The document that the module is translated to, with these options, as JSON in one line without a line feed.
 pub fn chosen_document(
     alloc: Global,
     choices: &Choices,
@@ -46,7 +46,7 @@ pub fn chosen_document(
     }
 }
 
-/// The object of an explanation in one line without its end, which says which checks were left out. The error is out of memory.
+/// The object of an explanation in one line without a line feed, with the skipped checks. The error is out of memory.
 pub fn chosen_json(
     alloc: Global,
     choices: &Choices,

@@ -1,7 +1,9 @@
-// A language server on standard input and output, which judges documents while they are written.
+// A language server on standard input and output, which validates documents and WGSL texts as they are edited.
 
+use check_diagnostics::{Diagnosed, explain_wgsl, unread_location};
 use check_explanation::{DocumentError, Explanation, Requested, explain};
 use check_ports::Source;
+use check_wgsl::{Cause, WgslError, message_of};
 use editor_protocol::{Frames, Next, Received, Server, Slip, Text, framed};
 use editor_text::{Encoding, Part, Position, byte_of, character_at, part_at};
 use std::alloc::{AllocError, Global};
@@ -9,13 +11,13 @@ use std::env::Env;
 use std::io::ErrorKind;
 use std::process::ExitCode;
 
-// What the program is called with.
+// The command-line argument.
 const WORD: &[u8] = b"--lsp";
 
-// How many bytes are read in a call at most.
+// The maximum number of bytes to read in a call.
 const CHUNK: usize = 4096;
 
-// Why the server stops before its client wants that.
+// The error that stops the server.
 #[derive(Clone, Copy)]
 enum Stop {
     Memory,
@@ -29,14 +31,14 @@ impl From<AllocError> for Stop {
     }
 }
 
-// What is found in a text: where, and in words.
+// A diagnostic of a text: its range and its message.
 #[derive(Drop)]
 struct Found {
     part: Part,
     text: String,
 }
 
-/// Whether a server is wanted: its word is the first argument.
+/// Whether a server is requested: its word is the first argument.
 pub(crate) fn is_wanted(rt: &HostRuntime) -> bool {
     let mut buffer = [0; 8];
     match rt.arg(1, &mut buffer) {
@@ -45,7 +47,7 @@ pub(crate) fn is_wanted(rt: &HostRuntime) -> bool {
     }
 }
 
-// The part of a text that spells no document which the error speaks of.
+// The range of the error in a text that is not a document.
 fn part_of(text: &[u8], error: &DocumentError) -> Part {
     match error {
         DocumentError::Memory | DocumentError::TooLong => Part { start: 0, end: 0 },
@@ -60,7 +62,7 @@ fn part_of(text: &[u8], error: &DocumentError) -> Part {
     }
 }
 
-// The part of a text that its explanation speaks of; nothing where it is accepted.
+// The range of the error in a text, by its explanation; nothing if it is valid.
 fn part_in(text: &[u8], explanation: &Explanation) -> Option<Part> {
     match explanation {
         Explanation::Accepted { .. } => None,
@@ -83,7 +85,7 @@ fn found_in(
     }
 }
 
-// What is wrong with a document.
+// The diagnostic of a document.
 fn judged(alloc: Global, text: &[u8]) -> Result<Option<Found>, AllocError> {
     match explain(alloc, Requested::Nothing, text) {
         Ok(explanation) => {
@@ -95,14 +97,59 @@ fn judged(alloc: Global, text: &[u8]) -> Result<Option<Found>, AllocError> {
     }
 }
 
-// What is wrong with a text that is not kept.
+// The diagnostic of an invalid module, at the part of the text that it comes from.
+fn found_at(alloc: Global, diagnosed: &Diagnosed) -> Result<Option<Found>, AllocError> {
+    let explanation = &diagnosed.explanation;
+    if let Explanation::Accepted { .. } = explanation {
+        return Ok(None);
+    }
+    let part = match &diagnosed.location {
+        Some(location) => location.part,
+        None => Part { start: 0, end: 0 },
+    };
+    let text = format!(in alloc; "{explanation}")?;
+    Ok(Some(Found { part, text }))
+}
+
+// The diagnostic of a text of which no module was read.
+fn unread(alloc: Global, text: &[u8], error: &WgslError) -> Result<Option<Found>, AllocError> {
+    if error.cause == Cause::Memory {
+        return Err(AllocError);
+    }
+    let part = unread_location(text, error).part;
+    let text = message_of(alloc, text, error)?;
+    Ok(Some(Found { part, text }))
+}
+
+// The diagnostic of a WGSL text.
+fn judged_wgsl(alloc: Global, text: &[u8]) -> Result<Option<Found>, AllocError> {
+    match explain_wgsl(alloc, Requested::Nothing, text) {
+        Ok(diagnosed) => {
+            let found = found_at(alloc, &diagnosed);
+            drop(diagnosed);
+            found
+        }
+        Err(error) => unread(alloc, text, &error),
+    }
+}
+
+// The diagnostic of a text by its kind.
+fn judged_text(alloc: Global, is_wgsl: bool, text: &[u8]) -> Result<Option<Found>, AllocError> {
+    if is_wgsl {
+        judged_wgsl(alloc, text)
+    } else {
+        judged(alloc, text)
+    }
+}
+
+// The diagnostic of a text that is too long.
 fn too_long(alloc: Global) -> Result<Option<Found>, AllocError> {
     let text = String::from_str(alloc, "the text is too long to be judged")?;
     let part = Part { start: 0, end: 0 };
     Ok(Some(Found { part, text }))
 }
 
-// Writes a message in its frame.
+// Writes a message with its header.
 fn send(rt: &HostRuntime, message: &str) -> Result<(), Stop> {
     let frame = framed(rt.alloc(), message)?;
     match print!(rt; "{frame}") {
@@ -111,7 +158,7 @@ fn send(rt: &HostRuntime, message: &str) -> Result<(), Stop> {
     }
 }
 
-// Writes what is found in the document at a place.
+// Writes the diagnostics of the document at an index.
 fn publish(
     rt: &HostRuntime,
     server: &Server,
@@ -131,19 +178,20 @@ fn publish(
     }
 }
 
-// Judges the document at a place, and writes what is found.
+// Validates the document at an index, and writes its diagnostics.
 fn judge(rt: &HostRuntime, server: &Server, place: usize) -> Result<(), Stop> {
     let Some(document) = server.document(place) else {
         return Ok(());
     };
+    let is_wgsl = document.uri.ends_with(".wgsl");
     let found = match &document.text {
-        Text::Known(text) => judged(rt.alloc(), text)?,
+        Text::Known(text) => judged_text(rt.alloc(), is_wgsl, text)?,
         Text::TooLong => too_long(rt.alloc())?,
     };
     publish(rt, server, place, found.as_ref())
 }
 
-// Does what is to be done. Returns the status, where that is the end.
+// Performs an action. Returns the exit status, if the server ends.
 fn act(rt: &HostRuntime, server: &Server, next: Next) -> Result<Option<u8>, Stop> {
     match next {
         Next::Nothing => Ok(None),
@@ -159,8 +207,8 @@ fn act(rt: &HostRuntime, server: &Server, next: Next) -> Result<Option<u8>, Stop
     }
 }
 
-// Does what is to be done with what came in. Returns the status, where that is the end: after what has no header the next message is not
-// found.
+// Handles the result of reading. Returns the exit status, if the server ends: after bytes without a header the next message can't
+// be located.
 fn take(rt: &HostRuntime, server: &mut Server, received: Received) -> Result<Option<u8>, Stop> {
     match received {
         Received::Part => Ok(None),
@@ -180,7 +228,7 @@ fn take(rt: &HostRuntime, server: &mut Server, received: Received) -> Result<Opt
     }
 }
 
-// Does what is to be done with bytes. Returns the status, where that is the end.
+// Handles input bytes. Returns the exit status, if the server ends.
 fn take_all(
     rt: &HostRuntime,
     frames: &mut Frames,
@@ -201,7 +249,7 @@ fn take_all(
     Ok(None)
 }
 
-// Serves until the end of the input, or until the client wants the end.
+// Serves until the end of the input, or until the client requests an exit.
 fn serve_all(rt: &HostRuntime) -> Result<u8, Stop> {
     let mut source = Source::new(rt.reader());
     let mut frames = Frames::new(rt.alloc());
@@ -221,7 +269,7 @@ fn serve_all(rt: &HostRuntime) -> Result<u8, Stop> {
     Ok(server.status())
 }
 
-/// Serves an editor. Ends with 0 after it was shut down, 1 where it was not, and 2 at a fault.
+/// Runs the language server. Exits with 0 after a shutdown request, 1 without one, and 2 on an I/O error or out of memory.
 pub(crate) fn serve(rt: &HostRuntime) -> ExitCode {
     let fault = match serve_all(rt) {
         Ok(status) => return ExitCode::from(status),

@@ -1,8 +1,8 @@
-// Judges the document on standard input. With `--explain` it prints why it is refused, and where, in one line, with `--names` with the
-// error by its name after it, or with `--json` all of it as one JSON object; with `--leaves` what lies inside the buffers of an
-// accepted one, too. With `--spirv` the module of SPIR-V there, in the same forms, and with `--document` the document that it says.
-// With `--wgsl` the text of WGSL there, likewise. With `--lsp` as its first word it is a language server. Words that are none of these
-// are ignored.
+// Validates the document on standard input. With `--explain` it prints why it is invalid, and where, in one line, with `--names`
+// followed by the error in `Debug` form, or with `--json` everything as one JSON object; with `--leaves` also the contents of the
+// buffers of a valid one. With `--spirv` the SPIR-V module there, in the same forms, and with `--document` the document it is
+// translated to. With `--wgsl` the WGSL text there, likewise. With `--lsp` as its first argument it is a language server. Unknown
+// arguments are ignored.
 #![tactic(auto)]
 
 mod chosen;
@@ -24,7 +24,7 @@ use std::process::ExitCode;
 use std::str::from_utf8;
 use wgsl::print_wgsl;
 
-// In which form.
+// The output form.
 #[derive(Clone, Copy)]
 enum Form {
     Verdict,
@@ -36,21 +36,21 @@ enum Form {
     Document,
 }
 
-// What a word after an argument says.
+// The option whose value is the next argument.
 #[derive(Clone, Copy)]
 enum Choice {
     Without,
     Capabilities,
 }
 
-// What the arguments say.
+// The command-line options.
 #[derive(Clone, Copy)]
 struct Arguments {
     form: Form,
     is_spirv: bool,
     is_wgsl: bool,
     choices: Choices,
-    // of what the next one has the words
+    // the option whose value is the next argument
     open: Option<Choice>,
 }
 
@@ -59,7 +59,7 @@ fn fault(rt: &HostRuntime, message: &str) -> ExitCode {
     ExitCode::from(2)
 }
 
-// The form of this name.
+// The output form with this name.
 fn form_of(word: &str) -> Option<Form> {
     match word {
         "--explain" => Some(Form::Line),
@@ -72,7 +72,7 @@ fn form_of(word: &str) -> Option<Form> {
     }
 }
 
-// The form of two arguments, one after the other: the last one, but that leaves may have names.
+// The output form of two arguments: the later one, except that leaves can be combined with names.
 fn joined(before: Form, after: Form) -> Form {
     match (before, after) {
         (Form::Leaves, Form::LineWithNames) | (Form::LineWithNames, Form::Leaves) => {
@@ -82,7 +82,7 @@ fn joined(before: Form, after: Form) -> Form {
     }
 }
 
-// Takes what an argument says; a word that says nothing is ignored. Returns whether it names checks or capabilities where it has to.
+// Reads an argument; an unknown one is ignored. Returns whether an option's value names existing checks or capabilities.
 fn take_word(wanted: &mut Arguments, word: &str) -> bool {
     match wanted.open {
         Some(Choice::Without) => {
@@ -120,11 +120,11 @@ fn take_word(wanted: &mut Arguments, word: &str) -> bool {
     true
 }
 
-// The longest argument, in bytes: there is room for the words of all capabilities.
+// The maximum length of an argument, in bytes: enough for the words of all capabilities.
 const MAX_WORD: usize = 1024;
 
-// What the arguments say, the last of them that names a form; nothing where what is left out or allowed is named wrongly, or is not of a
-// module of SPIR-V. It takes no memory.
+// The options of the arguments, with the last output form; nothing if checks or capabilities are misspelled, or given without a
+// SPIR-V module. It allocates nothing.
 fn read_arguments(rt: &HostRuntime) -> Option<Arguments> {
     let mut wanted = Arguments {
         form: Form::Verdict,
@@ -138,7 +138,7 @@ fn read_arguments(rt: &HostRuntime) -> Option<Arguments> {
         let length = match rt.arg(place, &mut buffer) {
             Ok(length) => length,
             Err(FillError::NotPresent) => break,
-            // what is too long for a word of an option is none
+            // an argument that is too long is not an option
             Err(FillError::TooLong) if wanted.open.is_none() => continue,
             Err(FillError::TooLong) => return None,
         };
@@ -147,13 +147,13 @@ fn read_arguments(rt: &HostRuntime) -> Option<Arguments> {
             return None;
         }
     }
-    // what is chosen is of modules of SPIR-V
+    // these options apply to SPIR-V modules only
     let is_one = !(wanted.is_spirv && wanted.is_wgsl);
     let is_whole = is_one && wanted.open.is_none() && (wanted.is_spirv || wanted.choices.is_none());
     if is_whole { Some(wanted) } else { None }
 }
 
-// What is to be known of an accepted document for this form.
+// The lines that this form requests for a valid document.
 fn requested_by(form: Form) -> Requested {
     match form {
         Form::Line => Requested::Nothing,
@@ -162,7 +162,7 @@ fn requested_by(form: Form) -> Requested {
     }
 }
 
-// Ends with this status, if all was written.
+// Exits with this status, if everything was written.
 fn ended(rt: &HostRuntime, written: io::Result<()>, status: u8) -> ExitCode {
     match written {
         Ok(()) => ExitCode::from(status),
@@ -170,7 +170,7 @@ fn ended(rt: &HostRuntime, written: io::Result<()>, status: u8) -> ExitCode {
     }
 }
 
-// Prints a text, unless there was no memory for it.
+// Prints a text, unless it is out of memory.
 fn print_text(
     rt: &HostRuntime,
     text: Result<String, AllocError>,
@@ -187,7 +187,7 @@ fn print_text(
     }
 }
 
-// Prints the line, with the error by its name after it; of what is accepted the lines that were wanted, with the names of its parts.
+// Prints the line, followed by the error in `Debug` form; for a valid document the requested lines, with the names of its parts.
 fn print_names(rt: &HostRuntime, traced: &Traced, status: u8) -> ExitCode {
     match (&traced.explanation, traced.explanation.error_name()) {
         (_, Some(error)) => ended(rt, println!(rt; "{traced} ({error})"), status),
@@ -205,7 +205,7 @@ fn status(explanation: &Explanation) -> u8 {
     }
 }
 
-// Prints what is found.
+// Prints an explanation.
 fn print_explanation(rt: &HostRuntime, form: Form, traced: &Traced) -> ExitCode {
     let status = status(&traced.explanation);
     match form {
@@ -218,14 +218,14 @@ fn print_explanation(rt: &HostRuntime, form: Form, traced: &Traced) -> ExitCode 
     }
 }
 
-// The same of an explanation that is not needed after that. It is freed by a call, which is cheaper to prove than on the way out.
+// Prints an explanation and frees it. A call frees it, which is cheaper to prove than dropping it at the return.
 fn print_traced(rt: &HostRuntime, form: Form, traced: Traced) -> ExitCode {
     let code = print_explanation(rt, form, &traced);
     drop(traced);
     code
 }
 
-// The status of what a module of SPIR-V is found to be.
+// The exit status for a SPIR-V module.
 fn spirv_status(answer: &SpirvAnswer) -> u8 {
     match answer.verdict {
         SpirvVerdict::Accepted => 0,
@@ -250,7 +250,7 @@ fn print_unread(rt: &HostRuntime, form: Form, bytes: &[u8], error: &SpirvError) 
     }
 }
 
-// Prints what the module of SPIR-V is found to be.
+// Prints the verdict on a SPIR-V module.
 fn print_spirv(rt: &HostRuntime, form: Form, bytes: &[u8]) -> ExitCode {
     match form {
         Form::Verdict => match check_spirv(rt.alloc(), bytes) {
@@ -272,7 +272,7 @@ fn print_spirv(rt: &HostRuntime, form: Form, bytes: &[u8]) -> ExitCode {
     }
 }
 
-// Prints what is found of a module under choices.
+// Prints the explanation of a module validated with options.
 fn print_traced_under(rt: &HostRuntime, form: Form, choices: &Choices, traced: Traced) -> ExitCode {
     if let Form::Object = form {
         let status = status(&traced.explanation);
@@ -283,7 +283,7 @@ fn print_traced_under(rt: &HostRuntime, form: Form, choices: &Choices, traced: T
     print_traced(rt, form, traced)
 }
 
-// Prints what the module of SPIR-V is found to be under choices.
+// Prints the verdict on a SPIR-V module validated with options.
 fn print_chosen(rt: &HostRuntime, form: Form, choices: &Choices, bytes: &[u8]) -> ExitCode {
     if choices.leaves_out() {
         let _ = eprintln!(rt; "not under all six checks: without {choices}");
@@ -300,7 +300,7 @@ fn print_chosen(rt: &HostRuntime, form: Form, choices: &Choices, bytes: &[u8]) -
     }
 }
 
-// Prints what the document is found to be.
+// Prints the verdict on the document.
 fn print_document(rt: &HostRuntime, form: Form, bytes: &[u8]) -> ExitCode {
     match explain(rt.alloc(), requested_by(form), bytes) {
         Ok(explanation) => print_traced(rt, form, Traced::of_document(rt.alloc(), explanation)),
@@ -308,7 +308,7 @@ fn print_document(rt: &HostRuntime, form: Form, bytes: &[u8]) -> ExitCode {
     }
 }
 
-// Prints what the arguments want of these bytes.
+// Prints what the arguments request for these bytes.
 fn print_all(rt: &HostRuntime, wanted: Arguments, bytes: &[u8]) -> ExitCode {
     if wanted.is_spirv && !wanted.choices.is_none() {
         print_chosen(rt, wanted.form, &wanted.choices, bytes)
@@ -321,7 +321,7 @@ fn print_all(rt: &HostRuntime, wanted: Arguments, bytes: &[u8]) -> ExitCode {
     }
 }
 
-// Judges the document on standard input: the call of the theorem.
+// Validates the document on standard input: the call that the theorem is about.
 fn judge(rt: &HostRuntime) -> ExitCode {
     let mut source = Source::new(rt.reader());
     let mut sink = Sink::new(io::writer(rt));

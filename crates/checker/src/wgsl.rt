@@ -1,10 +1,12 @@
-// What is answered of texts of WGSL.
+// The output for WGSL texts.
 
-use crate::{Form, ended, fault, print_document, print_text};
+use crate::{Form, ended, fault, print_text, print_traced, requested_by, status};
+use check_diagnostics::{Diagnosed, explain_wgsl, unread_object, unread_text};
+use check_explanation::Traced;
 use check_wgsl::{Cause, WgslError, WgslVerdict, check_wgsl, message_of, wgsl_document};
 use std::process::ExitCode;
 
-// The status of what a text is found to be.
+// The exit status for a text.
 fn wgsl_status(verdict: WgslVerdict) -> u8 {
     match verdict {
         WgslVerdict::Accepted => 0,
@@ -25,39 +27,69 @@ fn print_verdict(rt: &HostRuntime, bytes: &[u8]) -> ExitCode {
 }
 
 // Prints why no module was read.
-fn print_unread(rt: &HostRuntime, bytes: &[u8], error: &WgslError) -> ExitCode {
-    match error.cause {
-        Cause::Memory => fault(rt, "memory"),
-        Cause::Malformed | Cause::Unsupported => {
-            print_text(rt, message_of(rt.alloc(), bytes, error), "\n", 3)
+fn print_unread(rt: &HostRuntime, form: Form, bytes: &[u8], error: &WgslError) -> ExitCode {
+    let alloc = rt.alloc();
+    if error.cause == Cause::Memory {
+        return fault(rt, "memory");
+    }
+    let text = match form {
+        Form::Object => unread_object(alloc, bytes, error),
+        Form::Line | Form::LineWithNames => unread_text(alloc, bytes, error),
+        Form::Verdict | Form::Leaves | Form::NamedLeaves | Form::Document => {
+            message_of(alloc, bytes, error)
         }
-    }
+    };
+    print_text(rt, text, "\n", 3)
 }
 
-// Prints what is found of the document that a text says, or that document.
-fn print_read(rt: &HostRuntime, form: Form, document: &str) -> ExitCode {
-    match form {
-        Form::Document => ended(rt, println!(rt; "{document}"), 0),
-        Form::Verdict
-        | Form::Line
-        | Form::LineWithNames
-        | Form::Leaves
-        | Form::NamedLeaves
-        | Form::Object => print_document(rt, form, document.as_bytes()),
-    }
+// Prints the explanation of an invalid module.
+fn print_refused(rt: &HostRuntime, form: Form, bytes: &[u8], diagnosed: &Diagnosed) -> ExitCode {
+    let alloc = rt.alloc();
+    let (text, end) = match form {
+        Form::Object => (diagnosed.json(alloc), "\n"),
+        Form::Line => (diagnosed.text(alloc, bytes, false), "\n"),
+        Form::LineWithNames | Form::NamedLeaves => (diagnosed.text(alloc, bytes, true), "\n"),
+        Form::Verdict | Form::Leaves | Form::Document => (diagnosed.explanation.listing(alloc), ""),
+    };
+    print_text(rt, text, end, 1)
 }
 
-// Prints what a text of WGSL is found to be.
-pub(crate) fn print_wgsl(rt: &HostRuntime, form: Form, bytes: &[u8]) -> ExitCode {
-    if let Form::Verdict = form {
-        return print_verdict(rt, bytes);
+// Prints an explanation and frees it.
+fn print_diagnosed(rt: &HostRuntime, form: Form, bytes: &[u8], diagnosed: Diagnosed) -> ExitCode {
+    if status(&diagnosed.explanation) == 0 {
+        return print_traced(
+            rt,
+            form,
+            Traced::of_document(rt.alloc(), diagnosed.explanation),
+        );
     }
+    let code = print_refused(rt, form, bytes, &diagnosed);
+    drop(diagnosed);
+    code
+}
+
+// Prints the document that a text is translated to.
+fn print_translated(rt: &HostRuntime, bytes: &[u8]) -> ExitCode {
     match wgsl_document(rt.alloc(), bytes) {
         Ok(document) => {
-            let code = print_read(rt, form, document.as_str());
+            let written = println!(rt; "{document}");
             drop(document);
-            code
+            ended(rt, written, 0)
         }
-        Err(error) => print_unread(rt, bytes, &error),
+        Err(error) => print_unread(rt, Form::Document, bytes, &error),
+    }
+}
+
+// Prints the verdict on a WGSL text.
+pub(crate) fn print_wgsl(rt: &HostRuntime, form: Form, bytes: &[u8]) -> ExitCode {
+    match form {
+        Form::Verdict => print_verdict(rt, bytes),
+        Form::Document => print_translated(rt, bytes),
+        Form::Line | Form::LineWithNames | Form::Leaves | Form::NamedLeaves | Form::Object => {
+            match explain_wgsl(rt.alloc(), requested_by(form), bytes) {
+                Ok(diagnosed) => print_diagnosed(rt, form, bytes, diagnosed),
+                Err(error) => print_unread(rt, form, bytes, &error),
+            }
+        }
     }
 }

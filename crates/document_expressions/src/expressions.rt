@@ -1,4 +1,4 @@
-// Expressions, each kind by a function of its own.
+// The JSON forms of expressions, each kind decoded by a function of its own.
 ghost use Rattle.std.specs.Prelude.{◌≡◌, option_map};
 ghost use Rattle.serde_json.specs.View.{view as data_of, items_view};
 ghost use Rattle.ir_types.specs.judged.ExpressionPlain.{PlainExpression, expression_view};
@@ -359,7 +359,7 @@ fn cooperative_multiply_add(alloc: Global, rest: &[Value]) -> Result<Expression,
     Ok(Expression::CooperativeMultiplyAdd { a, b, c })
 }
 
-// The expression of a kind.
+// Decodes the expression of a kind.
 fn by_kind(alloc: Global, kind: ExpressionKind, rest: &[Value]) -> Result<Expression, ReadError>
     ensures { Answers result (λ found. option_map expression_view found ≡ expression_with kind (items_view rest.now)) }
 {
@@ -401,7 +401,7 @@ fn by_kind(alloc: Global, kind: ExpressionKind, rest: &[Value]) -> Result<Expres
     }
 }
 
-/// How an expression is written.
+/// The JSON form of an expression.
 pub struct ExpressionForm;
 
 impl Form for ExpressionForm {

@@ -1,4 +1,4 @@
-// How images are read: levels of detail, queries, and the letters of a swizzle.
+// The JSON forms of sample levels, image queries and swizzle patterns.
 ghost use Rattle.std.specs.Prelude.{◌≡◌, List, option_map};
 ghost use Rattle.ir_kinds.specs.declared.scalars.SwizzleComponent.{SwizzleComponent};
 ghost use Rattle.ir_types.specs.declared.expressions.SampleLevel.{SampleLevel};
@@ -14,7 +14,7 @@ use std::alloc::Global;
 
 type E = At<key::Expression>;
 
-/// How a level of detail is written.
+/// The JSON form of a sample level.
 pub struct LevelForm;
 
 impl Form for LevelForm {
@@ -48,7 +48,7 @@ impl Form for LevelForm {
     }
 }
 
-/// How it is written what is required of an image.
+/// The JSON form of an image query.
 pub struct QueryForm;
 
 impl Form for QueryForm {
@@ -128,7 +128,7 @@ fn pattern_in(text: &[u8]) -> Option<[SwizzleComponent; 4]>
     Some([a, b, c, d])
 }
 
-/// How the components of a swizzle are written: as a text of four of the letters x, y, z and w.
+/// The JSON form of a swizzle pattern: a string of four of the letters x, y, z and w.
 pub struct PatternForm;
 
 impl Form for PatternForm {

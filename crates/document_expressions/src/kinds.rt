@@ -1,4 +1,4 @@
-// The kinds of expressions and of their parts, by their words.
+// The kinds of expressions, literals, sample levels and image queries, with their tags.
 ghost use Rattle.document_expressions.specs.found.Kinds.{expression_kinds, literal_kinds, level_kinds, query_kinds};
 
 use document_words::Word;
@@ -42,7 +42,7 @@ pub enum ExpressionKind {
     CooperativeMultiplyAdd,
 }
 
-// Those that shaders have most of come first, since a word is looked for from the first on.
+// The most frequent kinds of shaders come first, because a lookup scans the table from the start.
 static EXPRESSION_KINDS: [(&str, ExpressionKind); 34] = [
     ("Load", ExpressionKind::Load),
     ("Literal", ExpressionKind::Literal),
@@ -106,7 +106,7 @@ impl Word for ExpressionKind {
     }
 }
 
-/// The scalars that a literal may be of.
+/// The scalar types of literals.
 #[derive(Clone, Copy)]
 pub enum LiteralKind {
     Bool,
@@ -146,7 +146,7 @@ impl Word for LiteralKind {
     }
 }
 
-/// The kinds of levels of detail.
+/// The kinds of sample levels.
 #[derive(Clone, Copy)]
 pub enum LevelKind {
     Auto,
@@ -172,7 +172,7 @@ impl Word for LevelKind {
     }
 }
 
-/// What can be queried of an image.
+/// The kinds of image queries.
 #[derive(Clone, Copy)]
 pub enum QueryKind {
     Size,

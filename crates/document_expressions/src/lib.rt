@@ -1,4 +1,4 @@
-//! The written forms of expressions.
+//! The JSON forms of expressions, and their decoders.
 #![tactic(auto)]
 
 mod expressions;

@@ -1,4 +1,4 @@
-// Literals: a scalar type and a value.
+// The JSON form of literals: a scalar type and a value.
 ghost use Rattle.std.specs.Prelude.{◌≡◌, option_map};
 ghost use Rattle.serde_json.specs.View.{items_view};
 ghost use Rattle.ir_kinds.specs.declared.values.Literal.{Literal};
@@ -11,7 +11,7 @@ use ir_kinds::Literal;
 use serde_json::Value;
 use std::alloc::Global;
 
-// The literal of a kind, whose value stands at `index`.
+// Decodes the literal of a scalar type, whose value has the index `index`.
 #[tactic(auto, unfolding(crate::specs::found::Expressions::literal_with))]
 fn by_kind(
     alloc: Global,
@@ -41,8 +41,8 @@ fn by_kind(
     }
 }
 
-/// How a literal is written: its scalar's word, and its value in the scalar's range. A float is written as the number
-/// that its bits are.
+/// The JSON form of a literal: the word of its scalar type, and its value in the range of that type. A float is encoded as
+/// its bits, an unsigned integer.
 pub struct LiteralRow;
 
 impl Row for LiteralRow {

@@ -1,4 +1,4 @@
--- What an answer says of the form.
+-- The success and the failure of a decoder, in terms of the encoding relation.
 use Rattle.std.proofs.Common.{◌≡◌, ◌≢◌, ◌≤◌, Option, Result, Ok, Err, IfOk, IfErr, option_map, sym, ◌∙◌}
 use Rattle.serde_json.specs.Data.{Data, depth}
 use Rattle.document_forms.specs.found.Answers.{Answers}

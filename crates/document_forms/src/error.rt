@@ -1,4 +1,4 @@
-// Why nothing was read.
+// The error of a decoder, and where in the JSON value it is.
 ghost use Rattle.std.specs.Prelude.{◌≡◌, ◌≢◌, ◌↔◌};
 ghost use Rattle.document_forms.specs.declared.error.ReadError.TheVariants.{Memory};
 
@@ -7,16 +7,16 @@ use std::alloc::{AllocError, AllocFailed};
 use std::fmt::{self, Display};
 use thiserror::Error;
 
-/// Where a part stands: the indexes that lead to it, from the outermost on, as far as there is room for them.
+/// The path to an element of nested arrays: the indices from the outermost array on, up to a fixed number of levels.
 #[derive(Clone, Copy, Debug, PartialEq, Eq)]
 pub struct Place {
     steps: [u32; 8],
-    // how many of them there are
+    // the number of levels, which may exceed those stored
     count: u8,
 }
 
 impl Place {
-    // The value itself.
+    // The top-level value.
     fn here() -> Place {
         Place {
             steps: [0; 8],
@@ -24,7 +24,7 @@ impl Place {
         }
     }
 
-    // The same place inside the part at this index.
+    // The same place, inside the array element at this index.
     fn inside(self, index: usize) -> Place {
         let [a, b, c, d, e, f, g, _] = self.steps;
         Place {
@@ -42,7 +42,7 @@ impl Place {
         }
     }
 
-    /// The indexes, the outermost first.
+    /// The indices, the outermost first.
     pub fn steps(&self) -> &[u32] {
         let count = usize::from(self.count).min(self.steps.len());
         &self.steps[..count]
@@ -61,24 +61,24 @@ impl Display for Place {
     }
 }
 
-/// Why nothing was read.
+/// The error of a decoder.
 #[derive(Clone, Copy, Debug, PartialEq, Eq, Error)]
 pub enum ReadError {
-    /// There was no memory for what is written.
+    /// Out of memory for the decoded item.
     #[error("out of memory")]
     Memory,
-    /// The value is of another form.
+    /// The JSON value does not have the expected form.
     #[error("{place}: {} is wanted", .wanted.text())]
     Malformed {
-        /// The first part that is not of its form.
+        /// The first element that does not.
         place: Place,
-        /// What is wanted there.
+        /// What is expected there.
         wanted: Wanted,
     },
 }
 
 impl ReadError {
-    /// The value itself is of another form.
+    /// The error at the value itself.
     pub fn here(wanted: Wanted) -> ReadError
         ensures { result ≢ Memory }
     {
@@ -88,7 +88,7 @@ impl ReadError {
         }
     }
 
-    /// The same, of the part at this index.
+    /// The same error, inside the array element at this index.
     pub fn at(self, index: usize) -> ReadError
         ensures { (result ≡ Memory) ↔ (self ≡ Memory) }
     {

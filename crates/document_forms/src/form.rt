@@ -1,4 +1,4 @@
-// What a written form is, and the simplest of them.
+// The trait of JSON forms, and the forms of bools, strings and options.
 ghost use Rattle.std.specs.Prelude.{◌≡◌, ◌≢◌, ◌≤◌, ℕ, Bool, List, Option, option_map, string_bytes, IfOk, IfErr};
 ghost use Rattle.serde_json.specs.Data.{Data, depth};
 ghost use Rattle.serde_json.specs.View.{view as data_of};
@@ -13,25 +13,25 @@ use serde_json::Value;
 use std::alloc::Global;
 use std::marker::PhantomData;
 
-/// How one kind of item is written as one value. The form is a type of its own, so that a crate can read the items of
-/// another one.
+/// A JSON encoding of one type of item, with its decoder. A marker type implements it, so that a crate can decode the types of
+/// another crate.
 pub trait Form {
-    /// What is read.
+    /// The decoded type.
     type Item: Drop;
 
-    /// What an item is as plain data.
+    /// The view of an item as plain data.
     ghost Plain: { Type 0 };
 
     ghost view: { Self.Item → Plain };
 
     ghost form: { FormOf Plain };
 
-    /// The item that the value is written for.
+    /// Decodes the item that the value encodes.
     fn read(alloc: Global, value: &Value) -> Result<Self::Item, ReadError>
         ensures { Answers result (λ found. option_map view found ≡ form.find (data_of value.now)) };
 }
 
-/// The item that the value is written for, which is the part at this index of an array.
+/// Decodes the item that the value encodes; the value is the array element at this index.
 pub fn read_at<F: Form>(alloc: Global, value: &Value, index: usize) -> Result<F::Item, ReadError>
     ensures { Answers result (λ found. option_map F.view found ≡ F.form.find (data_of value.now)) }
 {
@@ -41,7 +41,7 @@ pub fn read_at<F: Form>(alloc: Global, value: &Value, index: usize) -> Result<F:
     }
 }
 
-/// The item that the value is written for, or that it is written for none, unless memory ran out.
+/// Decodes the item that the value encodes. An error other than out of memory proves that it encodes none.
 pub fn read_form<F: Form>(alloc: Global, value: &Value) -> Result<F::Item, ReadError>
     ensures ok { IfOk result (λ x. F.form.Written (F.view x) (data_of value.now)) }
     ensures malformed { IfErr result (λ e. e ≢ Memory → depth (data_of value.now) ≤ deepest → (x : F.Plain) → ¬ F.form.Written x (data_of value.now)) }
@@ -49,7 +49,7 @@ pub fn read_form<F: Form>(alloc: Global, value: &Value) -> Result<F::Item, ReadE
     F::read(alloc, value)
 }
 
-/// A value is written for one item at most.
+/// A value encodes at most one item.
 pub fn is_unique<F: Form>()
     ensures { (d : Data) (x y : F.Plain) → depth d ≤ deepest → F.form.Written x d → F.form.Written y d → x ≡ y }
 {}
@@ -74,7 +74,7 @@ impl Form for Truth {
     }
 }
 
-/// A text.
+/// A string.
 pub struct Text;
 
 impl Form for Text {
@@ -94,7 +94,7 @@ impl Form for Text {
     }
 }
 
-/// This, or `null`.
+/// An optional item: `null` if `None`.
 pub struct Maybe<F>(PhantomData<F>);
 
 impl<F: Form> Form for Maybe<F> {

@@ -1,4 +1,4 @@
-// What takes items one by one.
+// Collections that are built item by item.
 ghost use Rattle.std.specs.Prelude.{◌≡◌, ◌≢◌, List, [], ◌∷◌, ◌++◌, map, IfOk, IfErr, OnOk};
 ghost use Rattle.ir_arena.specs.declared.span.Span.{Span};
 ghost use Rattle.document_forms.specs.declared.error.ReadError.TheVariants.{Memory};
@@ -9,18 +9,18 @@ use ir_arena::arena::Arena;
 use ir_arena::span::Span;
 use std::alloc::{AllocError, Global};
 
-/// What takes items of a form one by one, and keeps them in that order.
+/// A collection to which a decoder appends the items of a form, in order.
 pub trait Grow<F: Form>: Drop {
     ghost items: { Self → List F.Item };
 
-    /// Which item is refused after these.
+    /// Whether an item is rejected after these, for example because it is equal to one of them.
     ghost refuses: { List F.Item → F.Item → Type 0 };
 
-    /// With no item yet, and with room for so many.
+    /// An empty collection with capacity for `room` items.
     fn with_room(alloc: Global, room: usize) -> Result<Self, AllocError>
         ensures { IfOk result (λ all. items all ≡ []) };
 
-    /// Takes one more. An error that is not of memory says that it is refused.
+    /// Appends an item. An error other than out of memory says that it is rejected.
     fn add(&mut self, item: F::Item) -> Result<(), ReadError>
         ensures added { OnOk result (items self.new ≡ items self.old ++ item ∷ []) }
         ensures refused { IfErr result (λ e. e ≢ Memory → refuses (items self.old) item) };

@@ -1,4 +1,4 @@
-//! Written forms, alone and in rows: what a value must be to be written for something, and how that is read.
+//! JSON forms: how single items and sequences of items are encoded as JSON values, and their decoders.
 #![tactic(auto)]
 
 mod error;

@@ -1,4 +1,4 @@
-// Lists of items, in whatever takes them.
+// Lists of items, in any collection.
 ghost use Rattle.std.specs.Prelude.{◌≡◌, ◌≢◌, List, [], ◌∷◌, ◌++◌, Some, map, IfOk, IfErr, OnOk};
 ghost use Rattle.serde_json.specs.View.{view as data_of, items_view};
 ghost use Rattle.document_forms.specs.found.Decide.{each, all_of};
@@ -16,7 +16,7 @@ use serde_json::Value;
 use std::alloc::Global;
 use std::marker::PhantomData;
 
-// Takes one more, which stands at this index.
+// Appends an item; an error is at this index.
 fn add_at<F: Form, C: Grow<F>>(all: &mut C, item: F::Item, index: usize) -> Result<(), ReadError>
     ensures added { OnOk result (C.items all.new ≡ C.items all.old ++ item ∷ []) }
     ensures refused { IfErr result (λ e. e ≢ Memory → C.refuses (C.items all.old) item) }
@@ -24,8 +24,8 @@ fn add_at<F: Form, C: Grow<F>>(all: &mut C, item: F::Item, index: usize) -> Resu
     all.add(item).map_err(|e| e.at(index))
 }
 
-/// All the items of an array, in their order. An error that is not of memory says that the value is written for no such
-/// list, or that one of its items is refused after those before it.
+/// Decodes all elements of an array, in order. An error other than out of memory says that the value encodes no such
+/// list, or that the collection rejects one of its items after those before it.
 pub fn read_all<F: Form, C: Grow<F>>(alloc: Global, value: &Value) -> Result<C, ReadError>
     ensures found { IfOk result (λ c. Some (map F.view (C.items c)) ≡ all_of F.form.find (data_of value.now)) }
     ensures refused { IfErr result (λ e. e ≢ Memory → NoneTaken C.refuses F.view (all_of F.form.find (data_of value.now))) }
@@ -43,7 +43,7 @@ pub fn read_all<F: Form, C: Grow<F>>(alloc: Global, value: &Value) -> Result<C, 
     Ok(found)
 }
 
-/// The same of a value that is freed, each item once it is read.
+/// Decodes and frees the elements of an array one by one.
 pub fn take_all<F: Take, C: Grow<F>>(alloc: Global, value: Value) -> Result<C, ReadError>
     ensures found { IfOk result (λ c. Some (map F.view (C.items c)) ≡ all_of F.form.find (data_of value)) }
     ensures refused { IfErr result (λ e. e ≢ Memory → NoneTaken C.refuses F.view (all_of F.form.find (data_of value))) }
@@ -55,7 +55,7 @@ pub fn take_all<F: Take, C: Grow<F>>(alloc: Global, value: Value) -> Result<C, R
     take_items::<F, C>(alloc, items, empty)
 }
 
-/// The same into what was made for them, and has no item yet.
+/// Decodes and frees the elements of an array one by one, into an empty collection.
 pub fn take_into<F: Take, C: Grow<F>>(alloc: Global, value: Value, empty: C) -> Result<C, ReadError>
     requires { C.items empty ≡ [] }
     ensures found { IfOk result (λ c. Some (map F.view (C.items c)) ≡ all_of F.form.find (data_of value)) }
@@ -67,7 +67,7 @@ pub fn take_into<F: Take, C: Grow<F>>(alloc: Global, value: Value, empty: C) -> 
     take_items::<F, C>(alloc, written, empty)
 }
 
-// The items of an array, each freed once it is read, in what has none yet.
+// Decodes and frees these array elements one by one, into an empty collection.
 fn take_items<F: Take, C: Grow<F>>(
     alloc: Global,
     items: Vec<Value>,
@@ -87,7 +87,7 @@ fn take_items<F: Take, C: Grow<F>>(
     Ok(found)
 }
 
-/// Any number of these, in a `Vec`.
+/// A list of any length, as a `Vec`.
 pub struct Each<F>(PhantomData<F>);
 
 impl<F: Form> Form for Each<F> {
@@ -110,7 +110,7 @@ impl<F: Take> Take for Each<F> {
     }
 }
 
-/// Any number of these, in an arena, index for index, none with a span.
+/// A list of any length, as an arena: the index in the list is the handle, and no item has a span.
 pub struct InArena<F, K>(PhantomData<F>, PhantomData<K>);
 
 impl<F: Form, K> Form for InArena<F, K> {

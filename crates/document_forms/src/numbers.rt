@@ -1,4 +1,4 @@
-// Whole numbers.
+// Integers.
 ghost use Rattle.std.specs.Prelude.{◌≡◌, ◌≤◌, ◌≤ℤ◌, ℕ, ℤ, pos, negsuc, option_map, option_and_then, IfOk};
 ghost use Rattle.serde_json.specs.Find.{as_number, as_i64};
 ghost use Rattle.serde_json.specs.View.{view as data_of};
@@ -19,7 +19,7 @@ use serde_json::Value;
 use std::alloc::Global;
 use std::marker::PhantomData;
 
-/// A whole number up to `high`.
+/// An unsigned integer up to `high`.
 pub fn unsigned(value: &Value, high: u64, wanted: Wanted) -> Result<u64, ReadError>
     ensures found { Answers result (λ found. found ≡ number_of high (data_of value.now)) }
     ensures in_range { IfOk result (λ n. n ≤ high) }
@@ -30,7 +30,7 @@ pub fn unsigned(value: &Value, high: u64, wanted: Wanted) -> Result<u64, ReadErr
     }
 }
 
-/// A whole number of 8 bits.
+/// An 8-bit unsigned integer.
 pub struct U8;
 
 impl Form for U8 {
@@ -48,7 +48,7 @@ impl Form for U8 {
     }
 }
 
-/// A whole number of 16 bits.
+/// A 16-bit unsigned integer.
 pub struct U16;
 
 impl Form for U16 {
@@ -66,7 +66,7 @@ impl Form for U16 {
     }
 }
 
-/// A whole number of 32 bits.
+/// A 32-bit unsigned integer.
 pub struct U32;
 
 impl Form for U32 {
@@ -84,7 +84,7 @@ impl Form for U32 {
     }
 }
 
-/// A whole number of 64 bits.
+/// A 64-bit unsigned integer.
 pub struct U64;
 
 impl Form for U64 {
@@ -101,7 +101,7 @@ impl Form for U64 {
     }
 }
 
-/// The place of an item in its list, counted from 0.
+/// A handle: the index of an item in its list, from 0.
 pub struct At<K>(PhantomData<K>);
 
 impl<K> Form for At<K> {
@@ -119,7 +119,7 @@ impl<K> Form for At<K> {
     }
 }
 
-/// A whole number with a sign, from `-(high + 1)` to `high`.
+/// A signed integer from `-(high + 1)` to `high`.
 pub fn signed(value: &Value, high: u64, wanted: Wanted) -> Result<i64, ReadError>
     requires { high ≤ MAX_I64 }
     ensures found { Answers result (λ found. found ≡ signed_of high (data_of value.now)) }
@@ -132,7 +132,7 @@ pub fn signed(value: &Value, high: u64, wanted: Wanted) -> Result<i64, ReadError
     }
 }
 
-// The number where it is below zero.
+// The number if it is negative.
 fn below_zero(value: &Value, high: u64, wanted: Wanted) -> Result<i64, ReadError>
     requires { high ≤ MAX_I64 }
     ensures found { Answers result (λ found. found ≡ option_and_then (below_zero high) (option_and_then as_i64 (as_number (data_of value.now)))) }
@@ -144,7 +144,7 @@ fn below_zero(value: &Value, high: u64, wanted: Wanted) -> Result<i64, ReadError
     }
 }
 
-/// A whole number of 16 bits with a sign.
+/// A 16-bit signed integer.
 pub struct I16;
 
 impl Form for I16 {
@@ -162,7 +162,7 @@ impl Form for I16 {
     }
 }
 
-/// A whole number of 32 bits with a sign.
+/// A 32-bit signed integer.
 pub struct I32;
 
 impl Form for I32 {
@@ -180,7 +180,7 @@ impl Form for I32 {
     }
 }
 
-/// A whole number of 64 bits with a sign.
+/// A 64-bit signed integer.
 pub struct I64;
 
 impl Form for I64 {
@@ -197,7 +197,7 @@ impl Form for I64 {
     }
 }
 
-/// How many components a vector has, or columns or rows a matrix.
+/// The size of a vector, or the number of columns or rows of a matrix.
 pub struct Size;
 
 fn size_in(number: u64) -> Result<VectorSize, ReadError>
@@ -228,7 +228,7 @@ impl Form for Size {
     }
 }
 
-/// How many columns or rows a cooperative matrix has.
+/// The number of columns or rows of a cooperative matrix.
 pub struct Side;
 
 fn side_in(number: u64) -> Result<CooperativeSize, ReadError>

@@ -1,4 +1,4 @@
-// What a row of forms is, and a row of any length, as one form and the row after it.
+// The trait of rows, which encode a tuple as consecutive array elements, and rows of any length.
 ghost use Rattle.std.specs.Prelude.{◌≡◌, option_map};
 ghost use Rattle.serde_json.specs.View.{view as data_of, items_view};
 ghost use Rattle.document_forms.specs.found.Answers.{Answers};
@@ -14,38 +14,38 @@ use serde_json::Value;
 use std::alloc::Global;
 use std::marker::PhantomData;
 
-/// How several values are written, one after another, and nothing more.
+/// An encoding as consecutive array elements with none after them, with its decoder.
 pub trait Row {
-    /// What is read.
+    /// The decoded type.
     type Items: Drop;
 
-    /// What that is as plain data.
+    /// Its view as plain data.
     ghost Plain: { Type 0 };
 
     ghost view: { Self.Items → Plain };
 
     ghost form: { RowOf Plain };
 
-    /// What the items are written for. The first of them stands at `index`.
+    /// Decodes the items that the elements encode. The first element has the index `index`.
     fn read(alloc: Global, items: &[Value], index: usize) -> Result<Self::Items, ReadError>
         ensures { Answers result (λ found. option_map view found ≡ form.find (items_view items.now)) };
 }
 
-/// A row whose items are freed while they are read.
+/// A row whose elements are freed while they are decoded.
 pub trait TakeRow: Row {
-    /// What the items are written for, each of which is taken out. The first of them stands at `index`.
+    /// Decodes and takes the elements. The first element has the index `index`.
     fn take(alloc: Global, items: &mut [Value], index: usize) -> Result<Self::Items, ReadError>
         ensures { Answers result (λ found. option_map Self.view found ≡ Self.form.find (items_view items.old)) };
 }
 
-/// What the items after a word are written for.
+/// Decodes the elements after a tag.
 pub fn read_items<R: Row>(alloc: Global, items: &[Value]) -> Result<R::Items, ReadError>
     ensures { Answers result (λ found. option_map R.view found ≡ R.form.find (items_view items.now)) }
 {
     R::read(alloc, items, 1)
 }
 
-/// What the items of an array are written for.
+/// Decodes the elements of an array.
 pub fn read_row<R: Row>(alloc: Global, value: &Value) -> Result<R::Items, ReadError>
     ensures { Answers result (λ found. option_map R.view found ≡ array_of R.form.find (data_of value.now)) }
 {
@@ -55,7 +55,7 @@ pub fn read_row<R: Row>(alloc: Global, value: &Value) -> Result<R::Items, ReadEr
     R::read(alloc, items, 0)
 }
 
-/// The same of an array that is freed.
+/// Decodes the elements of an array, and frees it.
 pub fn take_row<R: TakeRow>(alloc: Global, value: Value) -> Result<R::Items, ReadError>
     ensures { Answers result (λ found. option_map R.view found ≡ array_of R.form.find (data_of value)) }
 {
@@ -66,7 +66,7 @@ pub fn take_row<R: TakeRow>(alloc: Global, value: Value) -> Result<R::Items, Rea
     R::take(alloc, &mut items, 0)
 }
 
-/// The first item, which stands at `index`, and those after it.
+/// The first element, which has the index `index`, and the elements after it.
 pub fn split_part(items: &[Value], index: usize) -> Result<(&Value, &[Value]), ReadError>
     ensures { Answers result (λ found. option_map (λ t. (data_of t.0.now, items_view t.1.now)) found ≡ first (items_view items.now)) }
 {
@@ -76,7 +76,7 @@ pub fn split_part(items: &[Value], index: usize) -> Result<(&Value, &[Value]), R
     Ok(parts)
 }
 
-/// The first item, which stands at `index` and is taken out, and those after it.
+/// Takes the first element, which has the index `index`, and returns it with those after it.
 pub fn take_part(items: &mut [Value], index: usize) -> Result<(Value, &mut [Value]), ReadError>
     ensures { Answers result (λ found. option_map (λ t. (data_of t.0, items_view t.1.now)) found ≡ first (items_view items.old)) }
 {
@@ -86,7 +86,7 @@ pub fn take_part(items: &mut [Value], index: usize) -> Result<(Value, &mut [Valu
     Ok((item.take(), rest))
 }
 
-/// Nothing.
+/// The empty row.
 pub struct End;
 
 impl Row for End {
@@ -112,7 +112,7 @@ impl TakeRow for End {
     }
 }
 
-/// One form, and the row after it.
+/// An element of one form, followed by a row.
 pub struct Then<F, R>(PhantomData<F>, PhantomData<R>);
 
 impl<F: Form, R: Row> Row for Then<F, R> {
@@ -149,7 +149,7 @@ impl<F: Take, R: TakeRow> TakeRow for Then<F, R> {
     }
 }
 
-/// An array of exactly these.
+/// An array with exactly the elements of a row.
 pub struct InArray<R>(PhantomData<R>);
 
 impl<R: Row> Form for InArray<R> {

@@ -1,4 +1,4 @@
-// The word before other parts.
+// The tag at the start of an array.
 ghost use Rattle.std.specs.Prelude.{◌≡◌, option_map};
 ghost use Rattle.serde_json.specs.View.{view as data_of, items_view};
 ghost use Rattle.document_forms.specs.found.Answers.{Answers};
@@ -10,7 +10,7 @@ use crate::words::read_word;
 use document_words::Word;
 use serde_json::Value;
 
-/// What the word before the other parts denotes, and what comes after it. The word stands at `index`.
+/// Decodes the tag, and returns it with the elements after it. The tag has the index `index`.
 pub fn split_tag<W: Word>(items: &[Value], index: usize) -> Result<(W, &[Value]), ReadError>
     ensures { Answers result (λ found. option_map (λ t. (t.0, items_view t.1.now)) found ≡ tag_of W.table (items_view items.now)) }
 {
@@ -23,7 +23,7 @@ pub fn split_tag<W: Word>(items: &[Value], index: usize) -> Result<(W, &[Value])
     }
 }
 
-/// What the first word of an array denotes, and what comes after it.
+/// Decodes the tag of an array, and returns it with the elements after it.
 pub fn read_tag<W: Word>(value: &Value) -> Result<(W, &[Value]), ReadError>
     ensures { Answers result (λ found. option_map (λ t. (t.0, items_view t.1.now)) found ≡ tag_in W.table (data_of value.now)) }
 {

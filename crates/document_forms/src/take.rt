@@ -1,4 +1,4 @@
-// Forms whose values are freed while they are read.
+// Forms whose JSON value is freed while it is decoded.
 ghost use Rattle.std.specs.Prelude.{◌≡◌, option_map};
 ghost use Rattle.serde_json.specs.View.{view as data_of};
 ghost use Rattle.document_forms.specs.found.Answers.{Answers};
@@ -9,15 +9,15 @@ use serde_json::Value;
 use std::alloc::Global;
 use std::marker::PhantomData;
 
-/// A form whose value is freed while it is read: a large one part by part, so that it and what is read of it never
-/// take their memory at the same time.
+/// A form whose JSON value is freed while it is decoded: a large one element by element, so that the value and the item are never
+/// both allocated in full.
 pub trait Take: Form {
-    /// The item that the value is written for.
+    /// Decodes the item that the value encodes, and frees the value.
     fn take(alloc: Global, value: Value) -> Result<Self::Item, ReadError>
         ensures { Answers result (λ found. option_map Self.view found ≡ Self.form.find (data_of value)) };
 }
 
-/// The same of the part at this index of an array.
+/// Decodes and frees the value; it is the array element at this index.
 pub fn take_at<F: Take>(alloc: Global, value: Value, index: usize) -> Result<F::Item, ReadError>
     ensures { Answers result (λ found. option_map F.view found ≡ F.form.find (data_of value)) }
 {
@@ -27,7 +27,7 @@ pub fn take_at<F: Take>(alloc: Global, value: Value, index: usize) -> Result<F::
     }
 }
 
-/// This, whose value is freed once it is read.
+/// This form, whose value is freed after it is decoded.
 pub struct Whole<F>(PhantomData<F>);
 
 impl<F: Form> Form for Whole<F> {

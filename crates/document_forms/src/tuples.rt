@@ -1,4 +1,4 @@
-// Rows as tuples of forms.
+// Tuples of forms as rows.
 ghost use Rattle.std.specs.Prelude.{◌≡◌, option_map};
 ghost use Rattle.document_forms.specs.found.Rows.{row1, row2, row3, row4, row5, row6, row7, row8, row9};
 

@@ -1,13 +1,13 @@
-// What was wanted where nothing was read.
+// What a decoder expected.
 
-/// What was wanted where nothing was read.
+/// What a decoder expected instead of the value.
 #[derive(Clone, Copy, Debug, PartialEq, Eq)]
 pub enum Wanted {
-    /// A text.
+    /// A string.
     Text,
-    /// True or false.
+    /// A boolean.
     Truth,
-    /// A word of its set.
+    /// A word of a table.
     Word,
     /// A set of words.
     Set,
@@ -15,29 +15,29 @@ pub enum Wanted {
     List,
     /// An array.
     Row,
-    /// An array that begins with a word.
+    /// An array that begins with a tag.
     Tagged,
-    /// A further part.
+    /// A further array element.
     FurtherPart,
-    /// No further part.
+    /// The end of the array.
     NothingMore,
-    /// A whole number up to 255.
+    /// An integer from 0 to 255.
     Unsigned8,
-    /// A whole number up to 65535.
+    /// An integer from 0 to 65535.
     Unsigned16,
-    /// A whole number up to 4294967295.
+    /// An integer from 0 to 4294967295.
     Unsigned32,
-    /// A whole number up to 18446744073709551615.
+    /// An integer from 0 to 18446744073709551615.
     Unsigned64,
-    /// A whole number from -32768 to 32767.
+    /// An integer from -32768 to 32767.
     Signed16,
-    /// A whole number from -2147483648 to 2147483647.
+    /// An integer from -2147483648 to 2147483647.
     Signed32,
-    /// A whole number from -9223372036854775808 to 9223372036854775807.
+    /// An integer from -9223372036854775808 to 9223372036854775807.
     Signed64,
-    /// A handle, a whole number up to 4294967294.
+    /// A handle, an integer from 0 to 4294967294.
     Handle,
-    /// A whole number from 1 to 4294967295.
+    /// An integer from 1 to 4294967295.
     Count,
     /// 2, 3 or 4.
     VectorSize,
@@ -45,18 +45,18 @@ pub enum Wanted {
     CooperativeSize,
     /// A built-in.
     BuiltIn,
-    /// A text of four letters out of x, y, z and w.
+    /// A string of four of the letters x, y, z and w.
     Letters,
-    /// What does not stand there yet.
+    /// An item that the list does not have yet.
     Distinct,
     /// The version 1.
     Version,
-    /// What nests less deep.
+    /// A value that is nested less deeply.
     Nesting,
 }
 
 impl Wanted {
-    /// The same as a text.
+    /// The text of the expectation.
     pub fn text(self) -> &'static str {
         match self {
             Wanted::Text => "a text",

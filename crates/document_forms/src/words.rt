@@ -1,4 +1,4 @@
-// Words, and sets of them.
+// Words of a table, and sets of words.
 ghost use Rattle.std.specs.Prelude.{◌≡◌, option_map};
 ghost use Rattle.serde_json.specs.View.{view as data_of};
 ghost use Rattle.document_forms.specs.found.Answers.{Answers};
@@ -13,7 +13,7 @@ use serde_json::Value;
 use std::alloc::Global;
 use std::marker::PhantomData;
 
-/// What a word of the set denotes.
+/// Decodes the word of a table.
 pub fn read_word<W: Word>(value: &Value) -> Result<W, ReadError>
     ensures { Answers result (λ found. found ≡ word_in W.table (data_of value.now)) }
 {
@@ -26,7 +26,7 @@ pub fn read_word<W: Word>(value: &Value) -> Result<W, ReadError>
     }
 }
 
-/// A word of the set.
+/// A word of a table.
 pub struct WordOf<W>(PhantomData<W>);
 
 impl<W: Word> Form for WordOf<W> {
@@ -43,7 +43,7 @@ impl<W: Word> Form for WordOf<W> {
     }
 }
 
-/// Words of the set in any order, repeated or not, which denote the union of what each denotes.
+/// An array of words in any order, repeated or not, which encodes the union of the sets that the words denote.
 pub struct SetOf<S>(PhantomData<S>);
 
 impl<S: SetWord> Form for SetOf<S> {

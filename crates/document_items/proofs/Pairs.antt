@@ -1,4 +1,4 @@
--- What a step of the loop over pairs does.
+-- A step of the loop over pairs.
 use Rattle.std.proofs.Common.{◌≡◌, ◌+◌, ◌<◌, ◌++◌, ℕ, suc, Bool, true, false, List, [], ◌∷◌, Option, Some, is_some, length, drop, get_or, cond, refl, ap, ◌∙◌, true≢false, sym, add-one, drop-cons}
 use Rattle.std.specs.Map.{lookup}
 use Rattle.indexmap.specs.IndexMap.{insert_entry}
@@ -9,7 +9,7 @@ use Rattle.ir_kinds.specs.declared.predeclared.PredeclaredType.{PredeclaredType}
 use Rattle.ir_kinds.specs.contracts.predeclared.PredeclaredTypePartialEq.TheImpl as same
 use Rattle.document_items.specs.found.Special.{a_pair, pair_of, pairs_with}
 
--- a pair of a new predeclared type goes last
+-- a pair of a new predeclared type is appended
 pub goes_last : (es : List (PredeclaredType × ℕ)) (k : PredeclaredType) (v : ℕ) → is_some (lookup (same.ghosts.eq k) es) ≡ false → insert_entry same.ghosts.eq es k v ≡ es ++ (k, v) ∷ []
 goes_last [] k v h = refl
 goes_last (e ∷ es) k v h = by (same.ghosts.eq k e.0) h (goes_last es k v)
@@ -20,12 +20,12 @@ goes_last (e ∷ es) k v h = by (same.ghosts.eq k e.0) h (goes_last es k v)
     by true h more = absurd (true≢false h)
     by false h more = ap (λ l. e ∷ l) (more h)
 
--- what is found of a pair
+-- the result for a pair
 pub pair_found : (d : Data) (e : PredeclaredType × ℕ) → Some e ≡ a_pair.find d → pair_of d ≡ Some e
 unfolding pair_of
 pair_found d e h = sym h
 
--- such a pair is taken in
+-- such a pair is appended
 one_more : (es : List (PredeclaredType × ℕ)) (e : PredeclaredType × ℕ) (d : Data) (ds : Items) → pair_of d ≡ Some e → is_some (lookup (same.ghosts.eq e.0) es) ≡ false
     → pairs_with es (item d ds) ≡ pairs_with (es ++ e ∷ []) ds
 one_more es e d ds found fresh = rw found (rw fresh refl)

@@ -1,4 +1,4 @@
-// Bindings.
+// The JSON forms of built-ins, bindings and resource bindings.
 ghost use Rattle.std.specs.Prelude.{◌≡◌, option_map};
 ghost use Rattle.serde_json.specs.View.{view as data_of, items_view};
 ghost use Rattle.ir_kinds.specs.declared.bindings.BuiltIn.{BuiltIn};
@@ -16,7 +16,7 @@ use ir_kinds::{Binding, BuiltIn, Interpolation, ResourceBinding, Sampling};
 use serde_json::Value;
 use std::alloc::Global;
 
-// A built-in that has a truth value after its word, which stands at `index`.
+// Decodes a built-in that has a bool after its word; the bool has the index `index`.
 fn marked(alloc: Global, word: &str, rest: &[Value], index: usize) -> Result<BuiltIn, ReadError>
     ensures { Answers result (λ found. found ≡ marked_of word.now (items_view rest.now)) }
 {
@@ -31,7 +31,7 @@ fn marked(alloc: Global, word: &str, rest: &[Value], index: usize) -> Result<Bui
     }
 }
 
-/// How a built-in is written: its word, and after two of them a truth value.
+/// The JSON form of a built-in: its word, for two built-ins followed by a bool.
 pub struct BuiltInRow;
 
 impl Row for BuiltInRow {
@@ -61,7 +61,7 @@ impl Row for BuiltInRow {
     }
 }
 
-/// How a binding is written.
+/// The JSON form of a binding.
 pub struct BindingForm;
 
 impl Form for BindingForm {
@@ -105,7 +105,7 @@ type LocationRow = (
     Truth,
 );
 
-/// How the group and the place in it are written that a resource is bound to.
+/// The JSON form of a resource binding: the group and the binding number.
 pub struct ResourceForm;
 
 impl Form for ResourceForm {

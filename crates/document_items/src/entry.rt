@@ -1,4 +1,4 @@
-// What an entry point has beside its function.
+// The JSON forms of what entry points have besides a function.
 ghost use Rattle.std.specs.Prelude.{◌≡◌, ℕ, List, option_map};
 ghost use Rattle.ir_items.specs.declared.entries.MeshStageInfo.{MeshStageInfo};
 ghost use Rattle.ir_kinds.specs.declared.stages.ShaderStage.{ShaderStage};
@@ -16,7 +16,7 @@ use ir_types::key;
 use serde_json::Value;
 use std::alloc::Global;
 
-/// How the stage of an entry point is written.
+/// The JSON form of a shader stage.
 pub struct StageForm;
 
 impl Form for StageForm {
@@ -36,7 +36,7 @@ impl Form for StageForm {
     }
 }
 
-/// How it is written when depth is tested before a fragment is shaded.
+/// The JSON form of an early depth test.
 pub struct EarlyForm;
 
 impl Form for EarlyForm {
@@ -64,7 +64,7 @@ impl Form for EarlyForm {
     }
 }
 
-/// How it is written how many invocations a workgroup has along x, y and z.
+/// The JSON form of a workgroup size in x, y and z.
 pub struct SizesForm;
 
 impl Form for SizesForm {
@@ -97,7 +97,7 @@ type MeshRow = (
     At<key::GlobalVariable>,
 );
 
-/// How it is written what a mesh shader gives.
+/// The JSON form of the outputs of a mesh shader.
 pub struct MeshForm;
 
 impl Form for MeshForm {

@@ -1,4 +1,4 @@
-// Diagnostic filters.
+// The JSON forms of diagnostic filters.
 ghost use Rattle.std.specs.Prelude.{◌≡◌, ℕ, List, Option, map, option_map};
 ghost use Rattle.ir_items.specs.judged.GlobalPlain.{PlainRule, PlainFilterNode};
 ghost use Rattle.ir_items.specs.found.GlobalView.{rule_view, node_view};
@@ -16,7 +16,7 @@ use ir_types::key;
 use serde_json::Value;
 use std::alloc::Global;
 
-/// How the rule of a filter is written.
+/// The JSON form of the triggering rule of a filter.
 pub struct RuleForm;
 
 impl Form for RuleForm {
@@ -52,7 +52,7 @@ impl Form for RuleForm {
 
 type F = At<key::DiagnosticFilterNode>;
 
-/// How a filter is written, with the one around it.
+/// The JSON form of a filter with its parent.
 pub struct FilterForm;
 
 impl Form for FilterForm {
@@ -76,7 +76,7 @@ impl Form for FilterForm {
     }
 }
 
-/// How the filters are written, with the one that counts in the whole module.
+/// The JSON form of the filters, with the innermost filter of the module.
 pub struct FiltersForm;
 
 impl Form for FiltersForm {

@@ -1,4 +1,4 @@
-// Constants, overrides and global variables.
+// The JSON forms of constants, overrides and global variables.
 ghost use Rattle.std.specs.Prelude.{◌≡◌, option_map};
 ghost use Rattle.ir_items.specs.judged.GlobalPlain.{PlainConstant, PlainOverride, PlainGlobal};
 ghost use Rattle.ir_items.specs.found.GlobalView.{constant_view, override_view, global_view};
@@ -17,7 +17,7 @@ type T = At<key::IrType>;
 
 type E = At<key::Expression>;
 
-/// How a constant is written.
+/// The JSON form of a constant.
 pub struct ConstantForm;
 
 impl Form for ConstantForm {
@@ -35,7 +35,7 @@ impl Form for ConstantForm {
     }
 }
 
-/// How an override is written.
+/// The JSON form of an override.
 pub struct OverrideForm;
 
 impl Form for OverrideForm {
@@ -55,7 +55,7 @@ impl Form for OverrideForm {
     }
 }
 
-/// How a global variable is written.
+/// The JSON form of a global variable.
 pub struct GlobalForm;
 
 type GlobalRow = (

@@ -1,9 +1,9 @@
-// The kinds of types, of their parts and of other items, by their words.
+// The kinds of types, of their parts and of other items, with their tags.
 ghost use Rattle.document_items.specs.found.Kinds.{storage_kinds, array_size_kinds, class_kinds, binding_kinds, inner_kinds, rule_kinds, predeclared_kinds, early_kinds};
 
 use document_words::Word;
 
-/// The address spaces that are more than a word.
+/// The address spaces with operands.
 #[derive(Clone, Copy)]
 pub enum StorageKind {
     Storage,
@@ -19,7 +19,7 @@ impl Word for StorageKind {
     }
 }
 
-/// The kinds of sizes of arrays.
+/// The kinds of array sizes.
 #[derive(Clone, Copy)]
 pub enum SizeKind {
     Constant,
@@ -41,7 +41,7 @@ impl Word for SizeKind {
     }
 }
 
-/// The kinds of images.
+/// The classes of images.
 #[derive(Clone, Copy)]
 pub enum ClassKind {
     Sampled,
@@ -129,7 +129,7 @@ impl Word for InnerKind {
     }
 }
 
-/// The kinds of rules that filters name.
+/// The kinds of triggering rules of filters.
 #[derive(Clone, Copy)]
 pub enum RuleKind {
     Standard,

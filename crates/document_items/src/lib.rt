@@ -1,4 +1,4 @@
-//! The written forms of the items of a document that are not expressions, statements or functions.
+//! The JSON forms of a document's items other than expressions, statements and functions.
 #![tactic(auto)]
 
 mod bindings;

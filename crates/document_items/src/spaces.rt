@@ -1,4 +1,4 @@
-// Address spaces, sizes of arrays and classes of images.
+// The JSON forms of address spaces, array sizes and image classes.
 ghost use Rattle.std.specs.Prelude.{◌≡◌, ℕ, option_map};
 ghost use Rattle.serde_json.specs.View.{view as data_of};
 ghost use Rattle.ir_flags.specs.declared.memory.StorageAccess.{StorageAccess};
@@ -18,7 +18,7 @@ use ir_types::{ArraySize, key};
 use serde_json::Value;
 use std::alloc::Global;
 
-/// A whole number of 32 bits that is not 0.
+/// A 32-bit unsigned integer that is not 0.
 pub struct Positive;
 
 impl Form for Positive {
@@ -40,7 +40,7 @@ impl Form for Positive {
     }
 }
 
-/// How the space of storage buffers is written.
+/// The JSON form of the storage address space.
 pub struct StorageForm;
 
 impl Form for StorageForm {
@@ -64,7 +64,7 @@ impl Form for StorageForm {
     }
 }
 
-/// How an address space is written.
+/// The JSON form of an address space.
 pub struct SpaceForm;
 
 impl Form for SpaceForm {
@@ -88,7 +88,7 @@ impl Form for SpaceForm {
     }
 }
 
-/// How the number of an array's elements is written.
+/// The JSON form of an array size.
 pub struct ArraySizeForm;
 
 impl Form for ArraySizeForm {
@@ -120,7 +120,7 @@ impl Form for ArraySizeForm {
     }
 }
 
-/// How the class of an image is written.
+/// The JSON form of an image class.
 pub struct ClassForm;
 
 impl Form for ClassForm {

@@ -1,4 +1,4 @@
-// Special types.
+// The JSON forms of special types.
 ghost use Rattle.std.specs.Prelude.{◌≡◌, ℕ, List, option_map};
 ghost use Rattle.serde_json.specs.View.{view as data_of};
 ghost use Rattle.ir_kinds.specs.declared.predeclared.PredeclaredType.{PredeclaredType};
@@ -20,7 +20,7 @@ use std::alloc::Global;
 
 type T = At<key::IrType>;
 
-/// How a predeclared type is written.
+/// The JSON form of a predeclared type.
 pub struct PredeclaredForm;
 
 impl Form for PredeclaredForm {
@@ -52,7 +52,7 @@ impl Form for PredeclaredForm {
     }
 }
 
-/// How a predeclared type is written with the handle of the type that the module has for it.
+/// The JSON form of a predeclared type with the handle of that type in the module.
 pub struct PairForm;
 
 impl Form for PairForm {
@@ -72,7 +72,7 @@ impl Form for PairForm {
     }
 }
 
-/// How pairs of predeclared types and handles are written, no two of one predeclared type. They keep their order.
+/// The JSON form of pairs of predeclared types and handles, with distinct predeclared types. The pairs keep their order.
 pub struct PairsForm;
 
 impl Form for PairsForm {
@@ -105,7 +105,7 @@ impl Form for PairsForm {
     }
 }
 
-/// How the special types are written.
+/// The JSON form of the special types.
 pub struct SpecialForm;
 
 impl Form for SpecialForm {

@@ -1,4 +1,4 @@
-// The types of a document, of which none repeats another one.
+// The types of a document, which are distinct.
 ghost use Rattle.std.specs.Prelude.{◌≡◌, ◌∷◌, ◌++◌, [], OnOk, IfErr};
 
 use crate::types::TypeForm;

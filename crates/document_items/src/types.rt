@@ -1,4 +1,4 @@
-// Types, each kind by a function of its own.
+// The JSON forms of types, each kind decoded by a function of its own.
 ghost use Rattle.std.specs.Prelude.{◌≡◌, option_map};
 ghost use Rattle.serde_json.specs.View.{view as data_of, items_view};
 ghost use Rattle.ir_types.specs.judged.Plain.{PlainMember, PlainInner, PlainType, member_view, inner_view, type_view};
@@ -21,7 +21,7 @@ type T = At<key::IrType>;
 
 type ScalarWord = WordOf<Scalar>;
 
-/// How a member of a struct is written.
+/// The JSON form of a struct member.
 pub struct MemberForm;
 
 impl Form for MemberForm {
@@ -179,7 +179,7 @@ fn binding_array(alloc: Global, rest: &[Value]) -> Result<TypeInner, ReadError>
     Ok(TypeInner::BindingArray { base, size })
 }
 
-/// How what a type is is written.
+/// The JSON form of an inner type.
 pub struct InnerForm;
 
 impl Form for InnerForm {
@@ -212,7 +212,7 @@ impl Form for InnerForm {
     }
 }
 
-/// How a type is written.
+/// The JSON form of a type.
 pub struct TypeForm;
 
 impl Form for TypeForm {

@@ -1,4 +1,4 @@
--- Bytes spell no document, or there is one that alone they may spell.
+-- Bytes encode no document, or there is one document that alone they may encode.
 use Rattle.std.proofs.Common.{◌≡◌, ◌⊎◌, inl, inr, ℕ, ◌≤◌, List, length, true, false, true≢false, Some, None, IsUtf8, refl, sym, ◌∙◌, arith}
 use Rattle.std.specs.Str.{is_utf8}
 use Rattle.std.proofs.lemmas.Bool.{cases_lt}
@@ -13,7 +13,7 @@ use Rattle.document_reader.specs.judged.Form.{IsValueOf, Reads}
 use Rattle.document_reader.specs.declared.reading.TheConstants.{MAX_LEN}
 use Rattle.document_reader.proofs.Seam.{found_in, reads_document}
 
--- A document that the bytes spell where its types differ, and but for which they spell none.
+-- A document that the bytes encode if its types are distinct, and apart from which they encode none.
 pub record IsCandidate (bytes : List ℕ) (d : PlainDocument) : Type 0 where
   pub spelled : AreDistinct d.content.types → Reads bytes d
   pub alone : (e : PlainDocument) → Reads bytes e → e ≡ d

@@ -1,4 +1,4 @@
--- Types of an arena, and of a list that repeats one.
+-- The types of an arena are distinct, and a list with a rejected type is not.
 use Rattle.std.proofs.Common.{◌≡◌, ◌≢◌, ℕ, zero, suc, ◌<◌, List, [], ◌∷◌, ◌++◌, length, get_or, map, Contains, Option, Some, None, false, true≢false, refl, sym, subst, ◌∙◌, arith}
 use Rattle.std.specs.List.{AllPairs, AllByRecursion, IsDistinct}
 use Rattle.std.proofs.lemmas.List.{length-append}
@@ -12,7 +12,7 @@ use Rattle.ir_items.specs.found.GlobalView.{values_of}
 use Rattle.document_forms.specs.found.Refusals.{NoneTaken}
 use Rattle.document_reader.specs.judged.Distinct.{AreDistinct}
 
--- ---- an arena repeats no type
+-- ---- the types of an arena are distinct
 
 apart_from : (x : IrType) (es : List (IrType × Span)) (k : ℕ) (d : PlainType) → AllByRecursion (λ (y : IrType × Span). ghosts.eq x y.0 ≡ false) es → k < length (map type_view (values_of es)) → type_view x ≢ get_or (map type_view (values_of es)) k d
 apart_from x [] k d h lt = absurd (omega arith)
@@ -26,7 +26,7 @@ distinct_types (e ∷ es) h i zero d before lt = absurd (omega arith)
 distinct_types (e ∷ es) h zero (suc j) d before lt = apart_from e.0 es j d h.0 (omega arith)
 distinct_types (e ∷ es) h (suc i) (suc j) d before lt = distinct_types es h.1 i j d (omega arith) (omega arith)
 
--- ---- a list of which a type is refused repeats one
+-- ---- a list of which a type is rejected has two equal types
 
 module _ {X : Type 0} where
   in_front : (xs ys : List X) (k : ℕ) (d : X) → k < length xs → get_or (xs ++ ys) k d ≡ get_or xs k d

@@ -1,4 +1,4 @@
--- From the value that the bytes are to the document that they spell.
+-- From the JSON value of the bytes to the document that they encode.
 use Rattle.std.proofs.Common.{◌≡◌, ◌≢◌, ℕ, Bool, List, Option, Some, None, option_map, option_and_then, Result, Ok, Err, IfErr, IsErr, IsErrAnd, refl, sym, subst, ◌∙◌}
 use Rattle.document_forms.specs.declared.error.ReadError.{ReadError}
 use Rattle.document_forms.specs.declared.error.ReadError.TheVariants as part
@@ -22,9 +22,9 @@ use Rattle.ir_items.specs.judged.Plain.{PlainModule}
 use Rattle.document_reader.specs.found.Documents.{ListParts, made_of, the_flags, the_capabilities, the_subgroups, the_lists, the_parts, version_of, document_made, a_document, first_part, content_of, content_in, parts_in, document_in}
 use Rattle.document_reader.specs.judged.Form.{ADocument, IsValueOf, Reads, OneDocument}
 
--- ---- read part by part, and as a row
+-- ---- decoded element by element, and as a row
 
--- a part before others, whatever is made of them
+-- an element before others, with any result
 peel : {A B C : Type 0} (f : Data → Option A) (g : Items → Option B) (k : A → Items → Option C) (m : A × B → C) → ((x : A) (ds : Items) → k x ds ≡ option_map (λ y. m (x, y)) (g ds))
     → (ds : Items) → option_and_then (λ (p : A × Items). k p.0 p.1) (first_part f ds) ≡ option_map m (behind f g ds)
 peel {A} {B} {C} f g k m same ds = parts (first ds)
@@ -82,7 +82,7 @@ document_is v = array (as_array v)
 
 -- ---- values and bytes
 
--- what is written for the value that was read is found
+-- what the value encodes is decoded
 pub found_in : (bytes : List ℕ) (v : Data) (d : PlainDocument) → read bytes ≡ Some v → (r : Reads bytes d) → document_in v ≡ Some d
 found_in bytes v d value r =
     let same : r.value ≡ v = some_is _ _ (sym r.value_is ∙ value) in
@@ -95,32 +95,32 @@ reads_document bytes v d u found distinct =
 pub reads_none : (bytes : List ℕ) (v : Data) → IsValueOf bytes v → ((d : PlainDocument) → document_in v ≡ Some d → ¬ AreDistinct d.content.types) → (d : PlainDocument) → ¬ Reads bytes d
 reads_none bytes v u refused d r = refused d (found_in bytes v d u.value_is r) r.distinct
 
--- bytes that are no value spell no document
+-- bytes that are no JSON value encode no document
 pub no_value : (bytes : List ℕ) → ((value : Data) → ¬ IsValueOf bytes value) → (d : PlainDocument) → ¬ Reads bytes d
 no_value bytes none d r = none r.value (record { short = r.short; utf8 = r.utf8; value_is = r.value_is })
 
--- a value for which none is found is written for none
+-- a value that is not decoded encodes nothing
 pub none_written : (bytes : List ℕ) (v : Data) → IsValueOf bytes v → ((d : PlainDocument) → document_in v ≡ Some d → ¬ AreDistinct d.content.types)
     → IsMalformed bytes
 none_written bytes v u refused =
     record { short = u.short; utf8 = u.utf8; value = v; value_is = u.value_is; none = λ d form. refused d (document_is v ∙ a_document.exact.complete v d form (depth-read bytes v u.value_is)) }
 
--- the error of a part is the whole's reason, where it is one that is not of memory
+-- a decoder's error is right about the whole, unless it is out of memory
 pub reason_of : (bytes : List ℕ) (p : ReadError) (e : DocumentError) → e ≡ of_part p → (p ≢ part.Memory → IsMalformed bytes) → IsReason bytes e
 reason_of bytes part.Memory e is malformed = subst (IsReason bytes) (sym is) tt
 reason_of bytes (part.Malformed place wanted) e is malformed = subst (IsReason bytes) (sym is) (malformed (λ q. let same = q in cc))
 
--- bytes spell one document at most
+-- bytes encode at most one document
 pub one_document_lem : OneDocument
 one_document_lem bytes d e r s = some_is d e (sym (found_in bytes r.value d r.value_is r) ∙ found_in bytes r.value e r.value_is s)
 
--- ---- what is refused
+-- ---- what is rejected
 
 pub err_if : {T E : Type 0} (r : Result T E) (Q P : E → Type 0) → IsErr r × IsErrAnd r Q → ((e : E) → Q e → P e) → IfErr r P
 err_if (Ok x) Q P h to = tt
 err_if (Err e) Q P h to = to e h.1
 
--- where no types without a repeated one are found, there is no such module
+-- if no distinct types are decoded, no module with distinct types is
 pub module_refused : (ds : Items) (t : Data) (rest : Items) → Some (t, rest) ≡ first ds → ((ts : List PlainType) → all_of a_type.find t ≡ Some ts → ¬ AreDistinct ts)
     → (m : PlainModule) → content_in ds ≡ Some m → ¬ AreDistinct m.types
 module_refused ds t rest here types m found = λ apart.
@@ -129,7 +129,7 @@ module_refused ds t rest here types m found = λ apart.
     let same : content_of a.0 b.0 ≡ m = some_is _ _ b.2 in
     types a.0 a.1 (subst (λ (x : PlainModule). AreDistinct x.types) (sym same) apart)
 
--- where no module without a repeated type is found after the settings, there is no such document
+-- if no module with distinct types is decoded after the settings, no document with distinct types is
 pub document_refused : (d : Data) (ds0 ds1 ds2 ds3 ds4 ds5 : Items) (f : ValidationFlags) (c : Capabilities) (s : ShaderStages × SubgroupOperationSet) (r : Bool)
     → Some ds0 ≡ as_array d → Some (tt, ds1) ≡ first_part version_of ds0 → Some (f, ds2) ≡ first_part the_flags.find ds1 → Some (c, ds3) ≡ first_part the_capabilities.find ds2
     → Some (s, ds4) ≡ first_part the_subgroups.find ds3 → Some (r, ds5) ≡ first_part as_bool ds4

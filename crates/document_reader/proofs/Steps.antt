@@ -1,4 +1,4 @@
--- The steps of `Find`, as the code takes them.
+-- The steps of decoding, as the code takes them.
 use Rattle.std.proofs.Common.{◌≡◌, ◌≢◌, ℕ, zero, suc, ◌-◌, None, refl, ap, arith}
 use Rattle.serde_json.specs.Data.{Data}
 use Rattle.document_forms.specs.found.Decide.{tagged_of}

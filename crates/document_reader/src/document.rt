@@ -1,4 +1,4 @@
-// The form of a whole document.
+// The JSON form of a whole document.
 ghost use Rattle.std.specs.Prelude.{◌≡◌, ◌≢◌, List, Some, map, IfOk, IfErr};
 ghost use Rattle.serde_json.specs.View.{view as data_of, items_view};
 ghost use Rattle.ir_types.specs.judged.Plain.{PlainType, type_view};
@@ -32,12 +32,12 @@ use std::alloc::Global;
 
 const VERSION: u64 = 1;
 
-// The places of a document's parts: settings lie before the types, all other lists after them.
+// The indices of a document's parts: the settings precede the types, and all other lists follow them.
 const TYPES: usize = 5;
 
 const SPECIAL_TYPES: usize = 6;
 
-/// How the version of the format is written.
+/// The JSON form of the version number of the format.
 pub struct VersionForm;
 
 impl Form for VersionForm {
@@ -77,7 +77,7 @@ type ListsRow = (
     Each<EntryForm>,
 );
 
-// That no two types of the arena are equal.
+// States that the types of the arena are distinct.
 #[tactic(auto, using(crate::proofs::Distinct::distinct_types))]
 fn distinct_types(types: &UniqueArena<IrType, key::IrType>)
     ensures { AreDistinct (map type_view (values_of types.now)) }
@@ -85,7 +85,7 @@ fn distinct_types(types: &UniqueArena<IrType, key::IrType>)
     types.len();
 }
 
-// The types that the part at this index is written for, of which no two are equal.
+// Decodes the types, which are distinct, from the element at this index.
 fn read_types(
     alloc: Global,
     value: Value,
@@ -106,7 +106,7 @@ fn read_types(
     }
 }
 
-// The module that these parts of a document are written for.
+// Decodes the module from these elements of a document.
 fn read_module(alloc: Global, parts: &mut [Value], key: KeyedState) -> Result<Module, ReadError>
     ensures found { IfOk result (λ m. Some (module_view m) ≡ content_in (items_view parts.old)) }
     ensures distinct { IfOk result (λ m. AreDistinct (module_view m).types) }
@@ -139,8 +139,8 @@ fn read_module(alloc: Global, parts: &mut [Value], key: KeyedState) -> Result<Mo
     })
 }
 
-/// The document that the value is written for. Each part of the value is freed once it is read, so that both never
-/// take their memory whole. Hashers of its types know the key.
+/// Decodes a document. Each element of the value is freed after it is decoded, so that the value and the document are never
+/// both allocated in full. The hashers of the module's types use the key.
 pub fn read_value(alloc: Global, value: Value, key: KeyedState) -> Result<Document, ReadError>
     ensures found { IfOk result (λ d. Some (document_view d) ≡ document_in (data_of value)) }
     ensures distinct { IfOk result (λ d. AreDistinct (document_view d).content.types) }

@@ -1,4 +1,4 @@
-// Why bytes spell no document.
+// The error of a document reader.
 ghost use Rattle.std.specs.Prelude.{◌≡◌};
 
 use crate::reading::MAX_LEN;
@@ -6,7 +6,7 @@ use document_forms::{Place, ReadError, Wanted};
 use std::alloc::AllocError;
 use thiserror::Error;
 
-/// Why no document was read.
+/// Why bytes are rejected as a document.
 #[derive(Clone, Copy, Debug, PartialEq, Eq, Error)]
 pub enum DocumentError {
     /// Out of memory.
@@ -15,18 +15,18 @@ pub enum DocumentError {
     /// There are more than [`MAX_LEN`] bytes.
     #[error("more than {max} bytes", max = MAX_LEN)]
     TooLong,
-    /// The bytes are no UTF-8, no JSON, or nested deeper than [`MAX_DEPTH`](document_forms::MAX_DEPTH).
+    /// The bytes are not UTF-8, not JSON, or nested deeper than [`MAX_DEPTH`](document_forms::MAX_DEPTH).
     #[error("no JSON at line {line}, column {column}")]
     NotJson {
-        /// The line on which the reader stopped, counted from 1.
+        /// The line at which the JSON reader stopped, from 1.
         line: usize,
-        /// The byte of that line, counted from 1, or 0 where the line has none.
+        /// The byte within that line, from 1, or 0 if the line has none.
         column: usize,
     },
-    /// The value is not of a document's form.
+    /// The JSON value is no document.
     #[error("{place}: {} is wanted", .wanted.text())]
     Malformed {
-        /// The first part that is not of its form.
+        /// The first element that does not have the expected form.
         place: Place,
         /// What is expected there.
         wanted: Wanted,

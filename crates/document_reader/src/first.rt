@@ -1,4 +1,4 @@
-// One part of a row, and the parts after it.
+// The first element of a row, and the elements after it.
 ghost use Rattle.std.specs.Prelude.{◌≡◌, option_map};
 ghost use Rattle.serde_json.specs.View.{items_view};
 ghost use Rattle.document_forms.specs.found.Answers.{Answers};
@@ -8,7 +8,7 @@ use document_forms::{Form, ReadError, read_at, take_part};
 use serde_json::Value;
 use std::alloc::Global;
 
-/// What the first of these parts is written for, which stands at `index` and is taken out, and the parts after it.
+/// Takes and decodes the first element, which has the index `index`, and returns it with the elements after it.
 pub fn take_first<F: Form>(
     alloc: Global,
     parts: &mut [Value],

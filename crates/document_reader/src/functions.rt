@@ -1,4 +1,4 @@
-// Functions and entry points.
+// The JSON forms of functions and entry points.
 ghost use Rattle.std.specs.Prelude.{◌≡◌, option_map};
 ghost use Rattle.ir_items.specs.judged.Plain.{PlainArgument, PlainLocal, PlainFunction, PlainEntry};
 ghost use Rattle.ir_items.specs.found.View.{argument_view, local_view, function_view, entry_view};
@@ -18,7 +18,7 @@ use std::alloc::Global;
 
 type T = At<key::IrType>;
 
-/// How an argument is written.
+/// The JSON form of a function argument.
 pub struct ArgumentForm;
 
 impl Form for ArgumentForm {
@@ -36,7 +36,7 @@ impl Form for ArgumentForm {
     }
 }
 
-/// How the result of a function is written.
+/// The JSON form of a function result.
 pub struct ResultForm;
 
 impl Form for ResultForm {
@@ -54,7 +54,7 @@ impl Form for ResultForm {
     }
 }
 
-/// How a local variable is written.
+/// The JSON form of a local variable.
 pub struct LocalForm;
 
 impl Form for LocalForm {
@@ -84,7 +84,7 @@ type FunctionRow = (
     Whole<Maybe<At<key::DiagnosticFilterNode>>>,
 );
 
-// The function of these parts.
+// Builds the function of these parts.
 fn function_of(parts: <FunctionRow as Row>::Items) -> Function
     ensures { result ≡ record { name = parts.0; arguments = parts.1; result = parts.2; local_variables = parts.3; expressions = parts.4; body = parts.5; diagnostic_filter_leaf = parts.6 } }
 {
@@ -101,7 +101,7 @@ fn function_of(parts: <FunctionRow as Row>::Items) -> Function
     }
 }
 
-/// How a function is written. Its arenas are the lists that are written, index for index, and nothing has a span.
+/// The JSON form of a function. The index in each list is the handle, and nothing has a span.
 pub struct FunctionForm;
 
 impl Form for FunctionForm {
@@ -134,7 +134,7 @@ type EntryRow = (
     FunctionForm,
 );
 
-// The entry point of these parts.
+// Builds the entry point of these parts.
 fn entry_of(parts: <EntryRow as Row>::Items) -> EntryPoint
     ensures { result ≡ record { name = parts.1; stage = parts.0; early_depth_test = parts.2; workgroup_size = parts.3; mesh_info = parts.4; task_payload = parts.5; function = parts.6 } }
 {
@@ -150,7 +150,7 @@ fn entry_of(parts: <EntryRow as Row>::Items) -> EntryPoint
     }
 }
 
-/// How an entry point is written.
+/// The JSON form of an entry point.
 pub struct EntryForm;
 
 impl Form for EntryForm {

@@ -1,9 +1,9 @@
-// The kinds of statements and of their parts, by their words.
+// The kinds of statements and of their parts, with their tags.
 ghost use Rattle.document_reader.specs.found.Kinds.{value_kinds, atomic_kinds, gather_kinds, ray_query_kinds, pipeline_kinds, statement_kinds};
 
 use document_words::Word;
 
-/// The kinds of values of a switch.
+/// The kinds of switch values.
 #[derive(Clone, Copy)]
 pub enum ValueKind {
     I32,
@@ -57,7 +57,7 @@ impl Word for AtomicKind {
     }
 }
 
-/// The kinds of gathers.
+/// The gather modes.
 #[derive(Clone, Copy)]
 pub enum GatherKind {
     BroadcastFirst,
@@ -89,7 +89,7 @@ impl Word for GatherKind {
     }
 }
 
-/// What may be done with a ray query.
+/// The ray query functions.
 #[derive(Clone, Copy)]
 pub enum RayQueryKind {
     Initialize,
@@ -115,7 +115,7 @@ impl Word for RayQueryKind {
     }
 }
 
-/// What a ray pipeline may do.
+/// The ray pipeline functions.
 #[derive(Clone, Copy)]
 pub enum PipelineKind {
     TraceRay,

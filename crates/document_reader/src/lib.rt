@@ -1,6 +1,6 @@
-//! From bytes to a document, and what a document holds: what it requires of the validator, and a module.
+//! Decodes a document from JSON bytes. A document has the settings of a validator, and a module.
 //!
-//! The written forms of functions and entry points, and of the statements and bodies in them.
+//! Also the JSON forms of functions, entry points, statements and blocks.
 #![tactic(auto)]
 
 mod document;

@@ -1,4 +1,4 @@
-// The document as a value.
+// The decoded document.
 ghost use Rattle.std.specs.Prelude.{◌≡◌, IfOk};
 ghost use Rattle.ir_items.specs.found.Copies.{spanned_module};
 ghost use Rattle.ir_items.specs.found.View.{module_view};
@@ -8,18 +8,18 @@ use ir_flags::Settings;
 use ir_items::Module;
 use std::alloc::{AllocError, Global};
 
-/// Everything that the bytes of a document say. An item's place in its list is its handle.
+/// A decoded document. An item's index in its list is its handle.
 #[derive(Debug)]
 pub struct Document {
-    /// The settings by which it is to be judged.
+    /// The settings with which the module is to be validated.
     pub settings: Settings,
-    /// Whether missing returns are put in before the checks.
+    /// Whether missing returns are added before the validation.
     pub returns: bool,
-    /// The module that it writes.
+    /// The module.
     pub module: Module,
 }
 
-/// The module that the document writes, in memory of its own, with the same spans. The error is out of memory.
+/// A copy of the document's module, with the same spans. The error is out of memory.
 pub fn build_module(alloc: Global, document: &Document) -> Result<Module, AllocError>
     ensures content { IfOk result (λ m. module_view m ≡ (document_view document.now).content) }
     ensures spans { IfOk result (λ m. spanned_module m ≡ spanned_module document.now.«module») }
@@ -27,7 +27,7 @@ pub fn build_module(alloc: Global, document: &Document) -> Result<Module, AllocE
     document.module.clone(alloc)
 }
 
-// Written out, so that what a module is made of is freed in a call of this crate wherever a document is let go.
+// Explicit, so that the parts of a module are dropped by a call of this crate wherever a document is dropped.
 impl Drop for Document {
     fn drop(self) {
         let Document {
@@ -39,7 +39,7 @@ impl Drop for Document {
 }
 
 impl Document {
-    /// The same in memory of its own. The error is out of memory.
+    /// A copy of the document. The error is out of memory.
     pub fn clone(&self, alloc: Global) -> Result<Document, AllocError>
         ensures document { IfOk result (λ copy. document_view copy ≡ document_view self.now) }
         ensures spans { IfOk result (λ copy. spanned_module copy.«module» ≡ spanned_module self.now.«module») }
@@ -52,7 +52,7 @@ impl Document {
         })
     }
 
-    /// Its module, which is not freed with it.
+    /// Moves the module out.
     pub fn into_module(self) -> Module
         ensures { result ≡ self.«module» }
     {

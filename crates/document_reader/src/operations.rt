@@ -1,4 +1,4 @@
-// Statements without blocks, each kind by a function of its own.
+// The JSON forms of statements without blocks, each kind decoded by a function of its own.
 ghost use Rattle.std.specs.Prelude.{◌≡◌, option_map};
 ghost use Rattle.serde_json.specs.View.{items_view};
 ghost use Rattle.ir_blocks.specs.found.View.{statement_view};

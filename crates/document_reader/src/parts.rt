@@ -1,4 +1,4 @@
-// The parts of statements that are tagged themselves.
+// The JSON forms of the tagged parts of statements.
 ghost use Rattle.std.specs.Prelude.{◌≡◌, option_map};
 ghost use Rattle.ir_kinds.specs.declared.values.SwitchValue.{SwitchValue};
 ghost use Rattle.ir_blocks.specs.declared.operations.AtomicFunction.{AtomicFunction};
@@ -17,7 +17,7 @@ use std::alloc::Global;
 
 type E = At<key::Expression>;
 
-/// How the value of a case is written.
+/// The JSON form of a switch value.
 pub struct ValueForm;
 
 impl Form for ValueForm {
@@ -49,7 +49,7 @@ impl Form for ValueForm {
     }
 }
 
-/// How it is written what an atomic operation does.
+/// The JSON form of an atomic function.
 pub struct AtomicForm;
 
 impl Form for AtomicForm {
@@ -101,7 +101,7 @@ impl Form for AtomicForm {
     }
 }
 
-/// How it is written from where a subgroup gathers.
+/// The JSON form of a gather mode.
 pub struct GatherForm;
 
 impl Form for GatherForm {
@@ -153,7 +153,7 @@ impl Form for GatherForm {
     }
 }
 
-/// How it is written what is done with a ray query.
+/// The JSON form of a ray query function.
 pub struct RayQueryForm;
 
 impl Form for RayQueryForm {
@@ -196,7 +196,7 @@ impl Form for RayQueryForm {
     }
 }
 
-/// How it is written what is done by a ray pipeline.
+/// The JSON form of a ray pipeline function.
 pub struct PipelineForm;
 
 impl Form for PipelineForm {

@@ -1,4 +1,4 @@
-// From bytes to a document.
+// Reads a document from bytes.
 ghost use Rattle.std.specs.Prelude.{◌≢◌, IfOk, IfErr};
 ghost use Rattle.document_reader.specs.judged.Plain.{PlainDocument};
 ghost use Rattle.document_reader.specs.found.View.{document_view};
@@ -15,10 +15,10 @@ use ir_sets::keyed::KeyedState;
 use serde_json::Value;
 use std::alloc::Global;
 
-/// How many bytes a document may have.
+/// The greatest length of a document in bytes.
 pub const MAX_LEN: usize = 16777216;
 
-// The value that the JSON reader makes of the bytes, where these are not too many.
+// The JSON value of the bytes, if these are not too long.
 fn value_of(alloc: Global, bytes: &[u8]) -> Result<Value, DocumentError>
     ensures value { IfOk result (λ value. IsValueOf bytes.now (data_of value)) }
     ensures reason { IfErr result (λ e. IsReason bytes.now e) }
@@ -37,9 +37,9 @@ fn value_of(alloc: Global, bytes: &[u8]) -> Result<Value, DocumentError>
     }
 }
 
-/// The document that the bytes spell. An error other than [`DocumentError::Memory`] says that they spell none, and why:
-/// [`DocumentError::TooLong`] stands where there are too many, [`DocumentError::NotJson`] where the JSON reader refuses
-/// them, [`DocumentError::Malformed`] where their value is written for no document without equal types.
+/// Decodes the document of the bytes. An error other than [`DocumentError::Memory`] proves that they are none, and says why:
+/// [`DocumentError::TooLong`] if there are too many bytes, [`DocumentError::NotJson`] if the JSON reader rejects
+/// them, [`DocumentError::Malformed`] if their JSON value encodes no document with distinct types.
 pub fn read_document(alloc: Global, bytes: &[u8]) -> Result<Document, DocumentError>
     ensures found { IfOk result (λ d. Reads bytes.now (document_view d)) }
     ensures reason { IfErr result (λ e. IsReason bytes.now e) }
@@ -51,8 +51,8 @@ pub fn read_document(alloc: Global, bytes: &[u8]) -> Result<Document, DocumentEr
     }
 }
 
-/// The same of bytes that are freed as soon as the JSON reader has read them, so that the document does not take its
-/// memory beside them.
+/// Decodes the document of the bytes, which are freed once the JSON reader has read them, so that the document and the
+/// bytes are never both allocated.
 pub fn take_document(alloc: Global, bytes: Vec<u8>) -> Result<Document, DocumentError>
     ensures found { IfOk result (λ d. Reads bytes.items (document_view d)) }
     ensures reason { IfErr result (λ e. IsReason bytes.items e) }

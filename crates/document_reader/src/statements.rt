@@ -1,4 +1,4 @@
-// Statements and the blocks that hold them.
+// The JSON forms of statements and blocks.
 ghost use Rattle.std.specs.Prelude.{◌≡◌, ◌++◌, map, option_map};
 ghost use Rattle.serde_json.specs.View.{view as data_of, items_view};
 ghost use Rattle.ir_blocks.specs.judged.Plain.{PlainBlock};
@@ -170,7 +170,7 @@ fn loop_statement(alloc: Global, rest: &[Value], depth: usize) -> Result<Stateme
     })
 }
 
-// The statements of a body, nested no deeper than `depth`.
+// Decodes the statements of a block, nested no deeper than `depth`.
 #[cycle(statements)]
 fn block(alloc: Global, value: &Value, depth: usize) -> Result<Block, ReadError>
     ensures { Answers result (λ found. option_map block_view found ≡ block_at depth (data_of value.now)) }
@@ -190,7 +190,7 @@ fn block(alloc: Global, value: &Value, depth: usize) -> Result<Block, ReadError>
     Ok(Block::from_vec(found))
 }
 
-// The same of the part of a statement at this index.
+// Decodes the block of a statement that is the element at this index.
 #[cycle(statements)]
 fn block_inside(
     alloc: Global,
@@ -206,7 +206,7 @@ fn block_inside(
     }
 }
 
-/// How the body of a function is written, whose statements have no span.
+/// The JSON form of a function body, whose statements have no span.
 pub struct BodyForm;
 
 impl Form for BodyForm {

@@ -1,4 +1,4 @@
--- The words of a document: each set of words beside what its words denote.
+-- The word tables of a document.
 use Rattle.std.specs.Prelude.{ℕ, List, [], ◌∷◌, map}
 use Rattle.document_words.specs.Lookup.{◌⇒◌}
 use Rattle.ir_kinds.specs.declared.stages.ShaderStage.{ShaderStage}
@@ -57,11 +57,11 @@ use Rattle.ir_flags.specs.declared.stages.ShaderStages.{ShaderStages}
 use Rattle.ir_flags.specs.declared.stages.SubgroupOperationSet.{SubgroupOperationSet}
 use Rattle.ir_flags.specs.Words as bits
 
--- the kinds of scalar
+-- the kinds of scalars
 abbrev pub scalar_kinds : List (List ℕ × ScalarKind)
 scalar_kinds = "Sint" ⇒ Sint ∷ "Uint" ⇒ Uint ∷ "Float" ⇒ Float ∷ "Bool" ⇒ Bool ∷ "AbstractInt" ⇒ AbstractInt ∷ "AbstractFloat" ⇒ AbstractFloat ∷ []
 
--- the operands of a cooperative product
+-- the roles of cooperative matrices
 abbrev pub cooperative_roles : List (List ℕ × CooperativeRole)
 cooperative_roles = "A" ⇒ role.A ∷ "B" ⇒ role.B ∷ "C" ⇒ role.C ∷ []
 
@@ -69,7 +69,7 @@ cooperative_roles = "A" ⇒ role.A ∷ "B" ⇒ role.B ∷ "C" ⇒ role.C ∷ []
 abbrev pub image_dimensions : List (List ℕ × ImageDimension)
 image_dimensions = "D1" ⇒ dim.D1 ∷ "D2" ⇒ dim.D2 ∷ "D3" ⇒ dim.D3 ∷ "Cube" ⇒ dim.Cube ∷ []
 
--- the formats of texels
+-- the storage formats
 abbrev pub storage_formats : List (List ℕ × StorageFormat)
 storage_formats = "R8Unorm" ⇒ R8Unorm ∷ "R8Snorm" ⇒ R8Snorm ∷ "R8Uint" ⇒ R8Uint ∷ "R8Sint" ⇒ R8Sint ∷ "R16Uint" ⇒ R16Uint ∷ "R16Sint" ⇒ R16Sint ∷
     "R16Float" ⇒ R16Float ∷ "Rg8Unorm" ⇒ Rg8Unorm ∷ "Rg8Snorm" ⇒ Rg8Snorm ∷ "Rg8Uint" ⇒ Rg8Uint ∷ "Rg8Sint" ⇒ Rg8Sint ∷ "R32Uint" ⇒ R32Uint ∷
@@ -95,39 +95,39 @@ built_ins = "PrimitiveIndex" ⇒ PrimitiveIndex ∷ "ViewIndex" ⇒ ViewIndex �
     "ObjectRayDirection" ⇒ ObjectRayDirection ∷ "RayTmin" ⇒ RayTmin ∷ "RayTCurrentMax" ⇒ RayTCurrentMax ∷ "ObjectToWorld" ⇒ ObjectToWorld ∷
     "WorldToObject" ⇒ WorldToObject ∷ "HitKind" ⇒ HitKind ∷ []
 
--- how a value is taken from vertex to fragment
+-- the interpolations
 abbrev pub interpolations : List (List ℕ × Interpolation)
 interpolations = "Perspective" ⇒ Perspective ∷ "Linear" ⇒ Linear ∷ "Flat" ⇒ Flat ∷ "PerVertex" ⇒ PerVertex ∷ []
 
--- where a value is taken
+-- the samplings
 abbrev pub samplings : List (List ℕ × Sampling)
 samplings = "Center" ⇒ Center ∷ "Centroid" ⇒ Centroid ∷ "Sample" ⇒ Sample ∷ "First" ⇒ First ∷ "Either" ⇒ Either ∷ []
 
--- what becomes of a diagnostic
+-- the severities
 abbrev pub severities : List (List ℕ × Severity)
 severities = "Off" ⇒ severity.Off ∷ "Info" ⇒ severity.Info ∷ "Warning" ⇒ severity.Warning ∷ "Error" ⇒ severity.Error ∷ []
 
--- the rules that every tool knows
+-- the standard triggering rules
 abbrev pub standard_rules : List (List ℕ × StandardFilterableTriggeringRule)
 standard_rules = "DerivativeUniformity" ⇒ rule.DerivativeUniformity ∷ []
 
--- how a depth may be moved
+-- the conservative depths
 abbrev pub conservative_depths : List (List ℕ × ConservativeDepth)
 conservative_depths = "GreaterEqual" ⇒ depth.GreaterEqual ∷ "LessEqual" ⇒ depth.LessEqual ∷ "Unchanged" ⇒ depth.Unchanged ∷ []
 
--- what a mesh is made of
+-- the mesh topologies
 abbrev pub topologies : List (List ℕ × MeshOutputTopology)
 topologies = "Points" ⇒ topology.Points ∷ "Lines" ⇒ topology.Lines ∷ "Triangles" ⇒ topology.Triangles ∷ []
 
--- the letters of a vector's components
+-- the swizzle components
 abbrev pub letters : List (List ℕ × SwizzleComponent)
 letters = "x" ⇒ letter.X ∷ "y" ⇒ letter.Y ∷ "z" ⇒ letter.Z ∷ "w" ⇒ letter.W ∷ []
 
--- the operators of one value
+-- the unary operators
 abbrev pub unary_operators : List (List ℕ × UnaryOperator)
 unary_operators = "Negate" ⇒ unary.Negate ∷ "LogicalNot" ⇒ unary.LogicalNot ∷ "BitwiseNot" ⇒ unary.BitwiseNot ∷ []
 
--- the operators of two values
+-- the binary operators
 abbrev pub binary_operators : List (List ℕ × BinaryOperator)
 binary_operators = "Add" ⇒ Add ∷ "Subtract" ⇒ Subtract ∷ "Multiply" ⇒ Multiply ∷ "Divide" ⇒ Divide ∷ "Modulo" ⇒ Modulo ∷ "Equal" ⇒ Equal ∷
     "NotEqual" ⇒ NotEqual ∷ "Less" ⇒ Less ∷ "LessEqual" ⇒ LessEqual ∷ "Greater" ⇒ Greater ∷ "GreaterEqual" ⇒ GreaterEqual ∷ "And" ⇒ And ∷
@@ -138,11 +138,11 @@ binary_operators = "Add" ⇒ Add ∷ "Subtract" ⇒ Subtract ∷ "Multiply" ⇒ 
 abbrev pub relational_functions : List (List ℕ × RelationalFunction)
 relational_functions = "All" ⇒ relational.All ∷ "Any" ⇒ relational.Any ∷ "IsNan" ⇒ relational.IsNan ∷ "IsInf" ⇒ relational.IsInf ∷ []
 
--- the ways of a derivative
+-- the axes of derivatives
 abbrev pub derivative_axes : List (List ℕ × DerivativeAxis)
 derivative_axes = "X" ⇒ axis.X ∷ "Y" ⇒ axis.Y ∷ "Width" ⇒ axis.Width ∷ []
 
--- how exact a derivative is
+-- the precisions of derivatives
 abbrev pub derivative_controls : List (List ℕ × DerivativeControl)
 derivative_controls = "Coarse" ⇒ ctrl.Coarse ∷ "Fine" ⇒ ctrl.Fine ∷ "None" ⇒ ctrl.None ∷ []
 
@@ -163,16 +163,16 @@ math_functions = "Abs" ⇒ Abs ∷ "Min" ⇒ Min ∷ "Max" ⇒ Max ∷ "Clamp" �
     "Unpack2x16snorm" ⇒ Unpack2x16snorm ∷ "Unpack2x16unorm" ⇒ Unpack2x16unorm ∷ "Unpack2x16float" ⇒ Unpack2x16float ∷ "Unpack4xI8" ⇒ Unpack4xI8 ∷
     "Unpack4xU8" ⇒ Unpack4xU8 ∷ []
 
--- the operations of a subgroup
+-- the subgroup operations
 abbrev pub subgroup_operations : List (List ℕ × SubgroupOperation)
 subgroup_operations = "All" ⇒ op.All ∷ "Any" ⇒ op.Any ∷ "Add" ⇒ op.Add ∷ "Mul" ⇒ op.Mul ∷ "Min" ⇒ op.Min ∷ "Max" ⇒ op.Max ∷ "And" ⇒ op.And ∷ "Or" ⇒ op.Or ∷
     "Xor" ⇒ op.Xor ∷ []
 
--- how a subgroup operation collects
+-- the collective operations
 abbrev pub collective_operations : List (List ℕ × CollectiveOperation)
 collective_operations = "Reduce" ⇒ collective.Reduce ∷ "InclusiveScan" ⇒ collective.InclusiveScan ∷ "ExclusiveScan" ⇒ collective.ExclusiveScan ∷ []
 
--- the ways of a swap in a quad
+-- the directions of quad swaps
 abbrev pub directions : List (List ℕ × Direction)
 directions = "X" ⇒ direction.X ∷ "Y" ⇒ direction.Y ∷ "Diagonal" ⇒ direction.Diagonal ∷ []
 
@@ -183,31 +183,31 @@ scalars = "bool" ⇒ record { kind = Bool; width = 1 } ∷ "i16" ⇒ record { ki
     "u64" ⇒ record { kind = Uint; width = 8 } ∷ "f16" ⇒ record { kind = Float; width = 2 } ∷ "f32" ⇒ record { kind = Float; width = 4 } ∷
     "f64" ⇒ record { kind = Float; width = 8 } ∷ "aint" ⇒ record { kind = AbstractInt; width = 8 } ∷ "afloat" ⇒ record { kind = AbstractFloat; width = 8 } ∷ []
 
--- the address spaces that are a word alone
+-- the address spaces without operands
 abbrev pub spaces : List (List ℕ × AddressSpace)
 spaces = "Function" ⇒ space.Function ∷ "Private" ⇒ space.Private ∷ "WorkGroup" ⇒ space.WorkGroup ∷ "Uniform" ⇒ space.Uniform ∷ "Handle" ⇒ space.Handle ∷
     "Immediate" ⇒ space.Immediate ∷ "TaskPayload" ⇒ space.TaskPayload ∷ "RayPayload" ⇒ space.RayPayload ∷ "IncomingRayPayload" ⇒ space.IncomingRayPayload ∷ []
 
--- the stages of entry points
+-- the shader stages
 abbrev pub entry_stages : List (List ℕ × ShaderStage)
 entry_stages = "Vertex" ⇒ stage.Vertex ∷ "Fragment" ⇒ stage.Fragment ∷ "Compute" ⇒ stage.Compute ∷ "Mesh" ⇒ stage.Mesh ∷ "Task" ⇒ stage.Task ∷
     "RayGeneration" ⇒ stage.RayGeneration ∷ "AnyHit" ⇒ stage.AnyHit ∷ "ClosestHit" ⇒ stage.ClosestHit ∷ "Miss" ⇒ stage.Miss ∷ []
 
--- ---- sets: each word beside the set of its one bit, as the set's own table of words has it (but for the checks)
+-- ---- sets: each word with the set of its one flag, by naga's names (but for the checks)
 
--- what may be done with a storage buffer or a storage texture
+-- the access modes
 abbrev pub storage_access : List (List ℕ × StorageAccess)
 storage_access = map (λ row. (row.0, record { 0 = row.1 })) bits.storage_access_bits
 
--- what a barrier waits for
+-- the barriers
 abbrev pub barriers : List (List ℕ × Barrier)
 barriers = map (λ row. (row.0, record { 0 = row.1 })) bits.barrier_bits
 
--- how memory is seen by others
+-- the memory decorations
 abbrev pub memory_decorations : List (List ℕ × MemoryDecorations)
 memory_decorations = map (λ row. (row.0, record { 0 = row.1 })) bits.memory_decoration_bits
 
--- the checks: the six by the names of their bits, and the seventh by a word of the document's own
+-- the checks: the six by the names of their flags, and the seventh by a word of this format's own
 abbrev pub flags : List (List ℕ × ValidationFlags)
 flags = "EXPRESSIONS" ⇒ record { 0 = 1 } ∷ "BLOCKS" ⇒ record { 0 = 2 } ∷ "CONTROL_FLOW_UNIFORMITY" ⇒ record { 0 = 4 } ∷ "STRUCT_LAYOUTS" ⇒ record { 0 = 8 } ∷
     "CONSTANTS" ⇒ record { 0 = 16 } ∷ "BINDINGS" ⇒ record { 0 = 32 } ∷ "strict-scope" ⇒ record { 0 = 64 } ∷ []
@@ -216,10 +216,10 @@ flags = "EXPRESSIONS" ⇒ record { 0 = 1 } ∷ "BLOCKS" ⇒ record { 0 = 2 } ∷
 abbrev pub capabilities : List (List ℕ × Capabilities)
 capabilities = map (λ row. (row.0, record { 0 = row.1 })) bits.capability_bits
 
--- the stages at which subgroup operations may stand
+-- the subgroup stages
 abbrev pub stages : List (List ℕ × ShaderStages)
 stages = map (λ row. (row.0, record { 0 = row.1 })) bits.shader_stage_bits
 
--- the kinds of subgroup operation
+-- the kinds of subgroup operations
 abbrev pub operations : List (List ℕ × SubgroupOperationSet)
 operations = map (λ row. (row.0, record { 0 = row.1 })) bits.subgroup_operation_bits

@@ -1,4 +1,4 @@
--- Sets of bits, joined.
+-- Unions of bit flag sets.
 use Rattle.std.specs.Int.RustNames.{bit_or}
 use Rattle.ir_flags.specs.declared.memory.StorageAccess.{StorageAccess}
 use Rattle.ir_flags.specs.declared.memory.Barrier.{Barrier}

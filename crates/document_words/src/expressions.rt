@@ -1,4 +1,4 @@
-// The words of expressions and statements.
+// The word tables of expressions and statements.
 ghost use Rattle.document_words.specs.Tables.{letters, unary_operators, binary_operators, relational_functions, derivative_axes, derivative_controls, math_functions, subgroup_operations, collective_operations, directions};
 
 use crate::words::Word;

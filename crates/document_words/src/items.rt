@@ -1,4 +1,4 @@
-// The words of bindings, filters and entry points.
+// The word tables of bindings, filters and entry points.
 ghost use Rattle.std.specs.Prelude.{◌≡◌};
 ghost use Rattle.document_words.specs.Lookup.{lookup};
 ghost use Rattle.document_words.specs.Tables.{entry_stages, built_ins, interpolations, samplings, severities, standard_rules, conservative_depths, topologies};
@@ -166,7 +166,7 @@ static ENTRY_STAGES: [(&str, ShaderStage); 9] = [
     ("Miss", ShaderStage::Miss),
 ];
 
-/// The stage of an entry point by its word, or `None` where it is none of them. A stage set has words of its own.
+/// The stage of an entry point by its word, or `None` if there is none. The flags of a stage set have words of their own.
 pub fn entry_stage(word: &str) -> Option<ShaderStage>
     ensures { result ≡ lookup word.now entry_stages }
 {

@@ -1,4 +1,4 @@
-//! The words of a document, by tables.
+//! The word tables of a document.
 #![tactic(auto)]
 
 mod expressions;

@@ -1,4 +1,4 @@
-// The words of sets that are made of bits: each word denotes the set of its one bit.
+// The word tables of bit flag sets: each word denotes the set with its one flag.
 ghost use Rattle.std.specs.Prelude.{◌≡◌};
 ghost use Rattle.document_words.specs.Tables.{storage_access, barriers, memory_decorations};
 ghost use Rattle.document_words.specs.Unions.{access_union, barrier_union, decoration_union};

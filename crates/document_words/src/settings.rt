@@ -1,4 +1,4 @@
-// The words of what a document requires: each word denotes the set of its one bit.
+// The word tables of the settings: each word denotes the set with its one flag.
 ghost use Rattle.std.specs.Prelude.{◌≡◌};
 ghost use Rattle.document_words.specs.Tables.{flags, capabilities, stages, operations};
 ghost use Rattle.document_words.specs.Unions.{flag_union, capability_union, stage_union, operation_union};

@@ -1,4 +1,4 @@
-// The words of types.
+// The word tables of types.
 ghost use Rattle.document_words.specs.Tables.{scalars, spaces, scalar_kinds, cooperative_roles, image_dimensions, storage_formats};
 
 use crate::words::Word;

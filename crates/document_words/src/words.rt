@@ -1,32 +1,32 @@
-// Words and what they denote.
+// Word tables, and lookups in them.
 ghost use Rattle.std.specs.Prelude.{◌≡◌, ℕ, List, map};
 ghost use Rattle.document_words.specs.Lookup.{lookup, spelled};
 
-/// What the words of a set denote.
+/// A type whose values are denoted by the words of a table.
 pub trait Word: Copy + 'static {
     ghost table: { List (List ℕ × Self) };
 
-    /// The words, each with what it denotes.
+    /// The table: each word with its value.
     fn table() -> &'static [(&'static str, Self)]
         ensures { map spelled result.now ≡ table };
 }
 
-/// Words of which any number may stand together, in any order: each denotes a set, and all for the union.
+/// A set type: an array of words in any order denotes the union of the words' sets.
 pub trait SetWord: Word {
     ghost none: { Self };
 
     ghost union: { Self → Self → Self };
 
-    /// What no word denotes.
+    /// The empty set.
     fn none() -> Self
         ensures { result ≡ none };
 
-    /// What stands in one or the other.
+    /// The union.
     fn with(self, other: Self) -> Self
         ensures { result ≡ union self other };
 }
 
-/// What the word denotes in a table, or `None` where it is none of its words.
+/// The value of a word in a table, or `None` if the table does not have the word.
 pub fn find_in<T: Copy>(table: &[(&str, T)], word: &str) -> Option<T>
     ensures { result ≡ lookup word.now (map spelled table.now) }
 {
@@ -38,7 +38,7 @@ pub fn find_in<T: Copy>(table: &[(&str, T)], word: &str) -> Option<T>
     None
 }
 
-/// What the word denotes, or `None` where it is none of the set.
+/// The value of a word in its type's table, or `None` if the table does not have the word.
 pub fn find_word<W: Word>(word: &str) -> Option<W>
     ensures { result ≡ lookup word.now W.table }
 {

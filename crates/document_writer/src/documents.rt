@@ -1,4 +1,4 @@
-// How a whole document is written.
+// Writes a whole document.
 
 use crate::writer::Writer;
 use document_reader::Document;
@@ -14,7 +14,7 @@ use std::alloc::{AllocError, Global};
 
 const VERSION: u64 = 1;
 
-/// The document as JSON in plain lists, without spans. The error is out of memory.
+/// Writes the document as JSON arrays, without spans. The error is out of memory.
 pub fn write_document(alloc: Global, document: &Document) -> Result<String, AllocError> {
     let mut writer = Writer::new(alloc);
     writer.open();
@@ -37,7 +37,7 @@ impl Writer {
         self.close();
     }
 
-    // Types and filters.
+    // Writes types and filters.
     fn declarations(&mut self, module: &Module) {
         self.open();
         for (_, ty) in module.types.iter() {
@@ -79,7 +79,7 @@ impl Writer {
         self.close();
     }
 
-    /// The handle of a filter, or nothing.
+    /// Writes the handle of a filter, or `null`.
     pub fn leaf(&mut self, leaf: Option<Handle<key::DiagnosticFilterNode>>) {
         match leaf {
             Some(handle) => self.handle(handle),
@@ -130,7 +130,7 @@ impl Writer {
         self.close();
     }
 
-    // All other lists.
+    // Writes all other lists.
     fn items(&mut self, module: &Module) {
         self.open();
         for (_, constant) in module.constants.iter() {
@@ -155,7 +155,7 @@ impl Writer {
         self.code(module);
     }
 
-    // Functions and entry points.
+    // Writes functions and entry points.
     fn code(&mut self, module: &Module) {
         self.open();
         for (_, function) in module.functions.iter() {

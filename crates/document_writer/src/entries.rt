@@ -1,4 +1,4 @@
-// How functions and entry points are written.
+// Writes functions and entry points.
 
 use crate::writer::Writer;
 use ir_items::{
@@ -6,7 +6,7 @@ use ir_items::{
 };
 use ir_kinds::{EarlyDepthTest, ShaderStage};
 
-// The word of a stage.
+// The word of a shader stage.
 fn stage_word(stage: ShaderStage) -> &'static str {
     match stage {
         ShaderStage::Vertex => "Vertex",
@@ -38,7 +38,7 @@ impl Writer {
         self.close();
     }
 
-    /// A function.
+    /// Writes a function.
     pub fn function(&mut self, function: &Function) {
         self.open();
         self.name(function.name.as_deref());
@@ -75,7 +75,7 @@ impl Writer {
         }
     }
 
-    /// An entry point.
+    /// Writes an entry point.
     pub fn entry(&mut self, entry: &EntryPoint) {
         self.open();
         self.word(stage_word(entry.stage));

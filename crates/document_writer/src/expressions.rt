@@ -1,4 +1,4 @@
-// How expressions are written.
+// Writes expressions.
 
 use crate::writer::Writer;
 use ir_arena::handle::Handle;
@@ -11,7 +11,7 @@ use ir_types::{Expression, key};
 type E = Handle<key::Expression>;
 
 impl Writer {
-    /// An expression's handle, or nothing.
+    /// Writes an expression's handle, or `null`.
     pub fn maybe(&mut self, handle: Option<E>) {
         match handle {
             Some(handle) => self.handle(handle),
@@ -19,7 +19,7 @@ impl Writer {
         }
     }
 
-    /// Handles of expressions.
+    /// Writes a list of expression handles.
     pub fn handles(&mut self, handles: &[E]) {
         self.open();
         for handle in handles {
@@ -28,26 +28,26 @@ impl Writer {
         self.close();
     }
 
-    /// A word and a handle.
+    /// Writes a tag and a handle.
     pub fn one<T>(&mut self, word: &str, handle: Handle<T>) {
         self.word(word);
         self.handle(handle);
     }
 
-    /// A word and two handles of expressions.
+    /// Writes a tag and two expression handles.
     pub fn two(&mut self, word: &str, first: E, second: E) {
         self.one(word, first);
         self.handle(second);
     }
 
-    /// An expression.
+    /// Writes an expression.
     pub fn expression(&mut self, expression: &Expression) {
         self.open();
         self.parts(expression);
         self.close();
     }
 
-    // What an expression has between its brackets.
+    // Writes the elements of an expression's array.
     fn parts(&mut self, expression: &Expression) {
         match expression {
             Expression::Literal(literal) => self.literal(*literal),
@@ -102,7 +102,7 @@ impl Writer {
         }
     }
 
-    // The scalar and the value of a literal.
+    // Writes the scalar type and the value of a literal.
     fn literal(&mut self, literal: Literal) {
         self.word("Literal");
         let scalar: Scalar = literal.scalar();
@@ -159,7 +159,7 @@ impl Writer {
     }
 }
 
-// Operators, functions and conversions.
+// Writes operators, function calls and conversions.
 impl Writer {
     fn unary(&mut self, op: UnaryOperator, expr: E) {
         self.word("Unary");
@@ -233,7 +233,7 @@ impl Writer {
         self.optional(convert.map(u32::from));
     }
 
-    // What is found of a ray query, of the committed intersection or of the candidate.
+    // Writes an expression on the committed or the candidate intersection of a ray query.
     fn ray(&mut self, word: &str, query: E, committed: bool) {
         self.one(word, query);
         self.truth(committed);

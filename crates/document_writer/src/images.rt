@@ -1,4 +1,4 @@
-// How expressions and statements of images are written.
+// Writes expressions and statements on images.
 
 use crate::writer::Writer;
 use ir_arena::handle::Handle;
@@ -8,7 +8,7 @@ use ir_types::{Expression, ImageQuery, SampleLevel, key};
 type E = Handle<key::Expression>;
 
 impl Writer {
-    /// A sample.
+    /// Writes an image sample.
     pub fn sample(&mut self, expression: &Expression) {
         let Expression::ImageSample {
             image,
@@ -46,7 +46,7 @@ impl Writer {
         self.close();
     }
 
-    /// A texel.
+    /// Writes an image load.
     pub fn texel(&mut self, expression: &Expression) {
         let Expression::ImageLoad {
             image,
@@ -64,7 +64,7 @@ impl Writer {
         self.maybe(level);
     }
 
-    /// A query of an image.
+    /// Writes an image query.
     pub fn query(&mut self, image: E, query: ImageQuery) {
         self.one("ImageQuery", image);
         self.open();
@@ -80,7 +80,7 @@ impl Writer {
         self.close();
     }
 
-    /// A store to an image.
+    /// Writes an image store.
     pub fn image_store(&mut self, statement: &Statement) {
         let Statement::ImageStore {
             image,
@@ -96,7 +96,7 @@ impl Writer {
         self.handle(value);
     }
 
-    /// An atomic operation on a texel.
+    /// Writes an image atomic.
     pub fn image_atomic(&mut self, statement: &Statement) {
         let Statement::ImageAtomic {
             image,

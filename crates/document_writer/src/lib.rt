@@ -1,4 +1,4 @@
-//! A document as JSON, each kind of each part of it.
+//! Writes a module and its settings as a JSON document.
 #![tactic(auto)]
 
 mod documents;

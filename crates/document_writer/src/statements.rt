@@ -1,4 +1,4 @@
-// How statements are written.
+// Writes statements.
 
 use crate::writer::Writer;
 use ir_arena::handle::Handle;
@@ -13,7 +13,7 @@ use ir_types::{CooperativeData, key};
 type E = Handle<key::Expression>;
 
 impl Writer {
-    /// A body.
+    /// Writes a block.
     #[cycle(blocks)]
     pub fn body(&mut self, block: &Block) {
         self.open();
@@ -25,7 +25,7 @@ impl Writer {
         self.close();
     }
 
-    // What a statement has between its brackets.
+    // Writes the elements of a statement's array.
     #[cycle(blocks)]
     fn statement(&mut self, statement: &Statement) {
         match statement {
@@ -159,7 +159,7 @@ impl Writer {
         self.maybe(result);
     }
 
-    /// What is done to a value in memory.
+    /// Writes an atomic function.
     pub fn atomic_function(&mut self, fun: AtomicFunction) {
         let word = match fun {
             AtomicFunction::Add => "Add",
@@ -201,7 +201,7 @@ impl Writer {
         self.cooperative_data(block);
     }
 
-    /// The memory of a cooperative matrix.
+    /// Writes the memory operand of a cooperative matrix.
     pub fn cooperative_data(&mut self, block: CooperativeData) {
         self.handle(block.pointer);
         self.handle(block.stride);

@@ -1,4 +1,4 @@
-// How statements of subgroups are written.
+// Writes subgroup statements.
 
 use crate::writer::Writer;
 use ir_arena::handle::Handle;
@@ -8,13 +8,13 @@ use ir_types::key;
 type E = Handle<key::Expression>;
 
 impl Writer {
-    /// A ballot.
+    /// Writes a ballot.
     pub fn ballot(&mut self, answer: E, predicate: Option<E>) {
         self.one("SubgroupBallot", answer);
         self.maybe(predicate);
     }
 
-    /// A collective operation.
+    /// Writes a collective operation.
     pub fn collective(&mut self, statement: &Statement) {
         let Statement::SubgroupCollectiveOperation {
             op,
@@ -32,7 +32,7 @@ impl Writer {
         self.handle(result);
     }
 
-    /// A gather.
+    /// Writes a gather.
     pub fn gather(&mut self, statement: &Statement) {
         let Statement::SubgroupGather {
             mode,

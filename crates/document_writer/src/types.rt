@@ -1,21 +1,21 @@
-// How types and bindings are written.
+// Writes types and bindings.
 
 use crate::writer::Writer;
 use ir_kinds::{AddressSpace, Binding, BuiltIn, ImageClass, Scalar, VectorSize};
 use ir_types::{ArraySize, IrType, StructMember, TypeInner};
 
 impl Writer {
-    /// How many components a vector has.
+    /// Writes a vector size.
     pub fn size(&mut self, size: VectorSize) {
         self.number(u64::from(u32::from(size)));
     }
 
-    /// A size, or nothing.
+    /// Writes an optional size.
     pub fn optional_size(&mut self, size: Option<VectorSize>) {
         self.optional(size.map(u32::from));
     }
 
-    /// A type.
+    /// Writes a type.
     pub fn ir_type(&mut self, ty: &IrType) {
         self.open();
         self.name(ty.name.as_deref());
@@ -25,7 +25,7 @@ impl Writer {
         self.close();
     }
 
-    // What a type is made of.
+    // Writes an inner type.
     fn inner(&mut self, inner: &TypeInner) {
         match inner {
             TypeInner::Scalar(scalar) => self.scalar("Scalar", *scalar),
@@ -123,7 +123,7 @@ impl Writer {
         self.class(class);
     }
 
-    // A word and a truth value.
+    // Writes a tag and a bool.
     fn marked(&mut self, word: &str, value: bool) {
         self.word(word);
         self.truth(value);
@@ -170,7 +170,7 @@ impl Writer {
         self.close();
     }
 
-    /// A space.
+    /// Writes an address space.
     pub fn space(&mut self, space: AddressSpace) {
         match space {
             AddressSpace::Storage { access } => {
@@ -203,7 +203,7 @@ impl Writer {
         self.close();
     }
 
-    /// A binding, or nothing.
+    /// Writes a binding, or `null`.
     pub fn binding(&mut self, binding: Option<Binding>) {
         match binding {
             None => return self.null(),

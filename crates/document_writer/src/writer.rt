@@ -1,11 +1,11 @@
-// What writes the parts of a document.
+// The JSON writer.
 
 use document_words::{SetWord, Word};
 use ir_arena::handle::Handle;
 use std::alloc::{AllocError, Global};
 
-/// Writes the parts of a document one after the other. Each part has a comma after it until its array ends. That memory was
-/// refused is kept, and reported at the end.
+/// Writes JSON values one after the other. Each value is followed by a comma until its array ends. Out of memory
+/// is remembered, and reported at the end.
 #[derive(Drop)]
 pub struct Writer {
     text: String,
@@ -13,7 +13,7 @@ pub struct Writer {
 }
 
 impl Writer {
-    /// One that has written nothing.
+    /// An empty writer.
     pub fn new(alloc: Global) -> Writer {
         Writer {
             text: String::new(alloc),
@@ -21,7 +21,7 @@ impl Writer {
         }
     }
 
-    /// What it has written.
+    /// The text written.
     pub fn finish(self) -> Result<String, AllocError> {
         let Writer { text, failed } = self;
         if let Some(error) = failed {
@@ -32,31 +32,31 @@ impl Writer {
         Ok(text)
     }
 
-    // Keeps that memory was refused.
+    // Remembers that an allocation failed.
     fn note(&mut self, written: Result<(), AllocError>) {
         if let Err(error) = written {
             self.failed = Some(error);
         }
     }
 
-    // Text as it is.
+    // Writes a string as it is.
     fn push(&mut self, text: &str) {
         let written = self.text.push_str(text);
         self.note(written);
     }
 
-    // A letter as it is.
+    // Writes a character as it is.
     fn push_letter(&mut self, letter: char) {
         let written = self.text.push(letter);
         self.note(written);
     }
 
-    /// An array begins.
+    /// Starts an array.
     pub fn open(&mut self) {
         self.push("[");
     }
 
-    /// An array ends.
+    /// Ends an array.
     pub fn close(&mut self) {
         if self.text.ends_with(",") {
             let _ = self.text.pop();
@@ -64,35 +64,35 @@ impl Writer {
         self.push("],");
     }
 
-    // A part that is written so.
+    // Writes a value whose text is given.
     fn plain(&mut self, text: &str) {
         self.push(text);
         self.push(",");
     }
 
-    /// Nothing.
+    /// Writes `null`.
     pub fn null(&mut self) {
         self.plain("null");
     }
 
-    /// A truth value.
+    /// Writes a boolean.
     pub fn truth(&mut self, value: bool) {
         self.plain(if value { "true" } else { "false" });
     }
 
-    /// A number.
+    /// Writes an unsigned integer.
     pub fn number(&mut self, value: u64) {
         let written = write!(self.text, "{value},");
         self.note(written);
     }
 
-    /// A number that may be negative.
+    /// Writes a signed integer.
     pub fn signed(&mut self, value: i64) {
         let written = write!(self.text, "{value},");
         self.note(written);
     }
 
-    /// A number, or nothing.
+    /// Writes an unsigned integer, or `null`.
     pub fn optional(&mut self, value: Option<u32>) {
         match value {
             Some(value) => self.number(u64::from(value)),
@@ -100,31 +100,31 @@ impl Writer {
         }
     }
 
-    /// A handle.
+    /// Writes a handle.
     pub fn handle<T>(&mut self, handle: Handle<T>) {
         self.number(handle.index() as u64);
     }
 
-    /// A word that has nothing to escape.
+    /// Writes a string that needs no escapes.
     pub fn word(&mut self, word: &str) {
         self.push("\"");
         self.push(word);
         self.push("\",");
     }
 
-    /// An array begins with this word.
+    /// Starts an array with this tag.
     pub fn begin(&mut self, word: &str) {
         self.open();
         self.word(word);
     }
 
-    /// An array of a word alone.
+    /// Writes an array of a tag alone.
     pub fn alone(&mut self, word: &str) {
         self.begin(word);
         self.close();
     }
 
-    /// A text.
+    /// Writes a string.
     pub fn text(&mut self, text: &str) {
         self.push("\"");
         for letter in text.chars() {
@@ -133,7 +133,7 @@ impl Writer {
         self.push("\",");
     }
 
-    // A letter of a text.
+    // Writes a character of a string.
     fn escaped(&mut self, letter: char) {
         let code = u32::from(letter);
         if letter == '"' || letter == '\\' {
@@ -147,7 +147,7 @@ impl Writer {
         }
     }
 
-    /// A name, or nothing.
+    /// Writes a name, or `null`.
     pub fn name(&mut self, name: Option<&str>) {
         match name {
             Some(name) => self.text(name),
@@ -155,7 +155,7 @@ impl Writer {
         }
     }
 
-    /// The word of a value.
+    /// Writes the word of a value.
     pub fn word_of<W: Word + PartialEq>(&mut self, value: W) {
         for row in W::table() {
             if row.1 == value {
@@ -166,7 +166,7 @@ impl Writer {
         self.null();
     }
 
-    /// The word of a value, or nothing.
+    /// Writes the word of a value, or `null`.
     pub fn maybe_word<W: Word + PartialEq>(&mut self, value: Option<W>) {
         match value {
             Some(value) => self.word_of(value),
@@ -174,12 +174,12 @@ impl Writer {
         }
     }
 
-    /// A text of words that stand one after the other begins.
+    /// Starts a string of consecutive words.
     pub fn open_text(&mut self) {
         self.push("\"");
     }
 
-    /// The word of a value within such a text.
+    /// Writes the word of a value within such a string.
     pub fn bare_word_of<W: Word + PartialEq>(&mut self, value: W) {
         for row in W::table() {
             if row.1 == value {
@@ -189,12 +189,12 @@ impl Writer {
         }
     }
 
-    /// Such a text ends.
+    /// Ends such a string.
     pub fn close_text(&mut self) {
         self.push("\",");
     }
 
-    /// The words of a set.
+    /// Writes the words of a set.
     pub fn set_of<W: SetWord + PartialEq>(&mut self, set: W) {
         self.open();
         for row in W::table() {

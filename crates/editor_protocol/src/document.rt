@@ -7,13 +7,13 @@ use editor_text::{Encoding, Part, Position, byte_of, replaced};
 use serde_json::Value;
 use std::alloc::{AllocError, Global};
 
-/// The longest text that is kept, in bytes.
+/// The maximum size of a text that is kept, in bytes.
 pub const MAX_TEXT: usize = 64 << 20;
 
-/// How many documents may be open.
+/// The maximum number of open documents.
 pub const MAX_DOCUMENTS: usize = 1000;
 
-/// How many changes a message may have.
+/// The maximum number of changes in a message.
 pub const MAX_CHANGES: usize = 10_000;
 
 /// The text of a document.
@@ -21,22 +21,22 @@ pub const MAX_CHANGES: usize = 10_000;
 pub enum Text {
     /// Its bytes.
     Known(Vec<u8>),
-    /// It is longer than [`MAX_TEXT`], and not kept.
+    /// It is longer than [`MAX_TEXT`], and is not kept.
     TooLong,
 }
 
 /// A document that is open in the editor.
 #[derive(Drop)]
 pub struct Document {
-    /// By what the editor names it.
+    /// Its URI.
     pub uri: String,
-    /// The number of its text, where the editor says one.
+    /// Its version, if the editor gives one.
     pub version: Option<i64>,
     /// Its text.
     pub text: Text,
 }
 
-// A change of a text: of the part between two positions, or of the whole.
+// A content change: of a range, or of the whole text.
 #[derive(Clone, Copy)]
 struct Change<'a> {
     range: Option<(Position, Position)>,
@@ -57,7 +57,7 @@ fn position_at(value: &Value, key: &str) -> Option<Position> {
     })
 }
 
-// What a change says; nothing where it is none of the protocol.
+// The change in a JSON object; nothing if it is not a content change of the protocol.
 fn change_of(value: &Value) -> Option<Change<'_>> {
     let text = text_at(value, "text")?;
     let range = match value.get("range") {
@@ -67,7 +67,7 @@ fn change_of(value: &Value) -> Option<Change<'_>> {
     Some(Change { range, text })
 }
 
-// Bytes of their own, unless they are too many.
+// A copy of the bytes, unless there are too many.
 fn kept(alloc: Global, bytes: &[u8]) -> Result<Text, AllocError>
     ensures { IfOk result IsWithin }
 {
@@ -77,7 +77,7 @@ fn kept(alloc: Global, bytes: &[u8]) -> Result<Text, AllocError>
     Ok(Text::Known(bytes.to_vec(alloc)?))
 }
 
-// The text with another one in place of a part, unless that is too long.
+// The text with a range replaced, unless the result is too long.
 fn spliced(alloc: Global, text: &[u8], part: Part, by: &[u8]) -> Result<Text, AllocError>
     requires { part.end ≤ length text.now }
     ensures { IfOk result IsWithin }
@@ -111,7 +111,7 @@ fn changed(
 }
 
 impl Document {
-    /// The document that an object of the protocol has; nothing where there is none. The error is out of memory.
+    /// The document in an object of the protocol; nothing if there is none. The error is out of memory.
     pub(crate) fn of(alloc: Global, value: &Value) -> Result<Option<Document>, AllocError> {
         let (Some(uri), Some(text)) = (text_at(value, "uri"), text_at(value, "text")) else {
             return Ok(None);
@@ -122,8 +122,8 @@ impl Document {
         Ok(Some(Document { uri, version, text }))
     }
 
-    /// Changes the text, one change after the other. Returns whether the changes are some of the protocol; else the text is as it was.
-    /// The error is out of memory, and may leave it after some of the changes.
+    /// Applies the changes in order. Returns whether they are valid changes of the protocol; if not, the text is unchanged.
+    /// The error is out of memory; some of the changes may be applied.
     pub(crate) fn change(
         &mut self,
         alloc: Global,
@@ -147,12 +147,12 @@ impl Document {
     }
 }
 
-/// The number of a document's text, in an object of the protocol.
+/// The version of a document, in an object of the protocol.
 pub(crate) fn version_of(value: &Value) -> Option<i64> {
     value.get("version")?.as_i64()
 }
 
-/// The place of a document in a list, by its name.
+/// The index of a document in a list, by its URI.
 pub(crate) fn place_of(documents: &[Document], uri: &str) -> Option<usize>
     ensures { IfSome result (λ at. at < length documents.now) }
 {

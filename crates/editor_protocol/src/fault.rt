@@ -1,26 +1,26 @@
-// Why a message is not answered with a result.
+// The errors of messages.
 
 use std::fmt::{self, Display};
 
-/// Why a message is not answered with a result: the errors of JSON-RPC 2.0 and of LSP 3.17.
+/// The error response to a message: the errors of JSON-RPC 2.0 and of LSP 3.17.
 #[derive(Clone, Copy, Debug, PartialEq, Eq)]
 pub enum Fault {
-    /// The bytes begin with no header of a message.
+    /// The bytes do not begin with a message header.
     NoHeader,
-    /// The text is no JSON, or nests too deep.
+    /// The text is not JSON, or nests too deep.
     NoJson,
-    /// The message is none of JSON-RPC 2.0, or comes when it may not.
+    /// The message is not JSON-RPC 2.0, or not allowed in this state.
     NoRequest(&'static str),
-    /// There is no such method.
+    /// The method does not exist.
     NoMethod,
-    /// The parameters are not those of the method.
+    /// The parameters are invalid for the method.
     NoParameters,
-    /// The server was not initialized.
+    /// The server is not initialized.
     NotInitialized,
 }
 
 impl Fault {
-    /// Its code.
+    /// Its JSON-RPC error code.
     pub fn code(self) -> i64 {
         match self {
             Fault::NoHeader | Fault::NoJson => -32700,

@@ -1,4 +1,4 @@
-// Messages in their frames: a header that has the length, and so many bytes.
+// Message framing: a header with the content length, and the content.
 ghost use Rattle.std.specs.Prelude.{◌≡◌, ◌≤◌, ◌+◌, IfOk, IfSome, codes, length, string_bytes};
 ghost use Rattle.editor_protocol.specs.Frames.{HasLength, IsDue, IsNoMessage, announced, frame_of};
 
@@ -6,36 +6,36 @@ use std::alloc::{AllocError, Global};
 use std::mem;
 use std::str::from_utf8;
 
-/// The longest message that is taken, in bytes.
+/// The maximum length of a message, in bytes.
 pub const MAX_MESSAGE: usize = 64 << 20;
 
-/// The longest header that is taken, in bytes.
+/// The maximum length of a header, in bytes.
 pub const MAX_HEADER: usize = 4096;
 
-/// What has come in.
+/// The result of reading bytes.
 #[derive(Drop)]
 pub enum Received {
-    /// No message yet.
+    /// No complete message yet.
     Part,
     /// A message.
     Message(Vec<u8>),
-    /// A message of more than [`MAX_MESSAGE`] bytes, which are passed over.
+    /// A message of more than [`MAX_MESSAGE`] bytes, which are skipped.
     TooLong,
-    /// A header that has no length, or is longer than [`MAX_HEADER`]. Where the next message begins is not known.
+    /// A header without a length, or longer than [`MAX_HEADER`]. The start of the next message is not known.
     NoHeader,
 }
 
-// What is read.
+// The state of the reader.
 #[derive(Clone, Copy, Debug, PartialEq, Eq)]
 enum Stage {
     Header,
-    // The bytes of a message, of which so many are there in all.
+    // The content of a message, with its total length.
     Body(usize),
-    // So many bytes of a message that is too long.
+    // The remaining bytes of a message that is too long.
     Skipped(usize),
 }
 
-/// Takes messages out of the bytes that come in.
+/// A reader of messages from the input bytes.
 #[derive(Drop)]
 pub struct Frames {
     stage: Stage,
@@ -43,7 +43,7 @@ pub struct Frames {
     kept: Vec<u8>,
 }
 
-// The length in a line of a header.
+// The content length in a line of a header.
 fn length_in_line(line: &str) -> Option<usize> {
     let (name, value) = line.split_once(':')?;
     if !name.trim().eq_ignore_ascii_case("content-length") {
@@ -52,7 +52,7 @@ fn length_in_line(line: &str) -> Option<usize> {
     value.trim().parse::<usize>().ok()
 }
 
-// The length in a header.
+// The content length in a header.
 fn length_in(header: &[u8]) -> Option<usize> {
     let text = from_utf8(header).ok()?;
     for line in text.lines() {
@@ -64,7 +64,7 @@ fn length_in(header: &[u8]) -> Option<usize> {
 }
 
 impl Frames {
-    /// Nothing has come in yet.
+    /// A reader without input.
     pub fn new(alloc: Global) -> Frames {
         Frames {
             stage: Stage::Header,
@@ -72,7 +72,7 @@ impl Frames {
         }
     }
 
-    // Takes bytes of a header, up to its end. Returns how many.
+    // Reads bytes of a header, up to its end. Returns how many.
     fn take_header(&mut self, bytes: &[u8]) -> Result<usize, AllocError>
         ensures { IfOk result (λ count. count ≤ length bytes.now) }
     {
@@ -85,7 +85,7 @@ impl Frames {
         Ok(bytes.len())
     }
 
-    // What a header says that is read so far.
+    // The result of a complete header.
     fn end_header(&mut self, alloc: Global) -> Received
         ensures { IsNoMessage result }
     {
@@ -108,7 +108,7 @@ impl Frames {
         Received::Part
     }
 
-    // Takes bytes of a message that has so many in all. Returns how many.
+    // Reads bytes of a message with this total length. Returns how many.
     fn take_body(&mut self, whole: usize, bytes: &[u8]) -> Result<usize, AllocError>
         ensures { IfOk result (λ count. count ≤ length bytes.now) }
     {
@@ -117,7 +117,7 @@ impl Frames {
         Ok(count)
     }
 
-    // The message, where all of its bytes are there.
+    // The message, if it is complete.
     fn end_body(&mut self, alloc: Global, whole: usize) -> Received
         ensures { HasLength whole result }
     {
@@ -128,7 +128,7 @@ impl Frames {
         Received::Message(mem::replace(&mut self.kept, Vec::new(alloc)))
     }
 
-    // Passes bytes of a message over of which so many are left.
+    // Skips bytes of a message with this many remaining.
     fn skip(&mut self, left: usize, bytes: &[u8]) -> (usize, Received)
         ensures count { result.0 ≤ length bytes.now }
         ensures message { IsNoMessage result.1 }
@@ -143,8 +143,8 @@ impl Frames {
         }
     }
 
-    /// Takes bytes, up to the end of a header or of a message at most. Returns how many, and what has come in with them. A message
-    /// without bytes comes with the call after that of its header, which may have no bytes. The error is out of memory.
+    /// Reads bytes, at most up to the end of a header or of a message. Returns how many, and the result. An empty message
+    /// is returned by the call after that of its header, which may have no bytes. The error is out of memory.
     pub fn take(&mut self, alloc: Global, bytes: &[u8]) -> Result<(usize, Received), AllocError>
         ensures count { IfOk result (λ r. r.0 ≤ length bytes.now) }
         ensures message { IfOk result (λ r. IsDue (announced self.old) r.1) }
@@ -163,7 +163,7 @@ impl Frames {
     }
 }
 
-/// A message in its frame. The error is out of memory.
+/// A message with its header. The error is out of memory.
 pub fn framed(alloc: Global, message: &str) -> Result<String, AllocError>
     ensures { IfOk result (λ text. string_bytes text ≡ frame_of message.now) }
 {

@@ -1,5 +1,5 @@
-//! A language server (LSP 3.17) over one kind of document: messages in their frames, the state of the server, and what it answers. What is
-//! wrong with a text, the caller says.
+//! A language server (LSP 3.17) for one kind of document: message framing, the state of the server, and its responses. The
+//! diagnostics come from the caller.
 #![tactic(auto)]
 
 mod document;

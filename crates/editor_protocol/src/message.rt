@@ -1,4 +1,4 @@
-// What a message is: a request, a notification or a response of JSON-RPC 2.0.
+// The kinds of messages: a request, a notification or a response of JSON-RPC 2.0.
 ghost use Rattle.std.specs.Prelude.{◌≡◌, codes, option_map};
 ghost use Rattle.serde_json.specs.Find.{get};
 ghost use Rattle.serde_json.specs.View.{view};
@@ -9,24 +9,24 @@ use serde_json::Value;
 /// A message.
 #[derive(Clone, Copy)]
 pub(crate) enum Message<'a> {
-    /// It is answered, under its id.
+    /// A request, which has a response with its id.
     Request {
         id: &'a Value,
         method: &'a str,
         params: Option<&'a Value>,
     },
-    /// It is not answered.
+    /// A notification, which has no response.
     Notification {
         method: &'a str,
         params: Option<&'a Value>,
     },
-    /// It answers a request. The server makes none.
+    /// A response. The server sends no requests, so it ignores it.
     Response,
-    /// It is no message of JSON-RPC 2.0.
+    /// It is not a message of JSON-RPC 2.0.
     NoMessage,
 }
 
-/// The text at a key of an object.
+/// The string at a key of an object.
 pub(crate) fn text_at<'a>(value: &'a Value, key: &str) -> Option<&'a str>
     ensures { option_map (λ t. t.now) result ≡ text_at key.now (view value.now) }
 {
@@ -51,7 +51,7 @@ fn is_id(id: &Value) -> bool
     id.is_number() || id.is_string()
 }
 
-// A message of this method.
+// The kind of a message with this method.
 fn with_method<'a>(value: &'a Value, method: &'a str) -> Message<'a>
     ensures { kind_in result ≡ by_id (get (codes "id") (view value.now)) }
 {
@@ -63,7 +63,7 @@ fn with_method<'a>(value: &'a Value, method: &'a str) -> Message<'a>
     }
 }
 
-// A message without a method.
+// The kind of a message without a method.
 fn without_method(value: &Value) -> Message<'_>
     ensures { kind_in result ≡ by_answer (view value.now) }
 {
@@ -74,7 +74,7 @@ fn without_method(value: &Value) -> Message<'_>
     }
 }
 
-/// What a message is.
+/// The kind of a message.
 pub(crate) fn message_of(value: &Value) -> Message<'_>
     ensures { kind_in result ≡ kind_of (view value.now) }
 {

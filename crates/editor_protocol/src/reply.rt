@@ -1,4 +1,4 @@
-// The texts of responses and of notices.
+// The texts of responses and of notifications.
 ghost use Rattle.std.specs.Prelude.{IfOk, string_bytes};
 ghost use Rattle.serde_json.specs.View.{view};
 ghost use Rattle.editor_protocol.specs.Replies.{IsResponse, IsResponseTo};
@@ -7,14 +7,14 @@ use crate::fault::Fault;
 use serde_json::{Value, json};
 use std::alloc::{AllocError, Global};
 
-// The object of a result under an id.
+// The object of a result with an id.
 fn result_object(alloc: Global, id: &Value, given: Value) -> Result<Value, AllocError>
     ensures { IfOk result (λ v. IsResponseTo (view id.now) (view v)) }
 {
     json!(in alloc; {"jsonrpc": "2.0", "id": id, "result": given})
 }
 
-// The object of an error under an id.
+// The object of an error with an id.
 fn error_object(alloc: Global, id: &Value, fault: Fault) -> Result<Value, AllocError>
     ensures { IfOk result (λ v. IsResponseTo (view id.now) (view v)) }
 {
@@ -23,7 +23,7 @@ fn error_object(alloc: Global, id: &Value, fault: Fault) -> Result<Value, AllocE
     json!(in alloc; {"jsonrpc": "2.0", "id": id, "error": error})
 }
 
-/// The response with a result to the request of this id. The error is out of memory.
+/// The response with a result to the request with this id. The error is out of memory.
 pub(crate) fn response(alloc: Global, id: &Value, given: Value) -> Result<String, AllocError>
     ensures { IfOk result (λ text. IsResponse (view id.now) (string_bytes text)) }
 {
@@ -33,7 +33,7 @@ pub(crate) fn response(alloc: Global, id: &Value, given: Value) -> Result<String
     }
 }
 
-/// The response with an error to the request of this id, or to a message without one, whose id is null. The error is out of memory.
+/// The response with an error to the request with this id, or to a message without one, with id null. The error is out of memory.
 pub(crate) fn refusal(alloc: Global, id: &Value, fault: Fault) -> Result<String, AllocError>
     ensures { IfOk result (λ text. IsResponse (view id.now) (string_bytes text)) }
 {
@@ -43,12 +43,12 @@ pub(crate) fn refusal(alloc: Global, id: &Value, fault: Fault) -> Result<String,
     }
 }
 
-/// A notice of this method. The error is out of memory.
+/// A notification with this method. The error is out of memory.
 pub(crate) fn notice(alloc: Global, method: &str, params: Value) -> Result<String, AllocError> {
     json!(in alloc; {"jsonrpc": "2.0", "method": method, "params": params})?.to_string(alloc)
 }
 
-/// A notice that says what is wrong with a message that is not answered. The error is out of memory.
+/// A notification of the error of a message that has no response. The error is out of memory.
 pub(crate) fn complaint(alloc: Global, about: &str, why: &str) -> Result<String, AllocError> {
     let text = format!(in alloc; "{about}: {why}")?;
     let params = json!(in alloc; {"type": 1, "message": (text.as_str())})?;

@@ -1,4 +1,4 @@
-// The server: its state, and what it answers.
+// The server: its state, and its responses.
 ghost use Rattle.std.specs.Prelude.{◌<◌, IfOk, IfSome, IsUtf8, length};
 ghost use Rattle.serde_json.specs.Data.{null};
 ghost use Rattle.serde_json.specs.View.{view};
@@ -14,7 +14,7 @@ use editor_text::Encoding;
 use serde_json::{Value, json};
 use std::alloc::{AllocError, Global};
 
-// What the client has requested of the server's life.
+// The lifecycle state of the server.
 #[derive(Clone, Copy, Debug, PartialEq, Eq)]
 enum Phase {
     New,
@@ -30,29 +30,29 @@ pub struct Server {
     documents: Vec<Document>,
 }
 
-/// What is to be done after a message.
+/// The action after a message.
 #[derive(Drop)]
 pub enum Next {
     /// Nothing.
     Nothing,
-    /// This response is sent.
+    /// Send this response.
     Response(String),
-    /// This notice is sent.
+    /// Send this notification.
     Notice(String),
-    /// The document at this place is judged, and what [`Server::published`] makes of it is sent.
+    /// Validate the document at this index, and send the result of [`Server::published`].
     Judge(usize),
-    /// The program ends with this status.
+    /// Exit with this status.
     End(u8),
 }
 
-// What a request is answered with.
+// The result of a request.
 #[derive(Drop)]
 enum Reply {
     Given(Value),
     Refused(Fault),
 }
 
-// What a notification says.
+// The contents of a notification.
 #[derive(Clone, Copy, PartialEq, Eq)]
 enum News {
     Exit,
@@ -62,7 +62,7 @@ enum News {
     Other,
 }
 
-// What the server is to do for a request.
+// The server's action for a request.
 #[derive(Clone, Copy, PartialEq, Eq)]
 enum Task {
     Initialize,
@@ -88,7 +88,7 @@ fn task_of(method: &str) -> Task {
     }
 }
 
-// In which units the client counts columns.
+// The position encoding of the client.
 fn encoding_in(params: &Value) -> Option<Encoding> {
     let offered = params
         .get("capabilities")?
@@ -103,7 +103,7 @@ fn encoding_in(params: &Value) -> Option<Encoding> {
     None
 }
 
-// What the server can do. The error is out of memory.
+// The capabilities of the server. The error is out of memory.
 fn abilities(alloc: Global, encoding: Encoding) -> Result<Value, AllocError> {
     let units = match encoding {
         Encoding::Utf8 => "utf-8",
@@ -118,7 +118,7 @@ fn abilities(alloc: Global, encoding: Encoding) -> Result<Value, AllocError> {
     })
 }
 
-// A message that is refused. The error is out of memory.
+// The error response to a message. The error is out of memory.
 fn refused(alloc: Global, fault: Fault) -> Result<Next, AllocError>
     ensures { IfOk result (IsUnder null) }
 {
@@ -129,7 +129,7 @@ fn refused(alloc: Global, fault: Fault) -> Result<Next, AllocError>
     }
 }
 
-// A notice that says what is wrong with a message that is not answered.
+// A notification of the error of a message that has no response.
 fn complained(alloc: Global, about: &str, why: &str) -> Result<Next, AllocError>
     ensures { IfOk result IsQuiet }
 {
@@ -159,12 +159,12 @@ const NO_MESSAGE: &str = "this is no message of JSON-RPC 2.0";
 
 const TOO_LONG: &str = "the message is too long";
 
-// What names a document in the parameters of a notification.
+// The document identifier in the parameters of a notification.
 fn named_in(params: Option<&Value>) -> Option<&Value> {
     params?.get("textDocument")
 }
 
-// The document that was opened. The error is out of memory.
+// The opened document. The error is out of memory.
 fn opened_in(alloc: Global, params: Option<&Value>) -> Result<Option<Document>, AllocError> {
     match named_in(params) {
         Some(named) => Document::of(alloc, named),
@@ -172,14 +172,14 @@ fn opened_in(alloc: Global, params: Option<&Value>) -> Result<Option<Document>, 
     }
 }
 
-// What names a document, and its changes.
+// The document identifier, and the changes.
 fn changes_in(params: Option<&Value>) -> Option<(&Value, &Vec<Value>)> {
     let named = named_in(params)?;
     let changes = params?.get("contentChanges")?.as_array()?;
     Some((named, changes))
 }
 
-// The place of a document in a list, by what names it.
+// The index of a document in a list, by its identifier.
 fn place_in(documents: &[Document], named: &Value) -> Option<usize>
     ensures { IfSome result (λ at. at < length documents.now) }
 {
@@ -187,7 +187,7 @@ fn place_in(documents: &[Document], named: &Value) -> Option<usize>
 }
 
 impl Server {
-    /// A server that no message has come to.
+    /// A server before the first message.
     pub fn new(alloc: Global) -> Server {
         Server {
             phase: Phase::New,
@@ -209,7 +209,7 @@ impl Server {
         Ok(Reply::Given(abilities))
     }
 
-    // What a request is answered with.
+    // The result of a request.
     fn reply(
         &mut self,
         alloc: Global,
@@ -252,7 +252,7 @@ impl Server {
         }
     }
 
-    // Keeps a document that was opened.
+    // Stores an opened document.
     fn keep(&mut self, alloc: Global, document: Document) -> Result<Next, AllocError>
         ensures { IfOk result IsQuiet }
     {
@@ -307,7 +307,7 @@ impl Server {
         Ok(Next::Notice(text))
     }
 
-    // What is to be done after a notification while the server runs.
+    // The action after a notification while the server runs.
     fn noticed(
         &mut self,
         alloc: Global,
@@ -324,7 +324,7 @@ impl Server {
         }
     }
 
-    // What is to be done after a notification.
+    // The action after a notification.
     fn notified(
         &mut self,
         alloc: Global,
@@ -342,7 +342,7 @@ impl Server {
         self.noticed(alloc, news, params)
     }
 
-    // What is to be done after a message that is a JSON value.
+    // The action after a message as a JSON value.
     fn take_value(&mut self, alloc: Global, value: &Value) -> Result<Next, AllocError>
         ensures { IfOk result (Answers (kind_of (view value.now))) }
     {
@@ -358,8 +358,8 @@ impl Server {
         }
     }
 
-    /// Takes a message, and returns what is to be done. A request has one response; a notification and a response have none; what is no
-    /// message has one with an error, whose id is null. The error is out of memory.
+    /// Handles a message, and returns the action. A request has one response, a notification and a response none; anything else
+    /// has one with an error and id null. The error is out of memory.
     pub fn take(&mut self, alloc: Global, message: &[u8]) -> Result<Next, AllocError>
         ensures text { IfOk result (λ next. IsUtf8 message.now → Answers (kind_in_text message.now) next) }
         ensures no_text { IfOk result (λ next. ¬ IsUtf8 message.now → IsUnder null next) }
@@ -371,21 +371,21 @@ impl Server {
         }
     }
 
-    /// The response to a message that is too long to be taken. The error is out of memory.
+    /// The response to a message that is too long. The error is out of memory.
     pub fn refuse_long(&self, alloc: Global) -> Result<Next, AllocError>
         ensures { IfOk result (IsUnder null) }
     {
         refused(alloc, Fault::NoRequest(TOO_LONG))
     }
 
-    /// The response to bytes that have no header. The error is out of memory.
+    /// The response to bytes without a header. The error is out of memory.
     pub fn refuse_header(&self, alloc: Global) -> Result<Next, AllocError>
         ensures { IfOk result (IsUnder null) }
     {
         refused(alloc, Fault::NoHeader)
     }
 
-    /// The status of the program where no message comes any more: 0 after it was shut down, else 1.
+    /// The exit status at the end of the input: 0 after a shutdown request, else 1.
     pub fn status(&self) -> u8 {
         match self.phase {
             Phase::ShutDown => 0,
@@ -393,12 +393,12 @@ impl Server {
         }
     }
 
-    /// The document at a place, where there is one.
+    /// The document at an index, if it exists.
     pub fn document(&self, place: usize) -> Option<&Document> {
         self.documents.get(place)
     }
 
-    /// The notice of what is wrong with the document at a place; nothing where there is none. The error is out of memory.
+    /// The diagnostics notification for the document at an index; nothing if there is none. The error is out of memory.
     pub fn published(
         &self,
         alloc: Global,

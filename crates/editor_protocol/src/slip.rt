@@ -1,4 +1,4 @@
-// What is wrong with a document, as the editor shows it.
+// Diagnostics of a document.
 
 use crate::document::{Document, Text};
 use crate::reply::notice;
@@ -6,21 +6,21 @@ use editor_text::{Encoding, Part, Position, position_of};
 use serde_json::{Map, Value, json, put};
 use std::alloc::{AllocError, Global};
 
-/// What is wrong with a text.
+/// The diagnostic of a text.
 #[derive(Clone, Copy)]
 pub struct Slip<'a> {
-    /// Where.
+    /// Its range.
     pub part: Part,
-    /// What, in words.
+    /// Its message.
     pub text: &'a str,
 }
 
-// A position as the protocol writes it.
+// A position as JSON of the protocol.
 fn position_value(alloc: Global, position: Position) -> Result<Value, AllocError> {
     json!(in alloc; {"line": (position.line as u64), "character": (position.column as u64)})
 }
 
-// The part of a text as the protocol writes it. Of a part that is not within the text it is the end.
+// A range of a text as JSON of the protocol. If it is out of bounds, it is the end of the text.
 fn range_value(
     alloc: Global,
     encoding: Encoding,
@@ -34,7 +34,7 @@ fn range_value(
     json!(in alloc; {"start": start, "end": end})
 }
 
-// What is wrong with a text as the protocol writes it.
+// A diagnostic as JSON of the protocol.
 fn slip_value(
     alloc: Global,
     encoding: Encoding,
@@ -50,7 +50,7 @@ fn slip_value(
     })
 }
 
-// The notice of what is wrong with a document.
+// The diagnostics notification for a document.
 fn noted(alloc: Global, document: &Document, slips: Value) -> Result<String, AllocError> {
     let mut params = Map::new(alloc);
     put(
@@ -70,12 +70,12 @@ fn noted(alloc: Global, document: &Document, slips: Value) -> Result<String, All
     )
 }
 
-/// The notice that nothing is wrong with a document any more. The error is out of memory.
+/// The notification that a document has no diagnostics any more. The error is out of memory.
 pub(crate) fn withdrawn(alloc: Global, document: &Document) -> Result<String, AllocError> {
     noted(alloc, document, json!(in alloc; [])?)
 }
 
-/// The notice of what is wrong with a document. The error is out of memory.
+/// The diagnostics notification for a document. The error is out of memory.
 pub(crate) fn published(
     alloc: Global,
     encoding: Encoding,

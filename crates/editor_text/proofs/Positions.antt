@@ -87,14 +87,14 @@ columns_step : (last : Bool) (line column : ℕ) (n : ℕ) → n ≤ 2 → (if l
 columns_step true line column n h = omega arith
 columns_step false line column n h = omega arith
 
--- each byte is one line feed at most
+-- each byte is at most one line feed
 pub more_lines : (encoding : Encoding) (p q : Position) (b i : ℕ) → q ≡ after_byte encoding p b → p.line ≤ i → q.line ≤ i + 1
 more_lines encoding p q b i made h =
     let step = lines_step (b == 10) p.line p.column (units encoding b) in
     let is = ap (λ (x : Position). x.line) made in
     omega (arith, step, is)
 
--- and two units at most
+-- and at most two units
 pub more_columns : (encoding : Encoding) (p q : Position) (b i : ℕ) → q ≡ after_byte encoding p b → p.column ≤ 2 * i → q.column ≤ 2 * (i + 1)
 more_columns encoding p q b i made h =
     let step = columns_step (b == 10) p.line p.column (units encoding b) (units_few encoding b) in

@@ -4,7 +4,7 @@ ghost use Rattle.std.specs.Prelude.{◌≡◌, ◌≤◌, ◌++◌, length, take
 use crate::part::Part;
 use std::alloc::{AllocError, Global};
 
-/// The text with another one in place of a part. The error is out of memory.
+/// The text with a range replaced. The error is out of memory.
 pub fn replaced(alloc: Global, text: &[u8], part: Part, by: &[u8]) -> Result<Vec<u8>, AllocError>
     requires { part.end ≤ length text.now }
     ensures { IfOk result (λ new. new.items ≡ take part.start text.now ++ by.now ++ drop part.end text.now) }

@@ -1,4 +1,4 @@
-//! A text as editors see it: positions in lines and columns, changes, and where a part of a JSON text stands.
+//! Texts as editors see them: positions in lines and columns, changes, and the range of a part of a JSON text.
 #![tactic(auto)]
 
 mod change;

@@ -1,9 +1,9 @@
-// Where a part of a JSON text stands.
+// The range of a part of a JSON text.
 ghost use Rattle.std.specs.Prelude.{◌≤◌, ◌<◌, ◌≡◌, length, IfSome};
 
 use crate::scan::{after_space, after_value};
 
-/// A part of a text: the bytes from `start` on, before `end`.
+/// A range of a text: the bytes from `start` on, before `end`.
 #[derive(Clone, Copy, Debug, PartialEq, Eq)]
 pub struct Part {
     /// Its first byte.
@@ -13,7 +13,7 @@ pub struct Part {
     ghost ordered: { start ≤ end },
 }
 
-// Where the item of this index begins, of an array that begins at this byte.
+// The offset of the element at this index, of an array that begins at this byte.
 fn item_at(text: &[u8], array: usize, index: u32) -> Option<usize>
     requires { array ≤ length text.now }
     ensures { IfSome result (λ at. at ≤ length text.now) }
@@ -35,8 +35,8 @@ fn item_at(text: &[u8], array: usize, index: u32) -> Option<usize>
     Some(at)
 }
 
-/// The part of a JSON text that a path of indexes leads to, or the last one on the way there that is. Of a text that is no JSON it is
-/// some part.
+/// The range of the part of a JSON text at a path of indices, or of the last existing part on it. If the text is not JSON, it is
+/// an arbitrary range.
 pub fn part_at(text: &[u8], path: &[u32]) -> Part
     ensures { result.end ≤ length text.now }
 {
@@ -53,7 +53,7 @@ pub fn part_at(text: &[u8], path: &[u32]) -> Part
     }
 }
 
-/// The character of a text in UTF-8 that begins at this byte; nothing at the end.
+/// The UTF-8 character of a text that begins at this byte; nothing at the end.
 pub fn character_at(text: &[u8], start: usize) -> Part
     requires { start ≤ length text.now }
     ensures begins { result.start ≡ start }

@@ -2,12 +2,12 @@
 ghost use Rattle.std.specs.Prelude.{◌≡◌, ◌+◌, ◌≤◌, ◌<◌, ◌*◌, ◌^◌, ◌-◌, ◌⊎◌, ◌↔◌, IsTrue, length, take};
 ghost use Rattle.editor_text.specs.Positions.{IsUpTo, feeds, after_byte, position_at, units};
 
-/// In which units columns count.
+/// The units of columns.
 #[derive(Clone, Copy, Debug, PartialEq, Eq)]
 pub enum Encoding {
     /// Bytes.
     Utf8,
-    /// Units of UTF-16.
+    /// UTF-16 code units.
     Utf16,
 }
 
@@ -16,11 +16,11 @@ pub enum Encoding {
 pub struct Position {
     /// The line.
     pub line: usize,
-    /// The units before it in its line.
+    /// The number of units before it in its line.
     pub column: usize,
 }
 
-// How many units a byte begins.
+// The number of units that a byte begins.
 fn units(encoding: Encoding, byte: u8) -> usize
     ensures is { result ≡ units encoding byte }
     ensures few { result ≤ 2 }
@@ -56,7 +56,7 @@ impl Position {
         }
     }
 
-    // Whether it is no later than the other.
+    // Whether it is at or before the other.
     fn is_up_to(self, other: Position) -> bool
         ensures { IsTrue result ↔ IsUpTo self other }
     {

@@ -1,10 +1,10 @@
 // The next value of a JSON text, token by token.
 ghost use Rattle.std.specs.Prelude.{◌≡◌, ◌≤◌, length};
 
-// Where in a value a scan is.
+// The state of a scan in a value.
 #[derive(Clone, Copy, PartialEq, Eq)]
 enum Mode {
-    // Between the parts of a string.
+    // Outside strings.
     Plain,
     // In a string.
     Quoted,
@@ -12,7 +12,7 @@ enum Mode {
     Escaped,
 }
 
-// What one more byte is to a value.
+// The role of the next byte for a value.
 enum Step {
     // A part of it.
     Inside,
@@ -22,11 +22,11 @@ enum Step {
     After,
 }
 
-// How far a value is read.
+// The progress of reading a value.
 #[derive(Clone, Copy)]
 struct Scan {
     mode: Mode,
-    // How many arrays and objects are open.
+    // The number of open arrays and objects.
     depth: usize,
 }
 
@@ -35,7 +35,7 @@ fn is_space(byte: u8) -> bool {
 }
 
 impl Scan {
-    // Takes a byte in a string.
+    // Scans a byte in a string.
     fn take_quoted(&mut self, byte: u8) -> Step {
         match byte {
             b'\\' => self.mode = Mode::Escaped,
@@ -50,7 +50,7 @@ impl Scan {
         Step::Inside
     }
 
-    // Takes a closing bracket.
+    // Scans a closing bracket.
     fn close(&mut self) -> Step {
         match self.depth {
             0 => Step::After,
@@ -62,7 +62,7 @@ impl Scan {
         }
     }
 
-    // Takes a byte outside of a string.
+    // Scans a byte outside strings.
     fn take_plain(&mut self, byte: u8) -> Step {
         match byte {
             b'"' => self.mode = Mode::Quoted,
@@ -74,7 +74,7 @@ impl Scan {
         Step::Inside
     }
 
-    // Takes one more byte.
+    // Scans the next byte.
     fn take(&mut self, byte: u8) -> Step {
         match self.mode {
             Mode::Plain => self.take_plain(byte),
@@ -87,7 +87,7 @@ impl Scan {
     }
 }
 
-/// The first byte from this one on that is no space, or the end.
+/// The first byte from this one on that is not whitespace, or the end.
 pub(crate) fn after_space(text: &[u8], from: usize) -> usize
     requires { from ≤ length text.now }
     ensures least { from ≤ result }
@@ -101,7 +101,7 @@ pub(crate) fn after_space(text: &[u8], from: usize) -> usize
     text.len()
 }
 
-/// The end of the value that begins at this byte. Of what is no value it is some byte.
+/// The end of the value that begins at this byte. If there is no value, it is an arbitrary byte.
 pub(crate) fn after_value(text: &[u8], from: usize) -> usize
     requires { from ≤ length text.now }
     ensures least { from ≤ result }

@@ -1,4 +1,4 @@
--- What the entries of an arena hold, without their spans.
+-- Views of an arena's entries, without their spans.
 use Rattle.std.proofs.Common.{◌≡◌, ℕ, ◌+◌, ◌-◌, ◌<◌, List, [], ◌∷◌, ◌++◌, length, map, take, get_or, Some, option_map, slice_get, refl, sym, ap, ◌∙◌, zero, suc, arith}
 use Rattle.std.specs.Prelude.{unwrap_or, slice_range}
 use Rattle.std.proofs.lemmas.List.{take_all, take_more, map-append}
@@ -13,11 +13,11 @@ module _ {A B : Type 0} (view : A → B) where
   values_of_entries [] = refl
   values_of_entries (e ∷ es) = ap (λ rest. view e.0 ∷ rest) (values_of_entries es)
 
-  -- where entries hold the same, so do their values
+  -- entries with equal views have values with equal views
   pub same_values : (xs ys : List (A × Span)) → map (entry_of view) xs ≡ map (entry_of view) ys → map view (map value_of_entry xs) ≡ map view (map value_of_entry ys)
   same_values xs ys e = values_of_entries xs ∙ (ap (map (λ x. x.0)) e ∙ sym (values_of_entries ys))
 
-  -- the next entry is put after those that were copied
+  -- the next entry is appended to the copies
   pub entries_more : (entries copied after : List (A × Span)) (k : ℕ) (x clone : A) (span : Span) → k < length entries → Some x ≡ value_at entries k → view clone ≡ view x → span ≡ span_at entries k
       → map (entry_of view) copied ≡ map (entry_of view) (take k entries) → after ≡ copied ++ (clone, span) ∷ [] → map (entry_of view) after ≡ map (entry_of view) (take (k + 1) entries)
   entries_more entries copied after k x clone span lt at same spanned held added =
@@ -38,7 +38,7 @@ pub all_of : {A B : Type 0} (f : A × Span → B) (entries : List (A × Span)) (
 all_of f entries parts range n are is long =
     are ∙ (ap (λ (r : ℕ × ℕ). map f (slice_range entries r.0 r.1)) (is ∙ ap (λ m. (0, m)) long) ∙ ap (map f) (take_all (length entries - 0) entries (omega arith)))
 
--- what is read within a list is the same whatever stands in for what is not there
+-- within a list, an index has the same value for any default
 pub read_again : {A : Type 0} (xs : List A) (i : ℕ) (d e : A) → i < length xs → get_or xs i d ≡ get_or xs i e
 read_again [] i d e within = absurd (omega (arith, within))
 read_again (x ∷ xs) zero d e within = refl

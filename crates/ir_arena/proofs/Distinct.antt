@@ -1,4 +1,4 @@
--- Lists of which no element is equal to one after it.
+-- Lists without equal elements.
 use Rattle.std.proofs.Common.{◌≡◌, ℕ, zero, suc, Bool, true, false, ◌||◌, List, [], ◌∷◌, refl, ◌∙◌}
 use Rattle.std.specs.Prelude.{slice_set}
 use Rattle.std.specs.List.{list_any, AllByRecursion, IsDistinct}
@@ -20,7 +20,7 @@ module _ {X : Type 0} where
   AllByRecursion-set P (x ∷ xs) zero y all p = (p, all.1)
   AllByRecursion-set P (x ∷ xs) (suc i) y all p = (all.0, AllByRecursion-set P xs i y all.1 p)
 
-  -- an element gives way to one that is equal to none
+  -- an element is replaced by one that is equal to none
   pub IsDistinct-set : {e : X → X → Bool} → IsEquivalence e → (xs : List X) (i : ℕ) (y : X) → list_any (e y) xs ≡ false → IsDistinct e xs → IsDistinct e (slice_set xs i y)
   IsDistinct-set {e} laws [] i y none distinct = distinct
   IsDistinct-set {e} laws (x ∷ xs) zero y none distinct =

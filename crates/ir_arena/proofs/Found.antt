@@ -1,4 +1,4 @@
--- What a search of a list says of the list.
+-- The result of a search of a list.
 use Rattle.std.proofs.Common.{◌≡◌, ◌≤◌, ℕ, Bool, true, false, ◌||◌, ◌<◌, zero, suc, List, [], ◌∷◌, length, Some, None, arith, refl, sym, ap, subst, map, true≢false, ◌∙◌, nat_lt}
 use Rattle.std.specs.Prelude.{position, IfSome, Option}
 use Rattle.std.specs.List.{list_any, position_or_len, AllByRecursion}
@@ -8,7 +8,7 @@ use Rattle.std.specs.Cmp.{IsEquivalence}
 use Rattle.std.proofs.lemmas.Grind.{common_steps}
 
 module _ {X : Type 0} (p : X → Bool) where
-  -- no element passes exactly where the first place is the length
+  -- no element passes exactly if the index found is the length
   pub none_passes : (xs : List X) → list_any p xs ≡ false → position_or_len p xs ≡ length xs
   none_passes [] e = refl
   none_passes (x ∷ xs) e =
@@ -39,6 +39,6 @@ module _ {X : Type 0} (p : X → Bool) where
         | false ↦ λ q. q
       ] refl
 
--- equality of the first parts is an equivalence of pairs
+-- equality of the first components is an equivalence of pairs
 pub first_equiv : {T S : Type 0} {eq : T → T → Bool} → IsEquivalence eq → IsEquivalence {K = T × S} (λ d e. eq d.0 e.0)
 first_equiv l = record { refl = λ x. l.refl x.0; symm = λ x y. l.symm x.0 y.0; congr = λ x y z. l.congr x.0 y.0 z.0 }

@@ -1,4 +1,4 @@
--- Moving the elements that are kept to the front of a list.
+-- Moving the retained elements to the front of a list.
 use Rattle.std.proofs.Common.{◌≡◌, ℕ, ◌+◌, ◌<◌, ◌≤◌, Bool, true, false, List, [], ◌∷◌, ◌++◌, length, take, drop, get_or, refl, sym, ap, subst, inl, inr, ◌∙◌, append_assoc, append-nil, arith, add-one, length-set, drop-cons}
 use Rattle.std.specs.Prelude.{slice_set}
 use Rattle.std.specs.List.{swap}
@@ -22,7 +22,7 @@ module _ {X : Type 0} (xs : List X) (y : X) where
       ∙ ap (λ l. l ++ v ∷ []) (take-set-le place here place v (omega arith) ∙ take-set-le place xs place y (omega arith))
       ∙ ap (λ w. take place xs ++ w ∷ []) (get_or-set_same xs place y y within)
 
-  -- the kept element y comes to the end of the kept ones
+  -- the retained element y is appended to the retained ones
   pub take-swapped : (kept place : ℕ) → kept ≤ place → place < length xs → take (kept + 1) (swap (slice_set xs place y) kept place) ≡ take kept xs ++ y ∷ []
   take-swapped kept place behind within =
       let here = slice_set xs place y in
@@ -39,7 +39,7 @@ module _ {X : Type 0} (xs : List X) (y : X) where
             subst (λ k. take (k + 1) (swap (slice_set xs place y) k place) ≡ take k xs ++ y ∷ []) same (take-swapped_same place within)
       ]
 
-  -- and those after it stay
+  -- and those after it are unchanged
   pub drop-swapped : (kept place : ℕ) → kept ≤ place → place < length xs → drop (place + 1) (swap (slice_set xs place y) kept place) ≡ drop (place + 1) xs
   drop-swapped kept place behind within =
       let here = slice_set xs place y in
@@ -50,11 +50,11 @@ module _ {X : Type 0} (xs : List X) (y : X) where
       ∙ drop-set-lt (place + 1) xs place y (omega arith)
 
 module _ {F T : Type 0} (keeps : F → ℕ → T → Bool → F → T → Type 0) (Goal : List (T × Span) → Type 0) where
-  -- what is known of the entries that were visited so far, where those from this place on are still to be visited
+  -- the loop invariant: the entries visited so far, while those from this index on are still to be visited
   abbrev pub IsSoFar : F → ℕ → ℕ → List (T × Span) → Type 0
   IsSoFar keep kept place entries = (others : List (T × Span)) → RetainsFrom keeps keep place (drop place entries) others → Goal (take kept entries ++ others)
 
-  -- the next entry is visited, and keep' and entry' are what that leaves
+  -- the next entry is visited, with the results keep' and entry'
   module _ (keep keep' : F) (kept place : ℕ) (entries : List (T × Span)) (d entry' : T × Span) where
     pub so_far-kept : kept ≤ place → place < length entries → keeps keep place (get_or entries place d).0 true keep' entry'.0 → entry'.1 ≡ (get_or entries place d).1 → IsSoFar keep kept place entries → IsSoFar keep' (kept + 1) (place + 1) (swap (slice_set entries place entry') kept place)
     so_far-kept behind within asked span so_far others rest =
@@ -73,7 +73,7 @@ module _ {F T : Type 0} (keeps : F → ℕ → T → Bool → F → T → Type 0
         let here : drop place entries ≡ entry ∷ drop (place + 1) entries = rw add-one (drop-cons entries place d within) in
         rw front (so_far others (rw here (false, keep', entry'.0, asked, others, rw back at rest, refl)))
 
-  -- where none is left to be visited, the kept ones are all
+  -- when all are visited, the retained ones are the result
   pub so_far-all : (keep : F) (kept place : ℕ) (entries : List (T × Span)) → length entries ≤ place → IsSoFar keep kept place entries → Goal (take kept entries)
   so_far-all keep kept place entries end so_far =
       subst Goal (append-nil (take kept entries)) (so_far [] (rw (drop_all place entries end) refl))

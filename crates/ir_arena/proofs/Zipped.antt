@@ -1,4 +1,4 @@
--- Values and their spans, as one list of pairs.
+-- Values and their spans, zipped into a list of pairs.
 use Rattle.std.proofs.Common.{◌≡◌, ◌+◌, ◌-◌, ◌<◌, ◌≤◌, ℕ, zero, suc, Bool, true, false, ◌&&◌, List, [], ◌∷◌, ◌++◌, Some, None, map, take, drop, length, get_or, option_map, slice_get, refl, sym, ap, ◌∙◌, arith, rules}
 use Rattle.std.proofs.Math.Nat.{suc_inj}
 use Rattle.std.proofs.lemmas.Slice.Zip.{length-zip, firsts-zip, seconds-zip, get_or-zip}
@@ -20,7 +20,7 @@ same_first true false false d = refl
 same_first false b c d = refl
 
 module _ {T : Type 0} where
-  -- what the two lists are to the pairs
+  -- the two lists as the projections of the pairs
   pub record Opened (values : List T) (spans : List Span) (entries : List (T × Span)) : Type 0 where
     pub pairs : zip values spans ≡ entries
     pub values_are : values ≡ map value_of_entry entries
@@ -45,7 +45,7 @@ module _ {T : Type 0} where
         spans_length = ap length second ∙ length_map span_of_entry entries;
       }
 
-  -- what is read from one of the two lists
+  -- an element of one of the two lists
   pub value_read : (values : List T) (entries : List (T × Span)) (i : ℕ) (x : T) → values ≡ map value_of_entry entries → i < length entries → x ≡ get_or values i x → Some x ≡ value_at entries i
   value_read values entries i x are within is =
       sym (slice_get_read values (length entries) i x (sym (ap length are ∙ length_map value_of_entry entries)) within is) ∙ (ap (λ vs. slice_get vs i) are ∙ slice_get-map value_of_entry entries i)
@@ -58,7 +58,7 @@ module _ {T : Type 0} where
   pub span_past : (entries : List (T × Span)) (i : ℕ) → length entries ≤ i → undefined_span ≡ span_at entries i
   span_past entries i past = ap (λ o. unwrap_or (option_map span_of_entry o) undefined_span) (sym (slice_get_past entries i past))
 
-  -- one more of each is one more pair
+  -- appending to both lists appends a pair
   pub zip_push : (values : List T) (spans : List Span) (v : T) (s : Span) → length spans ≡ length values → zip (values ++ v ∷ []) (spans ++ s ∷ []) ≡ zip values spans ++ (v, s) ∷ []
   zip_push [] [] v s e = refl
   zip_push [] (y ∷ spans) v s e = absurd (omega (arith, e))
@@ -69,7 +69,7 @@ module _ {T : Type 0} where
   pushed values vs spans ss entries v s is even first second =
       ap (λ l. zip l ss) first ∙ (ap (zip (values ++ v ∷ [])) second ∙ (zip_push values spans v s even ∙ ap (λ l. l ++ (v, s) ∷ []) is))
 
-  -- one value in the place of another
+  -- a value replaced
   pub zip_set : (values : List T) (spans : List Span) (i : ℕ) (v : T) → zip (slice_set values i v) spans ≡ with_value (zip values spans) i v
   zip_set [] spans i v = refl
   zip_set (x ∷ values) [] zero v = refl
@@ -90,7 +90,7 @@ module _ {T : Type 0} where
   zip_take (suc n) (x ∷ values) [] = refl
   zip_take (suc n) (x ∷ values) (y ∷ spans) = ap (λ l. (x, y) ∷ l) (zip_take n values spans)
 
-  -- two in each other's place
+  -- two entries swapped
   pub zip_swap : (values : List T) (spans : List Span) (i j : ℕ) → length spans ≡ length values → i < length values → j < length values → zip (swap values i j) (swap spans i j) ≡ swap (zip values spans) i j
   zip_swap [] spans i j e a b = absurd (omega arith)
   zip_swap (x ∷ values) [] i j e a b = absurd (omega (arith, e))
@@ -109,7 +109,7 @@ module _ {T : Type 0} where
   position_map p values entries are =
       ap (position p) are ∙ (λ k. cond (nat_lt (position_or_len_map p entries k) (length_map value_of_entry entries k)) (Some (position_or_len_map p entries k)) None)
 
-  -- equal lists are equal pairs
+  -- equal lists have equal pairs
   pub zip_same : (eq : T → T → Bool) (vs ws : List T) (ss ts : List Span) → length ss ≡ length vs → length ts ≡ length ws → (pointwise eq vs ws && pointwise same_span ss ts) ≡ same_entries eq (zip vs ss) (zip ws ts)
   zip_same eq [] [] [] [] e f = refl
   zip_same eq [] [] [] (t ∷ ts) e f = absurd (omega (arith, f))
@@ -138,7 +138,7 @@ module _ {T : Type 0} where
   handles_numbered place [] = refl
   handles_numbered place (e ∷ es) = ap (λ l. (place, e.0) ∷ l) (handles_numbered (place + 1) es)
 
-  -- whatever is written to the values, there are as many, and the spans stay
+  -- writes to the values keep the length and the spans
   pub length_with_values : (entries : List (T × Span)) (values : List T) → length (with_values entries values) ≡ length entries
   length_with_values entries values =
       let n = length_refill (length entries) (map value_of_entry entries) values (sym (length_map value_of_entry entries)) in
@@ -149,7 +149,7 @@ module _ {T : Type 0} where
       let n = length_refill (length entries) (map value_of_entry entries) values (sym (length_map value_of_entry entries)) in
       seconds-zip _ _ (length_map span_of_entry entries ∙ n)
 
-  -- the entry at a handle, whatever stands in for one that is not there
+  -- the entry at a handle, for any default
   pub value_got : (entries : List (T × Span)) (i : ℕ) (x : T) → Some x ≡ value_at entries i → (d : T × Span) → x ≡ (get_or entries i d).0
   value_got [] i x e d = cc
   value_got (y ∷ ys) zero x e d = same_Some _ _ e
@@ -160,7 +160,7 @@ module _ {T : Type 0} where
   span_got (y ∷ ys) zero within d = refl
   span_got (y ∷ ys) (suc i) within d = span_got ys i (omega arith) d
 
-  -- a part of the values, or of the spans, is that of the entries
+  -- a slice of the values, or of the spans, is a slice of the entries
   pub part_of : {B : Type 0} (f : T × Span → B) (entries es : List (T × Span)) (parts : List B) (start end a b : ℕ) → es ≡ entries → parts ≡ map f es → start ≡ a → end ≡ b → take (end - start) (drop start parts) ≡ map f (slice_range entries a b)
   part_of f entries es parts start end a b same are from to =
       (λ k. take (to k - from k) (drop (from k) ((are ∙ ap (map f) same) k))) ∙ (ap (take (b - a)) (drop-map f a entries) ∙ take-map f (b - a) (drop a entries))

@@ -1,4 +1,4 @@
-//! The arena that takes every value.
+//! The arena of values with spans, in which equal values may occur.
 
 ghost use Rattle.std.specs.Prelude.{◌≡◌, ◌<◌, ◌≤◌, ◌++◌, ◌⊎◌, ◌↔◌, Some, false, [], ◌∷◌, length, map, slice_range, IsTrue, IsOk, IfOk, IfErr, IfSome, IfNone, OnOk, OnErr};
 ghost use Rattle.std.specs.Borrow.{sem};
@@ -22,15 +22,15 @@ use std::alloc::{AllocError, Global};
 use std::marker::{Model, PhantomData};
 use std::ops::Index;
 
-/// A list of values, each with its span. A value's handle is its place, so the handles are those
-/// below the length, and a value keeps its handle as the arena grows.
+/// A list of values, each with its span. A value's handle is its index, so the handles are those
+/// below the length, and a value keeps its handle while the arena grows.
 ///
-/// In a contract it is the list of the pairs of a value and its span. An arena holds at most
+/// In a contract it is the list of the pairs of a value and its span. An arena has at most
 /// 4294967295 values.
 ///
-/// Its handles are of type `Handle<K>`, where `K` is `T` if it is left out. An arena whose values
-/// hold handles of its own names a tag as `K`, an empty type, so that the type of the values does
-/// not lead back to itself.
+/// Its handles are of type `Handle<K>`, where `K` defaults to `T`. An arena whose values
+/// contain handles of the same arena names a tag as `K`, an empty type, so that the type of the values is
+/// not recursive.
 #[derive(Drop)]
 #[derive_where(Debug; T)]
 pub struct Arena<T, K = T> {
@@ -49,8 +49,8 @@ impl<T, K> Model for Arena<T, K> {
     ghost invariant = { λ a. length a.entries ≤ 4294967295 };
 }
 
-/// Two arenas are equal where they have as many values, and each is equal to the other's at its place and has the same
-/// span.
+/// Two arenas are equal if they have equally many values, and the values and spans at each index are
+/// equal.
 impl<T: PartialEq, K> PartialEq for Arena<T, K> {
     ghost use Rattle.ir_arena.specs.found.Equality.{same_entries, same_entries_per};
 
@@ -80,11 +80,11 @@ impl<T, K> Arena<T, K> {
         }
     }
 
-    /// An empty arena with room for so many values.
+    /// An empty arena with capacity for `count` values.
     ///
     /// # Errors
     ///
-    /// `AllocError` where there is no memory.
+    /// `AllocError` on out of memory.
     pub fn with_capacity(alloc: Global, count: usize) -> Result<Self, AllocError>
     where
         T: Drop,
@@ -96,11 +96,11 @@ impl<T, K> Arena<T, K> {
         })
     }
 
-    /// An arena that holds the same, each value with its span.
+    /// A copy of the arena: equal values with the same spans.
     ///
     /// # Errors
     ///
-    /// `AllocError` where there is no memory.
+    /// `AllocError` on out of memory.
     pub fn clone(&self, alloc: Global) -> Result<Self, AllocError>
     where
         T: Copied + Drop,
@@ -123,7 +123,7 @@ impl<T, K> Arena<T, K> {
         self.entries.len()
     }
 
-    /// Whether there is no value.
+    /// Whether the arena is empty.
     pub fn is_empty(&self) -> bool
         ensures { IsTrue result ↔ (self.now ≡ []) }
     {
@@ -137,7 +137,7 @@ impl<T, K> Arena<T, K> {
         Iter::new(self.entries.values())
     }
 
-    /// The values in order, each with its handle, to be changed. Their spans stay.
+    /// The values in order, each with its handle, as mutable references. The spans stay.
     pub fn iter_mut(&mut self) -> IterMut<'_, T, K>
         ensures* writes_back { sem 𝓛 (LendsValues T.row K.row self.entry (loan_name result)) }
         ensures keeps { KeepsSpans self.old }
@@ -146,12 +146,12 @@ impl<T, K> Arena<T, K> {
         IterMut::new(self.entries.values_mut())
     }
 
-    /// Adds a value at the end, and gives its handle.
+    /// Appends a value, and returns its handle.
     ///
     /// # Errors
     ///
-    /// `AllocError` where there is no memory, or where 4294967295 values have taken each index. The
-    /// arena then stays as it was.
+    /// `AllocError` on out of memory, or if the arena has 4294967295 values already. The
+    /// arena is then unchanged.
     pub fn append(&mut self, value: T, span: Span) -> Result<Handle<K>, AllocError>
     where
         T: Drop,
@@ -168,7 +168,7 @@ impl<T, K> Arena<T, K> {
         Ok(Handle::at(place))
     }
 
-    // The place of the first value that is equal to `value`.
+    // The index of the first value that is equal to `value`.
     fn find(&self, value: &T) -> Option<usize>
     where
         T: PartialEq,
@@ -178,12 +178,12 @@ impl<T, K> Arena<T, K> {
         self.entries.find(value)
     }
 
-    /// The handle of the first value that is equal to `value`. Where there is none, adds `value` at
-    /// the end. A value that stands already keeps its span.
+    /// The handle of the first value that is equal to `value`. If there is none, appends
+    /// `value`. A value that is present keeps its span.
     ///
     /// # Errors
     ///
-    /// As those of [`Arena::append`], where `value` is added.
+    /// Those of [`Arena::append`], if `value` is appended.
     pub fn fetch_or_append(&mut self, value: T, span: Span) -> Result<Handle<K>, AllocError>
     where
         T: PartialEq + Drop,
@@ -199,7 +199,7 @@ impl<T, K> Arena<T, K> {
         }
     }
 
-    /// The handle of the first value that passes `fun`, if there is one.
+    /// The handle of the first value for which `fun` returns true, if any.
     pub fn fetch_if<F: Fn(&T) -> bool>(&self, fun: F) -> Option<Handle<K>>
         requires { F.IsAlwaysCallable fun }
         ensures found { IfSome result (IsFirstPassing (FnReturnsAt F.Fn fun) self.now) }
@@ -211,12 +211,12 @@ impl<T, K> Arena<T, K> {
         }
     }
 
-    /// The handle of the first value at which `fun` passes beside `value`. Where there is none, adds
-    /// `value` at the end. A value that stands already keeps its span.
+    /// The handle of the first value for which `fun` returns true, called with it and `value`. If there is none, appends
+    /// `value`. A value that is present keeps its span.
     ///
     /// # Errors
     ///
-    /// As those of [`Arena::append`], where `value` is added.
+    /// Those of [`Arena::append`], if `value` is appended.
     pub fn fetch_if_or_append<F: Fn(&T, &T) -> bool>(
         &mut self,
         value: T,
@@ -229,7 +229,7 @@ impl<T, K> Arena<T, K> {
         ensures found { IfOk result (λ h. h < length self.old → IsFirstPassing (λ old. FnReturnsAtPair F.Fn fun old value) self.old h) }
         ensures kept { IfOk result (λ h. h < length self.old → self.new ≡ self.old) }
 
-        // a handle that the arena had not is that of the value, which goes last as none passes
+        // a handle that the arena did not have is that of the appended value
         ensures absent { IfOk result (λ h. length self.old ≤ h → PassesNowhere (λ old. FnReturnsAtPair F.Fn fun old value) self.old) }
         ensures appends_to { IfOk result (λ h. length self.old ≤ h → h ≡ length self.old) }
         ensures appends { IfOk result (λ h. length self.old ≤ h → self.new ≡ self.old ++ (value, span) ∷ []) }
@@ -247,7 +247,7 @@ impl<T, K> Arena<T, K> {
     ///
     /// # Errors
     ///
-    /// [`BadHandle`] where the arena has no such place.
+    /// [`BadHandle`] if the handle is not in the arena.
     pub fn try_get(&self, handle: Handle<K>) -> Result<&T, BadHandle>
     where
         K: Kind,
@@ -265,7 +265,7 @@ impl<T, K> Arena<T, K> {
         Ok(self.entries.value(index))
     }
 
-    /// The value at `handle`, to be changed.
+    /// The value at `handle`, as a mutable reference.
     pub fn get_mut(&mut self, handle: Handle<K>) -> &mut T
         requires { handle < length self.old }
         ensures* writes_back { sem 𝓛 (LendsValue T.row K.row self.entry handle result) }
@@ -274,18 +274,18 @@ impl<T, K> Arena<T, K> {
         self.entries.value_mut(handle.index())
     }
 
-    /// The span of the value at `handle`, or [`Span::UNDEFINED`] where the arena has no such place.
+    /// The span of the value at `handle`, or [`Span::UNDEFINED`] if the handle is not in the arena.
     pub fn get_span(&self, handle: Handle<K>) -> Span
         ensures { result ≡ span_at self.now handle }
     {
         self.entries.span(handle.index())
     }
 
-    /// Tests that the arena has the place of `handle`.
+    /// Checks that `handle` is in the arena.
     ///
     /// # Errors
     ///
-    /// [`BadHandle`] where it does not.
+    /// [`BadHandle`] if it is not.
     pub fn check_contains_handle(&self, handle: Handle<K>) -> Result<(), BadHandle>
     where
         K: Kind,
@@ -303,8 +303,8 @@ impl<T, K> Arena<T, K> {
         }
     }
 
-    /// Whether the first place of `range` does not pass its end, nor its end the length. Unlike
-    /// [`Arena::check_contains_range`] it is required of a range with no place too.
+    /// Whether the start of `range` is at most its end, and its end at most the length. Unlike
+    /// [`Arena::check_contains_range`] it requires this of an empty range too.
     pub fn has_range(&self, range: &Range<K>) -> bool
         ensures { IsTrue result ↔ ((range.now.0 ≤ range.now.1) × (range.now.1 ≤ length self.now)) }
     {
@@ -312,13 +312,13 @@ impl<T, K> Arena<T, K> {
         places.start <= places.end && places.end as usize <= self.entries.len()
     }
 
-    /// Tests that the arena has each place of `range`. A range with no place is one that every arena
-    /// has, also where it lies past the end, unless its end comes before its first place; see
+    /// Checks that each handle of `range` is in the arena. An empty range passes for every arena,
+    /// even past the arena's end, unless its end is less than its start; see
     /// [`Arena::has_range`].
     ///
     /// # Errors
     ///
-    /// [`BadRangeError`] where the end comes before the first place, or where the arena lacks a place.
+    /// [`BadRangeError`] if the end is less than the start, or if a handle is not in the arena.
     pub fn check_contains_range(&self, range: &Range<K>) -> Result<(), BadRangeError>
     where
         K: Kind,
@@ -352,9 +352,9 @@ impl<T, K> Arena<T, K> {
         &self.entries.spans()[places.start as usize..places.end as usize]
     }
 
-    /// Requires `keep` at each value in turn, with the handle that it has before the call, and keeps those
-    /// at which it answers true, in order, as it left them. The handles of the values after one that
-    /// goes change.
+    /// Calls `keep` on each value in turn, with the handle that it has before the call, and retains the values
+    /// for which it returns true, in order, as it left them. The handles of the values after a removed one
+    /// change.
     pub fn retain_mut<F: FnMut(Handle<K>, &mut T) -> bool>(&mut self, mut keep: F)
     where
         T: Drop,
@@ -364,7 +364,7 @@ impl<T, K> Arena<T, K> {
         keep_entries(&mut self.entries, &mut keep);
     }
 
-    /// Takes all values out, and leaves the arena empty.
+    /// Moves all values out, and leaves the arena empty.
     pub fn drain(&mut self) -> Drain<T, K>
         ensures taken { result ≡ entries_from 0 self.old }
         ensures emptied { self.new ≡ [] }
@@ -382,7 +382,7 @@ impl<T, K> Arena<T, K> {
     }
 }
 
-// The place of the first entry whose value passes `fun`.
+// The index of the first entry for whose value `fun` returns true.
 fn first_passing<T, F: Fn(&T) -> bool>(entries: &Spanned<T>, fun: &F) -> Option<usize>
     requires callable { F.IsAlwaysCallable fun.now }
     requires in_range { length entries.now ≤ 4294967295 }
@@ -398,7 +398,7 @@ fn first_passing<T, F: Fn(&T) -> bool>(entries: &Spanned<T>, fun: &F) -> Option<
     None
 }
 
-// What `fun` answers of the value.
+// The result of `fun` on the value.
 fn answer<T, F: Fn(&T) -> bool>(value: &T, fun: &F) -> bool
     requires { F.IsAlwaysCallable fun.now }
     ensures { FnReturnsAt F.Fn fun.now value.now result }
@@ -406,7 +406,7 @@ fn answer<T, F: Fn(&T) -> bool>(value: &T, fun: &F) -> bool
     fun(value)
 }
 
-// The place of the first entry at whose value `fun` passes beside `value`.
+// The index of the first entry for whose value and `value` `fun` returns true.
 fn first_related<T, F: Fn(&T, &T) -> bool>(
     entries: &Spanned<T>,
     value: &T,
@@ -426,7 +426,7 @@ fn first_related<T, F: Fn(&T, &T) -> bool>(
     None
 }
 
-// What `fun` answers of the two values.
+// The result of `fun` on the two values.
 fn relate<T, F: Fn(&T, &T) -> bool>(old: &T, value: &T, fun: &F) -> bool
     requires { F.IsAlwaysCallable fun.now }
     ensures { FnReturnsAtPair F.Fn fun.now old.now value.now result }
@@ -434,7 +434,7 @@ fn relate<T, F: Fn(&T, &T) -> bool>(old: &T, value: &T, fun: &F) -> bool
     fun(old, value)
 }
 
-// Keeps the entries that `keep` keeps, in order.
+// Retains the entries for which `keep` returns true, in order.
 fn keep_entries<T: Drop, K, F: FnMut(Handle<K>, &mut T) -> bool>(
     entries: &mut Spanned<T>,
     keep: &mut F,
@@ -454,7 +454,7 @@ fn keep_entries<T: Drop, K, F: FnMut(Handle<K>, &mut T) -> bool>(
     entries.truncate(kept);
 }
 
-// What `keep` answers of the value, which it may change.
+// The result of `keep` on the value, which it may mutate.
 fn ask<T, K, F: FnMut(Handle<K>, &mut T) -> bool>(
     value: &mut T,
     handle: Handle<K>,

@@ -1,22 +1,22 @@
-//! Copies into memory of their own.
+//! Values that can be copied into memory of their own.
 
 ghost use Rattle.std.specs.Prelude.{◌≡◌, map, IfOk};
 
 use std::alloc::{AllocError, Global};
 
-/// What can be copied into memory of its own.
+/// A type whose values can be copied into memory of their own.
 pub trait Copied: Sized {
-    /// What it holds.
+    /// The view of a value, which a copy preserves.
     ghost View: { Type 0 };
 
     ghost view: { Self → View };
 
-    /// One that holds the same. The error is out of memory.
+    /// A copy with the same view. The error is out of memory.
     fn copied(&self, alloc: Global) -> Result<Self, AllocError>
         ensures { IfOk result (λ copy. view copy ≡ view self.now) };
 }
 
-/// A list that holds the same. The error is out of memory.
+/// A list of copies, with the same views. The error is out of memory.
 pub fn copy_list<T: Copied + Drop>(alloc: Global, items: &[T]) -> Result<Vec<T>, AllocError>
     ensures { IfOk result (λ copy. map T.view copy.items ≡ map T.view items.now) }
 {

@@ -1,4 +1,4 @@
-//! Taking the values out of an arena.
+//! The iterator that moves the values out of an arena.
 
 ghost use Rattle.std.specs.Prelude.{◌≡◌, ◌≤◌, length};
 ghost use Rattle.ir_arena.specs.judged.Handles.{entries_from};
@@ -9,10 +9,10 @@ use crate::spanned::Spanned;
 use std::marker::{Model, PhantomData};
 use std::vec;
 
-/// The values that were taken out of an arena, in order, each with the handle that it had there and
-/// its span. In a contract it is the list of those that are still to come.
+/// The values moved out of an arena, in order, each with the handle that it had there and
+/// its span. In a contract it is the list of the remaining items.
 ///
-/// It owns them, so the arena is empty as soon as they are taken. Naga has a type of its own for the
+/// It owns them, so the arena is empty as soon as it is drained. Naga has a separate type for the
 /// values of a unique arena, `UniqueArenaDrain`.
 #[derive(Drop)]
 pub struct Drain<T, K> {

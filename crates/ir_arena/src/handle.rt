@@ -1,4 +1,4 @@
-//! Places in an arena, and the error of a place that an arena does not have.
+//! Handles of an arena, and the error of a handle that is not in an arena.
 
 ghost use Rattle.std.specs.Prelude.{◌≡◌, ◌<◌, ◌+◌, ◌↔◌, ℕ, List, IsSome, IfSome};
 
@@ -37,7 +37,7 @@ impl NonMaxU32 {
         }
     }
 
-    /// The sum of this number and `n`, or `None` where it is 4294967295 or more.
+    /// The sum of this number and `n`, or `None` if it is 4294967295 or more.
     pub fn checked_add(self, n: u32) -> Option<Self>
         ensures some { IsSome result ↔ (self + n < 4294967295) }
         ensures value { IfSome result (λ r. r ≡ self + n) }
@@ -48,7 +48,7 @@ impl NonMaxU32 {
         }
     }
 
-    /// The number itself.
+    /// The number as `u32`.
     pub fn get(self) -> u32
         ensures value { result ≡ self }
         ensures in_range { result < 4294967295 }
@@ -57,13 +57,13 @@ impl NonMaxU32 {
     }
 }
 
-/// The number that a handle is made of, counted from 0.
+/// The index of a handle, from 0.
 pub type Index = NonMaxU32;
 
-/// The place of a value in an arena, counted from 0. In a contract it is that number.
+/// The index of a value in an arena, from 0. In a contract it is that number.
 ///
-/// `T` only distinguishes the handles of one arena from those of another: it has no `T`, and copies,
-/// comparisons and hashes require nothing of it. An arena whose values hold handles of its own takes a
+/// `T` only distinguishes the handles of different arenas: a handle stores no `T`, and its copies,
+/// comparisons and hashes require nothing of `T`. An arena whose values contain handles of the same arena takes a
 /// tag as the `T` of its handles (see [`crate::arena::Arena`]).
 #[derive_where(Clone, Copy, PartialEq, Eq, PartialOrd, Ord, Hash)]
 pub struct Handle<T> {
@@ -81,7 +81,7 @@ impl<T> Model for Handle<T> {
     ghost inverse = { λ n. record { index = n; marker = record {} } };
 }
 
-// The place in square brackets.
+// The index in square brackets.
 impl<T> fmt::Debug for Handle<T> {
     fn fmt<W: fmt::Write>(&self, f: &mut fmt::Formatter<W>) -> fmt::Result {
         write!(f, "[{}]", self.index.get())
@@ -89,7 +89,7 @@ impl<T> fmt::Debug for Handle<T> {
 }
 
 impl<T> Handle<T> {
-    /// The handle of the place `index`.
+    /// The handle of index `index`.
     pub fn new(index: Index) -> Self
         ensures { result ≡ index }
     {
@@ -99,8 +99,8 @@ impl<T> Handle<T> {
         }
     }
 
-    /// The handle of a place that is known to be one of an arena's. In naga `from_usize`, which
-    /// panics where the place is too large.
+    /// The handle of an index that is known to be in an arena. In naga `from_usize`, which
+    /// panics if the index is too large.
     pub fn at(place: usize) -> Self
         requires { place < 4294967295 }
         ensures { result ≡ place }
@@ -113,7 +113,7 @@ impl<T> Handle<T> {
         }
     }
 
-    /// The place, counted from 0.
+    /// The index of the handle, from 0.
     pub fn index(self) -> usize
         ensures value { result ≡ self }
         ensures in_range { result < 4294967295 }
@@ -122,7 +122,7 @@ impl<T> Handle<T> {
     }
 }
 
-/// What the handles of an arena are of: the tags of arenas (see [`crate::arena::Arena`]) each have a word for it.
+/// The kind of a handle's arena: each tag of an arena (see [`crate::arena::Arena`]) has a word for it.
 pub trait Kind {
     ghost word: { List ℕ };
 
@@ -131,13 +131,13 @@ pub trait Kind {
         ensures { result.now ≡ word };
 }
 
-/// The error of a handle whose place an arena does not have. Naga's `kind` is the name of the value's type.
+/// The error of a handle that is not in an arena. In naga `kind` is the type name of the value.
 #[derive(Clone, Copy, PartialEq, Eq, Hash, Debug, Error)]
 #[error("Handle {index} of {kind} is either not present, or inaccessible yet")]
 pub struct BadHandle {
-    /// What the handle is of: the word of its [`Kind`].
+    /// The kind of the handle: the word of its [`Kind`].
     pub kind: &'static str,
-    /// The handle's place, counted from 0.
+    /// The index of the handle, from 0.
     pub index: usize,
 }
 

@@ -1,4 +1,4 @@
-//! Going over an arena.
+//! The iterator over an arena.
 
 ghost use Rattle.std.specs.Prelude.{◌≡◌, ◌≤◌, length};
 ghost use Rattle.std.specs.List.{enumerate_from};
@@ -6,8 +6,8 @@ ghost use Rattle.std.specs.List.{enumerate_from};
 use crate::handle::Handle;
 use std::marker::{Model, PhantomData};
 
-/// The values of an arena in order, each with its handle. In a contract it is the list of those
-/// that are still to come.
+/// The values of an arena in order, each with its handle. In a contract it is the list of the
+/// remaining items.
 #[derive(Drop)]
 pub struct Iter<'a, T, K> {
     values: &'a [T],

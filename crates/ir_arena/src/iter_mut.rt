@@ -1,4 +1,4 @@
-//! Going over an arena whose values may be changed.
+//! The iterator over an arena with mutable references to the values.
 
 ghost use Rattle.std.specs.Prelude.{◌≡◌, ◌≤◌, ◌+◌, length};
 ghost use Rattle.std.specs.Slice.Iter.{iter_mut_rest};
@@ -7,7 +7,7 @@ use crate::handle::Handle;
 use std::marker::PhantomData;
 use std::slice;
 
-/// The values of an arena in order, each with its handle, to be changed.
+/// The values of an arena in order, each with its handle, as mutable references.
 #[derive(Drop)]
 pub struct IterMut<'a, T, K> {
     values: slice::IterMut<'a, T>,

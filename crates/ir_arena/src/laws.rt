@@ -1,4 +1,4 @@
-//! What holds of handles and spans for all values. These functions do nothing: their contracts are the laws.
+//! Laws of handles and spans. These functions do nothing: their contracts are the laws.
 
 ghost use Rattle.std.specs.Prelude.{◌≡◌, ◌==◌};
 ghost use Rattle.std.specs.Ordering.{nat_cmp};
@@ -8,15 +8,15 @@ use crate::handle::{Handle, NonMaxU32};
 use crate::span::Span;
 use std::hash::Hash;
 
-/// Equality, order and hash of handles are those of their places.
+/// Equality, order and hash of handles are those of their indices.
 pub fn handle_laws<T>(a: Handle<T>, b: Handle<T>)
     ensures equality { ⟦<Handle<T> as PartialEq>⟧.eq a b ≡ (a == b) }
     ensures order { ⟦<Handle<T> as Ord>⟧.cmp a b ≡ nat_cmp a b }
     ensures hash { ⟦<Handle<T> as Hash>⟧.hash_input a ≡ ⟦<NonMaxU32 as Hash>⟧.hash_input a }
 {}
 
-/// [`Span::subsume`] is commutative, associative and idempotent, and [`Span::UNDEFINED`] is its
-/// identity, also for spans whose start passes their end.
+/// [`Span::subsume`] is commutative, associative and idempotent, with the identity
+/// [`Span::UNDEFINED`], even for spans whose start is greater than their end.
 pub fn subsume_laws(a: Span, b: Span, c: Span)
     ensures commutative { joined_span a b ≡ joined_span b a }
     ensures associative { joined_span (joined_span a b) c ≡ joined_span a (joined_span b c) }

@@ -1,7 +1,7 @@
-//! Arenas of values that are named by handles: the lists that a shader module is made of.
+//! Arenas of values that are referenced by handles, from which a shader module is built.
 //!
-//! A [`handle::Handle`] is a value's place in its arena, and an [`arena::Arena`] takes every value that
-//! it is given. Each value comes with the [`span::Span`] of the source that it was written in. The
+//! A [`handle::Handle`] is the index of a value in its arena, and an [`arena::Arena`] takes every value
+//! that is appended. Each value has the [`span::Span`] of its source text. The
 //! modules and names are those of naga's `arena` and `span`.
 //!
 //! In a contract a handle is a number, and an arena is the list of its values with their spans.

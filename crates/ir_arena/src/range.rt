@@ -1,4 +1,4 @@
-//! Handles that follow one another, and the error of a range that an arena does not have.
+//! Ranges of consecutive handles, and the error of a range that is not in an arena.
 
 ghost use Rattle.std.specs.Prelude.{◌≡◌, ◌<◌, ◌≤◌, ◌+◌, ◌-◌, ◌↔◌, IsSome, IfSome, length};
 
@@ -8,15 +8,15 @@ use std::marker::{Model, PhantomData};
 use std::ops;
 use thiserror::Error;
 
-/// The handles from one place on, below another, in order. There is none where the first place is
-/// not below the end.
+/// The consecutive handles from a start, included, to an end, excluded. It is empty if the start
+/// is not less than the end.
 ///
-/// In a contract it is the pair of its first place and its end, and nothing is known of the two: the
-/// end may come before the first place, and no arena need have the places
+/// In a contract it is the pair of its start and its end, with no invariant: the
+/// end may be less than the start, and the handles need not be in any arena
 /// (see [`Arena::check_contains_range`]).
 ///
-/// `T` is that of its handles. Going over a range changes it, so that what is left is what has not
-/// been given; a copy keeps the whole.
+/// `T` is that of its handles. Iterating consumes a range, so that what is left is what has not
+/// been yielded; a copy keeps the whole.
 #[derive_where(Clone, Copy, PartialEq, Eq, Hash, Debug)]
 pub struct Range<T> {
     first: u32,
@@ -35,8 +35,8 @@ impl<T> Model for Range<T> {
 }
 
 impl<T> Range<T> {
-    /// The handles from the place `first` on, below `end`. Naga makes such a range of two places
-    /// only where an arena has them.
+    /// The handles from index `first`, included, to `end`, excluded. Naga makes such a range only
+    /// if an arena has its handles.
     pub fn new(first: u32, end: u32) -> Self
         ensures { result ≡ (first, end) }
     {
@@ -56,7 +56,7 @@ impl<T> Range<T> {
         Range::new(first as u32, last as u32 + 1)
     }
 
-    /// The first and the last handle, or `None` where there is none.
+    /// The first and the last handle, or `None` if the range is empty.
     pub fn first_and_last(&self) -> Option<(Handle<T>, Handle<T>)>
         ensures found { IsSome result ↔ (self.now.0 < self.now.1) }
         ensures value { IfSome result (λ bounds. bounds ≡ (self.now.0, self.now.1 - 1)) }
@@ -70,7 +70,7 @@ impl<T> Range<T> {
         ))
     }
 
-    /// The places, from the first on, below the end.
+    /// The indices `start..end`.
     pub fn index_range(&self) -> ops::Range<u32>
         ensures start { result.start ≡ self.now.0 }
         ensures end { result.end ≡ self.now.1 }
@@ -78,7 +78,7 @@ impl<T> Range<T> {
         self.first..self.end
     }
 
-    /// The handles of the places `inner`, which `arena` has. Naga panics where it does not.
+    /// The handles of the indices `inner`, which are in `arena`. Naga panics if they are not.
     pub fn from_index_range<U>(inner: ops::Range<u32>, arena: &Arena<U, T>) -> Self
         requires ordered { inner.start ≤ inner.end }
         requires in_bounds { inner.end ≤ length arena.now }
@@ -109,13 +109,13 @@ impl<T> Iterator for Range<T> {
     }
 }
 
-/// The error of a range that an arena does not have. Naga's `kind` is the name of the values' type.
+/// The error of a range that is not in an arena. In naga `kind` is the type name of the values.
 #[derive(Clone, Copy, PartialEq, Eq, Hash, Debug, Error)]
 #[error("Handle range {first}..{end} of {kind} is either not present, or inaccessible yet", first = .range.first, end = .range.end)]
 pub struct BadRangeError {
-    /// What the range's handles are of: the word of their [`Kind`].
+    /// The kind of the range's handles: the word of their [`Kind`].
     pub kind: &'static str,
-    /// The range, whatever its handles are of.
+    /// The range, with the type of its handles erased.
     pub range: Range<()>,
 }
 

@@ -1,4 +1,4 @@
-//! Parts of the source text that a shader was written in.
+//! Spans of the source text of a shader.
 
 ghost use Rattle.std.specs.Prelude.{◌≡◌, ◌↔◌, IsTrue, IsSome, IfSome};
 ghost use Rattle.std.specs.Iterator.{IsFinite, Drains};
@@ -6,9 +6,9 @@ ghost use Rattle.ir_arena.specs.found.Spans.{span_from, span_until, is_defined_s
 
 use std::ops::Range;
 
-/// A part of the source text, in bytes: from `start` on, and below `end`.
+/// A span of the source text, in bytes: from `start`, included, to `end`, excluded.
 ///
-/// A span whose start and end are both 0 says that the part is not known.
+/// A span whose start and end are both 0 is undefined.
 #[derive(Clone, Copy, PartialEq, Eq, Hash, Debug)]
 pub struct Span {
     start: u32,
@@ -16,24 +16,24 @@ pub struct Span {
 }
 
 impl Span {
-    /// No known part of the source.
+    /// The undefined span.
     pub const UNDEFINED: Span = Span { start: 0, end: 0 };
 
-    /// The part from the byte `start` on, below the byte `end`.
+    /// The span from the byte `start`, included, to the byte `end`, excluded.
     pub fn new(start: u32, end: u32) -> Self
         ensures { result ≡ span_from start end }
     {
         Span { start, end }
     }
 
-    /// Whether the part is known.
+    /// Whether the span is defined.
     pub fn is_defined(&self) -> bool
         ensures { result ≡ is_defined_span self.now }
     {
         *self != Span::UNDEFINED
     }
 
-    /// The part from the start of this span up to the end of `other`.
+    /// The span from the start of this one up to the end of `other`.
     pub fn until(&self, other: &Self) -> Self
         ensures { result ≡ span_until self.now other.now }
     {
@@ -43,7 +43,7 @@ impl Span {
         }
     }
 
-    /// The bytes of the part, or `None` where it is not known. Where the start passes the end, the
+    /// The byte range of the span, or `None` if it is undefined. If the start is greater than the end, the
     /// range is empty.
     pub fn to_range(self) -> Option<Range<usize>>
         ensures known { IsSome result ↔ IsTrue (is_defined_span self) }
@@ -57,7 +57,7 @@ impl Span {
         }
     }
 
-    /// The least span that holds each of `spans`, [`Span::UNDEFINED`] where none is known.
+    /// The union of `spans`, [`Span::UNDEFINED`] if none is defined.
     pub fn total_span<I: Iterator<Item = Span> + Drop>(spans: I) -> Self
         requires can { I.can_next spans }
         requires ends { IsFinite (I.remaining spans) }
@@ -70,7 +70,7 @@ impl Span {
         total
     }
 
-    /// Grows to reach from the lesser start to the greater end of the two. A part that is not known adds nothing.
+    /// Extends the span to the lesser start and the greater end of the two. An undefined span adds nothing.
     pub fn subsume(&mut self, other: Span)
         ensures { self.new ≡ joined_span self.old other }
     {

@@ -1,4 +1,4 @@
-//! Values and their spans, in two lists that are as long.
+//! Values and their spans, in two lists of equal length.
 
 ghost use Rattle.std.specs.Prelude.{◌≡◌, ◌<◌, ◌++◌, [], ◌∷◌, Some, length, map, position, take, IfOk, IfSome, OnOk, OnErr};
 ghost use Rattle.std.specs.Borrow.{sem};
@@ -44,7 +44,7 @@ impl<T: PartialEq> PartialEq for Spanned<T> {
 }
 
 impl<T> Spanned<T> {
-    /// None.
+    /// An empty list.
     pub fn new(alloc: Global) -> Self
         ensures { result ≡ [] }
     {
@@ -54,7 +54,7 @@ impl<T> Spanned<T> {
         }
     }
 
-    /// None, with room for so many. The error is out of memory.
+    /// An empty list with capacity. The error is out of memory.
     pub fn with_capacity(alloc: Global, count: usize) -> Result<Self, AllocError>
     where
         T: Drop,
@@ -66,14 +66,14 @@ impl<T> Spanned<T> {
         })
     }
 
-    /// How many there are.
+    /// The number of values.
     pub fn len(&self) -> usize
         ensures { result ≡ length self.now }
     {
         self.values.len()
     }
 
-    /// What the lists take memory from.
+    /// The allocator of both lists.
     pub fn allocator(&self) -> Global {
         *self.values.allocator()
     }
@@ -92,7 +92,7 @@ impl<T> Spanned<T> {
         self.spans.as_slice()
     }
 
-    /// The value at a place.
+    /// The value at an index.
     pub fn value(&self, place: usize) -> &T
         requires { place < length self.now }
         ensures { Some result.now ≡ value_at self.now place }
@@ -100,7 +100,7 @@ impl<T> Spanned<T> {
         &self.values[place]
     }
 
-    /// The span at a place, or [`Span::UNDEFINED`] where there is none.
+    /// The span at an index, or [`Span::UNDEFINED`] if there is none.
     pub fn span(&self, place: usize) -> Span
         ensures { result ≡ span_at self.now place }
     {
@@ -110,7 +110,7 @@ impl<T> Spanned<T> {
         Span::UNDEFINED
     }
 
-    /// The place of the first value that is equal to `value`.
+    /// The index of the first value that is equal to `value`.
     pub fn find(&self, value: &T) -> Option<usize>
     where
         T: PartialEq,
@@ -120,7 +120,7 @@ impl<T> Spanned<T> {
         first_equal(self.values.as_slice(), value)
     }
 
-    /// Adds one at the end. The error is out of memory, and leaves values and spans as they were.
+    /// Appends a value with its span. The error is out of memory, and leaves values and spans unchanged.
     pub fn push(&mut self, value: T, span: Span) -> Result<(), AllocError>
     where
         T: Drop,
@@ -133,7 +133,7 @@ impl<T> Spanned<T> {
         Ok(())
     }
 
-    /// Puts a value in the place of another, whose span it takes.
+    /// Replaces a value; the span stays.
     pub fn replace(&mut self, place: usize, value: T)
     where
         T: Drop,
@@ -143,7 +143,7 @@ impl<T> Spanned<T> {
         self.values[place] = value;
     }
 
-    /// The value at a place, to be changed.
+    /// The value at an index, as a mutable reference.
     pub fn value_mut(&mut self, place: usize) -> &mut T
         requires { place < length self.old }
         ensures* writes_back { sem 𝓛 (LendsOne T.row self.entry place result) }
@@ -152,7 +152,7 @@ impl<T> Spanned<T> {
         &mut self.values[place]
     }
 
-    /// The values in order, to be changed. Their spans stay.
+    /// The values in order, as a mutable slice. The spans stay.
     pub fn values_mut(&mut self) -> &mut [T]
         ensures* writes_back { sem 𝓛 (LendsAll T.row self.entry result) }
         ensures value { result.now ≡ map value_of_entry self.old }
@@ -160,7 +160,7 @@ impl<T> Spanned<T> {
         self.values.as_mut_slice()
     }
 
-    /// Puts two in each other's place.
+    /// Swaps two entries.
     pub fn swap(&mut self, left: usize, right: usize)
         requires left { left < length self.old }
         requires right { right < length self.old }
@@ -170,7 +170,7 @@ impl<T> Spanned<T> {
         self.spans.swap(left, right);
     }
 
-    /// Frees those from a place on.
+    /// Drops the entries from an index on.
     pub fn truncate(&mut self, count: usize)
     where
         T: Drop,
@@ -180,7 +180,7 @@ impl<T> Spanned<T> {
         self.spans.truncate(count);
     }
 
-    /// Frees all. The memory is kept.
+    /// Drops all entries. The capacity stays.
     pub fn clear(&mut self)
     where
         T: Drop,
@@ -190,7 +190,7 @@ impl<T> Spanned<T> {
         self.spans.clear();
     }
 
-    /// Takes all out, and leaves none.
+    /// Moves all entries out, and leaves the list empty.
     pub fn take(&mut self) -> Self
         ensures taken { result ≡ self.old }
         ensures emptied { self.new ≡ [] }
@@ -210,7 +210,7 @@ impl<T> Spanned<T> {
     }
 }
 
-// The place of the first that is equal to `value`.
+// The index of the first value that is equal to `value`.
 fn first_equal<T: PartialEq>(values: &[T], value: &T) -> Option<usize>
     ensures value { result ≡ position (T.eq value.now) values.now }
     ensures in_range { IfSome result (λ place. place < length values.now) }

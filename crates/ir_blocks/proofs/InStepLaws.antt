@@ -18,7 +18,7 @@ use Rattle.ir_blocks.proofs.RoomLemmas.{block_view-roll, block_spans-roll}
 use Rattle.ir_blocks.proofs.SpanLaws.{no_span}
 use Rattle.ir_blocks.proofs.TailLaws.{none_in_stop}
 
--- a block, each block inside a statement, and that of a case are in step
+-- a block, each nested block of a statement, and that of a case are in step
 abbrev InStepBlock : Block → Type 0
 InStepBlock b = InStep (block_view b) (block_spans b)
 
@@ -65,7 +65,7 @@ cases_in_step [] k = nothing_in_step
 cases_in_step (e ∷ es) zero = e.1
 cases_in_step (e ∷ es) (suc k) = cases_in_step es k
 
--- a layer of a statement, seen as plain and as spans
+-- a layer of a statement, as plain data and as spans
 abbrev seen : Statement-F Statement Block SwitchCase → PlainStatement
 seen x = statement_step (map-Statement Statement Block SwitchCase PlainStatement PlainBlock PlainCase statement_view block_view case_view x)
 

@@ -1,4 +1,4 @@
--- Kept spans are equal exactly where all that they denote are.
+-- Stored spans are equal exactly if all padded spans are.
 use Rattle.std.proofs.Common.{◌≡◌, ℕ, zero, suc, ◌≤◌, ◌==◌, ◌&&◌, Bool, true, false, IsTrue, if◌then◌else◌, List, [], ◌∷◌, length, refl, sym, ap, ◌∙◌, arith}
 use Rattle.std.specs.Prelude.{Decides}
 use Rattle.std.specs.Cmp.Lexicographic.{pointwise_decides}
@@ -23,7 +23,7 @@ same_span_decides x y = (is_same, λ e. and_from (x.start == y.start) (x.end == 
 same_kept_decides : (xs ys : List Span) → Decides (same_kept xs ys) (up_to_defined xs ≡ up_to_defined ys)
 same_kept_decides xs ys = pointwise_decides same_span_decides (up_to_defined xs) (up_to_defined ys)
 
--- those after the last that is defined add nothing
+-- spans after the last defined one add nothing
 before_first : (x : Span) (kept : List Span) → first_kept (before_defined x kept) ≡ x
 before_first x (y ∷ kept) = refl
 before_first x [] = by_test (is_defined_span x) refl

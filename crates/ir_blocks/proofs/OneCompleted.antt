@@ -1,4 +1,4 @@
--- There is one body that is another completed with returns.
+-- A body has only one completion with returns.
 use Rattle.std.proofs.Common.{◌≡◌, inl, inr, ℕ, zero, suc, Bool, true, false, true≢false, None, refl, sym, ap, subst, ◌∙◌}
 use Rattle.ir_kinds.specs.declared.values.SwitchValue.{SwitchValue}
 use Rattle.ir_blocks.specs.judged.Plain.{PlainStatement, emit, block, if_, switch, loop, break, continue, return, kill, operation, call, PlainBlock, stop, next, PlainCases, no_case, case}
@@ -10,7 +10,7 @@ use Rattle.ir_blocks.proofs.TailLaws.{none_in_stop}
 
 -- ---- two bodies with the same statements at the same places
 
--- at each place of b's statements c has the same one, what is inside it aside, and c has no other
+-- at each statement's place in b, c has the same statement up to nested blocks, and c has no other
 record Same (b c : PlainBlock) : Type 0 where
   kept : (p : Place) (s : PlainStatement) → OccursAt b p s → (t : PlainStatement) × OccursAt c p t × (head_of t ≡ head_of s)
   only : (p : Place) (t : PlainStatement) → OccursAt c p t → (s : PlainStatement) × OccursAt b p s
@@ -18,12 +18,12 @@ record Same (b c : PlainBlock) : Type 0 where
 first_is : (s t : PlainStatement) (b : PlainBlock) → OccursAt (next s b) here t → s ≡ t
 first_is s t b e = let x = e in cc
 
--- a block at whose first place nothing stands
+-- a block with no statement at its first place is empty
 no_first : (c : PlainBlock) → ((t : PlainStatement) → OccursAt c here t → ⊥) → c ≡ stop
 no_first stop none = refl
 no_first (next t rest) none = absurd (none t refl)
 
--- a statement without blocks is what is seen of it from outside
+-- a statement without nested blocks is equal to its head
 simple_is : (t s : PlainStatement) → head_of t ≡ s → HoldsNoBlock s → t ≡ s
 simple_is (emit first end) s e h = e
 simple_is (block b) s e h = absurd (subst HoldsNoBlock (sym e) h)
@@ -91,7 +91,7 @@ mutual
       let others = same_rest v value g falls (case_heads more) (case_heads rest) e in
       (λ i. case (values i) (same body c (h zero) i) (fall i) (same_cases rest more others (λ k. h (suc k)) i))
 
--- ---- open ends, seen from inside
+-- ---- open ends, from inside
 
 open_later : {s t : PlainStatement} {rest : PlainBlock} {p : Place} → IsOpenEnd (next s (next t rest)) (later p) → IsOpenEnd (next t rest) p
 open_later (further o) = o
@@ -119,7 +119,7 @@ none_in_empty o = elim o [ ]
 
 -- ---- the completed body
 
--- what stands after the last statement
+-- what is after the last statement
 ends : (s t : PlainStatement) (more : PlainBlock) (g : Bool) → goes_on (shape_of s) ≡ g → IsCompleted (next s stop) (next t more) → more ≡ ending g
 ends s t stop true g h = absurd (none_in_stop here (return None) (h.added (later here) (after_last g)))
 ends s t (next r rest) true g h =
@@ -128,7 +128,7 @@ ends s t (next r rest) true g h =
     (λ i. next (first i) (behind i))
 ends s t more false g h = no_first more (λ u e. elim (h.only (later here) u e) [ inl o ↦ true≢false (sym (open_behind o) ∙ g) | inr x ↦ none_in_stop here x.0 x.1 ])
 
--- the first of more statements than one, and those after it
+-- the first of several statements, and those after it
 first_same : (s r t : PlainStatement) (rest more : PlainBlock) → IsCompleted (next s (next r rest)) (next t more) → t ≡ s
 first_same s r t rest more h =
     let k = h.kept here s refl in
@@ -144,7 +144,7 @@ rest_completed h = record {
   only = λ p x e. elim (h.only (later p) x e) [ inl o ↦ inl (open_later o) | inr y ↦ inr y ];
 }
 
--- the parts of a last statement: a tail part is completed, and any other stays
+-- the parts of the last statement: a tail part is completed, and any other stays
 tail_completed : {s t : PlainStatement} {more : PlainBlock} → IsCompleted (next s stop) (next t more) → (part : Part) → IsTailPart (shape_of s) part → IsCompleted (part_of (shape_of s) part) (part_of (shape_of t) part)
 tail_completed h part tail = record {
   added = λ p o. h.added (inside part p) (in_tail part tail o);

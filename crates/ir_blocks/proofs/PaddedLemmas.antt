@@ -1,4 +1,4 @@
--- Kept spans that denote as many as are required.
+-- Stored spans, padded to the number of statements.
 use Rattle.std.proofs.Common.{◌≡◌, ℕ, zero, suc, ◌+◌, ◌-◌, ◌<◌, ◌≤◌, ◌==◌, Bool, true, false, true≢false, not, ◌&&◌, if◌then◌else◌, List, [], ◌∷◌, ◌++◌, take, drop, replicate, length, slice_index_or, Result, Ok, Err, OnOk, is_ok, refl, sym, ap, ◌∙◌, arith}
 use Rattle.std.specs.List.{remove_range, splice}
 use Rattle.std.proofs.lemmas.Bool.{and_parts, eqb-true}
@@ -9,7 +9,7 @@ use Rattle.ir_blocks.specs.found.Padded.{first_kept, padded, before_defined, up_
 use Rattle.ir_blocks.specs.found.Spans.{tail_of}
 use Rattle.ir_blocks.proofs.RoomLemmas.{take_next, same_at}
 
--- what native numbers don't compute
+-- reductions that native numbers don't make
 next_sum : (n m : ℕ) → suc n + m ≡ suc (n + m)
 next_sum n m = omega arith
 
@@ -39,7 +39,7 @@ padded_parts zero (x ∷ kept) = sym (ap (λ k. replicate k undefined_span) (no_
 padded_parts (suc n) [] = padded_none (suc n) ∙ sym (ap (λ k. replicate k undefined_span) (whole_rest (suc n)))
 padded_parts (suc n) (x ∷ kept) = ap (λ z. x ∷ z) (padded_parts n kept ∙ sym (ap (λ k. take n kept ++ replicate k undefined_span) (next_rest n (length kept))))
 
--- so many spans, and those of others after them
+-- n padded spans, followed by others
 pub padded_behind : (n m : ℕ) (kept more : List Span) → padded (n + m) (padded n kept ++ more) ≡ padded n kept ++ padded m more
 padded_behind zero m kept more = ap (λ k. padded k more) (no_sum m)
 padded_behind (suc n) m kept more =
@@ -65,7 +65,7 @@ padded_whole zero (x ∷ xs) e = absurd (omega (arith, e))
 padded_whole (suc n) [] e = absurd (omega (arith, e))
 padded_whole (suc n) (x ∷ xs) e = ap (λ z. x ∷ z) (padded_whole n xs (omega (arith, e)))
 
--- without a run of them
+-- without a range of them
 after_cut : (n e : ℕ) (kept : List Span) → padded (n - e) (drop e kept) ≡ drop e (padded n kept)
 after_cut zero zero kept = ap (λ k. padded k kept) (no_rest zero)
 after_cut zero (suc e) kept = ap (λ k. padded k (drop (suc e) kept)) (no_rest (suc e))
@@ -77,7 +77,7 @@ after_cut (suc n) (suc e) [] = ap (λ k. padded k []) (next_rest n e) ∙ (nothi
     nothing n (suc e) = refl
 after_cut (suc n) (suc e) (x ∷ kept) = ap (λ k. padded k (drop e kept)) (next_rest n e) ∙ after_cut n e kept
 
--- the number of those that stay
+-- the number of those that remain
 left_over : (n s e : ℕ) → suc s + (suc n - suc e) ≡ suc (s + (n - e))
 left_over n s e = omega arith
 
@@ -96,7 +96,7 @@ padded_without (suc n) (suc s) (suc e) [] p q =
 padded_without (suc n) (suc s) (suc e) (x ∷ kept) p q =
     ap (λ k. padded k (x ∷ remove_range kept s e)) (left_over n s e) ∙ ap (λ z. x ∷ z) (padded_without n s e kept (omega (arith, p)) (omega (arith, q)))
 
--- with others in the place of a run of them
+-- with a range of them replaced
 pub length-spliced : {X : Type 0} (xs ys : List X) (s e n : ℕ) → length xs ≡ n → s ≤ e → e ≤ n → length (splice xs s e ys) ≡ s + length ys + (n - e)
 length-spliced xs ys s e n l p q =
     let parts = length-append (take s xs) (ys ++ drop e xs) in
@@ -107,7 +107,7 @@ pub padded_spliced : (n m s e : ℕ) (kept other : List Span) → s ≤ e → e 
 padded_spliced n m s e kept other p q =
     padded_whole _ _ (length-spliced (padded n kept) (padded m other) s e n (length-padded n kept) p q ∙ ap (λ k. s + k + (n - e)) (length-padded m other))
 
--- all of them undefined
+-- all undefined
 none_after : (n m : ℕ) → padded (n + m) [] ≡ padded n [] ++ padded m []
 none_after zero m = ap (λ k. padded k []) (no_sum m)
 none_after (suc n) m = ap (λ k. padded k []) (next_sum n m) ∙ ap (λ z. undefined_span ∷ z) (none_after n m)
@@ -133,7 +133,7 @@ none_spliced n m s e p q =
 
 -- ---- what the calls require
 
--- what is cut to so many, or filled up
+-- truncated or padded to a length
 pub resized : {T E : Type 0} (r : Result T E) (n len : ℕ) (old new : List Span) → len ≡ length old → new ≡ (if is_ok r then take n old ++ replicate (n - len) undefined_span else old) → OnOk r (new ≡ padded n old)
 resized (Ok x) n len old new l e = e ∙ (ap (λ k. take n old ++ replicate (n - k) undefined_span) l ∙ sym (padded_parts n old))
 resized (Err x) n len old new l e = tt
@@ -155,7 +155,7 @@ pushed_undefined n kept x e = padded_cut n 1 kept ∙ ap (λ z. padded n kept ++
 pub pushed : (n : ℕ) (kept new : List Span) (x : Span) → new ≡ padded n kept ++ x ∷ [] → padded (n + 1) new ≡ padded n kept ++ x ∷ []
 pushed n kept new x e = ap (padded (n + 1)) e ∙ padded_behind n 1 kept (x ∷ [])
 
--- a call that was refused once so many were kept
+-- a call that failed after the spans were padded
 pub refused : (n : ℕ) (kept new : List Span) → new ≡ padded n kept → padded n new ≡ padded n kept
 refused n kept new e = ap (padded n) e ∙ padded_again n kept
 
@@ -177,14 +177,14 @@ spliced_nothing n m s e kept other p q k o =
 pub spliced : (n m s e : ℕ) (kept other new : List Span) → s ≤ e → e ≤ n → new ≡ splice (padded n kept) s e (padded m other) → padded (s + m + (n - e)) new ≡ splice (padded n kept) s e (padded m other)
 spliced n m s e kept other new p q is = ap (padded (s + m + (n - e))) is ∙ padded_spliced n m s e kept other p q
 
--- a block without a run of its statements
+-- a block with a range of its statements removed
 pub culled : {X : Type 0} (old new : List X) (s e : ℕ) (kept rest : List Span) → s ≤ e → e ≤ length old → new ≡ remove_range old s e → rest ≡ remove_range kept s e → padded (length new) rest ≡ remove_range (padded (length old) kept) s e
 culled old new s e kept rest p q is left =
     let parts = length-append (take s old) (drop e old) in
     let count : length new ≡ s + (length old - e) = ap length is ∙ omega (arith, parts, length-take s old, length-drop e old, p, q) in
     (λ i. padded (count i) (left i)) ∙ padded_without (length old) s e kept p q
 
--- ---- up to the last that is defined
+-- ---- up to the last defined span
 
 behind_undefined : (xs : List Span) (x : Span) → is_defined_span x ≡ false → up_to_defined (xs ++ x ∷ []) ≡ up_to_defined xs
 behind_undefined [] x e = ap (λ d. if d then x ∷ [] else []) e
@@ -201,7 +201,7 @@ last_taken xs n d p q =
     let within : n - 1 < length xs = omega (arith, p, q) in
     ap (λ k. take k xs) before ∙ take_next xs (n - 1) (slice_index_or xs (n - 1) d) within (same_at xs (n - 1) d (slice_index_or xs (n - 1) d) within)
 
--- the last of the first n is looked at, and all after these are undefined
+-- the last of the first n is inspected, and all after these are undefined
 pub known_without : (xs : List Span) (n : ℕ) (d : Span) → 0 < n → n ≤ length xs → is_defined_span (slice_index_or xs (n - 1) d) ≡ false → up_to_defined (take n xs) ≡ up_to_defined xs
     → (n - 1 ≤ length xs) × (up_to_defined (take (n - 1) xs) ≡ up_to_defined xs)
 known_without xs n d p q e so_far = (omega (arith, p, q), sym (ap up_to_defined (last_taken xs n d p q) ∙ behind_undefined (take (n - 1) xs) (slice_index_or xs (n - 1) d) e) ∙ so_far)

@@ -1,4 +1,4 @@
--- Returns put in place: what the last statement of a block becomes, and the room for it.
+-- Adding returns in place: the last statement of a block, and the capacity for it.
 use Rattle.std.proofs.Common.{◌≡◌, ◌<◌, ◌≤◌, ℕ, zero, suc, ◌+◌, List, [], ◌∷◌, ◌++◌, map, take, length, get_or, Bool, true, false, ◌&&◌, if◌then◌else◌, Result, Ok, Err, OnOk, refl, sym, ap, ◌∙◌, arith, rules}
 use Rattle.std.specs.Prelude.{Vec}
 use Rattle.std.specs.declared.alloc.Global.{Global}
@@ -38,7 +38,7 @@ same_at [] i a b n = absurd (omega arith)
 same_at (v ∷ vs) zero a b n = refl
 same_at (v ∷ vs) (suc i) a b n = same_at vs i a b (omega arith)
 
--- one is changed, and looks as before
+-- one is changed, and has the same view
 pub same_looks : {A B : Type 0} (f : A → B) (vs : List A) (i : ℕ) (s t : A) → i < length vs → s ≡ get_or vs i s → f t ≡ f s → map f (set vs i t) ≡ map f vs
 same_looks f [] i s t n e h = absurd (omega arith)
 same_looks f (v ∷ vs) zero s t n e h = ap (λ z. z ∷ map f vs) (h ∙ ap f e)
@@ -63,7 +63,7 @@ room_at_end own [] r = refl
 room_at_end own (x ∷ []) r = refl
 room_at_end own (x ∷ y ∷ rs) r = room_at_end own (y ∷ rs) r
 
--- ---- what control goes on after stays as it is
+-- ---- whether control continues after a statement is unchanged
 
 pub finished_on : (s : PlainStatement) → goes_on (shape_of s) ≡ true → finished s ≡ s
 finished_on (emit first end) on = refl
@@ -91,7 +91,7 @@ finished_spans_on kill kept on = refl
 finished_spans_on (operation a) kept on = refl
 finished_spans_on (call function arguments result) kept on = refl
 
--- ---- room
+-- ---- capacity
 
 pub on_ok_both : {A E P Q R : Type 0} (r : Result A E) → OnOk r P → OnOk r Q → (P → Q → R) → OnOk r R
 on_ok_both (Ok x) p q f = f p q
@@ -115,7 +115,7 @@ right_true true b p = p
 right_true false true p = refl
 right_true false false p = p
 
--- what a block needs whose last statement is s
+-- the room that a block needs whose last statement is s
 lists_end : (own : Bool) (vs : List Statement) (i : ℕ) (s : Statement) → i + 1 ≡ length vs → s ≡ get_or vs i s
     → end_room own (map statement_room vs) ≡ (if goes_on (shape_of (statement_view s)) then own else (statement_room s).parts)
 lists_end own vs i s n e =
@@ -126,14 +126,14 @@ pub room_needed : (b : Block) (i : ℕ) (s : Statement) → i + 1 ≡ length (st
     → block_room b ≡ (if goes_on (shape_of (statement_view s)) then own_room b else (statement_room s).parts)
 room_needed b i s n e = block_room-lists b ∙ lists_end (own_room b) (statements_of b) i s n e
 
--- room was made in a block after whose last statement control goes on
+-- room was reserved in a block after whose last statement control continues
 pub room_made : (a b : Block) (i : ℕ) (s : Statement) → i + 1 ≡ length (statements_of a) → s ≡ get_or (statements_of a) i s → goes_on (shape_of (statement_view s)) ≡ true → statements_of b ≡ statements_of a → HasOwnRoom b → HasRoom b
 room_made a b i s n e on same own =
     let m : i + 1 ≡ length (statements_of b) = n ∙ ap length (sym same) in
     let f : s ≡ get_or (statements_of b) i s = e ∙ ap (λ z. get_or z i s) (sym same) in
     room_needed b i s m f ∙ (ap (λ z. if z then own_room b else (statement_room s).parts) on ∙ own)
 
--- room was made in the tail parts of a block's last statement
+-- room was reserved in the tail parts of a block's last statement
 pub room_within : (own : Bool) (vs : List Statement) (i : ℕ) (s t : Statement) → i + 1 ≡ length vs → s ≡ get_or vs i s → goes_on (shape_of (statement_view s)) ≡ false → statement_view t ≡ statement_view s → HasRoomWithin t
     → end_room own (map statement_room (set vs i t)) ≡ true
 room_within own vs i s t n e on same room =
@@ -144,7 +144,7 @@ room_within own vs i s t n e on same room =
 pub block_room-roll : (body : Vec Statement Global) (kept : List Span) → block_room (roll-Block (record { body = body; span_info = kept })) ≡ end_room (has_spare body) (map statement_room body.items)
 block_room-roll body kept = search (rules, the_lemmas)
 
--- what is known of the room where a return is added
+-- the room at an end where a return is added
 pub own_known : (b : Block) (i : ℕ) (s : Statement) → i + 1 ≡ length (statements_of b) → s ≡ get_or (statements_of b) i s → goes_on (shape_of (statement_view s)) ≡ true → HasRoom b → HasOwnRoom b
 own_known b i s n e on room = ap (λ z. if z then own_room b else (statement_room s).parts) (sym on) ∙ (sym (room_needed b i s n e) ∙ room)
 
@@ -196,7 +196,7 @@ take_set vs i x n = ap (λ k. take k (set vs i x)) (one_more i) ∙ take_set_suc
 pub take_next : {A : Type 0} (vs : List A) (i : ℕ) (x : A) → i < length vs → x ≡ get_or vs i x → take (i + 1) vs ≡ take i vs ++ x ∷ []
 take_next vs i x n e = ap (λ k. take k vs) (one_more i) ∙ take_suc vs i x n e
 
--- those after the first i are as they were
+-- those after the first i are unchanged
 abbrev pub Unvisited : {A : Type 0} → List A → List A → ℕ → Type 0
 Unvisited {A} vs ws i = (length vs ≡ length ws) × ((k : ℕ) (d : A) → i ≤ k → get_or vs k d ≡ get_or ws k d)
 
@@ -206,7 +206,7 @@ unvisited_more vs ws i x u = (length_set vs i x ∙ u.0, λ k d le. others_stay 
 pub room_more : (vs : List SwitchCase) (i : ℕ) (x : SwitchCase) → i < length vs → HasRoomInCases (take i vs) → HasRoomInCase x → HasRoomInCases (take (i + 1) (set vs i x))
 room_more vs i x n all one = ap (λ z. each_room (map case_room z)) (take_set vs i x n) ∙ room_in_cases (take i vs) x all one
 
--- one more of the first i is done, where h says what becomes of one
+-- one more of the first i is done, by h for one element
 pub done_more : {A B : Type 0} (f h : A → B) (vs ws : List A) (i : ℕ) (c x : A) → i < length vs → Unvisited vs ws i → c ≡ get_or vs i c → f x ≡ h c
     → map f (take i vs) ≡ map h (take i ws) → map f (take (i + 1) (set vs i x)) ≡ map h (take (i + 1) ws)
 done_more f h vs ws i c x n u e s done =

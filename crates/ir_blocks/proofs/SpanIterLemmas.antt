@@ -14,11 +14,11 @@ with_nothing : {X Y : Type 0} (xs : List X) → zip {K = X} {X = Y} xs [] ≡ []
 with_nothing [] = refl
 with_nothing (x ∷ xs) = refl
 
--- where the second list has nothing there are no pairs
+-- an empty second list has no pairs
 no_pairs : {X Y : Type 0} (xs : List X) (ys : List Y) → ys ≡ [] → zip xs ys ≡ []
 no_pairs xs ys e = ap (zip xs) e ∙ with_nothing xs
 
--- an iterator whose spans have ended
+-- an iterator whose spans are exhausted
 pub ended : (old new : SpanIterMut) (r : Option (MutBor Statement × MutBor Span)) → r ≡ None → length (iter_mut_rest old.spans) ≡ 0 → length (iter_mut_rest new.spans) ≡ 0 → YieldsFirstBy with_span_to_change pairs_to_come old r new
 ended old new None e before after = (no_pairs (iter_mut_rest old.statements) (iter_mut_rest old.spans) (nil_from_length _ before), no_pairs (iter_mut_rest new.statements) (iter_mut_rest new.spans) (nil_from_length _ after))
 ended old new (Some x) e before after = cc

@@ -1,4 +1,4 @@
--- Spans by place: those of the completed body.
+-- The spans of the completed body, by place.
 use Rattle.std.proofs.Common.{◌≡◌, ◌⊎◌, inl, inr, ℕ, zero, suc, Bool, true, false, List, [], ◌∷◌, ◌++◌, Option, Some, None, refl, sym, ap, subst, ◌∙◌}
 use Rattle.ir_arena.specs.declared.span.Span.{Span}
 use Rattle.ir_arena.specs.found.Spans.{undefined_span}
@@ -38,14 +38,14 @@ nothing p own h = nothing_at p ∙ sym (by_value (span_at p own) refl)
     by_value None e = e
     by_value (Some x) e = let f = h.only p x e in absurd (none_in_stop p f.0 f.1)
 
--- the first statement of a block that is in step has a span
+-- the first statement of a block in step has a span
 first_has : {s : PlainStatement} {rest : PlainBlock} {own : BlockSpans} → InStep (next s rest) own → (x : Span) × (span_at here own ≡ Some x)
 first_has {s = s} h = h.spanned here s refl
 
 whole : (own : BlockSpans) → spans (own_spans own) (within_spans own) ≡ own
 whole (spans own within) = refl
 
--- ---- parts of a finished statement
+-- ---- parts of a completed statement
 
 case_span : (cs : PlainCases) (own : CaseSpans) (k : ℕ) → ((q : ℕ) → InStep (case_body cs q) (case_spans own q))
     → (CaseEnds cs k × (case_spans (finished_case_spans cs own) k ≡ completed_spans (case_body cs k) (case_spans own k))) ⊎ ((p : Place) → span_at p (case_spans (finished_case_spans cs own) k) ≡ span_at p (case_spans own k))
@@ -71,7 +71,7 @@ in_case_at (in_sides accept reject) k = refl
 in_case_at (in_cases cases) k = refl
 in_case_at (in_loop body continuing) k = refl
 
--- a tail part's spans are completed, and those of any other stay at their places
+-- a tail part's spans are completed, and those of any other part stay at their places
 span_part : (s : PlainStatement) (own : StatementSpans) (part : Part) → ((q : Part) → InStep (part_of (shape_of s) q) (spans_in own q))
     → (IsTailPart (shape_of s) part × (spans_in (finished_spans s own) part ≡ completed_spans (part_of (shape_of s) part) (spans_in own part))) ⊎ ((p : Place) → span_at p (spans_in (finished_spans s own) part) ≡ span_at p (spans_in own part))
 span_part (block b) own inner h = inl (tt, refl)
@@ -185,7 +185,7 @@ stays_in_step b own h = record {
 pub spans_completed : (b : PlainBlock) (own : BlockSpans) → InStep b own → SpansCompleted b (completed b) own (completed_spans b own)
 spans_completed b own h = record { kept = λ p s e. span_kept p b own h s e; added = λ p ends. span_added b p ends own h; in_step = stays_in_step b own h }
 
--- what is found is the body completed with returns, and its spans
+-- `completed` and its spans satisfy the specification
 pub completed_is : (b c : PlainBlock) → c ≡ completed b → IsCompleted b c
 completed_is b c e = subst (IsCompleted b) (sym e) (is_completed b)
 

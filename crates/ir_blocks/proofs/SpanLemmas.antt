@@ -1,4 +1,4 @@
--- The spans of the completed body, as the code makes them.
+-- The spans of the completed body, as the code computes them.
 use Rattle.std.proofs.Common.{◌≡◌, List, [], ◌∷◌, ◌++◌, map, take, length, Bool, true, false, refl, sym, ap, ◌∙◌, rules}
 use Rattle.std.proofs.lemmas.List.{map-append, length-map, append-nil, append_assoc}
 use Rattle.ir_arena.specs.declared.span.Span.{Span}
@@ -41,7 +41,7 @@ completed_lists false own [] x e = ap (λ g. spans (own ++ ending_span g) (in_ne
 completed_lists on own (y ∷ []) x e = behind own (ending_span on) (statement_spans y) (within_of (statement_spans x ∷ [])) _ _ (completed_lists on (tail_of own) [] x e)
 completed_lists on own (y ∷ z ∷ zs) x e = behind own (ending_span on) (statement_spans y) (within_of (map statement_spans (z ∷ zs) ++ statement_spans x ∷ [])) _ _ (completed_lists on (tail_of own) (z ∷ zs) x e)
 
--- the spans of a block that holds these lists
+-- the spans of a block with these lists
 lists : (b : Block) (prefix : List Statement) (last : Statement) → statements_of b ≡ prefix ++ last ∷ []
     → completed_spans (block_view b) (block_spans b)
     ≡ completed_spans (block_of (map statement_view prefix ++ statement_view last ∷ [])) (spans (spans_of b) (within_of (map statement_spans prefix ++ statement_spans last ∷ [])))

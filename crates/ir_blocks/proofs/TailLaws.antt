@@ -1,13 +1,13 @@
--- The completed body has a return at each open end of a tail block, and is else what it was.
+-- The completed body has a return at each open end of a tail block, and is otherwise unchanged.
 use Rattle.std.proofs.Common.{◌≡◌, ◌⊎◌, inl, inr, ℕ, zero, suc, Bool, true, false, None, refl, sym, ap, subst, ◌∙◌}
 use Rattle.ir_blocks.specs.judged.Plain.{PlainStatement, emit, block, if_, switch, loop, break, continue, return, kill, operation, call, PlainBlock, stop, next, PlainCases, no_case, case}
 use Rattle.ir_blocks.specs.judged.Shapes.{shape_of, Part, inner, accepting, rejecting, case_at, case_body, part_of}
 use Rattle.ir_blocks.specs.judged.Places.{Place, here, later, inside, condition, spot_at, OccursAt}
 use Rattle.ir_blocks.specs.judged.Tails.{CaseEnds, IsTailPart, goes_on, IsOpenEnd, empty, after_last, further, in_tail, case_heads, head_of, IsCompleted, ending, completed, finished, finished_cases}
 
--- ---- parts of a finished statement
+-- ---- parts of a completed statement
 
--- a case that ends is completed, and any other stays
+-- a case that doesn't fall through is completed, and any other stays
 case_either : (cs : PlainCases) (k : ℕ) → (CaseEnds cs k × (case_body (finished_cases cs) k ≡ completed (case_body cs k))) ⊎ (case_body (finished_cases cs) k ≡ case_body cs k)
 case_either no_case k = inr refl
 case_either (case value body true rest) zero = inr refl
@@ -146,7 +146,7 @@ only (later p) (next s (next u rest)) t e =
 pub is_completed : (b : PlainBlock) → IsCompleted b (completed b)
 is_completed b = record { added = added b; kept = λ p s e. kept p b s e; only = λ p t e. only p b t e }
 
--- ---- once is enough
+-- ---- idempotence
 
 completed_behind : (s : PlainStatement) (b : PlainBlock) → completed (next s (completed b)) ≡ next s (completed (completed b))
 completed_behind s stop = refl

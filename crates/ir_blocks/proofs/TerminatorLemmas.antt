@@ -1,4 +1,4 @@
--- The completed body, as the code makes it.
+-- The completed body, as the code computes it.
 use Rattle.std.proofs.Common.{◌≡◌, List, [], ◌∷◌, ◌++◌, map, true, false, None, sym, ap, ◌∙◌, rules}
 use Rattle.std.proofs.lemmas.List.{map-append}
 use Rattle.ir_blocks.specs.judged.Plain.{PlainStatement, return, next}
@@ -21,7 +21,7 @@ completed_adds (y ∷ z ∷ zs) x e = ap (next y) (completed_adds (z ∷ zs) x e
 pub block_view-statements : (b : Block) → block_view b ≡ statements_view (statements_of b)
 block_view-statements b = search (rules, the_lemmas)
 
--- the statements so far, the last one finished, and a return where control goes on
+-- the statements so far, the last one completed, and a return if control continues
 pub complete_stays : (b : Block) (prefix body items : List Statement) (last whole : Statement) → statements_of b ≡ prefix ++ last ∷ [] → map statement_view body ≡ map statement_view prefix
     → statement_view whole ≡ finished (statement_view last) → goes_on (shape_of (statement_view last)) ≡ false → items ≡ body ++ whole ∷ [] → statements_view items ≡ completed (block_view b)
 complete_stays b prefix body items last whole parts copies end on made =

@@ -1,4 +1,4 @@
-// The calls of a block.
+// The methods of `Block`.
 ghost use Rattle.std.specs.Prelude.{◌≡◌, ◌≤◌, ◌==◌, ◌++◌, ◌∷◌, [], length, map, replicate, IsOk, IfOk, IfSome, OnOk, OnErr, option_to_list};
 ghost use Rattle.std.specs.List.{remove_range, splice, zip};
 ghost use Rattle.std.specs.Range.Bound.{start_index, end_index};
@@ -32,7 +32,7 @@ impl From<Vec<Statement>> for Block {
 }
 
 impl Block {
-    /// A block without statements.
+    /// An empty block.
     pub fn new(alloc: Global) -> Block
         ensures statements { statements_of result ≡ [] }
         ensures spans { spans_of result ≡ [] }
@@ -55,7 +55,7 @@ impl Block {
         }
     }
 
-    /// A block without statements, with room for `count` of them; for their spans room is made once one is defined.
+    /// An empty block with room for `count` statements. Memory for spans is allocated once a span is defined.
     /// The error is out of memory.
     pub fn with_capacity(alloc: Global, count: usize) -> Result<Block, AllocError>
         ensures statements { IfOk result (λ block. statements_of block ≡ []) }
@@ -68,14 +68,14 @@ impl Block {
         })
     }
 
-    /// How many statements the block has, those inside them not counted.
+    /// The number of statements, nested statements not counted.
     pub fn len(&self) -> usize
         ensures { result ≡ length (statements_of self.now) }
     {
         self.body.len()
     }
 
-    /// Whether the block has no statement.
+    /// Whether the block is empty.
     pub fn is_empty(&self) -> bool
         ensures { result ≡ (length (statements_of self.now) == 0) }
     {
@@ -96,9 +96,9 @@ impl Block {
         SpanIter::new(&self.body, self.span_info.as_slice())
     }
 
-    /// The statements in order, each with its span, to be changed. The error is out of memory for spans that were not
-    /// kept, and leaves the block as it was. No contract says what the block holds once they were changed so; that of
-    /// [`Block::as_mut_slice`] does.
+    /// The statements in order, each with its span, as mutable references. The error is out of memory for spans that were
+    /// not stored yet, and leaves the block unchanged. No contract gives the block after the mutation; for that use
+    /// [`Block::as_mut_slice`].
     pub fn span_iter_mut(&mut self) -> Result<SpanIterMut<'_>, AllocError>
         ensures { IfOk result (λ pairs. pairs_to_come pairs ≡ zip (statements_of self.old) (spans_of self.old)) }
     {
@@ -107,7 +107,7 @@ impl Block {
         Ok(SpanIterMut::new(&mut self.body, self.span_info.as_mut_slice()))
     }
 
-    /// The statements in order, each with its span, taken out of the block.
+    /// The statements in order, each with its span, by value.
     pub fn span_into_iter(self) -> SpanIntoIter
         ensures { result ≡ zip (statements_of self) (spans_of self) }
     {
@@ -116,7 +116,7 @@ impl Block {
         SpanIntoIter::new(body, span_info.into_list(alloc))
     }
 
-    /// The statements in order, to be changed (naga's `DerefMut` of a block). The spans stay.
+    /// The statements as a mutable slice (naga's `DerefMut` of a block). The spans stay.
     pub fn as_mut_slice(&mut self) -> &mut [Statement]
         ensures* writes_back { sem 𝓛 (LendsStatements self.entry result) }
         ensures value { result.now ≡ statements_of self.old }
@@ -124,8 +124,8 @@ impl Block {
         self.body.as_mut_slice()
     }
 
-    /// Adds a statement at the end, with its span. The error is out of memory, and leaves the block as it was. There
-    /// is none where the block has room and the span is [`Span::UNDEFINED`].
+    /// Appends a statement with its span. The error is out of memory, and leaves the block unchanged. It can't
+    /// occur if the block has room and the span is [`Span::UNDEFINED`].
     pub fn push(&mut self, statement: Statement, span: Span) -> Result<(), AllocError>
         ensures statements { OnOk result (statements_of self.new ≡ statements_of self.old ++ statement ∷ []) }
         ensures spans { OnOk result (spans_of self.new ≡ spans_of self.old ++ span ∷ []) }
@@ -140,8 +140,8 @@ impl Block {
         Ok(())
     }
 
-    /// Adds a statement at the end, with its span, where there is one. The error is out of memory, and leaves the
-    /// block as it was.
+    /// Appends a statement with its span, if one is given. The error is out of memory, and leaves the
+    /// block unchanged.
     pub fn extend(&mut self, item: Option<(Statement, Span)>) -> Result<(), AllocError>
         ensures statements { OnOk result (statements_of self.new ≡ statements_of self.old ++ map (λ e. e.0) (option_to_list item)) }
         ensures spans { OnOk result (spans_of self.new ≡ spans_of self.old ++ map (λ e. e.1) (option_to_list item)) }
@@ -154,8 +154,8 @@ impl Block {
         }
     }
 
-    /// Adds the statements of another block at the end, with their spans. The error is out of memory, and leaves the
-    /// block as it was; the other one is dropped.
+    /// Appends the statements of another block, with their spans. The error is out of memory, and leaves the
+    /// block unchanged; the other one is dropped.
     pub fn extend_block(&mut self, other: Block) -> Result<(), AllocError>
         ensures statements { OnOk result (statements_of self.new ≡ statements_of self.old ++ statements_of other) }
         ensures spans { OnOk result (spans_of self.new ≡ spans_of self.old ++ spans_of other) }
@@ -167,7 +167,7 @@ impl Block {
     }
 
     /// Moves the statements of another block to the end of this one, with their spans, and leaves the other empty.
-    /// The error is out of memory, and leaves both as they were.
+    /// The error is out of memory, and leaves both unchanged.
     pub fn append(&mut self, other: &mut Block) -> Result<(), AllocError>
         ensures statements { OnOk result (statements_of self.new ≡ statements_of self.old ++ statements_of other.old) }
         ensures spans { OnOk result (spans_of self.new ≡ spans_of self.old ++ spans_of other.old) }
@@ -187,7 +187,7 @@ impl Block {
         Ok(())
     }
 
-    /// Takes the statements in `range` out, with their spans. It requires by contract a range within the block's
+    /// Removes the statements in `range`, with their spans. Its contract requires that the range is within the block's
     /// statements, where naga panics.
     #[tactic(auto, using(crate::proofs::PaddedLemmas::culled))]
     pub fn cull<R: RangeBounds<usize>>(&mut self, range: R)
@@ -202,9 +202,9 @@ impl Block {
         self.span_info.cut(range.start, range.end);
     }
 
-    /// Puts the statements of another block in the place of those in `range`, with their spans. It requires by contract
-    /// for a range within the block's statements, where naga panics. The error is out of memory, and leaves the block
-    /// as it was; the other one is dropped.
+    /// Replaces the statements in `range` by those of another block, with their spans. Its contract requires
+    /// that the range is within the block's statements, where naga panics. The error is out of memory, and leaves the block
+    /// unchanged; the other one is dropped.
     pub fn splice<R: RangeBounds<usize>>(
         &mut self,
         range: R,

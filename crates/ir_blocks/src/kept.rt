@@ -1,4 +1,4 @@
-// Spans of a block's statements, which are kept only where one is defined.
+// The spans of a block's statements, which are stored only up to the last defined span.
 ghost use Rattle.std.specs.Prelude.{◌≡◌, ◌≤◌, ◌+◌, ◌-◌, ◌++◌, ◌∷◌, [], length, take, IsOk, IfOk, OnOk, OnErr};
 ghost use Rattle.std.specs.List.{remove_range, splice};
 ghost use Rattle.ir_arena.specs.found.Spans.{undefined_span};
@@ -9,9 +9,9 @@ use ir_arena::span::Span;
 use std::alloc::{AllocError, Global};
 use std::marker::Model;
 
-/// The spans of a block's first statements. Those of all statements after them are [`Span::UNDEFINED`], so that
-/// nothing is kept, and no memory taken, where no statement has a span. In a contract it is the list of those that are
-/// kept.
+/// The spans of a block's first statements. All statements after them have [`Span::UNDEFINED`], so that
+/// nothing is allocated for a block without spans. In a contract it is the list of the stored
+/// spans.
 #[derive(Debug, Drop)]
 pub(crate) struct KeptSpans {
     list: Option<Box<Vec<Span>>>,
@@ -27,7 +27,7 @@ impl Model for KeptSpans {
     ghost view = { λ k. listed_spans k.list };
 }
 
-/// Two are equal where they are so up to the last span that is defined.
+/// Two are equal if they agree up to the last defined span.
 impl PartialEq for KeptSpans {
     ghost use Rattle.ir_blocks.specs.found.Padded.{same_kept, same_kept_per};
 
@@ -55,14 +55,14 @@ fn known(spans: &[Span]) -> &[Span]
 }
 
 impl KeptSpans {
-    /// None.
+    /// No spans.
     pub fn new() -> Self
         ensures { result ≡ [] }
     {
         KeptSpans { list: None }
     }
 
-    /// Those that are kept.
+    /// The stored spans.
     pub fn as_slice(&self) -> &[Span]
         ensures { result.now ≡ self.now }
     {
@@ -72,7 +72,7 @@ impl KeptSpans {
         }
     }
 
-    /// Those that are kept, to be changed.
+    /// The stored spans, as a mutable slice.
     pub fn as_mut_slice(&mut self) -> &mut [Span]
         ensures { result.now ≡ self.old }
     {
@@ -82,7 +82,7 @@ impl KeptSpans {
         }
     }
 
-    /// Those that are kept, as a list.
+    /// The stored spans, as a list.
     pub fn into_list(self, alloc: Global) -> Vec<Span>
         ensures { result.items ≡ self }
     {
@@ -92,7 +92,7 @@ impl KeptSpans {
         }
     }
 
-    /// The same in memory of their own. The error is out of memory.
+    /// The same spans in memory of their own. The error is out of memory.
     pub fn clone(&self, alloc: Global) -> Result<Self, AllocError>
         ensures { IfOk result (λ copy. copy ≡ self.now) }
     {
@@ -101,7 +101,7 @@ impl KeptSpans {
         Ok(copy)
     }
 
-    // Keeps these after those that are kept. The error is out of memory, and leaves what is kept as it was.
+    // Appends these to the stored spans. The error is out of memory, and leaves the stored spans unchanged.
     fn extend(&mut self, alloc: Global, spans: &[Span]) -> Result<(), AllocError>
         ensures ok { OnOk result (self.new ≡ self.old ++ spans.now) }
         ensures err { OnErr result (self.new ≡ self.old) }
@@ -119,7 +119,7 @@ impl KeptSpans {
         }
     }
 
-    // Frees those after the first `count`.
+    // Drops the spans after the first `count`.
     fn truncate(&mut self, count: usize)
         ensures { self.new ≡ take count self.old }
     {
@@ -128,7 +128,7 @@ impl KeptSpans {
         }
     }
 
-    /// Keeps exactly `count`. The error is out of memory, and leaves what is kept as it was.
+    /// Stores exactly `count` spans. The error is out of memory, and leaves the stored spans unchanged.
     #[tactic(auto, using(crate::proofs::PaddedLemmas::resized, crate::proofs::PaddedLemmas::padded_none))]
     pub fn pad(&mut self, alloc: Global, count: usize) -> Result<(), AllocError>
         ensures ok { OnOk result (self.new ≡ padded count self.old) }
@@ -146,8 +146,8 @@ impl KeptSpans {
         }
     }
 
-    /// Keeps one more span after those of `count` statements. The error is out of memory, and leaves those as they
-    /// were. There is none where the span is undefined, which is not kept.
+    /// Appends a span after those of `count` statements. The error is out of memory, and leaves these
+    /// unchanged. It can't occur if the span is undefined, because that is not stored.
     #[tactic(auto, using(crate::proofs::PaddedLemmas::pushed_undefined, crate::proofs::PaddedLemmas::pushed, crate::proofs::PaddedLemmas::refused))]
     pub fn push(&mut self, alloc: Global, count: usize, span: Span) -> Result<(), AllocError>
         ensures ok { OnOk result (padded (count + 1) self.new ≡ padded count self.old ++ span ∷ []) }
@@ -163,7 +163,7 @@ impl KeptSpans {
     }
 
     /// Moves the spans of `more` other statements after those of `count`. The error is out of memory, and leaves both
-    /// as they were.
+    /// unchanged.
     #[tactic(auto, using(crate::proofs::PaddedLemmas::appended_nothing, crate::proofs::PaddedLemmas::appended, crate::proofs::PaddedLemmas::refused))]
     pub fn append(
         &mut self,
@@ -187,7 +187,7 @@ impl KeptSpans {
         Ok(())
     }
 
-    /// Takes out the spans from `start` on, below `end`, as far as they are kept.
+    /// Removes the spans in `start..end`, as far as they are stored.
     pub fn cut(&mut self, start: usize, end: usize)
         requires { start ≤ end }
         ensures { self.new ≡ remove_range self.old start end }
@@ -197,8 +197,8 @@ impl KeptSpans {
         }
     }
 
-    /// Puts the spans of `more` other statements in the place of those from `start` on, below `end`, of `count`. The
-    /// error is out of memory, and leaves those as they were; the others are let go.
+    /// Replaces the spans in `start..end`, of `count`, by those of `more` other statements. The
+    /// error is out of memory, and leaves the spans unchanged; the others are dropped.
     #[tactic(auto, using(crate::proofs::PaddedLemmas::spliced_nothing, crate::proofs::PaddedLemmas::spliced, crate::proofs::PaddedLemmas::refused))]
     pub fn splice(
         &mut self,
@@ -223,8 +223,8 @@ impl KeptSpans {
         self.put_in(alloc, start, end, other)
     }
 
-    // Puts others in the place of those from `start` on, below `end`. The error is out of memory, and leaves what is
-    // kept as it was.
+    // Replaces the stored spans in `start..end` by others. The error is out of memory, and leaves the stored spans
+    // unchanged.
     fn put_in(
         &mut self,
         alloc: Global,

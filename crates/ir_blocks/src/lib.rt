@@ -1,4 +1,4 @@
-//! Statements and the blocks that hold them: the calls of a block, and returns at the ends of a body. It hands on the
+//! Statements and blocks: the methods of `Block`, and the returns that complete a body. Re-exports the
 //! types and the expressions.
 #![tactic(auto)]
 

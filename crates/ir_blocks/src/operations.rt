@@ -1,89 +1,89 @@
-// What some statements do: atomic operations, ray queries, subgroup gathers.
+// The functions of some statements: atomic operations, ray queries, subgroup gathers.
 use ir_arena::handle::Handle;
 use ir_kinds::Direction;
 use ir_types::key;
 
-/// What an atomic operation does with a value in memory (naga's `AtomicFunction`).
+/// The function of an atomic operation (naga's `AtomicFunction`).
 #[derive(Clone, Copy, PartialEq, Debug)]
 pub enum AtomicFunction {
-    /// It is added to.
+    /// Addition.
     Add,
-    /// It is subtracted from.
+    /// Subtraction.
     Subtract,
-    /// The bits that both have stay.
+    /// Bitwise and.
     And,
-    /// The bits that one of both has stay.
+    /// Bitwise exclusive or.
     ExclusiveOr,
-    /// The bits that one or both have stay.
+    /// Bitwise inclusive or.
     InclusiveOr,
-    /// The least of both stays.
+    /// The minimum.
     Min,
-    /// The greatest of both stays.
+    /// The maximum.
     Max,
-    /// It is replaced.
+    /// An exchange.
     Exchange {
-        /// What it must equal, if anything, to be replaced.
+        /// The comparand of a compare-exchange; a plain exchange if `None`.
         compare: Option<Handle<key::Expression>>,
     },
 }
 
-/// From which invocation of a subgroup a value is taken (naga's `GatherMode`).
+/// The mode of a subgroup gather: the lane whose value is read (naga's `GatherMode`).
 #[derive(Clone, Copy, PartialEq, Debug)]
 pub enum GatherMode {
-    /// From the first that is active.
+    /// The first active lane (`broadcastFirst`).
     BroadcastFirst,
-    /// From the one of this index, the same for all.
+    /// The lane of a uniform index (`broadcast`).
     Broadcast(Handle<key::Expression>),
-    /// From the one of this index.
+    /// The lane of this index (`shuffle`).
     Shuffle(Handle<key::Expression>),
-    /// From the one that is so many further on.
+    /// The lane that many invocations higher (`shuffleDown`).
     ShuffleDown(Handle<key::Expression>),
-    /// From the one that is so many before.
+    /// The lane that many invocations lower (`shuffleUp`).
     ShuffleUp(Handle<key::Expression>),
-    /// From the one whose index differs in these bits.
+    /// The lane whose index differs by this mask (`shuffleXor`).
     ShuffleXor(Handle<key::Expression>),
-    /// From the one of this index in its quad.
+    /// The lane of this index within the quad (`quadBroadcast`).
     QuadBroadcast(Handle<key::Expression>),
-    /// From the other one of its quad that way.
+    /// The other lane of the quad in this direction (`quadSwap`).
     QuadSwap(Direction),
 }
 
-/// What is done with a ray query (naga's `RayQueryFunction`).
+/// The function of a ray query statement (naga's `RayQueryFunction`).
 #[derive(Clone, Copy, PartialEq, Debug)]
 pub enum RayQueryFunction {
-    /// It begins.
+    /// Initialises the query.
     Initialize {
-        /// What the ray is traced in.
+        /// The acceleration structure.
         acceleration_structure: Handle<key::Expression>,
-        /// The ray.
+        /// The ray descriptor.
         descriptor: Handle<key::Expression>,
     },
-    /// It goes on to the next candidate.
+    /// Proceeds to the next candidate.
     Proceed {
-        /// The `RayQueryProceedResult` that says whether there is one.
+        /// The `RayQueryProceedResult`: whether there is a candidate.
         result: Handle<key::Expression>,
     },
-    /// A hit is made at this distance.
+    /// Generates an intersection.
     GenerateIntersection {
-        /// The distance.
+        /// The ray parameter of the hit.
         hit_t: Handle<key::Expression>,
     },
-    /// The candidate is settled on.
+    /// Confirms the candidate intersection.
     ConfirmIntersection,
-    /// It ends.
+    /// Terminates the query.
     Terminate,
 }
 
-/// What a pipeline of ray tracing does (naga's `RayPipelineFunction`).
+/// The function of a ray tracing pipeline statement (naga's `RayPipelineFunction`).
 #[derive(Clone, Copy, PartialEq, Debug)]
 pub enum RayPipelineFunction {
-    /// A ray is traced.
+    /// Traces a ray.
     TraceRay {
-        /// What it is traced in.
+        /// The acceleration structure.
         acceleration_structure: Handle<key::Expression>,
-        /// The ray.
+        /// The ray descriptor.
         descriptor: Handle<key::Expression>,
-        /// A pointer to what the shaders on its way are handed.
+        /// A pointer to the ray payload.
         payload: Handle<key::Expression>,
     },
 }

@@ -1,4 +1,4 @@
-// Returns at the ends of what a function does (naga's `proc::terminator`).
+// Missing returns at the ends of a body (naga's `proc::terminator`).
 ghost use Rattle.std.specs.Prelude.{◌≡◌, ◌++◌, ◌∷◌, [], None, map, IsOk, OnOk, OnErr};
 ghost use Rattle.ir_blocks.specs.judged.Plain.{return};
 ghost use Rattle.ir_blocks.specs.found.Spans.{no_block};
@@ -14,10 +14,10 @@ use crate::terminator::goes_on;
 use ir_arena::span::Span;
 use std::alloc::{AllocError, Global};
 
-/// Puts a return without value at each end of the body that control can reach by itself: into the body and each of
-/// its tail blocks that is empty, or ends in a statement after which control goes on. What stands is neither changed
-/// nor moved. The error is out of memory, and leaves the body's statements and spans as they were, since room is made
-/// for every return before the first is put in. The blocks grow in their own allocator.
+/// Adds a return without value at each end of the body that control falls off: in the body and each of
+/// its tail blocks that is empty, or after whose last statement control continues. Existing statements are neither changed
+/// nor moved. The error is out of memory, and leaves the body's statements and spans unchanged, because room for every
+/// return is reserved before the first is added. The blocks grow in their own allocator.
 pub fn ensure_block_returns(_alloc: Global, block: &mut Block) -> Result<(), AllocError>
     ensures ok { OnOk result (IsCompleted (block_view block.old) (block_view block.new)) }
     ensures spans { OnOk result (SpansCompleted (block_view block.old) (block_view block.new) (block_spans block.old) (block_spans block.new)) }
@@ -31,7 +31,7 @@ pub fn ensure_block_returns(_alloc: Global, block: &mut Block) -> Result<(), All
     Ok(())
 }
 
-/// Makes room for a return in each block of a body that wants one, and changes nothing else. The error is out of memory. It is the first half of [`ensure_block_returns`], for who completes several bodies or none.
+/// Reserves room for a return in each block that needs one: the first half of [`ensure_block_returns`]. The error is out of memory.
 #[cycle(reserves)]
 pub fn reserve_returns(block: &mut Block) -> Result<(), AllocError>
     ensures statements { block_view block.new ≡ block_view block.old }
@@ -48,7 +48,7 @@ pub fn reserve_returns(block: &mut Block) -> Result<(), AllocError>
     reserve_within(&mut block.body[len - 1])
 }
 
-// Makes room for one more statement.
+// Reserves room for one more statement.
 fn reserve_one(block: &mut Block) -> Result<(), AllocError>
     ensures statements { statements_of block.new ≡ statements_of block.old }
     ensures spans { spans_of block.new ≡ spans_of block.old }
@@ -105,7 +105,7 @@ fn reserve_case(case: &mut SwitchCase) -> Result<(), AllocError>
     reserve_returns(&mut case.body)
 }
 
-/// Puts a return into each block of a body that wants one, all of which have room for it. It is the second half of
+/// Adds a return to each block of a body that needs one, all of which have room for it. It is the second half of
 /// [`ensure_block_returns`].
 pub fn put_returns(block: &mut Block)
     requires { HasRoom block.old }
@@ -118,7 +118,7 @@ pub fn put_returns(block: &mut Block)
     }
 }
 
-// Puts a return into each block that wants one. Where they have room this can't fail.
+// Adds a return to each block that needs one. It can't fail if these have room.
 #[cycle(adds)]
 fn add_returns(block: &mut Block) -> Result<(), AllocError>
     ensures statements { OnOk result (block_view block.new ≡ completed (block_view block.old)) }

@@ -1,4 +1,4 @@
-// Runs of a list's items, taken out and put in without memory.
+// Ranges of list items, moved without allocation.
 ghost use Rattle.std.specs.Prelude.{◌≡◌, ◌≤◌, ◌+◌, ◌++◌, [], vec_len, vec_capacity};
 ghost use Rattle.std.specs.List.{remove_range, splice};
 
@@ -11,7 +11,7 @@ pub fn move_after<T>(list: &mut Vec<T>, other: &mut Vec<T>)
     let _moved = list.append(other);
 }
 
-/// Takes the items from `start` on, below `end`, out of the list, as far as it has them.
+/// Removes the items in `start..end` from the list, as far as it has them.
 pub fn cut<T: Drop>(list: &mut Vec<T>, start: usize, end: usize)
     requires { start ≤ end }
     ensures items { list.new.items ≡ remove_range list.old.items start end }
@@ -21,8 +21,8 @@ pub fn cut<T: Drop>(list: &mut Vec<T>, start: usize, end: usize)
     list.drain(start.min(count)..end.min(count));
 }
 
-/// Puts the items of `other` in the place of those from `start` on, below `end`, as far as the list has them. It has
-/// room for all.
+/// Replaces the items in `start..end` by those of `other`, as far as the list has them. The list has
+/// room for all of them.
 pub fn put_in<T: Drop>(list: &mut Vec<T>, start: usize, end: usize, other: Vec<T>)
     requires order { start ≤ end }
     requires room { vec_len list.old + vec_len other ≤ vec_capacity list.old }

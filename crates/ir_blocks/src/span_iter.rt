@@ -1,4 +1,4 @@
-// Going over the statements of a block with their spans.
+// Iterators over the statements of a block with their spans.
 ghost use Rattle.std.specs.Prelude.{◌≡◌, length};
 ghost use Rattle.std.specs.List.{zip};
 ghost use Rattle.ir_blocks.specs.found.Padded.{first_kept, padded};
@@ -10,11 +10,11 @@ use ir_arena::span::Span;
 use std::marker::Model;
 use std::{slice, vec};
 
-// What a statement has whose span is not kept.
+// The span of a statement whose span is not stored.
 static UNDEFINED: Span = Span::UNDEFINED;
 
-/// The statements of a block in order, each with its span. In a contract it is the list of those that are still to
-/// come.
+/// The statements of a block in order, each with its span. In a contract it is the list of the remaining
+/// items.
 #[derive(Drop)]
 pub struct SpanIter<'a> {
     statements: &'a [Statement],
@@ -38,7 +38,7 @@ impl<'a> Model for SpanIter<'a> {
 }
 
 impl<'a> SpanIter<'a> {
-    /// An iterator over `statements`, with `spans` as far as these reach.
+    /// An iterator over `statements`, with `spans` for the first of them.
     pub(crate) fn new(statements: &'a [Statement], spans: &'a [Span]) -> Self
         ensures { result ≡ zip statements.now (padded (length statements.now) spans.now) }
     {
@@ -46,7 +46,7 @@ impl<'a> SpanIter<'a> {
     }
 }
 
-// The first of the spans that are kept, and those after it.
+// The first of the stored spans, and the rest.
 fn first_kept(spans: &[Span]) -> (&Span, &[Span])
     ensures first { result.0.now ≡ first_kept spans.now }
     ensures rest { result.1.now ≡ tail_of spans.now }
@@ -76,7 +76,7 @@ impl<'a> Iterator for SpanIter<'a> {
     }
 }
 
-/// The statements of a block in order, each with its span, to be changed.
+/// The statements of a block in order, each with its span, as mutable references.
 #[derive(Drop)]
 pub struct SpanIterMut<'a> {
     statements: slice::IterMut<'a, Statement>,
@@ -84,7 +84,7 @@ pub struct SpanIterMut<'a> {
 }
 
 impl<'a> SpanIterMut<'a> {
-    /// An iterator over `statements` and `spans`, as far as both reach.
+    /// An iterator over `statements` and `spans`, up to the shorter of both.
     pub(crate) fn new(statements: &'a mut [Statement], spans: &'a mut [Span]) -> Self
         ensures { pairs_to_come result ≡ zip statements.old spans.old }
     {
@@ -112,8 +112,8 @@ impl<'a> Iterator for SpanIterMut<'a> {
     }
 }
 
-/// The statements that were taken out of a block, in order, each with its span. In a contract it is the list of those
-/// that are still to come.
+/// The statements that were moved out of a block, in order, each with its span. In a contract it is the list of the
+/// remaining items.
 #[derive(Drop)]
 pub struct SpanIntoIter {
     statements: vec::IntoIter<Statement>,
@@ -138,7 +138,7 @@ impl Model for SpanIntoIter {
 }
 
 impl SpanIntoIter {
-    /// An iterator over `statements`, with `spans` as far as these reach.
+    /// An iterator over `statements`, with `spans` for the first of them.
     pub(crate) fn new(statements: Vec<Statement>, spans: Vec<Span>) -> Self
         ensures { result ≡ zip statements.items (padded (length statements.items) spans.items) }
     {

@@ -1,4 +1,4 @@
-// Statements and the blocks that hold them.
+// Statements, blocks and switch cases.
 ghost use Rattle.std.specs.Prelude.{◌≡◌, map, IfOk};
 ghost use Rattle.ir_blocks.specs.found.View.{statement_view, block_view, case_view, statement_spans, block_spans, case_block_spans, HoldsNoBlock, IsAct, IsSharedAct};
 ghost use Rattle.ir_blocks.specs.found.Spans.{no_block};
@@ -12,7 +12,7 @@ use ir_kinds::{CollectiveOperation, SubgroupOperation, SwitchValue};
 use ir_types::{CooperativeData, key};
 use std::alloc::{AllocError, Global};
 
-/// Statements in order, each with its span (naga's `Block`). Spans are kept only where one is defined.
+/// Statements in order, each with its span (naga's `Block`). Spans are stored only up to the last defined one.
 #[cycle(body)]
 #[derive(PartialEq, Debug, Drop)]
 pub struct Block {
@@ -24,16 +24,16 @@ pub struct Block {
 #[cycle(body)]
 #[derive(PartialEq, Debug, Drop)]
 pub struct SwitchCase {
-    /// The value that chooses it.
+    /// The value of the case.
     pub value: SwitchValue,
-    /// What it does.
+    /// The body of the case.
     pub body: Block,
-    /// Whether the next case goes on where it ends.
+    /// Whether control falls through to the next case.
     pub fall_through: bool,
 }
 
-/// The kinds of statements that only compute: they steer nothing, compute no range and call nothing. A pattern for a `match`, so
-/// that a further kind of these is required only where the kinds differ.
+/// The statements that are plain operations: no control flow, no `Emit`, no call. As a pattern for a `match`, so
+/// that a new such statement is added in one place only.
 #[macro_export]
 macro_rules! plain_operation {
     () => {
@@ -53,147 +53,147 @@ macro_rules! plain_operation {
     };
 }
 
-/// One step of a function's body (naga's `Statement`).
+/// A statement of a function body (naga's `Statement`).
 #[cycle(body)]
 #[derive(PartialEq, Debug, Drop)]
 pub enum Statement {
-    /// Computes a range of expressions.
+    /// Emits a range of expressions.
     Emit(Range<key::Expression>),
-    /// Statements with a scope of their own.
+    /// A nested block.
     Block(Block),
     /// A conditional.
     If {
-        /// What chooses: a boolean scalar.
+        /// The condition, a boolean scalar.
         condition: Handle<key::Expression>,
         /// Taken if the condition is true.
         accept: Block,
-        /// What is done where it doesn't.
+        /// Taken if the condition is false.
         reject: Block,
     },
-    /// Does the case that a value chooses.
+    /// A switch.
     Switch {
-        /// What chooses: an integer scalar.
+        /// The selector, an integer scalar.
         selector: Handle<key::Expression>,
         /// The cases in order, one of them the default.
         cases: Vec<SwitchCase>,
     },
-    /// A loop: its body and then its continuing part, until something leaves it.
+    /// A loop: its body and then its continuing block, repeated until it is left.
     Loop {
         /// The loop body.
         body: Block,
-        /// What is done after it, also where the body is left by `Continue`.
+        /// The continuing block, which runs after the body and upon `Continue`.
         continuing: Block,
-        /// What ends the loop after the continuing part where it holds: a boolean scalar.
+        /// The condition that ends the loop after the continuing block if true: a boolean scalar.
         break_if: Option<Handle<key::Expression>>,
     },
-    /// Leaves the nearest loop or switch.
+    /// Leaves the innermost loop or switch.
     Break,
     /// Continues the innermost loop.
     Continue,
-    /// Ends the function.
+    /// Returns from the function.
     Return {
-        /// What the function answers, if it answers something.
+        /// The return value, if any.
         value: Option<Handle<key::Expression>>,
     },
-    /// Ends the fragment.
+    /// Discards the fragment.
     Kill,
-    /// Waits for the other invocations, and orders memory.
+    /// A control barrier: waits for the other invocations, and orders memory accesses.
     ControlBarrier(Barrier),
-    /// Orders memory.
+    /// A memory barrier: orders memory accesses.
     MemoryBarrier(Barrier),
-    /// Writes where a pointer points.
+    /// A store through a pointer.
     Store {
         /// The pointer.
         pointer: Handle<key::Expression>,
-        /// What is written.
+        /// The value.
         value: Handle<key::Expression>,
     },
-    /// Writes a texel.
+    /// A store of a texel.
     ImageStore {
         /// The image.
         image: Handle<key::Expression>,
-        /// Which texel.
+        /// The texel coordinate.
         coordinate: Handle<key::Expression>,
-        /// In which layer.
+        /// The array layer.
         array_index: Option<Handle<key::Expression>>,
-        /// What is written.
+        /// The texel value.
         value: Handle<key::Expression>,
     },
-    /// An atomic operation on a value in memory.
+    /// An atomic operation in memory.
     Atomic {
-        /// Where it lies.
+        /// The pointer to the atomic.
         pointer: Handle<key::Expression>,
-        /// What is done.
+        /// The function.
         fun: AtomicFunction,
-        /// With what.
+        /// The operand.
         value: Handle<key::Expression>,
-        /// The `AtomicResult` that denotes what lay there, if there is one.
+        /// The `AtomicResult` expression with the old value, if any.
         result: Option<Handle<key::Expression>>,
     },
     /// An atomic operation on a texel of a storage image.
     ImageAtomic {
         /// The image.
         image: Handle<key::Expression>,
-        /// Which texel.
+        /// The texel coordinate.
         coordinate: Handle<key::Expression>,
-        /// In which layer.
+        /// The array layer.
         array_index: Option<Handle<key::Expression>>,
-        /// What is done.
+        /// The function.
         fun: AtomicFunction,
-        /// With what.
+        /// The operand.
         value: Handle<key::Expression>,
     },
-    /// Reads workgroup memory, the same for all of a workgroup.
+    /// A uniform load of workgroup memory.
     WorkGroupUniformLoad {
-        /// Where it lies.
+        /// The pointer.
         pointer: Handle<key::Expression>,
-        /// The `WorkGroupUniformLoadResult` that denotes what lies there.
+        /// The `WorkGroupUniformLoadResult` expression with the value.
         result: Handle<key::Expression>,
     },
-    /// Runs another function.
+    /// A function call.
     Call {
-        /// The function that is run.
+        /// The callee.
         function: Handle<key::Function>,
-        /// What is passed to it, in order.
+        /// The arguments, in order.
         arguments: Vec<Handle<key::Expression>>,
-        /// The `CallResult` that denotes its answer, if it has one.
+        /// The `CallResult` expression with the return value, if any.
         result: Option<Handle<key::Expression>>,
     },
-    /// Does something with a ray query.
+    /// A ray query statement.
     RayQuery {
         /// A pointer to the query.
         query: Handle<key::Expression>,
-        /// What is done.
+        /// The function.
         fun: RayQueryFunction,
     },
     /// A subgroup ballot.
     SubgroupBallot {
-        /// The `SubgroupBallotResult` that denotes the answer.
+        /// The `SubgroupBallotResult` expression with the ballot.
         result: Handle<key::Expression>,
-        /// The predicate of each invocation; `true` where there is none.
+        /// The predicate of each invocation; `true` if `None`.
         predicate: Option<Handle<key::Expression>>,
     },
     /// A subgroup collective operation.
     SubgroupCollectiveOperation {
-        /// What is computed.
+        /// The operation.
         op: SubgroupOperation,
-        /// Of all, or of those before.
+        /// The scope: a reduction or a scan.
         collective_op: CollectiveOperation,
         /// The argument of each invocation.
         argument: Handle<key::Expression>,
-        /// The `SubgroupOperationResult` that denotes the answer.
+        /// The `SubgroupOperationResult` expression with the result.
         result: Handle<key::Expression>,
     },
-    /// A subgroup gather: each invocation takes the argument of another.
+    /// A subgroup gather: each invocation reads the argument of another.
     SubgroupGather {
-        /// From which invocation.
+        /// The mode: which lane is read.
         mode: GatherMode,
         /// The argument of each invocation.
         argument: Handle<key::Expression>,
-        /// The `SubgroupOperationResult` that denotes the answer.
+        /// The `SubgroupOperationResult` expression with the result.
         result: Handle<key::Expression>,
     },
-    /// Writes a cooperative matrix to memory.
+    /// A store of a cooperative matrix.
     CooperativeStore {
         /// The matrix.
         target: Handle<key::Expression>,
@@ -270,7 +270,7 @@ impl Statement {
         }
     }
 
-    // An equal statement, where it holds no block.
+    // An equal statement, if it has no nested block.
     fn clone_step(&self, alloc: Global) -> Result<Statement, AllocError>
         requires { HoldsNoBlock (statement_view self.now) }
         ensures statement { IfOk result (λ copy. statement_view copy ≡ statement_view self.now) }
@@ -295,7 +295,7 @@ impl Statement {
         }
     }
 
-    // An equal statement, where it steers nothing and holds no list.
+    // An equal statement, if it is a plain operation.
     fn copy_operation(&self) -> Statement
         requires { IsAct (statement_view self.now) }
         ensures statement { statement_view result ≡ statement_view self.now }
@@ -351,7 +351,7 @@ impl Statement {
         }
     }
 
-    // An equal operation of rays, of subgroups or of cooperative matrices.
+    // An equal statement of ray queries, subgroups, cooperative matrices or ray tracing pipelines.
     fn copy_shared_operation(&self) -> Statement
         requires { IsSharedAct (statement_view self.now) }
         ensures statement { statement_view result ≡ statement_view self.now }

@@ -1,4 +1,4 @@
--- Sets of bits within one another, bit by bit.
+-- Inclusion of bit flag sets, bit by bit.
 use Rattle.std.proofs.Common.{◌≡◌, ◌≤◌, ◌∙◌, ◌^◌, ◌-◌, ℕ, min, ap, sym, refl, arith}
 use Rattle.std.proofs.lemmas.Nat.Bits.{bit_at_and, bit_at_or, same_from_bits}
 use Rattle.std.specs.Int.{bit_at}
@@ -13,7 +13,7 @@ least x y h = omega arith
 least_below : (x y : ℕ) → x ≡ min y x → x ≤ y
 least_below x y h = omega arith
 
--- a set is within another exactly where no bit of it is greater
+-- a set is included in another exactly if no bit of it is greater
 pub within-bits : (a b : ℕ) → IsWithin a b → (i : ℕ) → bit_at a i ≤ bit_at b i
 within-bits a b h i = least_below (bit_at a i) (bit_at b i) (ap (λ s. bit_at s i) (sym h) ∙ bit_at_and b a i)
 

@@ -1,17 +1,17 @@
--- The words of each set, and the bits that they have.
+-- The flags of each set, and their bits.
 use Prim.Native.String.{String}
 use Rattle.std.specs.Prelude.{ℕ, ◌*◌, List, [], ◌∷◌, codes}
 
--- a word and its bit as a number
+-- a flag and its bit as a number
 abbrev pub Row : Type 0
 Row = List ℕ × ℕ
 
--- the words with rising bits, the first of them with this one
+-- the flags with ascending bits, the first of them this one
 abbrev pub numbered_from : ℕ → List String → List Row
 numbered_from bit [] = []
 numbered_from bit (word ∷ words) = (codes word, bit) ∷ numbered_from (2 * bit) words
 
--- a word's bit is its place, counted from 0
+-- the bit of a flag is its index, from 0
 abbrev pub numbered : List String → List Row
 numbered words = numbered_from 1 words
 

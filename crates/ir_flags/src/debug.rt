@@ -1,11 +1,11 @@
-//! How sets are written for people.
+//! The `Debug` text of bit flag sets.
 
 use bitflags::Flags;
 use bitflags::parser::{WriteHex, to_writer};
 use std::fmt;
 
-/// Writes a set as the name of its type and, in brackets, the words of its bits (`StorageAccess(LOAD | STORE)`), or `0x0`
-/// where it has none.
+/// Writes a set as its type's name and its flags in parentheses (`StorageAccess(LOAD | STORE)`), or `0x0`
+/// if it is empty.
 ///
 /// # Errors
 ///

@@ -1,4 +1,4 @@
-//! What holds of the sets. A set denotes the number of its bits.
+//! Laws of the bit flag sets. A set denotes the number of its bits.
 
 ghost use Rattle.std.specs.Prelude.{◌≡◌, ◌-◌, ◌^◌};
 ghost use Rattle.std.specs.Int.RustNames.{bit_and, bit_or};
@@ -14,7 +14,7 @@ pub fn compute_like()
         ≡ bit_or (bit_or ShaderStages.COMPUTE.0 ShaderStages.MESH.0) ShaderStages.TASK.0 }
 {}
 
-/// All words of a set together have the bits below their count.
+/// All flags of a set together are the bits below their count.
 pub fn all_words()
     ensures storage_access { known_bits storage_access_bits ≡ 2 ^ 3 - 1 }
     ensures barrier { known_bits barrier_bits ≡ 2 ^ 4 - 1 }
@@ -25,8 +25,8 @@ pub fn all_words()
     ensures capabilities { known_bits capability_bits ≡ 2 ^ 38 - 1 }
 {}
 
-/// What is within what: an order, in which a union is the least set that holds both, and an intersection
-/// the greatest that both hold.
+/// Inclusion of sets is a partial order, in which a union is the least set that includes both, and an intersection
+/// the greatest that both include.
 pub fn within(a: u64, b: u64, c: u64)
     ensures reflexive { IsWithin a a }
     ensures transitive { IsWithin a b → IsWithin b c → IsWithin a c }

@@ -1,4 +1,4 @@
-//! Sets of words, each with one bit for a word, in naga's order.
+//! Bit flag sets, one bit per flag, in naga's order.
 #![tactic(auto)]
 
 mod debug;

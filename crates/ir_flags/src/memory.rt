@@ -1,10 +1,10 @@
-//! Sets that say what is done with memory.
+//! Bit flag sets of memory: accesses, barriers and decorations.
 
 use crate::debug::write_set;
 use bitflags::{Flag, Flags, bitflag_items};
 use std::fmt;
 
-/// What may be done with a storage buffer or a storage texture (naga's `StorageAccess`). A contract sees
+/// The access mode of a storage buffer or a storage texture (naga's `StorageAccess`). A contract sees
 /// the number of its bits, as `set.0`.
 #[derive(Clone, Copy, PartialEq, Eq, Hash)]
 pub struct StorageAccess(
@@ -14,11 +14,11 @@ pub struct StorageAccess(
 
 bitflag_items! {
     impl StorageAccess: u32 {
-        /// Reads.
+        /// Loads.
         const LOAD = 1;
-        /// Writes.
+        /// Stores.
         const STORE = 2;
-        /// Atomic operations on texels.
+        /// Atomic operations on storage textures.
         const ATOMIC = 4;
     }
 }
@@ -68,7 +68,7 @@ bitflag_items! {
         const STORAGE = 1;
         /// Workgroup memory.
         const WORK_GROUP = 2;
-        /// The invocations of a subgroup.
+        /// The invocations of the subgroup.
         const SUB_GROUP = 4;
         /// Textures.
         const TEXTURE = 8;
@@ -106,7 +106,7 @@ impl Flags for Barrier {
     }
 }
 
-/// How a storage buffer's memory is shared (naga's `MemoryDecorations`). A contract sees
+/// The memory decorations of a storage buffer (naga's `MemoryDecorations`). A contract sees
 /// the number of its bits, as `set.0`.
 #[derive(Clone, Copy, PartialEq, Eq)]
 pub struct MemoryDecorations(
@@ -116,9 +116,9 @@ pub struct MemoryDecorations(
 
 bitflag_items! {
     impl MemoryDecorations: u8 {
-        /// Other invocations see what is written.
+        /// Coherent: other invocations see the writes.
         const COHERENT = 1;
-        /// The memory may change from outside.
+        /// Volatile: the memory may change at any time.
         const VOLATILE = 2;
     }
 }

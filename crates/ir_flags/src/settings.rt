@@ -1,4 +1,4 @@
-//! Sets of checks and of capabilities, and the settings of a validator.
+//! The settings of a validator: checks, capabilities, and subgroup support.
 
 ghost use Rattle.std.specs.Prelude.{◌≡◌, ◌-◌, ◌^◌};
 
@@ -7,20 +7,20 @@ use crate::stages::{ShaderStages, SubgroupOperationSet};
 use bitflags::{Flag, Flags, bitflag_items};
 use std::fmt;
 
-/// The settings of a validator: by these a module is judged, from its types to its entry points.
+/// The settings by which a validator validates a module, its functions and its entry points.
 #[derive(Clone, Copy, Debug, PartialEq, Eq)]
 pub struct Settings {
-    /// The checks that are made.
+    /// The checks that are enabled.
     pub flags: ValidationFlags,
-    /// What shaders may use beyond the common part.
+    /// The capabilities that shaders may use.
     pub capabilities: Capabilities,
-    /// The stages that have operations of subgroups.
+    /// The stages that support subgroup operations.
     pub subgroup_stages: ShaderStages,
-    /// The operations of subgroups that may be used there.
+    /// The subgroup operations that are supported.
     pub subgroup_operations: SubgroupOperationSet,
 }
 
-/// The checks that a validator makes (naga's `ValidationFlags`). A contract sees
+/// The checks of a validator (naga's `ValidationFlags`). A contract sees
 /// the number of its bits, as `set.0`.
 #[derive(Clone, Copy, PartialEq, Eq)]
 pub struct ValidationFlags(
@@ -36,13 +36,13 @@ bitflag_items! {
         const BLOCKS = 2;
         /// Control flow uniformity.
         const CONTROL_FLOW_UNIFORMITY = 4;
-        /// Host-shareable structure layouts.
+        /// Layouts of host-shareable structs.
         const STRUCT_LAYOUTS = 8;
         /// Constants and overrides.
         const CONSTANTS = 16;
         /// Bindings and varyings.
         const BINDINGS = 32;
-        /// Every operand is in scope where it is used (a check of this library's own).
+        /// Every operand is in scope where it is used (a check that naga does not have).
         const STRICT_SCOPE = 64;
     }
 }
@@ -78,7 +78,7 @@ impl Flags for ValidationFlags {
     }
 }
 
-/// What shaders may use beyond the common part (naga's `Capabilities`). A contract sees
+/// The capabilities that a shader may use (naga's `Capabilities`). A contract sees
 /// the number of its bits, as `set.0`.
 #[derive(Clone, Copy, PartialEq, Eq)]
 pub struct Capabilities(
@@ -90,15 +90,15 @@ bitflag_items! {
     impl Capabilities: u64 {
         /// Globals in the immediate address space.
         const IMMEDIATES = 1;
-        /// Scalars of 64-bit floats.
+        /// 64-bit floats.
         const FLOAT64 = 2;
-        /// Scalars of 16-bit floats.
+        /// 16-bit floats.
         const SHADER_FLOAT16 = 4;
-        /// Scalars of 16-bit integers.
+        /// 16-bit integers.
         const SHADER_INT16 = 8;
-        /// Scalars of 64-bit integers.
+        /// 64-bit integers.
         const SHADER_INT64 = 16;
-        /// The primitive index.
+        /// The primitive index built-in.
         const PRIMITIVE_INDEX = 32;
         /// Binding arrays of uniform buffers.
         const BUFFER_BINDING_ARRAY = 64;
@@ -110,53 +110,53 @@ bitflag_items! {
         const STORAGE_TEXTURE_BINDING_ARRAY = 512;
         /// Binding arrays of acceleration structures.
         const ACCELERATION_STRUCTURE_BINDING_ARRAY = 1024;
-        /// Storage images of 16-bit normalised formats.
+        /// Storage textures of 16-bit normalised formats.
         const STORAGE_TEXTURE_16BIT_NORM_FORMATS = 2048;
-        /// Arrays of cube textures.
+        /// Cube texture arrays.
         const CUBE_ARRAY_TEXTURES = 4096;
         /// Clip distances.
         const CLIP_DISTANCES = 8192;
         /// Cull distances.
         const CULL_DISTANCE = 16384;
-        /// Rendering into several views.
+        /// Multiview rendering.
         const MULTIVIEW = 32768;
         /// Early depth tests.
         const EARLY_DEPTH_TEST = 65536;
-        /// Shading for each sample.
+        /// Per-sample shading.
         const MULTISAMPLED_SHADING = 131072;
-        /// Blending with two sources.
+        /// Dual-source blending.
         const DUAL_SOURCE_BLENDING = 262144;
         /// Subgroup operations.
         const SUBGROUP = 524288;
         /// Subgroup barriers.
         const SUBGROUP_BARRIER = 1048576;
-        /// 64-bit atomic `Min` and `Max` without result.
+        /// 64-bit atomic `Min` and `Max` without a result.
         const SHADER_INT64_ATOMIC_MIN_MAX = 2097152;
         /// All 64-bit atomic operations.
         const SHADER_INT64_ATOMIC_ALL_OPS = 4194304;
-        /// Atomic operations on 32-bit floats.
+        /// 32-bit float atomics.
         const SHADER_FLOAT32_ATOMIC = 8388608;
-        /// Atomic operations on 32-bit texels.
+        /// 32-bit atomics on storage textures.
         const TEXTURE_ATOMIC = 16777216;
-        /// Atomic operations on 64-bit texels.
+        /// 64-bit atomics on storage textures.
         const TEXTURE_INT64_ATOMIC = 33554432;
         /// External textures.
         const TEXTURE_EXTERNAL = 67108864;
         /// Ray queries.
         const RAY_QUERY = 134217728;
-        /// The vertex positions of a ray's hit.
+        /// Vertex positions of ray hits.
         const RAY_HIT_VERTEX_POSITION = 268435456;
-        /// Pipelines of ray tracing.
+        /// Ray tracing pipelines.
         const RAY_TRACING_PIPELINE = 536870912;
         /// Barycentric coordinates.
         const SHADER_BARYCENTRICS = 1073741824;
         /// Mesh and task shaders.
         const MESH_SHADER = 2147483648;
-        /// Mesh shaders that give points.
+        /// Mesh shaders with the point topology.
         const MESH_SHADER_POINT_TOPOLOGY = 4294967296;
-        /// Inputs for each vertex of a primitive.
+        /// Per-vertex inputs of fragment shaders.
         const PER_VERTEX = 8589934592;
-        /// The draw index.
+        /// The draw index built-in.
         const DRAW_INDEX = 17179869184;
         /// Cooperative matrices.
         const COOPERATIVE_MATRIX = 34359738368;

@@ -1,10 +1,10 @@
-//! Sets of stages and of subgroup operations.
+//! Bit flag sets of shader stages and of subgroup operations.
 
 use crate::debug::write_set;
 use bitflags::{Flag, Flags, bitflag_items};
 use std::fmt;
 
-/// A set of pipeline stages (naga's `ShaderStages`). A contract sees
+/// A set of shader stages (naga's `ShaderStages`). A contract sees
 /// the number of its bits, as `set.0`.
 #[derive(Clone, Copy, PartialEq, Eq)]
 pub struct ShaderStages(
@@ -14,23 +14,23 @@ pub struct ShaderStages(
 
 bitflag_items! {
     impl ShaderStages: u16 {
-        /// Vertex shading.
+        /// The vertex stage.
         const VERTEX = 1;
-        /// Fragment shading.
+        /// The fragment stage.
         const FRAGMENT = 2;
-        /// Compute shading.
+        /// The compute stage.
         const COMPUTE = 4;
-        /// Mesh shading.
+        /// The mesh stage.
         const MESH = 8;
-        /// Task shading.
+        /// The task stage.
         const TASK = 16;
-        /// Generation of rays.
+        /// The ray generation stage.
         const RAY_GENERATION = 32;
-        /// Any hit of a ray.
+        /// The any-hit stage.
         const ANY_HIT = 64;
-        /// The closest hit of a ray.
+        /// The closest-hit stage.
         const CLOSEST_HIT = 128;
-        /// A ray that hits nothing.
+        /// The miss stage.
         const MISS = 256;
     }
 }
@@ -66,7 +66,7 @@ impl Flags for ShaderStages {
     }
 }
 
-/// The kinds of subgroup operation that a device has (naga's `SubgroupOperationSet`). A contract sees
+/// The kinds of subgroup operations that a device supports (naga's `SubgroupOperationSet`). A contract sees
 /// the number of its bits, as `set.0`.
 #[derive(Clone, Copy, PartialEq, Eq)]
 pub struct SubgroupOperationSet(
@@ -76,17 +76,17 @@ pub struct SubgroupOperationSet(
 
 bitflag_items! {
     impl SubgroupOperationSet: u8 {
-        /// Elections and barriers.
+        /// Basic: elections and barriers.
         const BASIC = 1;
-        /// `All` and `Any`.
+        /// Votes: `All` and `Any`.
         const VOTE = 2;
-        /// Reductions and scans.
+        /// Arithmetic: reductions and scans.
         const ARITHMETIC = 4;
         /// Ballots and broadcasts.
         const BALLOT = 8;
         /// Shuffles.
         const SHUFFLE = 16;
-        /// Shuffles up and down.
+        /// Relative shuffles: up and down.
         const SHUFFLE_RELATIVE = 32;
         /// Quad operations.
         const QUAD = 64;
@@ -125,7 +125,7 @@ impl Flags for SubgroupOperationSet {
 }
 
 impl ShaderStages {
-    /// The stages that run in workgroups: compute, task and mesh.
+    /// The compute-like stages: compute, task and mesh.
     pub const COMPUTE_LIKE: ShaderStages = ShaderStages(
         ShaderStages::COMPUTE.0 | ShaderStages::TASK.0 | ShaderStages::MESH.0,
     );

@@ -1,4 +1,4 @@
--- What a chain of bases starts at is one; and what a step along a chain does.
+-- A chain of bases has one end; and a step along a chain.
 use Rattle.std.proofs.Common.{◌≡◌, ℕ, List, sym, ap, subst, ◌∙◌}
 use Rattle.ir_types.specs.judged.ExpressionPlain.{PlainExpression}
 use Rattle.ir_items.specs.judged.Bases.{StartsAt, itself, through, global_of, OneOrigin}

@@ -31,7 +31,7 @@ same_function f g names arguments answers locals expressions bodies spans leaves
   body = spans i;
 }
 
--- spanned functions and entry points hold the plain ones
+-- the view of functions and entry points with spans determines the plain one
 plain_functions : (fs : List Function) → map function_view fs ≡ map (λ (s : SpannedFunction). s.plain) (map spanned_function fs)
 plain_functions [] = refl
 plain_functions (f ∷ fs) = ap (λ rest. function_view f ∷ rest) (plain_functions fs)
@@ -40,14 +40,14 @@ pub plain_entries : (es : List EntryPoint) → map entry_view es ≡ map (λ (s 
 plain_entries [] = refl
 plain_entries (e ∷ es) = ap (λ rest. entry_view e ∷ rest) (plain_entries es)
 
--- functions and entry points that hold the same with their spans hold the same
+-- functions and entry points with equal views with spans have equal plain views
 pub same_functions : (xs ys : List Function) → map spanned_function xs ≡ map spanned_function ys → map function_view xs ≡ map function_view ys
 same_functions xs ys e = plain_functions xs ∙ (ap (map (λ (s : SpannedFunction). s.plain)) e ∙ sym (plain_functions ys))
 
 pub same_entries : (xs ys : List EntryPoint) → map spanned_entry xs ≡ map spanned_entry ys → map entry_view xs ≡ map entry_view ys
 same_entries xs ys e = plain_entries xs ∙ (ap (map (λ (s : SpannedEntry). s.plain)) e ∙ sym (plain_entries ys))
 
--- a module is copied list by list
+-- a module is copied arena by arena
 pub same_module : (m n : Module) → map (entry_of type_view) m.types ≡ map (entry_of type_view) n.types → special_view m.special_types ≡ special_view n.special_types
     → map (entry_of constant_view) m.constants ≡ map (entry_of constant_view) n.constants → map (entry_of override_view) m.overrides ≡ map (entry_of override_view) n.overrides
     → map (entry_of global_view) m.global_variables ≡ map (entry_of global_view) n.global_variables → map (entry_of expression_view) m.global_expressions ≡ map (entry_of expression_view) n.global_expressions

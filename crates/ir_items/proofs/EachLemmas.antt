@@ -1,4 +1,4 @@
--- Items that are changed one after another.
+-- Items that are changed one after another, by an index.
 use Rattle.std.proofs.Common.{◌≡◌, ◌<◌, ◌≤◌, ◌+◌, ℕ, List, [], ◌∷◌, length, map, take, get_or, Some, option_map, slice_get, refl, sym, ap, subst, ◌∙◌, arith}
 use Rattle.std.specs.Prelude.{unwrap_or}
 use Rattle.std.specs.List.{All}
@@ -13,14 +13,14 @@ use Rattle.ir_arena.specs.found.Copies.{entry_of}
 use Rattle.ir_blocks.proofs.RoomLemmas.{Unvisited, take_set, same_looks, unvisited_more, done_more}
 
 module _ {A : Type 0} (P : A → Type 0) where
-  -- one more of the first i has it
+  -- one more of the first i satisfies it
   pub more_have : (vs : List A) (i : ℕ) (x : A) → i < length vs → All P (take i vs) → P x → All P (take (i + 1) (set vs i x))
   more_have vs i x lt all one = subst (All P) (sym (take_set vs i x lt)) (All-push P (take i vs) x all one)
 
   pub all_have : (vs : List A) (n : ℕ) → length vs ≤ n → All P (take n vs) → All P vs
   all_have vs n past all = subst (All P) (take_all n vs past) all
 
-  -- one that has not been visited has it as it had it before
+  -- an item that is not visited yet is unchanged
   pub here_has : (vs ws : List A) (i : ℕ) (x : A) → x ≡ get_or vs i x → Unvisited vs ws i → i < length ws → All P ws → P x
   here_has vs ws i x e u lt all = subst P (sym (e ∙ u.1 i x (omega arith))) (all i x lt)
 
@@ -42,12 +42,12 @@ unvisited_entry es old h place w is u =
     subst (λ k. Unvisited (with_value es h w) old (k + 1)) is (unvisited_more es old h (w, span_at es h) (subst (Unvisited es old) (sym is) u))
 
 module _ {A View : Type 0} (view : A → View) where
-  -- it looks as before
+  -- it has the same view
   pub entry_stays : (es : List (A × Span)) (h : ℕ) (v w : A) → h < length es → Some v ≡ value_at es h → view w ≡ view v → map (entry_of view) (with_value es h w) ≡ map (entry_of view) es
   entry_stays es h v w lt at same =
       same_looks (entry_of view) es h (v, span_at es h) (w, span_at es h) lt (entry_at es h v lt at) (ap (λ x. (x, span_at es h)) same)
 
-  -- it is done as those before it, where f says what becomes of one
+  -- one more item is done, by f for one item
   pub entry_done : (f : View → View) (es old : List (A × Span)) (h place : ℕ) (v w : A) → h ≡ place → h < length es → Some v ≡ value_at es h → Unvisited es old place → view w ≡ f (view v)
       → map (entry_of view) (take place es) ≡ map (λ e. entry_of f (entry_of view e)) (take place old)
       → map (entry_of view) (take (place + 1) (with_value es h w)) ≡ map (λ e. entry_of f (entry_of view e)) (take (place + 1) old)
@@ -61,13 +61,13 @@ module _ {A View : Type 0} (view : A → View) where
       (done_more (entry_of view) (λ e. entry_of f (entry_of view e)) es old h x y lt u_here (entry_at es h v lt at) (ap (λ z. (z, span_at es h)) done) before_here)
 
 module _ {A : Type 0} (P : A → Type 0) where
-  -- one more of the first has it
+  -- one more of the first satisfies it
   pub entries_have : (es : List (A × Span)) (h place : ℕ) (w : A) → h ≡ place → h < length es → All (λ (e : A × Span). P e.0) (take place es) → P w → All (λ (e : A × Span). P e.0) (take (place + 1) (with_value es h w))
   entries_have es h place w is lt all one =
       subst (λ k. All (λ (e : A × Span). P e.0) (take (k + 1) (with_value es h w))) is
       (more_have (λ (e : A × Span). P e.0) es h (w, span_at es h) lt (subst (λ k. All (λ (e : A × Span). P e.0) (take k es)) (sym is) all) one)
 
-  -- one that has not been visited has it as it had it before
+  -- an item that is not visited yet is unchanged
   pub entry_has : (es old : List (A × Span)) (h place : ℕ) (v : A) → h ≡ place → h < length es → Some v ≡ value_at es h → Unvisited es old place → All (λ (e : A × Span). P e.0) old → P v
   entry_has es old h place v is lt at u all =
       let u_here : Unvisited es old h = subst (Unvisited es old) (sym is) u in

@@ -1,4 +1,4 @@
--- Leaves are one list, they are there, and to find them takes finitely many steps.
+-- The leaves of expressions are unique, exist, and are computed in finitely many steps.
 use Rattle.std.proofs.Common.{◌≡◌, ℕ, zero, suc, ◌+◌, ◌<◌, ◌≤◌, List, [], ◌∷◌, ◌++◌, length, take, reverse, Option, Some, None, slice_get, refl, sym, ap, subst, ◌∙◌, append_assoc, arith}
 use Rattle.std.specs.List.{All}
 use Rattle.std.specs.Option.{option_and_then}
@@ -14,7 +14,7 @@ use Rattle.ir_items.specs.judged.Bases.{expressions_of}
 use Rattle.ir_items.specs.found.Flat.{parts_of, PartsPrecede, AreLeaves, none, leaf, taken_apart, OneFlattening}
 use Rattle.ir_items.proofs.Places.{item_at}
 
--- ---- one list
+-- ---- uniqueness
 
 same_expression : (es : List PlainExpression) (handle : ℕ) (d e : PlainExpression) → slice_get es handle ≡ Some d → slice_get es handle ≡ Some e → d ≡ e
 same_expression es handle d e a b = let x = a in let y = b in cc
@@ -41,9 +41,9 @@ pub one_flattening : OneFlattening
 one_flattening es None components a b x y = x ∙ sym y
 one_flattening es (Some n) components a b x y = x.2 ∙ ap (take n) (one_list es components x.0 y.0 x.1 y.1) ∙ sym y.2
 
--- ---- it is there
+-- ---- existence
 
--- the leaves of some expressions and then of others, parted
+-- the leaves of a concatenation, split
 pub parted : (es : List PlainExpression) (hs ks all : List ℕ) → AreLeaves es (hs ++ ks) all → (a : List ℕ) × (b : List ℕ) × AreLeaves es hs a × AreLeaves es ks b × (all ≡ a ++ b)
 parted es [] ks all x = ([], all, none, x, refl)
 parted es (h ∷ hs) ks _ (leaf {leaves = l} x n r) =
@@ -51,7 +51,7 @@ parted es (h ∷ hs) ks _ (leaf {leaves = l} x n r) =
 parted es (h ∷ hs) ks _ (taken_apart {inside = i} {leaves = l} x n inner r) =
     let p = parted es hs ks l r in (i ++ p.0, p.1, taken_apart x n inner p.2, p.3, ap (λ v. i ++ v) p.4 ∙ sym (append_assoc i p.0 p.1))
 
--- what comes before a bound has leaves, where the parts of what comes before it have
+-- handles below a bound have leaves, if the operands of all handles below it have
 inner_leaves : (es : List PlainExpression) → PartsPrecede es → (bound : ℕ) → bound < length es
     → ((hs : List ℕ) → All (λ h. h < bound) hs → (leaves : List ℕ) × AreLeaves es hs leaves)
     → (hs : List ℕ) → All (λ h. h < suc bound) hs → (leaves : List ℕ) × AreLeaves es hs leaves
@@ -73,11 +73,11 @@ leaves_below es precede zero within [] all = ([], none)
 leaves_below es precede zero within (h ∷ hs) all = let never : h < 0 = All-head (λ k. k < 0) h hs all in absurd (omega arith)
 leaves_below es precede (suc bound) within hs all = inner_leaves es precede bound (omega arith) (leaves_below es precede bound (omega arith)) hs all
 
--- expressions that are there have leaves
+-- handles in the arena have leaves
 pub leaves_of : (es : List PlainExpression) → PartsPrecede es → (hs : List ℕ) → All (λ h. h < length es) hs → (leaves : List ℕ) × AreLeaves es hs leaves
 leaves_of es precede hs all = leaves_below es precede (length es) (omega arith) hs all
 
--- ---- finitely many steps
+-- ---- termination
 
 -- the sum over a list
 abbrev pub total : (ℕ → ℕ) → List ℕ → ℕ
@@ -96,11 +96,11 @@ total-reverse f (x ∷ xs) =
     let rest = total-reverse f xs in
     omega arith
 
--- the parts at a handle, none where there is no expression with parts
+-- the operands at a handle, none if there is no expression with operands
 abbrev pub parts_at : List PlainExpression → ℕ → List ℕ
 parts_at es h = unwrap_or (option_and_then parts_of (slice_get es h)) []
 
--- how many steps it takes to take an expression apart to this depth
+-- how many steps it takes to flatten an expression to this depth
 pub steps : List PlainExpression → ℕ → ℕ → ℕ
 steps es zero h = 1
 steps es (suc depth) h = 1 + total (λ part. steps es depth part) (parts_at es h)
@@ -113,7 +113,7 @@ same_total f g bound same (x ∷ xs) all =
     let rest = same_total f g bound same xs (All-tail (λ y. y < bound) x xs all) in
     omega arith
 
--- the parts at a handle come before it
+-- the operands at a handle precede it
 parts_before : (es : List PlainExpression) → PartsPrecede es → (h : ℕ) → All (λ part. part < h) (parts_at es h)
 parts_before es precede h = by_expression (slice_get es h) refl
   where
@@ -125,7 +125,7 @@ parts_before es precede h = by_expression (slice_get es h) refl
     by_expression None is = All-nil (λ part. part < h)
     by_expression (Some e) is = by_parts e is (parts_of e) refl
 
--- a depth that reaches an expression's handle is as good as a greater one
+-- a depth above an expression's handle gives the same number of steps
 deep_enough : (es : List PlainExpression) → PartsPrecede es → (depth h : ℕ) → h < depth → steps es (suc depth) h ≡ steps es depth h
 unfolding steps
 deep_enough es precede zero h lt = absurd (omega arith)
@@ -140,7 +140,7 @@ unfolding steps
 a_step es zero h = omega arith
 a_step es (suc depth) h = omega arith
 
--- and its parts take one less together
+-- and its operands take one less together
 pub fewer_steps : (es : List PlainExpression) → PartsPrecede es → (depth h : ℕ) (e : PlainExpression) (parts : List ℕ) → h < depth → slice_get es h ≡ Some e → parts_of e ≡ Some parts
     → total (λ part. steps es depth part) parts < steps es depth h
 unfolding steps
@@ -153,9 +153,9 @@ fewer_steps es precede (suc depth) h e parts lt at is =
     let enough : total (λ part. steps es depth part) (parts_at es h) ≡ total (λ part. steps es depth part) parts = ap (total (λ part. steps es depth part)) are in
     omega arith
 
--- ---- a step of the search
+-- ---- a step of the loop
 
--- what holds of each holds of each of the list turned round
+-- what holds of each element holds of each element of the reversed list
 pub All-reverse : (P : ℕ → Type 0) (xs : List ℕ) → All P xs → All P (reverse xs)
 All-reverse P [] all = all
 All-reverse P (x ∷ xs) all =
@@ -165,12 +165,12 @@ All-reverse P (x ∷ xs) all =
 last_first : (rest : List ℕ) (h : ℕ) → reverse (rest ++ h ∷ []) ≡ h ∷ reverse rest
 last_first rest h = reverse-append rest (h ∷ [])
 
--- what a step does to what is ahead and to the leaves
+-- a step, on the stack and the leaves
 abbrev pub Steps : PlainExpression → ℕ → List ℕ → List ℕ → List ℕ → List ℕ → Type 0
 Steps e h rest new out found =
     MatchOption (parts_of e) ((new ≡ rest) × (found ≡ out ++ h ∷ [])) (λ parts. (new ≡ rest ++ reverse parts) × (found ≡ out))
 
--- What the rest gives is what all gives.
+-- The result of the rest is the result of the whole.
 pub goes_on : (es : List PlainExpression) (h : ℕ) (e : PlainExpression) (components rest old new out found : List ℕ)
     → slice_get es h ≡ Some e → old ≡ rest ++ h ∷ [] → Steps e h rest new out found
     → ((leaves : List ℕ) → AreLeaves es (reverse old) leaves → AreLeaves es components (out ++ leaves))
@@ -194,7 +194,7 @@ goes_on es h e components rest old new out found at popped step before leaves af
         let whole : AreLeaves es components (out ++ (p.0 ++ p.1)) = all (p.0 ++ p.1) (taken_apart at is p.2 p.3) in
         subst (λ (l : List ℕ). AreLeaves es components l) (λ i. sym step.1 i ++ sym p.4 i) whole
 
--- What is ahead stays in the arena.
+-- The stack stays in the arena.
 pub stays_in : (es : List PlainExpression) → PartsPrecede es → (bound h : ℕ) (e : PlainExpression) (rest old new out found : List ℕ)
     → slice_get es h ≡ Some e → old ≡ rest ++ h ∷ [] → Steps e h rest new out found → All (λ k. k < bound) rest → h < bound → All (λ k. k < bound) new
 stays_in es precede bound h e rest old new out found at popped step all within = by_parts (parts_of e) refl step
@@ -207,7 +207,7 @@ stays_in es precede bound h e rest old new out found at popped step all within =
         let small = All-weaker (λ k. k < h) (λ k. k < bound) (λ k lt. omega arith) parts (precede h e parts at is) in
         subst (λ (l : List ℕ). All (λ k. k < bound) l) (sym step.0) (All-append (λ k. k < bound) rest (reverse parts) all (All-reverse (λ k. k < bound) parts small))
 
--- The steps that are left are fewer.
+-- The number of remaining steps decreases.
 pub comes_nearer : (es : List PlainExpression) → PartsPrecede es → (bound h : ℕ) (e : PlainExpression) (rest old new out found : List ℕ)
     → slice_get es h ≡ Some e → old ≡ rest ++ h ∷ [] → Steps e h rest new out found → h < bound
     → total (λ k. steps es bound k) new < total (λ k. steps es bound k) old
@@ -230,7 +230,7 @@ comes_nearer es precede bound h e rest old new out found at popped step within =
         let fewer = fewer_steps es precede bound h e parts within at is in
         omega arith
 
--- At most one leaf is found.
+-- At most one leaf is found in a step.
 pub one_more : (h : ℕ) (e : PlainExpression) (rest new out found : List ℕ) → Steps e h rest new out found → length found ≤ length out + 1
 one_more h e rest new out found step = by_parts (parts_of e) step
   where
@@ -240,13 +240,13 @@ one_more h e rest new out found step = by_parts (parts_of e) step
     by_parts None step = let long = ap length step.1 ∙ length-append out (h ∷ []) in omega arith
     by_parts (Some parts) step = let long = ap length step.1 in omega arith
 
--- ---- the end of it
+-- ---- the end of the loop
 
--- there are as many plain expressions as there are expressions
+-- there are as many plain expressions as expressions
 pub same_length : (entries : List (Expression × Span)) → length (expressions_of entries) ≡ length entries
 same_length entries = length-map (values_of entries) expression_view ∙ length-map entries (λ (x : Expression × Span). x.0)
 
--- a list of no length is empty
+-- a list of length zero is empty
 pub empty : (xs : List ℕ) → length xs ≡ 0 → xs ≡ []
 empty [] e = refl
 empty (x ∷ xs) e = absurd (omega arith)
@@ -262,7 +262,7 @@ enough entries precede most components ahead out all long gives =
     let fits : take most (out ++ more.0) ≡ out = take-append-le most out more.0 (omega arith) ∙ take_all most out (omega arith) in
     (out ++ more.0, gives more.0 more.1, sym fits)
 
--- nothing is ahead
+-- the stack is empty
 pub nothing_left : (es : List PlainExpression) (most : ℕ) (components ahead out : List ℕ) → ahead ≡ [] → length out ≤ most
     → ((leaves : List ℕ) → AreLeaves es (reverse ahead) leaves → AreLeaves es components (out ++ leaves))
     → (leaves : List ℕ) × AreLeaves es components leaves × (out ≡ take most leaves)

@@ -1,4 +1,4 @@
--- A path of filters, and what it says of a rule, are one; and what a step along a path does.
+-- A path of filters and the severity on it are unique; and a step along a path.
 use Rattle.std.proofs.Common.{◌≡◌, inl, inr, ℕ, zero, suc, ◌+◌, ◌<◌, ◌≤◌, List, [], ◌∷◌, Option, Some, None, length, slice_get, refl, sym, subst, ◌∙◌, arith}
 use Rattle.std.specs.Option.{option_and_then}
 use Rattle.std.proofs.lemmas.Option.{slice_get_within}
@@ -30,12 +30,12 @@ pub one_severity : OneSeverity
 one_severity nodes start rule s t a b =
     one_nearest rule a.0 s t a.2 (subst (λ p. IsNearest rule p t) (one_path nodes start b.0 a.0 b.1 a.1) b.2)
 
--- how far a walk can still go
+-- how many steps a walk can still take
 abbrev pub ahead : Option ℕ → ℕ
 ahead None = 0
 ahead (Some handle) = handle + 1
 
--- what comes before a handle, if anything, is less far ahead
+-- an earlier handle can take fewer steps
 pub ahead_before : (o : Option ℕ) (handle : ℕ) → ((place : ℕ) → o ≡ Some place → place < handle) → ahead o ≤ handle
 ahead_before None handle before = omega arith
 ahead_before (Some place) handle before = let h : place < handle = before place refl in omega arith
@@ -59,7 +59,7 @@ found nodes precede handle node rule e h =
     let rest = path_from nodes precede handle node.parent up (omega arith) in
     (node ∷ rest.0, (e, rest.1), inl (h, refl))
 
--- and another leads on to its parent
+-- and any other continues with its parent
 pub passed : (nodes : List PlainFilterNode) (handle : ℕ) (node : PlainFilterNode) (rule : StandardFilterableTriggeringRule) (s : Severity)
     → slice_get nodes handle ≡ Some node → (¬ (node.rule ≡ standard rule)) → HasSeverity nodes node.parent rule s → HasSeverity nodes (Some handle) rule s
 passed nodes handle node rule s e other behind = (node ∷ behind.0, (e, behind.1), inr (other, behind.2))

@@ -1,11 +1,11 @@
--- What stands at a place of an arena.
+-- Items at a place of an arena.
 use Rattle.std.proofs.Common.{◌≡◌, ℕ, zero, suc, ◌<◌, List, [], ◌∷◌, Some, length, slice_get, map, option_map, refl, sym, ap, ◌∙◌, arith}
 use Rattle.std.proofs.lemmas.Option.{slice_get-map}
 use Rattle.ir_arena.specs.declared.span.Span.{Span}
 use Rattle.ir_arena.specs.found.Arenas.{value_at}
 use Rattle.ir_items.specs.found.GlobalView.{values_of}
 
--- there is something at a place within a list
+-- there is an item at each place within a list
 pub item_at : {T : Type 0} → (xs : List T) (k : ℕ) → k < length xs → (x : T) × (slice_get xs k ≡ Some x)
 item_at [] k h = absurd (omega arith)
 item_at (x ∷ xs) zero h = (x, refl)

@@ -1,4 +1,4 @@
--- A module whose functions and entry points were changed.
+-- A module whose functions and entry points were replaced.
 use Rattle.std.proofs.Common.{◌≡◌, List, [], ◌∷◌, Result, Ok, Err, OnErr, map, refl, sym, ap, ◌∙◌}
 use Rattle.std.specs.Prelude.{Vec}
 use Rattle.std.specs.declared.alloc.Global.{Global}
@@ -13,11 +13,11 @@ use Rattle.ir_items.specs.declared.functions.Function.{Function}
 use Rattle.ir_items.specs.declared.module.Module.{Module}
 use Rattle.ir_items.proofs.CopyLemmas.{plain_entries, same_module}
 
--- the module with these functions and entry points in place of its own
+-- the module with its functions and entry points replaced
 abbrev pub with_code : Module → List (Function × Span) → Vec EntryPoint Global → Module
 with_code m functions entries = record m { functions = functions; entry_points = entries }
 
--- where they look as before, so does the module
+-- if they have the same views, so has the module
 pub module_stays : (m : Module) (functions : List (Function × Span)) (entries : Vec EntryPoint Global)
     → map (entry_of spanned_function) functions ≡ map (entry_of spanned_function) m.functions → map spanned_entry entries.items ≡ map spanned_entry m.entry_points.items
     → spanned_module (with_code m functions entries) ≡ spanned_module m
@@ -36,7 +36,7 @@ plain_entries_returned : (ss : List SpannedEntry) → map (λ (s : SpannedEntry)
 plain_entries_returned [] = refl
 plain_entries_returned (s ∷ ss) = ap (λ rest. returned_entry s.plain ∷ rest) (plain_entries_returned ss)
 
--- where each body is completed, the module has its returns put in
+-- if each body is completed, the module is completed
 module_done : (m : Module) (functions : List (Function × Span)) (entries : Vec EntryPoint Global)
     → map (entry_of spanned_function) functions ≡ map (entry_of returned_function_spans) (map (entry_of spanned_function) m.functions)
     → map spanned_entry entries.items ≡ map returned_entry_spans (map spanned_entry m.entry_points.items)
@@ -53,12 +53,12 @@ module_done m functions entries done entries_done =
       entries = entries_done i;
     })
 
--- what holds anyway holds on an error
+-- what always holds also holds on an error
 pub on_err : {T E P : Type 0} (r : Result T E) → P → OnErr r P
 on_err (Ok x) p = tt
 on_err (Err e) p = p
 
--- the same where room was made before
+-- the same if room was reserved before
 pub returned_after : (m : Module) (roomy functions : List (Function × Span)) (roomy_entries entries : Vec EntryPoint Global)
     → map (entry_of spanned_function) roomy ≡ map (entry_of spanned_function) m.functions → map spanned_entry roomy_entries.items ≡ map spanned_entry m.entry_points.items
     → map (entry_of spanned_function) functions ≡ map (entry_of returned_function_spans) (map (entry_of spanned_function) roomy)

@@ -1,4 +1,4 @@
--- The module with returns put in, and the spans in it.
+-- The module with missing returns added, and its spans.
 use Rattle.std.proofs.Common.{◌≡◌, List, [], ◌∷◌, map, refl, sym, ap, subst, ◌∙◌}
 use Rattle.std.specs.List.{AllZip}
 use Rattle.ir_blocks.proofs.OneCompleted.{one_completed}
@@ -20,7 +20,7 @@ each_related : {A B : Type 0} (R : A → B → Type 0) (f : A → B) → ((x : A
 each_related R f one [] = tt
 each_related R f one (x ∷ xs) = (one x, each_related R f one xs)
 
--- the same of what is seen of each
+-- the same for the views
 each_seen : {A B C : Type 0} (view : A → B) (R : B → C → Type 0) (f : B → C) → ((x : A) → R (view x) (f (view x))) → (xs : List A) → AllZip R (map view xs) (map f (map view xs))
 each_seen view R f one [] = tt
 each_seen view R f one (x ∷ xs) = (one x, each_seen view R f one xs)
@@ -31,7 +31,7 @@ each_is R f one [] (y ∷ ys) h = absurd h
 each_is R f one (x ∷ xs) [] h = absurd h
 each_is R f one (x ∷ xs) (y ∷ ys) h = λ i. one x y h.0 i ∷ each_is R f one xs ys h.1 i
 
--- ---- what is found is the module with returns put in
+-- ---- the function satisfies the specification
 
 function_returned : (f : PlainFunction) → IsReturnedFunction f (returned_function f)
 function_returned f = record { body = is_completed f.body; rest = refl }
@@ -49,7 +49,7 @@ returned_by_bodies m = record {
 pub is_returned : (m n : PlainModule) → n ≡ returned_module m → IsReturned m n
 is_returned m n e = subst (IsReturned m) (sym e) (returned_by_bodies m)
 
--- ---- and there is no other
+-- ---- uniqueness
 
 one_function : (f g : PlainFunction) → IsReturnedFunction f g → g ≡ returned_function f
 one_function f g h = h.rest ∙ ap (λ b. record f { body = b }) (one_completed f.body g.body h.body)

@@ -1,4 +1,4 @@
--- The ranges of an emitter partition what was appended while it ran.
+-- The ranges of an emitter partition the expressions appended while it was running.
 use Rattle.std.proofs.Common.{◌≡◌, ◌↔◌, inl, inr, ℕ, ◌<◌, ◌≤◌, List, [], ◌∷◌, Bool, true, false, true≢false, nat_eq, cond, refl, sym, ◌∙◌, ◌≢◌, arith}
 use borrow.Author.Tests.{eqb-true, eq-eqb}
 use Rattle.std.specs.List.{All, AllPairs}
@@ -26,7 +26,7 @@ abbrev ranges_of : List Run → List Run
 ranges_of [] = []
 ranges_of (run ∷ runs) = cond (nat_eq run.0 run.1) (ranges_of runs) (run ∷ ranges_of runs)
 
--- the run's range before the others, if it has one
+-- the run's range before the others, if it is not empty
 abbrev ranges_with : Bool → Run → List Run → List Run
 ranges_with is_empty run rest = cond is_empty rest (run ∷ rest)
 
@@ -95,13 +95,13 @@ appended_of : (runs : List given.Run) (e : ℕ) → Holds (map counts runs) e �
 appended_of [] e k = k
 appended_of (run ∷ runs) e k = elim k [ inl here ↦ inl here | inr there ↦ inr (appended_of runs e there) ]
 
--- the range of one answer goes before the others, if it has one
+-- the range of one `Emit` goes before the others, if there is one
 one_more : (b : Bool) (first end : ℕ) (span : Span) (rest : List Run)
     → cons_option (given.range_of (cond b None (Some (emit first end, span)))) rest ≡ cond b rest ((first, end) ∷ rest)
 one_more true first end span rest = refl
 one_more false first end span rest = refl
 
--- the ranges of the answers are those of the counts
+-- the ranges of the `Emit` statements are those of the counts
 answered : (runs : List given.Run) → given.ranges_of (map given.answer_of runs) ≡ ranges_of (map counts runs)
 answered [] = refl
 answered (run ∷ runs) =

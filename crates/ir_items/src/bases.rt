@@ -1,4 +1,4 @@
-//! What pointers lead to.
+//! The global variable that a pointer expression points into.
 ghost use Rattle.std.specs.Prelude.{◌≡◌, ◌<◌, List, length};
 ghost use Rattle.ir_types.specs.judged.ExpressionPlain.{PlainExpression, expression_view};
 ghost use Rattle.ir_items.specs.judged.Bases.{expressions_of, base_of, global_of, BasesPrecede, HasOrigin};
@@ -6,14 +6,14 @@ ghost use Rattle.ir_items.specs.judged.Bases.{expressions_of, base_of, global_of
 use crate::{Expression, Function, key};
 use ir_arena::handle::Handle;
 
-/// The call of functions that follows the bases of accesses.
+/// The method of functions that follows the base expressions of accesses.
 pub trait FunctionExt {
     /// The function's expressions.
     ghost expressions_in: { Self → List PlainExpression };
 
-    /// The global variable that `pointer`, an expression of the function, points into: the one that the chain of bases
-    /// starts at, from an access to its base and on to the first that is no access. `None` where the chain starts at
-    /// anything else (naga's `Function::originating_global`). The base of each access in the function comes before it.
+    /// The global variable that `pointer`, an expression of the function, points into: the expression at the end of the
+    /// chain from an access to its base, up to the first expression that is no access. `None` if that is
+    /// anything else (naga's `Function::originating_global`). It requires that the base of each access precedes it.
     fn originating_global(
         &self,
         pointer: Handle<key::Expression>,
@@ -37,7 +37,7 @@ impl FunctionExt for Function {
     }
 }
 
-// The global that the chain of bases from `pointer` starts at.
+// The global variable at the end of the chain of bases from `pointer`.
 fn origin_of(
     function: &Function,
     pointer: Handle<key::Expression>,
@@ -53,7 +53,7 @@ fn origin_of(
     global_of(&function.expressions[current])
 }
 
-// What an access takes a part of.
+// The base of an access.
 fn base_of(expression: &Expression) -> Option<Handle<key::Expression>>
     ensures { result ≡ base_of (expression_view expression.now) }
 {
@@ -63,7 +63,7 @@ fn base_of(expression: &Expression) -> Option<Handle<key::Expression>>
     }
 }
 
-// The global that an expression is.
+// The global variable of a `GlobalVariable` expression.
 fn global_of(expression: &Expression) -> Option<Handle<key::GlobalVariable>>
     ensures { result ≡ global_of (expression_view expression.now) }
 {

@@ -1,4 +1,4 @@
-// The range of expressions that were appended lately (naga's `proc::emitter`).
+// The range of recently appended expressions (naga's `proc::emitter`).
 ghost use Rattle.std.specs.Prelude.{◌≡◌, ◌≤◌, IsTrue, None, Some, is_some, option_map, unwrap_or, length, map, slice_range};
 ghost use Rattle.ir_arena.specs.found.Arenas.{span_of_entry};
 ghost use Rattle.ir_arena.specs.found.Spans.{total_span};
@@ -11,8 +11,8 @@ use ir_arena::span::Span;
 use ir_blocks::{Expression, Statement, key};
 use std::marker::Model;
 
-/// Remembers how many expressions a function had, so that those that are appended can be emitted together (naga's
-/// `Emitter`). In a contract it is the count that it began at, or nothing where it doesn't run.
+/// Remembers how many expressions a function had, so that those appended since can be emitted together (naga's
+/// `Emitter`). In a contract it is the number of expressions at its start, or `None` if it is not running.
 #[derive(Debug, Drop)]
 pub struct Emitter {
     start_len: Option<usize>,
@@ -27,14 +27,14 @@ impl Model for Emitter {
 }
 
 impl Emitter {
-    /// One that doesn't run (naga's `Emitter::default`).
+    /// An emitter that is not running (naga's `Emitter::default`).
     pub fn new() -> Emitter
         ensures { result ≡ None }
     {
         Emitter { start_len: None }
     }
 
-    /// Begins: what is appended to the expressions from now on will be emitted. It requires that it doesn't run.
+    /// Starts: expressions appended from now on will be emitted. It requires that the emitter is not running.
     pub fn start(&mut self, arena: &Arena<Expression, key::Expression>)
         requires idle { self.old ≡ None }
         ensures { self.new ≡ Some (length arena.now) }
@@ -42,16 +42,16 @@ impl Emitter {
         self.start_len = Some(arena.len());
     }
 
-    /// Whether it runs.
+    /// Whether it is running.
     pub fn is_running(&self) -> bool
         ensures { result ≡ is_some self.now }
     {
         self.start_len.is_some()
     }
 
-    /// Ends: gives the `Emit` statement of what was appended since it began, with the least span that holds all of
-    /// theirs, or `None` where nothing was. It requires that it runs, and that there are no fewer expressions than when
-    /// it began.
+    /// Finishes: returns the `Emit` statement of the expressions appended since the start, with the union of their
+    /// spans, or `None` if there are none. It requires that the emitter is running, and that no fewer expressions exist
+    /// than at the start.
     pub fn finish(
         &mut self,
         arena: &Arena<Expression, key::Expression>,
@@ -77,13 +77,13 @@ impl Default for Emitter {
 
     ghost is_default = { λ e. e ≡ None };
 
-    /// One that doesn't run.
+    /// An emitter that is not running.
     fn default() -> Self {
         Emitter::new()
     }
 }
 
-// The least span that holds those of the expressions from `start` on, below `end`.
+// The union of the spans of the expressions `start..end`.
 fn span_of(arena: &Arena<Expression, key::Expression>, start: u32, end: u32) -> Span
     requires ordered { start ≤ end }
     requires in_bounds { end ≤ length arena.now }

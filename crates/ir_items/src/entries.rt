@@ -1,4 +1,4 @@
-// Entry points.
+// Entry points and mesh shader outputs.
 ghost use Rattle.std.specs.Prelude.{◌≡◌, IfOk};
 ghost use Rattle.ir_items.specs.found.Copies.{spanned_entry};
 
@@ -9,43 +9,43 @@ use ir_kinds::{EarlyDepthTest, MeshOutputTopology, ShaderStage};
 use ir_types::key;
 use std::alloc::{AllocError, Global};
 
-/// What a mesh shader gives (naga's `MeshStageInfo`).
+/// The outputs of a mesh shader (naga's `MeshStageInfo`).
 #[derive(Clone, Copy, PartialEq, Debug)]
 pub struct MeshStageInfo {
-    /// What its primitives are.
+    /// The primitive topology.
     pub topology: MeshOutputTopology,
-    /// How many vertices it gives at most.
+    /// The maximum number of vertices.
     pub max_vertices: u32,
-    /// The override that says so, among the module's global expressions.
+    /// The override for it, as a global expression, if any.
     pub max_vertices_override: Option<Handle<key::Expression>>,
-    /// How many primitives it gives at most.
+    /// The maximum number of primitives.
     pub max_primitives: u32,
-    /// The override that says so, among the module's global expressions.
+    /// The override for it, as a global expression, if any.
     pub max_primitives_override: Option<Handle<key::Expression>>,
-    /// The type of a vertex.
+    /// The type of a vertex output.
     pub vertex_output_type: Handle<key::IrType>,
-    /// The type of a primitive.
+    /// The type of a primitive output.
     pub primitive_output_type: Handle<key::IrType>,
-    /// The variable that holds what it gives.
+    /// The workgroup variable with the outputs.
     pub output_variable: Handle<key::GlobalVariable>,
 }
 
-/// Where a stage of a pipeline begins (naga's `EntryPoint`).
+/// An entry point of a shader stage (naga's `EntryPoint`).
 #[derive(PartialEq, Debug, Drop)]
 pub struct EntryPoint {
-    /// The name that a pipeline calls it by.
+    /// The name by which a pipeline selects it.
     pub name: String,
-    /// Its stage.
+    /// The stage.
     pub stage: ShaderStage,
-    /// Whether the depth is tested before it runs, and how.
+    /// The early depth test, if any.
     pub early_depth_test: Option<EarlyDepthTest>,
-    /// How many invocations a workgroup has, each way.
+    /// The workgroup size in each dimension.
     pub workgroup_size: [u32; 3],
-    /// What a mesh shader gives.
+    /// The outputs of a mesh shader.
     pub mesh_info: Option<MeshStageInfo>,
-    /// The variable that a task shader hands to mesh shaders.
+    /// The variable with the task payload.
     pub task_payload: Option<Handle<key::GlobalVariable>>,
-    /// What it does.
+    /// The function.
     pub function: Function,
 }
 

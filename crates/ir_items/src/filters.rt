@@ -8,32 +8,32 @@ use ir_kinds::{Severity, StandardFilterableTriggeringRule};
 use ir_types::key;
 use std::alloc::{AllocError, Global};
 
-/// A rule whose faults a filter may make milder (naga's `FilterableTriggeringRule`).
+/// A rule whose diagnostics a filter configures (naga's `FilterableTriggeringRule`).
 #[derive(PartialEq, Eq, Debug, Drop)]
 pub enum FilterableTriggeringRule {
-    /// A rule of the language.
+    /// A standard rule of WGSL.
     Standard(StandardFilterableTriggeringRule),
-    /// A name that the language doesn't know.
+    /// An unknown rule.
     Unknown(String),
-    /// A rule of a tool: the tool's name and the rule's.
+    /// A user-defined rule: the name of the tool and of the rule.
     User(String, String),
 }
 
-/// How severe the faults of a rule are to be (naga's `DiagnosticFilter`).
+/// A severity for the diagnostics of a rule (naga's `DiagnosticFilter`).
 #[derive(PartialEq, Debug, Drop)]
 pub struct DiagnosticFilter {
-    /// How severe.
+    /// The new severity.
     pub new_severity: Severity,
     /// The rule.
     pub triggering_rule: FilterableTriggeringRule,
 }
 
-/// A filter, and the node whose filters stand after it (naga's `DiagnosticFilterNode`).
+/// A filter and its parent node (naga's `DiagnosticFilterNode`).
 #[derive(PartialEq, Debug, Drop)]
 pub struct DiagnosticFilterNode {
     /// The filter.
     pub inner: DiagnosticFilter,
-    /// The node after it, if any.
+    /// The parent node, if any.
     pub parent: Option<Handle<key::DiagnosticFilterNode>>,
 }
 

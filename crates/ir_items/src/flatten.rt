@@ -1,4 +1,4 @@
-//! What a composition of a vector comes to.
+//! The flattened components of a vector composition.
 ghost use Rattle.std.specs.Prelude.{◌≡◌, ◌<◌, ◌∷◌, [], ℕ, List, ◌++◌, length, reverse, replicate, take, IfOk, OnOk, MatchOption};
 ghost use Rattle.std.specs.List.{All};
 ghost use Rattle.ir_types.specs.judged.Plain.{inner_view};
@@ -14,7 +14,7 @@ use std::alloc::{AllocError, Global};
 use std::marker::Model;
 use std::vec;
 
-/// The handles that a composition comes to, in order. In a contract it is the list of those that are still to come.
+/// The handles of flattened components, in order. In a contract it is the list of the remaining handles.
 #[derive(Drop)]
 pub struct FlattenCompose {
     handles: vec::IntoIter<Handle<key::Expression>>,
@@ -53,12 +53,12 @@ impl Iterator for FlattenCompose {
     }
 }
 
-/// What a composition of type `ty` from `components` comes to (naga's `flatten_compose`). For a vector each
-/// `Compose` is replaced by its components and each `Splat` by its scalar, as often as it has components, at every
-/// depth, and what comes after as many as the vector has components is left out. For any other type it is `components`
-/// as they are. The parts of each expression come before it.
+/// The flattened components of a composition of type `ty` from `components` (naga's `flatten_compose`). For a vector each
+/// `Compose` is replaced by its components and each `Splat` by copies of its scalar, at every
+/// depth, and all components past the vector's size are left out. For any other type it is `components`
+/// unchanged. It requires that the operands of each expression precede it.
 ///
-/// The memory is taken here, and none as the handles are gone over. The error is want of it.
+/// Memory is allocated here, and none during the iteration. The error is out of memory.
 pub fn flatten_compose(
     alloc: Global,
     ty: Handle<key::IrType>,
@@ -76,7 +76,7 @@ pub fn flatten_compose(
     Ok(FlattenCompose::new(handles))
 }
 
-// How many components a vector has.
+// The number of components of a vector type.
 fn vector_size(inner: &TypeInner) -> Option<usize>
     ensures { result ≡ vector_size (inner_view inner.now) }
 {
@@ -86,7 +86,7 @@ fn vector_size(inner: &TypeInner) -> Option<usize>
     }
 }
 
-// What the components of a vector of this size come to, or of what is no vector.
+// The flattened components of a vector of this size, or `components` if it is no vector.
 fn flatten(
     alloc: Global,
     components: &[Handle<key::Expression>],
@@ -103,7 +103,7 @@ fn flatten(
     }
 }
 
-// The first leaves of `components`, `most` of them or all.
+// The first `most` leaves of `components`, or all if there are fewer.
 fn first_leaves(
     alloc: Global,
     components: &[Handle<key::Expression>],
@@ -115,7 +115,7 @@ fn first_leaves(
     ensures { IfOk result (λ first. (leaves : List ℕ) × AreLeaves (expressions_of expressions.now) components.now leaves × (first.items ≡ take most leaves)) }
 {
     let mut leaves = Vec::new(alloc);
-    // what is still to be taken apart, the next at the end
+    // a stack of expressions that are still to be flattened
     let mut ahead = Vec::new(alloc);
     push_reversed(&mut ahead, components)?;
     while leaves.len() < most {
@@ -125,7 +125,7 @@ fn first_leaves(
     Ok(leaves)
 }
 
-// Puts the parts of the expression at `handle` ahead, or the handle among the leaves where it has none.
+// Pushes the operands of the expression at `handle`, or appends the handle to the leaves if it has none.
 fn take_apart(
     handle: Handle<key::Expression>,
     expression: &Expression,
@@ -144,7 +144,7 @@ fn take_apart(
     }
 }
 
-// Puts `parts` ahead, the first of them last.
+// Pushes `parts` in reverse, so that the first is popped first.
 fn push_reversed(
     ahead: &mut Vec<Handle<key::Expression>>,
     parts: &[Handle<key::Expression>],
@@ -157,7 +157,7 @@ fn push_reversed(
     Ok(())
 }
 
-// Puts `part` ahead so many times.
+// Pushes `part` a number of times.
 fn push_times(
     ahead: &mut Vec<Handle<key::Expression>>,
     part: Handle<key::Expression>,

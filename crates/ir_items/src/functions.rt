@@ -1,4 +1,4 @@
-// Functions, and what they have.
+// Functions, with their arguments, results and local variables.
 ghost use Rattle.std.specs.Prelude.{◌≡◌, IfOk};
 ghost use Rattle.ir_items.specs.found.Copies.{spanned_function};
 ghost use Rattle.ir_blocks.specs.found.View.{block_spans};
@@ -13,34 +13,34 @@ use ir_kinds::Binding;
 use ir_types::{Expression, clone_name, key};
 use std::alloc::{AllocError, Global};
 
-/// A variable of a function (naga's `LocalVariable`).
+/// A local variable of a function (naga's `LocalVariable`).
 #[derive(PartialEq, Debug, Drop)]
 pub struct LocalVariable {
     /// The name in the source, if any.
     pub name: Option<String>,
     /// Its type.
     pub ty: Handle<key::IrType>,
-    /// What it begins as, among the function's expressions.
+    /// The initialiser, an expression of the function, if any.
     pub init: Option<Handle<key::Expression>>,
 }
 
-/// What a function is given (naga's `FunctionArgument`).
+/// An argument of a function (naga's `FunctionArgument`).
 #[derive(PartialEq, Debug, Drop)]
 pub struct FunctionArgument {
     /// The name in the source, if any.
     pub name: Option<String>,
     /// Its type.
     pub ty: Handle<key::IrType>,
-    /// What binds it at an interface of a stage, if anything.
+    /// The binding, if the function is an entry point.
     pub binding: Option<Binding>,
 }
 
-/// What a function answers (naga's `FunctionResult`).
+/// The result of a function (naga's `FunctionResult`).
 #[derive(Clone, Copy, PartialEq, Debug)]
 pub struct FunctionResult {
-    /// The type of the answer.
+    /// The type of the result.
     pub ty: Handle<key::IrType>,
-    /// What binds it at an interface of a stage, if anything.
+    /// The binding, if the function is an entry point.
     pub binding: Option<Binding>,
 }
 
@@ -49,17 +49,17 @@ pub struct FunctionResult {
 pub struct Function {
     /// The name in the source, if any.
     pub name: Option<String>,
-    /// What it is given, in order.
+    /// The arguments, in order.
     pub arguments: Vec<FunctionArgument>,
-    /// What it answers, if it answers something.
+    /// The result, if any.
     pub result: Option<FunctionResult>,
-    /// Its variables.
+    /// The local variables.
     pub local_variables: Arena<LocalVariable, key::LocalVariable>,
-    /// What is computed in it.
+    /// The expressions.
     pub expressions: Arena<Expression, key::Expression>,
-    /// What it does.
+    /// The body.
     pub body: Block,
-    /// The diagnostic filters that count in it.
+    /// The innermost diagnostic filter of the function.
     pub diagnostic_filter_leaf: Option<Handle<key::DiagnosticFilterNode>>,
 }
 
@@ -90,7 +90,7 @@ impl FunctionArgument {
 }
 
 impl Function {
-    /// A function that is given nothing, answers nothing and does nothing (naga's `Function::default`).
+    /// A function without arguments, result and statements (naga's `Function::default`).
     pub fn new(alloc: Global) -> Function
         ensures function { function_view result ≡ empty_function }
         ensures spans { block_spans result.body ≡ no_spans }

@@ -9,44 +9,44 @@ use ir_kinds::{AddressSpace, ResourceBinding};
 use ir_types::{clone_name, key};
 use std::alloc::{AllocError, Global};
 
-/// A value that is known when the module is made (naga's `Constant`).
+/// A constant (naga's `Constant`).
 #[derive(PartialEq, Debug, Drop)]
 pub struct Constant {
     /// The name in the source, if any.
     pub name: Option<String>,
     /// Its type.
     pub ty: Handle<key::IrType>,
-    /// What it is, among the module's global expressions.
+    /// The initialiser, a global expression.
     pub init: Handle<key::Expression>,
 }
 
-/// A value that is known when a pipeline is made (naga's `Override`).
+/// An override: a constant that a pipeline may set (naga's `Override`).
 #[derive(PartialEq, Debug, Drop)]
 pub struct Override {
     /// The name in the source, if any.
     pub name: Option<String>,
-    /// The number that a pipeline calls it by, if any.
+    /// The pipeline constant ID, if any.
     pub id: Option<u16>,
     /// Its type.
     pub ty: Handle<key::IrType>,
-    /// What it is where the pipeline doesn't say, among the module's global expressions.
+    /// The default value, a global expression, if any.
     pub init: Option<Handle<key::Expression>>,
 }
 
-/// A variable of the module (naga's `GlobalVariable`).
+/// A global variable (naga's `GlobalVariable`).
 #[derive(PartialEq, Eq, Debug, Drop)]
 pub struct GlobalVariable {
     /// The name in the source, if any.
     pub name: Option<String>,
-    /// Where it lies.
+    /// The address space.
     pub space: AddressSpace,
-    /// Where a pipeline binds it, if it does.
+    /// The resource binding, if any.
     pub binding: Option<ResourceBinding>,
     /// Its type.
     pub ty: Handle<key::IrType>,
-    /// What it begins as, among the module's global expressions.
+    /// The initialiser, a global expression, if any.
     pub init: Option<Handle<key::Expression>>,
-    /// How its memory is seen by others.
+    /// The memory decorations.
     pub memory_decorations: MemoryDecorations,
 }
 

@@ -1,4 +1,4 @@
-// Laws of the items and of what goes over them.
+// Laws of returns, diagnostic filters, originating globals and flattened compositions.
 ghost use Rattle.ir_items.specs.judged.Bases.{OneOrigin};
 ghost use Rattle.ir_items.specs.judged.Returned.{OneReturned, ReturnedByBodies};
 ghost use Rattle.ir_items.specs.found.Filters.{OneSeverity};
@@ -9,27 +9,27 @@ pub use ir_blocks::laws::{
     spans_completed_by_tails,
 };
 
-/// The module whose bodies are each completed is the module with returns put in.
+/// The module whose bodies are each completed is the module with missing returns added.
 pub fn returned_by_bodies()
     ensures { ReturnedByBodies }
 {}
 
-/// There is one module that is a given one with returns put in.
+/// A module has only one completion with returns.
 pub fn one_returned()
     ensures { OneReturned }
 {}
 
-/// A rule has one severity at most at a node, so that [`crate::DiagnosticFilterNodeExt::search`] can answer nothing else.
+/// A rule has at most one severity at a node, so that [`crate::DiagnosticFilterNodeExt::search`] has only one answer.
 pub fn one_severity()
     ensures { OneSeverity }
 {}
 
-/// A chain of bases starts at one expression at most, so that [`crate::FunctionExt::originating_global`] can answer nothing else.
+/// A chain of bases ends at one expression at most, so that [`crate::FunctionExt::originating_global`] has only one answer.
 pub fn one_origin()
     ensures { OneOrigin }
 {}
 
-/// A composition comes to one list at most, so that [`crate::flatten_compose`] can give nothing else.
+/// A composition has at most one flattened list, so that [`crate::flatten_compose`] has only one answer.
 pub fn one_flattening()
     ensures { OneFlattening }
 {}

@@ -1,10 +1,10 @@
 //! The items of the IR: constants, overrides, variables, special types, diagnostic filters, functions, entry points and the
-//! module that holds everything. It hands on statements, blocks, the types and the expressions.
+//! module. Re-exports statements, blocks, types and expressions.
 //!
-//! What goes over the parts of a function: the calls that follow the handles inside an arena (from a filter to its parent, from
-//! an access to its base, from a composition to its components; they require that each handle is in its arena and leads to an
-//! earlier place), and what gives the `Emit` statements of a function that is being built. Their names are those of naga's
-//! `proc`.
+//! Also the helpers of naga's `proc`, under its names: the walks along the handles of an arena (from a filter to its parent, from
+//! an access to its base, from a composition to its components; they require that each handle is in its arena and refers to an
+//! earlier index), the emitter, which makes the `Emit` statements of a function under construction, and the returns that are added
+//! to bodies.
 #![tactic(auto)]
 
 mod bases;

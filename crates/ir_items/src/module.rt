@@ -1,4 +1,4 @@
-// The module that holds everything.
+// The shader module.
 ghost use Rattle.std.specs.Prelude.{◌≡◌, IfOk};
 ghost use Rattle.ir_items.specs.found.Copies.{spanned_module};
 ghost use Rattle.ir_items.specs.found.Lists.{module_of};
@@ -19,27 +19,27 @@ use std::alloc::{AllocError, Global};
 pub struct Module {
     /// The types, no two of them equal.
     pub types: UniqueArena<IrType, key::IrType>,
-    /// The types that some expressions require.
+    /// The special types, which some expressions require.
     pub special_types: SpecialTypes,
     /// The constants.
     pub constants: Arena<Constant, key::Constant>,
     /// The overrides.
     pub overrides: Arena<Override, key::Override>,
-    /// The variables.
+    /// The global variables.
     pub global_variables: Arena<GlobalVariable, key::GlobalVariable>,
-    /// What constants, overrides and variables begin as.
+    /// The global expressions: initialisers of constants, overrides and variables.
     pub global_expressions: Arena<Expression, key::Expression>,
-    /// The functions that are no entry points.
+    /// The functions other than entry points.
     pub functions: Arena<Function, key::Function>,
     /// The entry points.
     pub entry_points: Vec<EntryPoint>,
-    /// The diagnostic filters.
+    /// The diagnostic filter nodes.
     pub diagnostic_filters: Arena<DiagnosticFilterNode, key::DiagnosticFilterNode>,
-    /// The diagnostic filters that count in the whole module.
+    /// The innermost diagnostic filter of the module.
     pub diagnostic_filter_leaf: Option<Handle<key::DiagnosticFilterNode>>,
 }
 
-/// What a global expression may name (naga's `GlobalCtx`).
+/// What a global expression may reference (naga's `GlobalCtx`).
 #[derive(Clone, Copy)]
 pub struct GlobalCtx<'a> {
     /// The types.
@@ -53,7 +53,7 @@ pub struct GlobalCtx<'a> {
 }
 
 impl Module {
-    /// A module without items (naga's `Module::default`).
+    /// An empty module (naga's `Module::default`).
     pub fn new(alloc: Global) -> Module
         ensures { module_view result ≡ empty_module }
     {
@@ -81,7 +81,7 @@ impl Module {
         Ok(Module::of_lists(types, globals, code, self.diagnostic_filter_leaf))
     }
 
-    // The module of these lists.
+    // The module with these arenas and lists.
     fn of_lists(
         types: TypeLists,
         globals: GlobalLists,
@@ -104,7 +104,7 @@ impl Module {
         }
     }
 
-    /// What its global expressions may name.
+    /// The context of its global expressions.
     pub fn to_ctx(&self) -> GlobalCtx<'_>
         ensures types { result.types.now ≡ self.now.types }
         ensures constants { result.constants.now ≡ self.now.constants }

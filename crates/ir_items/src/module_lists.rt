@@ -1,4 +1,4 @@
-// The lists of a module in three parts, each of which is copied by itself.
+// The arenas and lists of a module in three parts, each of which is copied separately.
 ghost use Rattle.std.specs.Prelude.{◌≡◌, IfOk, map};
 ghost use Rattle.ir_types.specs.judged.ExpressionPlain.{expression_view};
 ghost use Rattle.ir_types.specs.judged.Plain.{type_view};
@@ -16,14 +16,14 @@ use ir_sets::unique_arena::UniqueArena;
 use ir_types::{Expression, IrType, key};
 use std::alloc::{AllocError, Global};
 
-// The types, and those that some expressions require.
+// The types, and the special types.
 #[derive(Drop)]
 pub(crate) struct TypeLists {
     pub(crate) types: UniqueArena<IrType, key::IrType>,
     pub(crate) special: SpecialTypes,
 }
 
-// The constants, overrides and variables, and what they begin as.
+// The constants, overrides and variables, and the global expressions.
 #[derive(Drop)]
 pub(crate) struct GlobalLists {
     pub(crate) constants: ConstantLists,
@@ -37,14 +37,14 @@ pub(crate) struct ConstantLists {
     pub(crate) overrides: Arena<Override, key::Override>,
 }
 
-// The variables, and what they and constants and overrides begin as.
+// The global variables, and the global expressions.
 #[derive(Drop)]
 pub(crate) struct VariableLists {
     pub(crate) variables: Arena<GlobalVariable, key::GlobalVariable>,
     pub(crate) expressions: Arena<Expression, key::Expression>,
 }
 
-// The functions, the entry points, and the filters of diagnostics.
+// The functions, the entry points, and the diagnostic filters.
 #[derive(Drop)]
 pub(crate) struct CodeLists {
     pub(crate) functions: Arena<Function, key::Function>,

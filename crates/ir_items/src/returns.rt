@@ -1,4 +1,4 @@
-// Returns at the ends of what a module's functions do.
+// Missing returns in the bodies of a module.
 ghost use Rattle.std.specs.Prelude.{◌≡◌, map, OnOk, OnErr};
 ghost use Rattle.ir_arena.specs.found.Copies.{entry_of};
 ghost use Rattle.ir_items.specs.found.Copies.{spanned_function, spanned_entry, spanned_module};
@@ -15,9 +15,9 @@ use ir_types::key;
 use std::alloc::{AllocError, Global};
 
 impl Module {
-    /// Puts the returns that are missing into the body of each function and of each entry point's function, as
-    /// [`ir_blocks::ensure_block_returns`] does for one body. The error is out of memory, and leaves all that the
-    /// module holds as it was, spans too, since room is made in every body before the first return is put in.
+    /// Adds the missing returns to the body of each function and of each entry point, as
+    /// [`ir_blocks::ensure_block_returns`] does for one body. The error is out of memory, and leaves the
+    /// module unchanged, spans too, because room is reserved in every body before the first return is added.
     pub fn ensure_block_returns(&mut self, _alloc: Global) -> Result<(), AllocError>
         ensures ok { OnOk result (IsReturned (module_view self.old) (module_view self.new)) }
         ensures spans { OnOk result (KeepsModuleSpans (spanned_module self.old) (spanned_module self.new)) }
@@ -34,7 +34,7 @@ impl Module {
 }
 
 impl Function {
-    // Makes room for the returns that its body wants.
+    // Reserves room for the missing returns of its body.
     fn reserve_returns(&mut self) -> Result<(), AllocError>
         ensures same { spanned_function self.new ≡ spanned_function self.old }
         ensures room { OnOk result (FunctionHasRoom self.new) }
@@ -42,7 +42,7 @@ impl Function {
         reserve_returns(&mut self.body)
     }
 
-    // Puts the returns that its body wants into the room for them.
+    // Adds the missing returns of its body, for which room is reserved.
     fn put_returns(&mut self)
         requires { FunctionHasRoom self.old }
         ensures { spanned_function self.new ≡ returned_function_spans (spanned_function self.old) }
@@ -52,7 +52,7 @@ impl Function {
 }
 
 impl EntryPoint {
-    // Makes room for the returns that its function's body wants.
+    // Reserves room for the missing returns of its function's body.
     fn reserve_returns(&mut self) -> Result<(), AllocError>
         ensures same { spanned_entry self.new ≡ spanned_entry self.old }
         ensures room { OnOk result (EntryHasRoom self.new) }
@@ -60,7 +60,7 @@ impl EntryPoint {
         self.function.reserve_returns()
     }
 
-    // Puts the returns that its function's body wants into the room for them.
+    // Adds the missing returns of its function's body, for which room is reserved.
     fn put_returns(&mut self)
         requires { EntryHasRoom self.old }
         ensures { spanned_entry self.new ≡ returned_entry_spans (spanned_entry self.old) }
@@ -69,7 +69,7 @@ impl EntryPoint {
     }
 }
 
-// Makes room in each function.
+// Reserves room in each function.
 fn reserve_in_functions(functions: &mut Arena<Function, key::Function>) -> Result<(), AllocError>
     ensures same { map (entry_of spanned_function) functions.new ≡ map (entry_of spanned_function) functions.old }
     ensures room { OnOk result (FunctionsHaveRoom functions.new) }
@@ -80,7 +80,7 @@ fn reserve_in_functions(functions: &mut Arena<Function, key::Function>) -> Resul
     Ok(())
 }
 
-// Makes room in each entry point.
+// Reserves room in each entry point.
 fn reserve_in_entries(entries: &mut Vec<EntryPoint>) -> Result<(), AllocError>
     ensures same { map spanned_entry entries.new.items ≡ map spanned_entry entries.old.items }
     ensures room { OnOk result (EntriesHaveRoom entries.new.items) }
@@ -91,7 +91,7 @@ fn reserve_in_entries(entries: &mut Vec<EntryPoint>) -> Result<(), AllocError>
     Ok(())
 }
 
-// Puts returns into each function.
+// Adds the returns to each function.
 fn put_into_functions(functions: &mut Arena<Function, key::Function>)
     requires { FunctionsHaveRoom functions.old }
     ensures { map (entry_of spanned_function) functions.new ≡ map (entry_of returned_function_spans) (map (entry_of spanned_function) functions.old) }
@@ -101,7 +101,7 @@ fn put_into_functions(functions: &mut Arena<Function, key::Function>)
     }
 }
 
-// Puts returns into each entry point.
+// Adds the returns to each entry point.
 fn put_into_entries(entries: &mut Vec<EntryPoint>)
     requires { EntriesHaveRoom entries.old.items }
     ensures { map spanned_entry entries.new.items ≡ map returned_entry_spans (map spanned_entry entries.old.items) }

@@ -1,4 +1,4 @@
-//! Diagnostic filters.
+//! The severity of a rule at a diagnostic filter node.
 ghost use Rattle.std.specs.Prelude.{◌≡◌, ◌<◌, ◌↔◌, length, map, IsTrue};
 ghost use Rattle.std.specs.Option.{ForSome};
 ghost use Rattle.ir_items.specs.judged.GlobalPlain.{PlainFilterNode, standard};
@@ -10,15 +10,15 @@ use ir_arena::arena::Arena;
 use ir_arena::handle::Handle;
 use ir_kinds::{Severity, StandardFilterableTriggeringRule};
 
-/// The call of filters that follows their parents.
+/// The method of filter nodes that follows their parents.
 pub trait DiagnosticFilterNodeExt: Sized {
-    /// What the node holds.
+    /// The node's fields.
     ghost node_of: { Self → PlainFilterNode };
 
-    /// How severe the faults of a rule are where the filters of `node` and of the nodes after it count: the new
+    /// The severity of a rule's diagnostics at `node`: the new
     /// severity of the nearest node with that rule, from `node` to its parent and on to the root, or
-    /// [`Severity::Error`] where none of them has it (naga's `DiagnosticFilterNode::search`). The parent of each node
-    /// in `arena` comes before it.
+    /// [`Severity::Error`] if none of them has it (naga's `DiagnosticFilterNode::search`). It requires that the parent of each node
+    /// in `arena` precedes it.
     fn search(
         node: Option<Handle<key::DiagnosticFilterNode>>,
         arena: &Arena<Self, key::DiagnosticFilterNode>,
@@ -43,7 +43,7 @@ impl DiagnosticFilterNodeExt for DiagnosticFilterNode {
     }
 }
 
-// How severe the faults of the rule are at `node`.
+// The severity of the rule at `node`.
 fn severity_of(
     node: Option<Handle<key::DiagnosticFilterNode>>,
     arena: &Arena<DiagnosticFilterNode, key::DiagnosticFilterNode>,
@@ -64,7 +64,7 @@ fn severity_of(
     Severity::Error
 }
 
-// Whether the node's filter is one of this rule.
+// Whether the node's filter is for this rule.
 fn has_rule(node: &DiagnosticFilterNode, triggering_rule: StandardFilterableTriggeringRule) -> bool
     ensures { IsTrue result ↔ ((node_view node.now).rule ≡ standard triggering_rule) }
 {

@@ -1,4 +1,4 @@
-// The types that some expressions require.
+// The special types, which some expressions require.
 ghost use Rattle.std.specs.Prelude.{◌≡◌, IfOk};
 ghost use Rattle.ir_items.specs.found.GlobalView.{special_view, no_special};
 
@@ -8,21 +8,21 @@ use ir_kinds::PredeclaredType;
 use ir_types::key;
 use std::alloc::{AllocError, Global};
 
-/// Types that some expressions require by what they are (naga's `SpecialTypes`).
+/// The types that some expressions require, if the module has them (naga's `SpecialTypes`).
 #[derive(PartialEq, Debug, Drop)]
 pub struct SpecialTypes {
-    /// The type of a ray.
+    /// The ray descriptor type.
     pub ray_desc: Option<Handle<key::IrType>>,
-    /// The type of what a ray hits.
+    /// The ray intersection type.
     pub ray_intersection: Option<Handle<key::IrType>>,
-    /// The type of the vertices that a ray hits.
+    /// The type of a hit triangle's vertex positions.
     pub ray_vertex_return: Option<Handle<key::IrType>>,
-    /// The types of what some functions answer.
+    /// The predeclared result types of some built-in functions.
     pub predeclared_types: IndexMap<PredeclaredType, Handle<key::IrType>>,
 }
 
 impl SpecialTypes {
-    /// None of them (naga's `SpecialTypes::default`).
+    /// No special types (naga's `SpecialTypes::default`).
     pub fn new(alloc: Global) -> SpecialTypes
         ensures { special_view result ≡ no_special }
     {
@@ -34,7 +34,7 @@ impl SpecialTypes {
         }
     }
 
-    /// The same in memory of its own. The error is out of memory.
+    /// Equal special types in memory of their own. The error is out of memory.
     pub fn clone(&self, _alloc: Global) -> Result<SpecialTypes, AllocError>
         ensures { IfOk result (λ copy. special_view copy ≡ special_view self.now) }
     {

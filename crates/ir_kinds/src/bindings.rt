@@ -1,145 +1,145 @@
-//! How arguments, results and globals are bound.
+//! Bindings of arguments, results and global variables.
 
 ghost use Rattle.std.specs.Prelude.{◌≡◌};
 ghost use Rattle.ir_kinds.specs.found.Bindings.{built_in_of};
 
-/// A value that a pipeline gives to a shader or takes from it (naga's `BuiltIn`).
+/// A built-in shader input or output (naga's `BuiltIn`).
 #[derive(Clone, Copy, PartialEq, Eq, Hash, Debug)]
 pub enum BuiltIn {
-    /// The primitive's index.
+    /// The primitive index.
     PrimitiveIndex,
-    /// The position of a vertex or a fragment; where `invariant` holds, equal sums give equal positions.
+    /// The position of a vertex or a fragment; with `invariant`, equal expressions give equal positions.
     Position { invariant: bool },
-    /// The view's index.
+    /// The view index.
     ViewIndex,
-    /// The first instance of a draw.
+    /// The first instance of the draw call.
     BaseInstance,
-    /// The first vertex of a draw.
+    /// The first vertex of the draw call.
     BaseVertex,
-    /// Distances to planes that clip.
+    /// The clip distances.
     ClipDistances,
-    /// Distances to planes that cull.
+    /// The cull distances.
     CullDistance,
-    /// The instance's index.
+    /// The instance index.
     InstanceIndex,
-    /// The size of a point.
+    /// The size of a point primitive.
     PointSize,
-    /// The vertex's index.
+    /// The vertex index.
     VertexIndex,
-    /// The draw's index.
+    /// The draw index.
     DrawIndex,
-    /// The fragment's depth.
+    /// The depth of the fragment.
     FragDepth,
-    /// The place inside a point.
+    /// The coordinates of the fragment within a point primitive.
     PointCoord,
-    /// Whether the front of the primitive is seen.
+    /// Whether the primitive is front-facing.
     FrontFacing,
     /// Barycentric coordinates, perspective or linear.
     Barycentric { perspective: bool },
-    /// The sample's index.
+    /// The sample index.
     SampleIndex,
-    /// Which samples are covered.
+    /// The coverage mask of the samples.
     SampleMask,
-    /// The invocation among all.
+    /// The invocation ID within the dispatch.
     GlobalInvocationId,
-    /// The invocation in its workgroup.
+    /// The invocation ID within the workgroup.
     LocalInvocationId,
-    /// The invocation in its workgroup, as one number.
+    /// The linear index of the invocation within the workgroup.
     LocalInvocationIndex,
-    /// The workgroup.
+    /// The workgroup ID.
     WorkGroupId,
-    /// How many invocations a workgroup has.
+    /// The size of a workgroup.
     WorkGroupSize,
-    /// How many workgroups there are.
+    /// The number of workgroups in the dispatch.
     NumWorkGroups,
-    /// How many subgroups a workgroup has.
+    /// The number of subgroups in the workgroup.
     NumSubgroups,
-    /// The subgroup in its workgroup.
+    /// The ID of the subgroup within the workgroup.
     SubgroupId,
-    /// How many invocations a subgroup has.
+    /// The number of invocations in the subgroup.
     SubgroupSize,
-    /// The invocation in its subgroup.
+    /// The ID of the invocation within the subgroup.
     SubgroupInvocationId,
-    /// How many mesh workgroups a task launches.
+    /// The number of mesh workgroups that a task shader launches.
     MeshTaskSize,
-    /// Whether a primitive is culled.
+    /// Whether the primitive is culled.
     CullPrimitive,
-    /// The vertex of a point.
+    /// The vertex index of a point.
     PointIndex,
-    /// The two vertices of a line.
+    /// The two vertex indices of a line.
     LineIndices,
-    /// The three vertices of a triangle.
+    /// The three vertex indices of a triangle.
     TriangleIndices,
-    /// How many vertices a mesh shader gives.
+    /// The number of vertices that a mesh shader outputs.
     VertexCount,
-    /// The vertices that a mesh shader gives.
+    /// The vertices that a mesh shader outputs.
     Vertices,
-    /// How many primitives a mesh shader gives.
+    /// The number of primitives that a mesh shader outputs.
     PrimitiveCount,
-    /// The primitives that a mesh shader gives.
+    /// The primitives that a mesh shader outputs.
     Primitives,
-    /// The invocation among those that generate rays.
+    /// The ID of the ray generation invocation.
     RayInvocationId,
-    /// How many invocations generate rays.
+    /// The number of ray generation invocations.
     NumRayInvocations,
-    /// What the host says of the instance that was hit.
+    /// The custom data of the instance that was hit.
     InstanceCustomData,
-    /// The geometry that was hit.
+    /// The index of the geometry that was hit.
     GeometryIndex,
-    /// The ray's origin in the world.
+    /// The ray's origin in world space.
     WorldRayOrigin,
-    /// The ray's direction in the world.
+    /// The ray's direction in world space.
     WorldRayDirection,
-    /// The ray's origin as the object sees it.
+    /// The ray's origin in object space.
     ObjectRayOrigin,
-    /// The ray's direction as the object sees it.
+    /// The ray's direction in object space.
     ObjectRayDirection,
-    /// Where on the ray hits begin to count.
+    /// The least ray parameter at which a hit counts.
     RayTmin,
-    /// Where on the ray hits cease to count for now.
+    /// The greatest ray parameter at which a hit counts at present.
     RayTCurrentMax,
-    /// The map from the object to the world.
+    /// The transform from object space to world space.
     ObjectToWorld,
-    /// The map from the world to the object.
+    /// The transform from world space to object space.
     WorldToObject,
-    /// What was hit.
+    /// The kind of the hit.
     HitKind,
 }
 
-/// How a value between vertices is found (naga's `Interpolation`).
+/// The interpolation of a varying (naga's `Interpolation`).
 #[derive(Clone, Copy, PartialEq, Eq, Hash, Debug)]
 pub enum Interpolation {
-    /// With the perspective.
+    /// Perspective-correct.
     Perspective,
-    /// In a line.
+    /// Linear.
     Linear,
-    /// Not at all: one vertex gives it.
+    /// None: the value of the provoking vertex.
     Flat,
-    /// Not at all: every vertex gives its own.
+    /// None: the values of all vertices of the primitive.
     PerVertex,
 }
 
-/// Where in a fragment a value is found (naga's `Sampling`).
+/// The sampling of an interpolated varying (naga's `Sampling`).
 #[derive(Clone, Copy, PartialEq, Eq, Hash, Debug)]
 pub enum Sampling {
-    /// At the fragment's centre.
+    /// At the centre of the fragment.
     Center,
-    /// At a place that all samples in the primitive share.
+    /// At a point that all samples of the fragment within the primitive share.
     Centroid,
-    /// At each sample.
+    /// For each sample.
     Sample,
-    /// At the primitive's first vertex.
+    /// The value of the first vertex of the primitive.
     First,
-    /// At the first vertex or at the last one.
+    /// The value of the first or the last vertex of the primitive.
     Either,
 }
 
-/// What an argument, a result or a member is bound to (naga's `Binding`).
+/// The binding of an argument, a result or a struct member (naga's `Binding`).
 #[derive(Clone, Copy, PartialEq, Eq, Hash, Debug)]
 pub enum Binding {
     /// A built-in value.
     BuiltIn(BuiltIn),
-    /// A location, how the value between vertices is found and where in a fragment, which source of a blend it is, and whether it belongs to a primitive.
+    /// A location, with the interpolation, the sampling, the blend source, and whether the value is per primitive.
     Location {
         location: u32,
         interpolation: Option<Interpolation>,
@@ -149,17 +149,17 @@ pub enum Binding {
     },
 }
 
-/// Where a global finds its resource (naga's `ResourceBinding`).
+/// The bind group and the binding of a resource (naga's `ResourceBinding`).
 #[derive(Clone, Copy, PartialEq, Eq, PartialOrd, Ord, Debug)]
 pub struct ResourceBinding {
-    /// The bind group's index.
+    /// The index of the bind group.
     pub group: u32,
-    /// The binding's number in the group.
+    /// The binding number within the group.
     pub binding: u32,
 }
 
 impl Binding {
-    /// The built-in value that is bound, or `None` for a location (naga's `Binding::to_built_in`).
+    /// The built-in of the binding, or `None` for a location (naga's `Binding::to_built_in`).
     pub const fn to_built_in(&self) -> Option<BuiltIn>
         ensures { result ≡ built_in_of self.now }
     {

@@ -1,21 +1,21 @@
-//! How findings of a validator are reported.
+//! Severities of diagnostics, and the standard rules that a filter may name.
 
-/// How grave a finding is (naga's `Severity`).
+/// The severity of a diagnostic (naga's `Severity`).
 #[derive(Clone, Copy, PartialEq, Eq, Debug)]
 pub enum Severity {
-    /// It is not reported.
+    /// Not reported.
     Off,
-    /// It is reported.
+    /// An informational message.
     Info,
-    /// It is a warning.
+    /// A warning.
     Warning,
-    /// It is an error.
+    /// An error.
     Error,
 }
 
-/// A rule of WGSL's whose findings a module may rate (naga's `StandardFilterableTriggeringRule`).
+/// A standard triggering rule of WGSL's diagnostics, which a filter may name (naga's `StandardFilterableTriggeringRule`).
 #[derive(Clone, Copy, PartialEq, Eq, Debug)]
 pub enum StandardFilterableTriggeringRule {
-    /// Derivatives in uniform control flow.
+    /// A derivative that is not in uniform control flow.
     DerivativeUniformity,
 }

@@ -1,4 +1,4 @@
-//! Images.
+//! Image types: dimensions, storage formats and classes.
 
 ghost use Rattle.std.specs.Prelude.{◌≡◌};
 ghost use Rattle.ir_kinds.specs.judged.Images.{is_depth, is_mipmapped, is_multisampled};
@@ -6,20 +6,20 @@ ghost use Rattle.ir_kinds.specs.judged.Images.{is_depth, is_mipmapped, is_multis
 use crate::scalars::{Scalar, ScalarKind};
 use ir_flags::StorageAccess;
 
-/// How many dimensions an image has (naga's `ImageDimension`).
+/// The dimension of an image (naga's `ImageDimension`).
 #[derive(Clone, Copy, PartialEq, Eq, PartialOrd, Ord, Hash, Debug)]
 pub enum ImageDimension {
-    /// One.
+    /// One-dimensional.
     D1,
-    /// Two.
+    /// Two-dimensional.
     D2,
-    /// Three.
+    /// Three-dimensional.
     D3,
-    /// Six faces of a cube.
+    /// A cube map.
     Cube,
 }
 
-/// The format of a storage image's texels (naga's `StorageFormat`).
+/// The texel format of a storage image (naga's `StorageFormat`).
 #[derive(Clone, Copy, PartialEq, Eq, Hash, Debug)]
 pub enum StorageFormat {
     /// One component of 8 bits, normalised and unsigned.
@@ -70,7 +70,7 @@ pub enum StorageFormat {
     Rgb10a2Uint,
     /// Three components of 10 bits and one of 2, normalised and unsigned.
     Rgb10a2Unorm,
-    /// Two components of 11 bits and one of 10, floating point without sign.
+    /// Two components of 11 bits and one of 10, unsigned floating point.
     Rg11b10Ufloat,
     /// One component of 64 bits, unsigned.
     R64Uint,
@@ -106,21 +106,21 @@ pub enum StorageFormat {
     Rgba16Snorm,
 }
 
-/// What an image holds, and how it is reached (naga's `ImageClass`).
+/// The class of an image (naga's `ImageClass`).
 #[derive(Clone, Copy, PartialEq, Eq, Hash, Debug)]
 pub enum ImageClass {
-    /// Texels of this kind that are sampled or loaded, several samples to a texel where `multi` holds.
+    /// A sampled image, multisampled if `multi`. Its texels are sampled or loaded.
     Sampled {
         kind: ScalarKind,
         multi: bool,
     },
-    /// Depths, several samples to a texel where `multi` holds.
+    /// A depth image, multisampled if `multi`.
     Depth {
         multi: bool,
     },
-    /// An external image, such as a frame of a video.
+    /// An external image, such as a video frame.
     External,
-    /// Texels of this format that are loaded and stored.
+    /// A storage image, whose texels are loaded and stored in this format.
     Storage {
         format: StorageFormat,
         access: StorageAccess,
@@ -133,7 +133,7 @@ impl From<StorageFormat> for Scalar {
 
     ghost from_gives = { λ f r. r ≡ format_scalar f };
 
-    /// The scalar type as which a shader reads and writes a component.
+    /// The scalar type of a component of this format in a shader.
     fn from(format: StorageFormat) -> Self {
         match format {
             StorageFormat::R8Uint
@@ -162,7 +162,7 @@ impl From<StorageFormat> for Scalar {
 }
 
 impl ImageClass {
-    /// Whether a texel has several samples (naga's `ImageClass::is_multisampled`).
+    /// Whether the image is multisampled (naga's `ImageClass::is_multisampled`).
     pub const fn is_multisampled(self) -> bool
         ensures { result ≡ is_multisampled self }
     {
@@ -172,8 +172,8 @@ impl ImageClass {
         }
     }
 
-    /// Whether the image has several levels of detail: a sampled image or one of depths, with one sample
-    /// to a texel (naga's `ImageClass::is_mipmapped`).
+    /// Whether the image has mip levels: a sampled or a depth image that is not multisampled
+    /// (naga's `ImageClass::is_mipmapped`).
     pub const fn is_mipmapped(self) -> bool
         ensures { result ≡ is_mipmapped self }
     {
@@ -183,7 +183,7 @@ impl ImageClass {
         }
     }
 
-    /// Whether the image holds depths (naga's `ImageClass::is_depth`).
+    /// Whether it is a depth image (naga's `ImageClass::is_depth`).
     pub const fn is_depth(self) -> bool
         ensures { result ≡ is_depth self }
     {

@@ -1,11 +1,11 @@
-//! What holds of the constants.
+//! Laws of the named scalars and of swizzle components.
 
 ghost use Rattle.std.specs.Prelude.{◌≡◌, ◌≤◌, [], ◌∷◌, map};
 ghost use Rattle.ir_kinds.specs.judged.Scalars.{abstract_float, abstract_int, boolean, component_place, component_count, floating, signed, unsigned};
 
 use crate::scalars::{Scalar, SwizzleComponent, VectorSize};
 
-/// The named scalars are what their names say.
+/// Each named scalar has the kind and the width of its name.
 pub fn scalar_constants()
     ensures i16 { Scalar.I16 ≡ signed 2 }
     ensures i32 { Scalar.I32 ≡ signed 4 }
@@ -21,7 +21,7 @@ pub fn scalar_constants()
     ensures abstract_float { Scalar.ABSTRACT_FLOAT ≡ abstract_float }
 {}
 
-/// A vector has four components at most, and its components are these in order.
+/// A vector has four components at most; `x`, `y`, `z`, `w` are these in order.
 pub fn vector_constants(size: VectorSize)
     ensures greatest { VectorSize.MAX ≡ component_count VectorSize.Quad }
     ensures bound { component_count size ≤ VectorSize.MAX }

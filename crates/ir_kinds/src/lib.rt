@@ -1,4 +1,4 @@
-//! The plain enums and structs of the IR: words that hold no list, no text and no handle.
+//! The plain enums and structs of the IR, which have no list, string or handle.
 #![tactic(auto)]
 
 mod bindings;

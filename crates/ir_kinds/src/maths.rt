@@ -6,15 +6,15 @@ ghost use Rattle.ir_kinds.specs.judged.Maths.{argument_count};
 /// A built-in math function (naga's `MathFunction`).
 #[derive(Clone, Copy, PartialEq, Eq, Debug)]
 pub enum MathFunction {
-    /// Without sign.
+    /// `abs`: the absolute value.
     Abs,
-    /// The lesser.
+    /// `min`: the lesser.
     Min,
-    /// The greater.
+    /// `max`: the greater.
     Max,
-    /// Brought between two bounds.
+    /// `clamp`: restricted to a range.
     Clamp,
-    /// Brought between 0 and 1.
+    /// `saturate`: clamped to 0 through 1.
     Saturate,
     /// Cosine.
     Cos,
@@ -28,146 +28,146 @@ pub enum MathFunction {
     Tan,
     /// Hyperbolic tangent.
     Tanh,
-    /// The angle of a cosine.
+    /// The arc cosine.
     Acos,
-    /// The angle of a sine.
+    /// The arc sine.
     Asin,
-    /// The angle of a tangent.
+    /// The arc tangent.
     Atan,
-    /// The angle of a point.
+    /// The arc tangent of a quotient, by the signs of both operands.
     Atan2,
-    /// The inverse of `Sinh`.
+    /// The inverse hyperbolic sine.
     Asinh,
-    /// The inverse of `Cosh`.
+    /// The inverse hyperbolic cosine.
     Acosh,
-    /// The inverse of `Tanh`.
+    /// The inverse hyperbolic tangent.
     Atanh,
-    /// Degrees as radians.
+    /// Degrees to radians.
     Radians,
-    /// Radians as degrees.
+    /// Radians to degrees.
     Degrees,
-    /// The least whole number that is not less.
+    /// Round up to an integer.
     Ceil,
-    /// The greatest whole number that is not greater.
+    /// Round down to an integer.
     Floor,
-    /// The nearest whole number.
+    /// Round to the nearest integer, ties to even.
     Round,
-    /// What lies above the floor.
+    /// The fractional part.
     Fract,
-    /// The whole number towards 0.
+    /// Round towards zero.
     Trunc,
-    /// The fraction and the whole number, in a struct.
+    /// The fractional and the integral part, as a struct.
     Modf,
-    /// The fraction and the exponent, in a struct.
+    /// The significand and the exponent, as a struct.
     Frexp,
-    /// A number from a fraction and an exponent.
+    /// A float from a significand and an exponent.
     Ldexp,
-    /// A power of e.
+    /// The exponential, base e.
     Exp,
-    /// A power of 2.
+    /// The exponential, base 2.
     Exp2,
-    /// The logarithm to e.
+    /// The logarithm, base e.
     Log,
-    /// The logarithm to 2.
+    /// The logarithm, base 2.
     Log2,
-    /// A power.
+    /// The power.
     Pow,
-    /// The scalar product.
+    /// The dot product.
     Dot,
-    /// The scalar product of four signed bytes each.
+    /// The dot product of four packed signed bytes.
     Dot4I8Packed,
-    /// The scalar product of four unsigned bytes each.
+    /// The dot product of four packed unsigned bytes.
     Dot4U8Packed,
     /// The outer product.
     Outer,
     /// The cross product.
     Cross,
-    /// How far two points lie apart.
+    /// The distance of two points.
     Distance,
-    /// How long a vector is.
+    /// The length of a vector.
     Length,
-    /// The vector of length 1.
+    /// The unit vector in the same direction.
     Normalize,
-    /// A vector turned to face another.
+    /// `faceForward`: the vector, negated if it faces away from another.
     FaceForward,
-    /// A vector that a surface throws back.
+    /// The reflected vector.
     Reflect,
-    /// A vector that a surface bends.
+    /// The refracted vector.
     Refract,
-    /// -1, 0 or 1.
+    /// The sign: -1, 0 or 1.
     Sign,
-    /// A product and a sum.
+    /// Fused multiply-add.
     Fma,
-    /// A blend of two values.
+    /// A linear blend of two values.
     Mix,
-    /// 0 below an edge, and 1 from it on.
+    /// 0 below the edge, 1 otherwise.
     Step,
-    /// A smooth way from 0 to 1.
+    /// Smooth Hermite interpolation between 0 and 1.
     SmoothStep,
     /// The square root.
     Sqrt,
-    /// 1 divided by the square root.
+    /// The inverse square root.
     InverseSqrt,
     /// The inverse matrix.
     Inverse,
-    /// Rows and columns changed about.
+    /// The transpose of a matrix.
     Transpose,
     /// The determinant of a matrix.
     Determinant,
-    /// Brought to the nearest 16-bit float.
+    /// Rounded to 16-bit float precision.
     QuantizeToF16,
-    /// How many bits at the bottom are 0.
+    /// The number of trailing zero bits.
     CountTrailingZeros,
-    /// How many bits at the top are 0.
+    /// The number of leading zero bits.
     CountLeadingZeros,
-    /// How many bits are 1.
+    /// The number of one bits.
     CountOneBits,
-    /// The bits in the other order.
+    /// The bits in reverse order.
     ReverseBits,
-    /// A run of bits.
+    /// A bit field extracted.
     ExtractBits,
-    /// A run of bits put in.
+    /// A bit field inserted.
     InsertBits,
-    /// The place of the lowest 1.
+    /// The index of the lowest one bit.
     FirstTrailingBit,
-    /// The place of the highest 1.
+    /// The index of the highest bit that differs from the sign bit, or of the highest one bit if unsigned.
     FirstLeadingBit,
-    /// Four floats as signed normalised bytes.
+    /// Four floats packed as signed normalised bytes.
     Pack4x8snorm,
-    /// Four floats as unsigned normalised bytes.
+    /// Four floats packed as unsigned normalised bytes.
     Pack4x8unorm,
-    /// Two floats as signed normalised 16-bit numbers.
+    /// Two floats packed as signed normalised 16-bit integers.
     Pack2x16snorm,
-    /// Two floats as unsigned normalised 16-bit numbers.
+    /// Two floats packed as unsigned normalised 16-bit integers.
     Pack2x16unorm,
-    /// Two floats as 16-bit floats.
+    /// Two floats packed as 16-bit floats.
     Pack2x16float,
-    /// Four signed integers as bytes.
+    /// Four signed integers packed as bytes.
     Pack4xI8,
-    /// Four unsigned integers as bytes.
+    /// Four unsigned integers packed as bytes.
     Pack4xU8,
-    /// Four signed integers as bytes, brought between their bounds.
+    /// Four signed integers clamped and packed as bytes.
     Pack4xI8Clamp,
-    /// Four unsigned integers as bytes, brought below their bound.
+    /// Four unsigned integers clamped and packed as bytes.
     Pack4xU8Clamp,
-    /// The other way from `Pack4x8snorm`.
+    /// The inverse of `Pack4x8snorm`.
     Unpack4x8snorm,
-    /// The other way from `Pack4x8unorm`.
+    /// The inverse of `Pack4x8unorm`.
     Unpack4x8unorm,
-    /// The other way from `Pack2x16snorm`.
+    /// The inverse of `Pack2x16snorm`.
     Unpack2x16snorm,
-    /// The other way from `Pack2x16unorm`.
+    /// The inverse of `Pack2x16unorm`.
     Unpack2x16unorm,
-    /// The other way from `Pack2x16float`.
+    /// The inverse of `Pack2x16float`.
     Unpack2x16float,
-    /// The other way from `Pack4xI8`.
+    /// The inverse of `Pack4xI8`.
     Unpack4xI8,
-    /// The other way from `Pack4xU8`.
+    /// The inverse of `Pack4xU8`.
     Unpack4xU8,
 }
 
 impl MathFunction {
-    /// How many arguments the function takes (naga's `MathFunction::argument_count`).
+    /// The number of arguments (naga's `MathFunction::argument_count`).
     pub const fn argument_count(&self) -> usize
         ensures { result ≡ argument_count self.now }
     {

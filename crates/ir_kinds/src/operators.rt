@@ -1,9 +1,9 @@
-//! Operators and functions of expressions.
+//! Operators, relational functions and derivatives of expressions.
 
 /// A unary operator (naga's `UnaryOperator`).
 #[derive(Clone, Copy, PartialEq, Eq, Debug)]
 pub enum UnaryOperator {
-    /// The negative.
+    /// Arithmetic negation.
     Negate,
     /// Logical not.
     LogicalNot,
@@ -14,27 +14,27 @@ pub enum UnaryOperator {
 /// A binary operator (naga's `BinaryOperator`).
 #[derive(Clone, Copy, PartialEq, Eq, Debug)]
 pub enum BinaryOperator {
-    /// The sum.
+    /// Addition.
     Add,
-    /// The difference.
+    /// Subtraction.
     Subtract,
-    /// The product.
+    /// Multiplication.
     Multiply,
-    /// The quotient.
+    /// Division.
     Divide,
     /// The remainder, with the sign of the left operand.
     Modulo,
-    /// Whether both are equal.
+    /// Equal.
     Equal,
-    /// Whether both differ.
+    /// Not equal.
     NotEqual,
-    /// Whether the left is less.
+    /// Less than.
     Less,
-    /// Whether the left is not greater.
+    /// Less than or equal.
     LessEqual,
-    /// Whether the left is greater.
+    /// Greater than.
     Greater,
-    /// Whether the left is not less.
+    /// Greater than or equal.
     GreaterEqual,
     /// Bitwise and.
     And,
@@ -48,18 +48,18 @@ pub enum BinaryOperator {
     LogicalOr,
     /// Shift left.
     ShiftLeft,
-    /// Shift right, arithmetic where the left operand has a sign.
+    /// Shift right, arithmetic if the left operand is signed.
     ShiftRight,
 }
 
-/// A relational function, which answers booleans (naga's `RelationalFunction`).
+/// A relational function, which returns booleans (naga's `RelationalFunction`).
 #[derive(Clone, Copy, PartialEq, Eq, Debug)]
 pub enum RelationalFunction {
     /// Whether all components are true.
     All,
-    /// Whether some component is true.
+    /// Whether any component is true.
     Any,
-    /// Whether each component is not a number.
+    /// Whether each component is NaN.
     IsNan,
     /// Whether each component is infinite.
     IsInf,
@@ -68,21 +68,21 @@ pub enum RelationalFunction {
 /// The axis of a derivative (naga's `DerivativeAxis`).
 #[derive(Clone, Copy, PartialEq, Eq, Debug)]
 pub enum DerivativeAxis {
-    /// Along x.
+    /// The partial derivative in x.
     X,
-    /// Along y.
+    /// The partial derivative in y.
     Y,
-    /// The sum of the absolute values of both.
+    /// `fwidth`: the sum of the absolute values of both partial derivatives.
     Width,
 }
 
-/// How finely a derivative is taken (naga's `DerivativeControl`).
+/// The precision of a derivative (naga's `DerivativeControl`).
 #[derive(Clone, Copy, PartialEq, Eq, Debug)]
 pub enum DerivativeControl {
-    /// Once for a quad.
+    /// Coarse: one value for the quad may do.
     Coarse,
-    /// For each fragment.
+    /// Fine: local differences for each fragment.
     Fine,
-    /// As the device likes.
+    /// The choice of the implementation.
     None,
 }

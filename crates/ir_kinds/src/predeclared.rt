@@ -1,18 +1,18 @@
-//! The types that a module has for the results of some built-in functions.
+//! The predeclared struct types, which some built-in functions return.
 
 use crate::scalars::{Scalar, VectorSize};
 
-/// A struct type that a built-in function's result has (naga's `PredeclaredType`).
+/// A predeclared struct type, the result of a built-in function (naga's `PredeclaredType`).
 #[derive(Clone, Copy, PartialEq, Eq, Hash, Debug)]
 pub enum PredeclaredType {
-    /// The old value and whether it was exchanged.
+    /// The result of a compare-exchange: the old value, and whether it was exchanged.
     AtomicCompareExchangeWeakResult(Scalar),
-    /// A fraction and a whole number, of a scalar or of vectors.
+    /// The result of `modf`: the fractional and the integral part, of a scalar or of vectors.
     ModfResult {
         size: Option<VectorSize>,
         scalar: Scalar,
     },
-    /// A fraction and an exponent, of a scalar or of vectors.
+    /// The result of `frexp`: the significand and the exponent, of a scalar or of vectors.
     FrexpResult {
         size: Option<VectorSize>,
         scalar: Scalar,

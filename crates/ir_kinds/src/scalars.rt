@@ -1,4 +1,4 @@
-//! Scalar types, and the shapes that are built of scalars.
+//! Scalar types, and the sizes of vectors and matrices.
 
 ghost use Rattle.std.specs.Prelude.{◌≡◌, ◌↔◌, ◌⊎◌, ◌≢◌, IsTrue, min};
 ghost use Rattle.ir_kinds.specs.judged.Scalars.{component_place, floating};
@@ -6,7 +6,7 @@ ghost use Rattle.ir_kinds.specs.judged.Scalars.{component_place, floating};
 /// A number of bytes (naga's `Bytes`).
 pub type Bytes = u8;
 
-/// What a scalar counts or tells (naga's `ScalarKind`).
+/// The scalar kind (naga's `ScalarKind`).
 #[derive(Clone, Copy, PartialEq, Eq, PartialOrd, Ord, Hash, Debug)]
 pub enum ScalarKind {
     /// Signed integer.
@@ -23,16 +23,16 @@ pub enum ScalarKind {
     AbstractFloat,
 }
 
-/// A scalar type: its kind, and how many bytes a value takes (naga's `Scalar`).
+/// A scalar type: its kind and its width in bytes (naga's `Scalar`).
 #[derive(Clone, Copy, PartialEq, Eq, PartialOrd, Ord, Hash, Debug)]
 pub struct Scalar {
-    /// What a value counts or tells.
+    /// The kind.
     pub kind: ScalarKind,
-    /// How many bytes a value takes.
+    /// The width in bytes.
     pub width: Bytes,
 }
 
-/// How many components a vector has, or how many columns or rows a matrix (naga's `VectorSize`).
+/// The number of components of a vector, or of columns or rows of a matrix (naga's `VectorSize`).
 #[derive(Clone, Copy, PartialEq, Eq, PartialOrd, Ord, Hash, Debug)]
 pub enum VectorSize {
     /// Two.
@@ -43,7 +43,7 @@ pub enum VectorSize {
     Quad = 4,
 }
 
-/// How many columns or rows a cooperative matrix has (naga's `CooperativeSize`).
+/// The number of columns or rows of a cooperative matrix (naga's `CooperativeSize`).
 #[derive(Clone, Copy, PartialEq, Eq, PartialOrd, Ord, Hash, Debug)]
 pub enum CooperativeSize {
     /// Eight.
@@ -52,18 +52,18 @@ pub enum CooperativeSize {
     Sixteen = 16,
 }
 
-/// What a cooperative matrix is in a product `A * B + C` (naga's `CooperativeRole`).
+/// The role of a cooperative matrix in `A * B + C` (naga's `CooperativeRole`).
 #[derive(Clone, Copy, PartialEq, Eq, PartialOrd, Ord, Hash, Debug)]
 pub enum CooperativeRole {
-    /// The left factor.
+    /// The left factor `A`.
     A,
-    /// The right factor.
+    /// The right factor `B`.
     B,
-    /// What is added, and the sum.
+    /// The addend `C`, or the result.
     C,
 }
 
-/// A component of a vector, as a swizzle picks it (naga's `SwizzleComponent`).
+/// A vector component that a swizzle selects (naga's `SwizzleComponent`).
 #[derive(Clone, Copy, PartialEq, Eq, Debug)]
 pub enum SwizzleComponent {
     /// The first.
@@ -76,10 +76,10 @@ pub enum SwizzleComponent {
     W,
 }
 
-/// How many bytes a truth value takes (naga's `BOOL_WIDTH`).
+/// The width of a boolean in bytes (naga's `BOOL_WIDTH`).
 pub const BOOL_WIDTH: Bytes = 1;
 
-/// How many bytes an abstract number takes (naga's `ABSTRACT_WIDTH`).
+/// The width of an abstract number in bytes (naga's `ABSTRACT_WIDTH`).
 pub const ABSTRACT_WIDTH: Bytes = 8;
 
 impl Scalar {
@@ -137,7 +137,7 @@ impl Scalar {
         width: 8,
     };
 
-    /// A truth value.
+    /// A boolean.
     pub const BOOL: Scalar = Scalar {
         kind: ScalarKind::Bool,
         width: BOOL_WIDTH,
@@ -167,7 +167,7 @@ impl Scalar {
         }
     }
 
-    /// Whether values are WGSL's abstract numbers (naga's `Scalar::is_abstract`).
+    /// Whether it is abstract (naga's `Scalar::is_abstract`).
     pub const fn is_abstract(self) -> bool
         ensures { IsTrue result
             ↔ ((self.kind ≡ ScalarKind.AbstractInt) ⊎ (self.kind ≡ ScalarKind.AbstractFloat)) }
@@ -180,7 +180,7 @@ impl Scalar {
 }
 
 impl ScalarKind {
-    /// Whether values are numbers: all but truth values (naga's `ScalarKind::is_numeric`).
+    /// Whether it is numeric: any kind but `Bool` (naga's `ScalarKind::is_numeric`).
     pub const fn is_numeric(self) -> bool
         ensures { IsTrue result ↔ (self ≢ ScalarKind.Bool) }
     {
@@ -196,7 +196,7 @@ impl ScalarKind {
 }
 
 impl VectorSize {
-    /// The greatest number of components (naga's `VectorSize::MAX`).
+    /// The greatest vector size (naga's `VectorSize::MAX`).
     pub const MAX: usize = VectorSize::Quad as usize;
 }
 
@@ -206,7 +206,7 @@ impl From<VectorSize> for u8 {
 
     ghost from_gives = { λ s n. n ≡ component_count s };
 
-    /// How many components there are.
+    /// The number of components.
     fn from(size: VectorSize) -> Self {
         size as u8
     }
@@ -218,7 +218,7 @@ impl From<VectorSize> for u32 {
 
     ghost from_gives = { λ s n. n ≡ component_count s };
 
-    /// How many components there are.
+    /// The number of columns or rows.
     fn from(size: VectorSize) -> Self {
         size as u32
     }
@@ -233,7 +233,7 @@ impl SwizzleComponent {
         SwizzleComponent::W,
     ];
 
-    /// The component's place, counted from 0 (naga's `SwizzleComponent::index`).
+    /// The index of the component, from 0 (naga's `SwizzleComponent::index`).
     pub const fn index(&self) -> u32
         ensures { result ≡ component_place self.now }
     {
@@ -245,7 +245,7 @@ impl SwizzleComponent {
         }
     }
 
-    /// The component at a place, the last one for 3 and more (naga's `SwizzleComponent::from_index`).
+    /// The component at an index, `W` for 3 and above (naga's `SwizzleComponent::from_index`).
     pub const fn from_index(idx: u32) -> Self
         ensures { component_place result ≡ min idx 3 }
     {

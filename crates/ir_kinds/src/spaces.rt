@@ -1,4 +1,4 @@
-//! Where variables live.
+//! Address spaces.
 
 ghost use Rattle.std.specs.Prelude.{◌≡◌, ◌↔◌, ◌⊎◌, IsTrue};
 ghost use Rattle.ir_kinds.specs.judged.Spaces.{access_of};
@@ -6,34 +6,34 @@ ghost use Rattle.ir_kinds.specs.judged.Spaces.{access_of};
 use bitflags::Flags;
 use ir_flags::StorageAccess;
 
-/// The memory in which a variable lives (naga's `AddressSpace`).
+/// The address space of a variable (naga's `AddressSpace`).
 #[derive(Clone, Copy, PartialEq, Eq, Hash, Debug)]
 pub enum AddressSpace {
-    /// A function's own variables.
+    /// Function-local variables.
     Function,
-    /// An invocation's own variables.
+    /// Private variables of an invocation.
     Private,
-    /// Memory that a workgroup shares.
+    /// Workgroup memory.
     WorkGroup,
     /// Uniform buffers.
     Uniform,
-    /// Storage buffers, and what may be done with them.
+    /// Storage buffers, with their access mode.
     Storage { access: StorageAccess },
-    /// Images, samplers and the like.
+    /// Opaque handles: images, samplers and the like.
     Handle,
     /// Immediate data.
     Immediate,
-    /// What a task shader hands to mesh shaders.
+    /// The payload from a task shader to its mesh shaders.
     TaskPayload,
     /// The payload of a ray that this shader traces.
     RayPayload,
-    /// The payload of the ray for which this shader runs.
+    /// The incoming payload: that of the ray for which this shader runs.
     IncomingRayPayload,
 }
 
 impl AddressSpace {
-    /// What may be done with variables there: for storage buffers what they say, for uniforms, handles and
-    /// immediates `LOAD`, and else `LOAD` and `STORE` (naga's `AddressSpace::access`).
+    /// The access that the space allows: for storage buffers their access mode, for uniforms, handles and
+    /// immediates `LOAD`, and otherwise `LOAD` and `STORE` (naga's `AddressSpace::access`).
     pub fn access(self) -> StorageAccess
         ensures { result ≡ access_of self }
     {
@@ -51,7 +51,7 @@ impl AddressSpace {
         }
     }
 
-    /// Whether a workgroup shares the memory: its own, or a task's payload (naga's
+    /// Whether a workgroup shares the memory: workgroup memory, or a task payload (naga's
     /// `AddressSpace::is_workgroup_like`).
     pub const fn is_workgroup_like(self) -> bool
         ensures { IsTrue result ↔ ((self ≡ AddressSpace.WorkGroup) ⊎ (self ≡ AddressSpace.TaskPayload)) }

@@ -1,35 +1,35 @@
-//! The stages of a pipeline, and what belongs to entry points of some of them.
+//! Shader stages, and the depth tests and mesh topologies of entry points.
 
 ghost use Rattle.std.specs.Prelude.{◌≡◌, ◌↔◌, ◌⊎◌, IsTrue};
 ghost use Rattle.ir_kinds.specs.found.Bindings.{index_built_in};
 
 use crate::bindings::BuiltIn;
 
-/// A stage of a pipeline (naga's `ShaderStage`).
+/// A shader stage (naga's `ShaderStage`).
 #[derive(Clone, Copy, PartialEq, Eq, Debug)]
 pub enum ShaderStage {
-    /// Vertex shading.
+    /// The vertex stage.
     Vertex,
-    /// Fragment shading.
+    /// The fragment stage.
     Fragment,
-    /// Compute shading.
+    /// The compute stage.
     Compute,
-    /// Mesh shading.
+    /// The mesh stage.
     Mesh,
-    /// Task shading.
+    /// The task stage.
     Task,
-    /// Generation of rays.
+    /// The ray generation stage.
     RayGeneration,
-    /// Any hit of a ray.
+    /// The any-hit stage.
     AnyHit,
-    /// The closest hit of a ray.
+    /// The closest-hit stage.
     ClosestHit,
-    /// A ray that hits nothing.
+    /// The miss stage.
     Miss,
 }
 
 impl ShaderStage {
-    /// Whether the stage runs in workgroups: compute, task or mesh (naga's `ShaderStage::compute_like`).
+    /// Whether the stage is compute-like: compute, task or mesh (naga's `ShaderStage::compute_like`).
     pub const fn compute_like(self) -> bool
         ensures { IsTrue result
             ↔ ((self ≡ ShaderStage.Compute) ⊎ (self ≡ ShaderStage.Task) ⊎ (self ≡ ShaderStage.Mesh)) }
@@ -41,27 +41,27 @@ impl ShaderStage {
     }
 }
 
-/// How a fragment's depth may change (naga's `ConservativeDepth`).
+/// The direction in which a fragment shader may change the depth (naga's `ConservativeDepth`).
 #[derive(Clone, Copy, PartialEq, Eq, Debug)]
 pub enum ConservativeDepth {
-    /// It does not fall.
+    /// The depth may only increase.
     GreaterEqual,
-    /// It does not rise.
+    /// The depth may only decrease.
     LessEqual,
-    /// It stays.
+    /// The depth is unchanged.
     Unchanged,
 }
 
-/// When depth is tested before a fragment is shaded (naga's `EarlyDepthTest`).
+/// An early depth test (naga's `EarlyDepthTest`).
 #[derive(Clone, Copy, PartialEq, Eq, Debug)]
 pub enum EarlyDepthTest {
-    /// Always.
+    /// Forced.
     Force,
-    /// Where the device likes; the depth changes only so.
+    /// Permitted, because the depth changes only in this direction.
     Allow { conservative: ConservativeDepth },
 }
 
-/// What the primitives of a mesh shader are (naga's `MeshOutputTopology`).
+/// The primitive topology of a mesh shader's output (naga's `MeshOutputTopology`).
 #[derive(Clone, Copy, PartialEq, Eq, Debug)]
 pub enum MeshOutputTopology {
     /// Points.
@@ -73,7 +73,7 @@ pub enum MeshOutputTopology {
 }
 
 impl MeshOutputTopology {
-    /// The built-in by which a primitive names its vertices (naga's `MeshOutputTopology::to_builtin`).
+    /// The built-in with the vertex indices of a primitive (naga's `MeshOutputTopology::to_builtin`).
     pub const fn to_builtin(self) -> BuiltIn
         ensures { result ≡ index_built_in self }
     {

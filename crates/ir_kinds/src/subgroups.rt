@@ -1,19 +1,19 @@
-//! Operations of a subgroup.
+//! Subgroup operations.
 
-/// An operation of a subgroup collective (naga's `SubgroupOperation`).
+/// The operation of a subgroup collective (naga's `SubgroupOperation`).
 #[derive(Clone, Copy, PartialEq, Eq, Debug)]
 pub enum SubgroupOperation {
     /// Whether all are true.
     All,
-    /// Whether some one is true.
+    /// Whether any is true.
     Any,
     /// The sum.
     Add,
     /// The product.
     Mul,
-    /// The least.
+    /// The minimum.
     Min,
-    /// The greatest.
+    /// The maximum.
     Max,
     /// Bitwise and.
     And,
@@ -23,24 +23,24 @@ pub enum SubgroupOperation {
     Xor,
 }
 
-/// Over which invocations a subgroup operation goes (naga's `CollectiveOperation`).
+/// The scope of a subgroup collective (naga's `CollectiveOperation`).
 #[derive(Clone, Copy, PartialEq, Eq, Debug)]
 pub enum CollectiveOperation {
-    /// A reduction: over all.
+    /// A reduction over all active invocations.
     Reduce,
-    /// An inclusive scan: over those up to each one.
+    /// An inclusive scan.
     InclusiveScan,
-    /// An exclusive scan: over those before each one.
+    /// An exclusive scan.
     ExclusiveScan,
 }
 
-/// How values are swapped in a quad (naga's `Direction`).
+/// The direction of a quad swap (naga's `Direction`).
 #[derive(Clone, Copy, PartialEq, Eq, Debug)]
 pub enum Direction {
-    /// From left to right.
+    /// Horizontal.
     X,
-    /// From top to bottom.
+    /// Vertical.
     Y,
-    /// Across.
+    /// Diagonal.
     Diagonal,
 }

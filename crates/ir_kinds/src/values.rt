@@ -1,4 +1,4 @@
-//! Values that are written in a module.
+//! Literals, and the values of switch cases.
 
 ghost use Rattle.std.specs.Prelude.{◌≡◌, option_map, option_and_then, IfSome};
 ghost use Rattle.ir_kinds.specs.judged.Values.{literal_scalar, units_of};
@@ -18,7 +18,7 @@ const F64_ONE: u64 = 0x3ff0_0000_0000_0000;
 
 const F64_MINUS_ONE: u64 = 0xbff0_0000_0000_0000;
 
-/// A value that is written in an expression (naga's `Literal`). A float stands as its bits: two are equal where their bits are.
+/// A literal (naga's `Literal`). A float is stored as its bits: two floats are equal if their bits are.
 #[derive(Clone, Copy, PartialEq, Eq, Debug)]
 pub enum Literal {
     /// The bits of a 64-bit float.
@@ -39,27 +39,27 @@ pub enum Literal {
     U64(u64),
     /// A 64-bit signed integer.
     I64(i64),
-    /// A truth value.
+    /// A boolean.
     Bool(bool),
     /// An abstract integer.
     AbstractInt(i64),
-    /// The bits of an abstract float, those of a 64-bit one.
+    /// The bits of an abstract float, which is a 64-bit float.
     AbstractFloat(u64),
 }
 
-/// The value that chooses a case of a switch (naga's `SwitchValue`).
+/// The value of a switch case (naga's `SwitchValue`).
 #[derive(Clone, Copy, PartialEq, Eq, Debug)]
 pub enum SwitchValue {
     /// A 32-bit signed integer.
     I32(i32),
     /// A 32-bit unsigned integer.
     U32(u32),
-    /// What no other case names.
+    /// The default case.
     Default,
 }
 
 impl Literal {
-    /// The value 0 of a scalar type, for truth values `false`; `None` where no literal has the type
+    /// The zero of a scalar type (`false` for `Bool`); `None` if no literal has the type
     /// (naga's `Literal::zero`).
     pub const fn zero(scalar: Scalar) -> Option<Self>
         ensures value { result ≡ option_map (λ u. u.as_zero) (units_of scalar) }
@@ -82,7 +82,7 @@ impl Literal {
         }
     }
 
-    /// The value 1 of a scalar type, for truth values `true`; `None` where no literal has the type
+    /// The one of a scalar type (`true` for `Bool`); `None` if no literal has the type
     /// (naga's `Literal::one`).
     pub const fn one(scalar: Scalar) -> Option<Self>
         ensures value { result ≡ option_map (λ u. u.as_one) (units_of scalar) }
@@ -105,8 +105,8 @@ impl Literal {
         }
     }
 
-    /// The value -1 of a scalar type; `None` where no literal has the type, for unsigned integers and for
-    /// truth values (naga's `Literal::minus_one`).
+    /// The minus one of a scalar type; `None` if no literal has the type, for unsigned integers and for
+    /// `Bool` (naga's `Literal::minus_one`).
     pub const fn minus_one(scalar: Scalar) -> Option<Self>
         ensures value { result ≡ option_and_then (λ u. u.as_minus_one) (units_of scalar) }
         ensures scalar { IfSome result (λ l. literal_scalar l ≡ scalar) }
@@ -144,14 +144,14 @@ impl Literal {
         }
     }
 
-    /// How many bytes a value of the type takes (naga's `Literal::width`).
+    /// The width of the type in bytes (naga's `Literal::width`).
     pub const fn width(&self) -> Bytes
         ensures { result ≡ (literal_scalar self.now).width }
     {
         self.scalar().width
     }
 
-    /// What the value counts or tells (naga's `Literal::scalar_kind`).
+    /// The scalar kind (naga's `Literal::scalar_kind`).
     pub const fn scalar_kind(&self) -> ScalarKind
         ensures { result ≡ (literal_scalar self.now).kind }
     {

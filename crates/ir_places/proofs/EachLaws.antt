@@ -1,4 +1,4 @@
--- What holds along a body holds wherever a statement stands.
+-- A property along a body holds wherever a statement occurs.
 use Rattle.std.proofs.Common.{◌≡◌, zero, suc, ℕ, ◌+◌, ◌<◌, ◌≤◌, List, map, length, drop, get_or, arith, sym, subst}
 use Rattle.std.proofs.Math.Seq.{drop-cons}
 use Rattle.std.proofs.lemmas.List.{drop_all}
@@ -46,7 +46,7 @@ module _ (P : PlainStatement → Type 0) where
   is_at (at.inside part p) (next u rest) h s stands = is_at p (part_of (shape_of u) part) (part_is u part h.1.0) s stands
   is_at condition (next u rest) h s stands = let x = stands in absurd (cc)
 
-  -- ---- a list gone through by an index
+  -- ---- iteration over a list by an index
 
   pub none_left : (items : List Statement) (i : ℕ) → length items ≤ i → (AllAre P (statements_view (drop i items)) → AllAre P (statements_view items)) → AllAre P (statements_view items)
   none_left items i past leads = leads (subst (λ x. AllAre P (statements_view x)) (sym (drop_all i items past)) tt)

@@ -1,4 +1,4 @@
--- Statements and cases that are gone through by an index.
+-- Iteration over statements and cases by an index.
 use Rattle.std.proofs.Common.{◌≡◌, ◌<◌, ◌≤◌, ◌+◌, ◌∙◌, ℕ, suc, List, ◌∷◌, map, length, drop, get_or, arith, sym, ap}
 use Rattle.std.proofs.Math.Seq.{drop-cons}
 use Rattle.std.proofs.lemmas.List.{drop_all}

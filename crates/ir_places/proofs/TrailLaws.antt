@@ -1,4 +1,4 @@
--- What stands behind a step, and what blocks and cases hold.
+-- The place after a step is added, and the statements and cases at an index.
 use Rattle.std.proofs.Common.{◌≡◌, ◌+◌, ◌++◌, arith, false, ℕ, zero, suc, List, [], ◌∷◌, Some, length, get_or, ◌<◌, ◌∙◌, ap, rules, slice_get, refl, sym}
 use Rattle.std.proofs.lemmas.Option.{slice_get-get_or}
 use Rattle.ir_blocks.proofs.TerminatorLemmas.{block_view-statements}
@@ -11,12 +11,12 @@ use Rattle.ir_places.specs.Paths.{IsPlaced, LeadsTo, later_by, place_along, plac
 use Rattle.ir_places.specs.declared.step.Step.{Step}
 use Rattle.ir_places.specs.declared.trail.Trail.{Trail}
 
--- a step more at the end of the steps
+-- one more step at the end of the steps
 pub one_more : (steps : List Step) (s : Step) (p : Place) → place_along (steps ++ s ∷ []) p ≡ stepped s (place_along steps p)
 one_more [] s p = refl
 one_more (x ∷ xs) s p = one_more xs s (stepped x p)
 
--- ---- so many statements further on
+-- ---- the place that many statements later
 
 later_same : (k : ℕ) (q : Place) → later_by k (later q) ≡ later (later_by k q)
 later_same zero q = refl
@@ -25,24 +25,24 @@ later_same (suc k) q = ap later (later_same k q)
 pub later_more : (k : ℕ) (q : Place) → later_by k (later q) ≡ later_by (k + 1) q
 later_more k q = later_same k q ∙ ap (λ n. later_by n q) (let e : suc k ≡ k + 1 = omega arith in e)
 
--- ---- the place that a trail leads to
+-- ---- the place of a trail
 
--- where it has just been written
+-- a trail that has just been recorded
 pub leads : (t : Trail) (p : Place) → place_of t ≡ p → LeadsTo t p
 leads t p is = λ kept. is
 
--- what is so of any place
+-- a property of any place
 pub placed : (t : Trail) (P : Place → Type 0) → P (place_of t) → IsPlaced t P
 placed t P h = (place_of t, λ kept. refl, h)
 
 pub placed_then : (t : Trail) (P Q : Place → Type 0) → ((p : Place) → P p → Q p) → IsPlaced t P → IsPlaced t Q
 placed_then t P Q then h = (h.0, h.1, then h.0 h.2)
 
--- seen from the block around
+-- relative to the enclosing block
 pub stepped_out : (t was : Trail) (s : Step) (P Q : Place → Type 0) → (t.lost ≡ false → (was.lost ≡ false) × (place_of t ≡ stepped s (place_of was))) → IsPlaced was P → ((q : Place) → P q → Q (stepped s q)) → IsPlaced t Q
 stepped_out t was s P Q steps h out = (stepped s h.0, λ kept. let found = steps kept in found.1 ∙ ap (stepped s) (h.1 found.0), out h.0 h.2)
 
--- ---- what blocks and cases hold
+-- ---- the statements of blocks and the cases of switches
 
 pub block_is : (b : Block) (items : List Statement) → items ≡ statements_of b → statements_view items ≡ block_view b
 block_is b items is = ap statements_view is ∙ sym (block_view-statements b)

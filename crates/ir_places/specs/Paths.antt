@@ -1,4 +1,4 @@
--- The place that a trail leads to.
+-- The place of a trail.
 use Rattle.std.specs.Prelude.{◌≡◌, Bool, true, false, ℕ, zero, suc, List, [], ◌∷◌}
 use Rattle.ir_blocks.specs.judged.Places.{Place, here, later, condition}
 use Rattle.ir_blocks.specs.judged.Places as at
@@ -16,16 +16,16 @@ part_view (part.Case k) = shape.case_at k
 part_view part.LoopBody = shape.loop_body
 part_view part.LoopContinuing = shape.loop_continuing
 
--- so many statements further on
+-- the place that many statements later
 abbrev pub later_by : ℕ → Place → Place
 later_by zero p = p
 later_by (suc k) p = later (later_by k p)
 
--- the place that is p inside the block that the step leads to
+-- the place p relative to the enclosing block, through the step
 abbrev pub stepped : Step → Place → Place
 stepped s p = later_by s.index (at.inside (part_view s.part) p)
 
--- the steps, the last of them first
+-- the place at the end of the steps, the last of them first
 abbrev pub place_along : List Step → Place → Place
 place_along [] p = p
 place_along (s ∷ rest) p = place_along rest (stepped s p)
@@ -37,10 +37,10 @@ last_place false = here
 abbrev pub place_of : Trail → Place
 place_of t = place_along t.steps.items (later_by t.index (last_place t.condition))
 
--- the trail leads to the place, unless it is lost
+-- the trail has this place, unless it is lost
 abbrev pub LeadsTo : Trail → Place → Type 0
 LeadsTo t p = t.lost ≡ false → place_of t ≡ p
 
--- this is so of a place, and the trail leads there, unless it is lost
+-- the property holds of a place, which is the trail's, unless that is lost
 abbrev pub IsPlaced : Trail → (Place → Type 0) → Type 0
 IsPlaced t P = (p : Place) × LeadsTo t p × P p

@@ -1,4 +1,4 @@
-//! What is required of each statement of a body.
+//! Checks a rule for each statement of a body, at any depth.
 
 ghost use Rattle.std.specs.Prelude.{MatchResult, map};
 ghost use Rattle.ir_blocks.specs.judged.Places.{Place, OccursAt};
@@ -12,25 +12,25 @@ use crate::step::{Part, Step};
 use crate::trail::Trail;
 use ir_blocks::{Block, Statement, SwitchCase, plain_operation};
 
-/// A rule of statements, which is required of a statement without what stands inside it.
+/// A rule for statements, which is checked for each statement without its nested blocks.
 pub trait StatementRule<E> {
-    /// Where it may be checked.
+    /// The precondition of a check.
     ghost fits: { Self → Type 0 };
 
-    /// The statement meets it.
+    /// The statement satisfies the rule.
     ghost meets: { Self → PlainStatement → Type 0 };
 
-    /// The statement is refused for this.
+    /// The statement violates the rule with this error.
     ghost wrong: { Self → E → PlainStatement → Type 0 };
 
-    /// Whether the statement meets the rule, or why it is refused.
+    /// Checks the rule for the statement; the error says why it is violated.
     fn check(&self, statement: &Statement) -> Result<(), E>
         requires { fits self.now }
         ensures { MatchResult result (λ _. meets self.now (statement_view statement.now)) (λ e. wrong self.now e (statement_view statement.now)) };
 }
 
-/// Whether each statement of a block, at any depth, meets a rule, or why one is refused, and where that one stands. Memory is
-/// taken for the place alone.
+/// Checks a rule for each statement of a block, at any depth; the error is the first violation, and the trail is its place. Only
+/// the trail allocates.
 pub fn check_each<E, T: StatementRule<E>>(
     trail: &mut Trail,
     rule: &T,
@@ -47,7 +47,7 @@ pub fn check_each<E, T: StatementRule<E>>(
     }
 }
 
-// The same, along the block.
+// Checks a rule for each statement of a block, along the block.
 #[cycle(each)]
 fn check_block<E, T: StatementRule<E>>(trail: &mut Trail, rule: &T, block: &Block) -> Result<(), E>
     requires { T.fits rule.now }
@@ -64,7 +64,7 @@ fn check_block<E, T: StatementRule<E>>(trail: &mut Trail, rule: &T, block: &Bloc
     Ok(())
 }
 
-// The same of the statement of a block at an index, and of those inside it. The place is seen from the block.
+// Checks a rule for the statement of a block at an index, and for those nested in it. The trail is relative to the block.
 #[cycle(each)]
 fn check_statement<E, T: StatementRule<E>>(
     trail: &mut Trail,
@@ -109,7 +109,7 @@ fn check_statement<E, T: StatementRule<E>>(
     }
 }
 
-// The same of a block in a part of a statement. The place is seen from the block that has the statement.
+// Checks a rule for a nested block of a statement. The trail is relative to the block that has the statement.
 #[cycle(each)]
 fn check_part<E, T: StatementRule<E>>(
     trail: &mut Trail,
@@ -132,7 +132,7 @@ fn check_part<E, T: StatementRule<E>>(
     }
 }
 
-// The same of the cases of a switch. The place is seen from the block that has the switch.
+// Checks a rule for the cases of a switch. The trail is relative to the block that has the switch.
 #[cycle(each)]
 fn check_cases<E, T: StatementRule<E>>(
     trail: &mut Trail,

@@ -1,5 +1,5 @@
-//! Where in a body an error stands: a trail, which the walk that finds the error writes on its way out, a step at each level; and
-//! the walk that checks each statement of a body by a rule.
+//! The place of an error in a body: a trail, to which the walk that finds the error adds a step per level as it returns; and
+//! a walk that checks a rule for each statement of a body.
 #![tactic(auto)]
 
 mod each;

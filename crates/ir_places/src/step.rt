@@ -1,26 +1,26 @@
-//! A step of the way to a place.
+//! The steps of a path to a place in a body.
 
-/// A part of a statement: a block inside it.
+/// A part of a statement: one of its nested blocks.
 #[derive(Clone, Copy, PartialEq, Eq, Debug)]
 pub enum Part {
-    /// The block of a block.
+    /// The block of a `Block` statement.
     Inner,
-    /// The side of an `if` that is taken where its condition holds.
+    /// The `accept` block of an `If`.
     Accepting,
-    /// The other side.
+    /// The `reject` block of an `If`.
     Rejecting,
-    /// The case of a switch at an index.
+    /// The body of a switch case, by its index.
     Case(usize),
-    /// The body of a loop.
+    /// The body of a `Loop`.
     LoopBody,
-    /// Its continuing part.
+    /// The continuing block of a `Loop`.
     LoopContinuing,
 }
 
-/// A step of the way to a place: into a part of the statement of a block at an index.
+/// A step of a path to a place: into a part of the statement at an index of a block.
 #[derive(Clone, Copy, PartialEq, Eq, Debug)]
 pub struct Step {
-    /// The statement, counted from 0.
+    /// The index of the statement in the block, from 0.
     pub index: usize,
     /// The part.
     pub part: Part,

@@ -1,4 +1,4 @@
-//! The way to a place, written where something is wrong.
+//! The path to a place in a body, recorded upon an error.
 
 ghost use Rattle.std.specs.Prelude.{◌≡◌, false, true};
 ghost use Rattle.ir_blocks.specs.judged.Places.{here, condition};
@@ -7,9 +7,9 @@ ghost use Rattle.ir_places.specs.Paths.{last_place, later_by, place_of, stepped}
 use crate::step::Step;
 use std::alloc::Global;
 
-/// Where in a body the error stands that a walk answers: the steps that lead to a block, the last of them first, the statement of
-/// that block, and whether the statement's condition is meant. It is written only where there is an error, and is lost where there
-/// is no memory for a step: the error is answered all the same.
+/// The place in a body of the error that a walk returns: the steps to a block, the last of them first, the index of the statement
+/// in that block, and whether the place is the statement's condition. It is recorded only upon an error, and is lost on out of
+/// memory for a step; the walk returns the error all the same.
 #[derive(Clone, PartialEq, Debug, Drop)]
 pub struct Trail {
     steps: Vec<Step>,
@@ -19,7 +19,7 @@ pub struct Trail {
 }
 
 impl Trail {
-    /// A trail to write in, which leads nowhere yet. It takes no memory.
+    /// An empty trail, which is lost until a place is recorded. It allocates nothing.
     pub fn new(alloc: Global) -> Trail
         ensures { result.lost ≡ true }
     {
@@ -31,7 +31,7 @@ impl Trail {
         }
     }
 
-    // It begins anew, at the statement of a body at an index, or at its condition.
+    // Starts again at the statement of a body at an index, or at its condition.
     fn begin(&mut self, index: usize, condition: bool)
         ensures lost { self.new.lost ≡ false }
         ensures place { place_of self.new ≡ later_by index (last_place condition) }
@@ -42,7 +42,7 @@ impl Trail {
         self.lost = false;
     }
 
-    /// The error stands at the statement of a body at an index.
+    /// The error is at the statement of a body at an index.
     pub fn stand(&mut self, index: usize)
         ensures lost { self.new.lost ≡ false }
         ensures place { place_of self.new ≡ later_by index here }
@@ -50,7 +50,7 @@ impl Trail {
         self.begin(index, false);
     }
 
-    /// The error stands at the condition of the loop of a body at an index.
+    /// The error is at the condition of the loop of a body at an index.
     pub fn stand_at_condition(&mut self, index: usize)
         ensures lost { self.new.lost ≡ false }
         ensures place { place_of self.new ≡ later_by index condition }
@@ -58,7 +58,7 @@ impl Trail {
         self.begin(index, true);
     }
 
-    /// The body is seen from the block around it, in which the step leads to it.
+    /// Adds a step at the front: the path is now relative to the enclosing block.
     #[tactic(auto, using(crate::proofs::TrailLaws::one_more))]
     pub fn inside(&mut self, step: Step)
         ensures { self.new.lost ≡ false → (self.old.lost ≡ false) × (place_of self.new ≡ stepped step (place_of self.old)) }
@@ -76,21 +76,21 @@ impl Trail {
         &self.steps
     }
 
-    /// The statement of the block that they lead to, counted from 0.
+    /// The index of the statement in the block that the steps lead to, from 0.
     pub fn index(&self) -> usize
         ensures { result ≡ self.now.index }
     {
         self.index
     }
 
-    /// Whether its condition is meant.
+    /// Whether the place is the statement's condition.
     pub fn is_condition(&self) -> bool
         ensures { result ≡ self.now.condition }
     {
         self.condition
     }
 
-    /// Whether it leads nowhere: no error that stands in a body has been written, or there was no memory for a step.
+    /// Whether the trail has no place: no error in a body was recorded, or memory for a step ran out.
     pub fn is_lost(&self) -> bool
         ensures { result ≡ self.now.lost }
     {

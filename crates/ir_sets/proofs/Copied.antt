@@ -1,4 +1,4 @@
--- A value that is copied from an arena of distinct ones is new to the copy.
+-- A value that is copied from an arena of distinct values is new to the copy.
 use Rattle.std.proofs.Common.{◌≡◌, ℕ, zero, suc, ◌+◌, ◌<◌, Bool, false, ◌||◌, List, [], ◌∷◌, ◌++◌, length, map, take, get_or, Some, option_map, slice_get, refl, ap, subst, ◌∙◌}
 use Rattle.std.specs.Cmp.{IsEquivalence}
 use Rattle.std.specs.List.{AllByRecursion, IsDistinct}
@@ -16,7 +16,7 @@ one_of_all P [] k x h e = let g = e in cc
 one_of_all P (y ∷ ys) zero x h e = subst P (let g = e in cc) h.0
 one_of_all P (y ∷ ys) (suc k) x h e = one_of_all P ys k x h.1 e
 
--- In these values that hold the same compare the same.
+-- Here values with equal views compare equal.
 module _ {T View : Type 0} (view : T → View) (eq : T → T → Bool) (laws : IsEquivalence eq)
     (same : (a b x y : T) → view a ≡ view b → view x ≡ view y → eq a x ≡ eq b y) where
   equal_by_view : (xs ys : List (T × Span)) (a b : T) → map view (map value_of_entry xs) ≡ map view (map value_of_entry ys) → view a ≡ view b → has_equal eq xs a ≡ has_equal eq ys b
@@ -37,7 +37,7 @@ module _ {T View : Type 0} (view : T → View) (eq : T → T → Bool) (laws : I
       let rest = none_before ys k x h.1 e in
       λ i. first i || rest i
 
-  -- the next value is put after those that were copied
+  -- the next value is appended to the copies
   pub values_more : (values copied after : List (T × Span)) (k : ℕ) (x clone : T) (span : Span) → IsDistinct (λ d e. eq d.0 e.0) values → k < length values
       → Some x ≡ option_map value_of_entry (slice_get values k) → view clone ≡ view x → span ≡ span_at values k → map (entry_of view) copied ≡ map (entry_of view) (take k values)
       → (has_equal eq copied clone ≡ false → after ≡ copied ++ (clone, span) ∷ []) → map (entry_of view) after ≡ map (entry_of view) (take (k + 1) values)

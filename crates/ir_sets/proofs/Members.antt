@@ -1,4 +1,4 @@
--- The set of the numbers that words have the bit of.
+-- The set of the numbers whose bits are set in the words.
 use Rattle.std.proofs.Common.{◌≡◌, ℕ, zero, suc, ◌+◌, ◌*◌, ◌/◌, ◌<◌, ◌≤◌, max, Bool, true, false, not, cond, ◌&&◌, ◌||◌, List, [], ◌∷◌, length, get_or, filter, nat_eq, refl, sym, ap, inl, inr, true≢false, Result, Ok, Err, OnErr, IsTrue, Option, None, Some, IfNone, IfSome, is_some, ◌∙◌, arith}
 use Rattle.std.specs.List.{AllByRecursion, list_any, range_with_len}
 use Rattle.std.specs.Ordering.{nat_cmp}
@@ -11,7 +11,7 @@ use Rattle.ir_sets.specs.Bits.{has_bit, bits_of, members, IsGreatest, IsTrimmed,
 use Rattle.ir_sets.specs.Places.{ListsMembers}
 use Rattle.ir_sets.proofs.Words.{no_word}
 
--- whether the list has q
+-- whether q is in the list
 abbrev has : List ℕ → ℕ → Bool
 has xs q = list_any (λ y. nat_eq y q) xs
 
@@ -19,9 +19,9 @@ pub OnErr-always : {X E P : Type 0} (r : Result X E) → P → OnErr r P
 OnErr-always (Ok x) p = tt
 OnErr-always (Err e) p = p
 
--- ---- what a set has
+-- ---- membership
 
--- whether q is one of so many numbers from one on
+-- whether q is one of `count` numbers from one on
 abbrev is_counted : ℕ → ℕ → ℕ → Bool
 is_counted a zero q = false
 is_counted a (suc n) q = nat_eq a q || is_counted (a + 1) n q
@@ -94,7 +94,7 @@ removed_members xs ys n same =
     same_set nat_cmp_total nat_cmp-IsAntisymmetric _ _
     (λ q. contains-members ys q ∙ same q ∙ sym (contains-remove nat_cmp_total (members xs) n q ∙ (λ i. not (unsigned_tied q n i) && contains-members xs q i)))
 
--- ---- all of it
+-- ---- all bits
 
 -- each number is below all later ones
 abbrev IsRising : List ℕ → Type 0
@@ -149,7 +149,7 @@ members_in_order words =
       same = contains-from_list_nat (bits_of words);
     }
 
--- ---- no member
+-- ---- the empty set
 
 pub no_members : (words : List ℕ) → length words ≡ 0 → members words ≡ set.empty
 no_members words none =
@@ -166,7 +166,7 @@ empty_when words None false is none some = absurd (true≢false (sym is))
 empty_when words (Some n) true is none some = absurd (true≢false is)
 empty_when words (Some n) false is none some = (λ t. absurd (true≢false (sym t)), λ e. absurd (has_member words n some.set e))
 
--- ---- the greatest goes
+-- ---- removal of the greatest
 
 pub record Popped (old new : List ℕ) (n : ℕ) : Type 0 where
   pub member : set.contains (members old) n ≡ true
@@ -183,7 +183,7 @@ popped old new n top same =
       some = has_member old n top.set;
     }
 
--- ---- what the words of a set are like, once some change
+-- ---- the invariant of the words, after a change
 
 pub words_with : (old new : List ℕ) (n : ℕ) → AreWords old → n < 4294967295 → length new ≡ max (length old) (div_ceil (n + 1) 64)
     → ((q : ℕ) → has_bit new q ≡ (nat_eq q n || has_bit old q)) → AreWords new

@@ -1,4 +1,4 @@
--- Parts of a set of ranges.
+-- Ranges of numbers in a range set.
 use Rattle.std.proofs.Common.{◌≡◌, ℕ, ◌+◌, ◌-◌, ◌*◌, ◌/◌, ◌%◌, ◌^◌, ◌<◌, ◌≤◌, min, Bool, true, false, not, ◌&&◌, ◌||◌, List, [], length, Option, None, Some, IfNone, IfSome, is_some, get_or, set, nat_eq, refl, sym, ap, inl, inr, true≢false, ◌∙◌, arith}
 use Rattle.std.specs.Bool.{MatchBool}
 use Rattle.std.specs.Int.{bit_at}
@@ -22,7 +22,7 @@ and_false : (b : Bool) → (b && false) ≡ false
 and_false true = refl
 and_false false = refl
 
--- ---- tests that say the same
+-- ---- tests that agree
 
 pub becomes_since : (value : Bool) (old same new : ℕ → Bool) (from end : ℕ) → ((n : ℕ) → same n ≡ old n) → Becomes value same new from end → Becomes value old new from end
 becomes_since value old same new from end is b = record { within = b.within; others = λ n out. b.others n out ∙ is n }
@@ -33,7 +33,7 @@ becomes_then value old new same from end is b = record { within = λ n reached l
 pub becomes_none : (value : Bool) (old : ℕ → Bool) (from end : ℕ) → end ≤ from → Becomes value old old from end
 becomes_none value old from end none = record { within = λ n reached low. absurd (omega arith); others = λ n out. refl }
 
--- ---- words that are 0, or all ones
+-- ---- words of zeros and of ones
 
 zero_word : (words : List ℕ) (n : ℕ) → get_or words (n / 64) 0 ≡ 0 → has_bit words n ≡ false
 unfolding has_bit
@@ -49,7 +49,7 @@ set_elsewhere words index word n far = same_word (set words index word) words n 
 set_here : (words : List ℕ) (index word n : ℕ) → index < length words → n / 64 ≡ index → get_or (set words index word) (n / 64) 0 ≡ word
 set_here words index word n inside is = rw is (get_or-set_same words index word 0 inside)
 
--- the bit of one number more, or less
+-- the bit of one number set or cleared
 pub with_here : (old new : List ℕ) (index m : ℕ) → ((q : ℕ) → has_bit new q ≡ (nat_eq q index || has_bit old q)) → m ≡ index → has_bit new m ≡ true
 with_here old new index m same is = same m ∙ ap (λ b. b || has_bit old m) (eq-eqb m index is)
 
@@ -62,7 +62,7 @@ without_here old new index m same is = same m ∙ ap (λ b. not b && has_bit old
 pub without_elsewhere : (old new : List ℕ) (index m : ℕ) → ((q : ℕ) → has_bit new q ≡ (not (nat_eq q index) && has_bit old q)) → (m ≡ index → ⊥) → has_bit new m ≡ has_bit old m
 without_elsewhere old new index m same far = same m ∙ ap (λ b. not b && has_bit old m) (ne_eqb m index far)
 
--- ---- a word that begins to say something
+-- ---- a word that becomes valid
 
 module _ (words some new_some : List ℕ) (index word : ℕ) (inside : index < length words) (same : (m : ℕ) → has_bit new_some m ≡ (nat_eq m index || has_bit some m)) where
   pub changes_there : ChangesAt words some (set words index word) new_some index
@@ -98,7 +98,7 @@ module _ (words some new_some : List ℕ) (index word : ℕ) (inside : index < l
 pub changes_nothing : (words some : List ℕ) (index : ℕ) → ChangesAt words some words some index
 changes_nothing words some index = record { others = λ n far. refl; others_of_some = λ m far. refl }
 
--- ---- a part that is added
+-- ---- a range of one word that is inserted
 
 module _ (words some now_words now_some new : List ℕ) (from end : ℕ) (less : from < end) (one_word : end ≤ (from / 64 + 1) * 64)
     (changes : ChangesAt words some now_words now_some (from / 64)) (begun : has_bit now_some (from / 64) ≡ true) (added : Becomes true (has_bit now_words) (has_bit new) from end) where
@@ -123,7 +123,7 @@ module _ (words some now_words now_some new : List ℕ) (from end : ℕ) (less :
             (there.0, there.1, added.others there.0 (λ reached low. elsewhere (omega arith)) ∙ changes.others there.0 elsewhere ∙ there.2)
       ]
 
--- what is counted more is a member more
+-- a new bit of a valid word is a new member
 pub number_counted : (value : Bool) (words some new_words new_some full : List ℕ) (from end : ℕ) → value ≡ true → Becomes value (counts words some) (counts new_words new_some) from end
     → Becomes value (has_number words some full) (has_number new_words new_some full) from end
 unfolding has_number
@@ -133,7 +133,7 @@ number_counted value words some new_words new_some full from end is b =
       others = λ n out. ap (λ x. has_bit full (n / 64) || x) (b.others n out);
     }
 
--- ---- a part that is taken out
+-- ---- a range of one word that is removed
 
 module _ (words some full now_words now_some now_full new : List ℕ) (from end : ℕ) (less : from < end) (one_word : end ≤ (from / 64 + 1) * 64)
     (changes : ChangesAt words some now_words now_some (from / 64)) (taken : Becomes false (has_bit now_words) (has_bit new) from end) where
@@ -154,7 +154,7 @@ module _ (words some full now_words now_some now_full new : List ℕ) (from end 
       let elsewhere : there.0 / 64 ≡ from / 64 → ⊥ = λ e. far (sym there.1 ∙ e) in
       (there.0, there.1, taken.others there.0 (λ reached low. elsewhere (omega arith)) ∙ changes.others there.0 elsewhere ∙ there.2)
 
--- ---- a word that may be 0
+-- ---- a word that may become 0
 
 pub filled_some : (words some : List ℕ) (index : ℕ) → AreFilledBut words some index → (get_or words index 0 ≡ 0 → ⊥) → get_or words index 0 < 2 ^ 64 → AreFilled words some
 filled_some words some index but not_zero small m one =
@@ -202,7 +202,7 @@ whole_taken words some full new_some new_full first last s f =
       others = λ n out. rw (s.others (n / 64) (λ reached low. out (omega arith) (omega arith)), f.others (n / 64) (λ reached low. out (omega arith) (omega arith))) refl;
     }
 
--- ---- three parts
+-- ---- three parts of a range
 
 pub all_parts : (value : Bool) (p q r s : ℕ → Bool) (from end first last : ℕ) → from ≤ first * 64 → first ≤ last → last * 64 ≤ end
     → Becomes value p q (first * 64) (last * 64) → Becomes value q r from (first * 64) → Becomes value r s (last * 64) end → Becomes value p s from end
@@ -210,7 +210,7 @@ all_parts value p q r s from end first last low middle high a b c =
     becomes_more value p r s from (last * 64) end (omega arith) high
     (becomes_before value p q r from (first * 64) (last * 64) low (omega arith) a b) c
 
--- ---- what is there
+-- ---- membership
 
 pub full_number : (words some full : List ℕ) (n : ℕ) → has_bit full (n / 64) ≡ true → has_number words some full n ≡ true
 unfolding has_number
@@ -228,7 +228,7 @@ pub absent_number : (words some full : List ℕ) (n : ℕ) → has_bit full (n /
 unfolding counts has_number
 absent_number words some full n not_full is = rw (not_full, is) (and_false (has_bit some (n / 64)))
 
--- ---- whether one is there
+-- ---- whether a range has a member
 
 pub none_meets : (test : ℕ → Bool) (from end : ℕ) → end ≤ from → NoneBetween test from end
 none_meets test from end none n reached low = absurd (omega arith)
@@ -257,7 +257,7 @@ module _ (words some full : List ℕ) (from end : ℕ) (less : from < end) (one_
       (n, reached, low, counted_number words some full n (ap (has_bit some) at ∙ counted) found.passes)
   counted_meets not_full counted (Some n) false is none found = absurd (true≢false is)
 
--- the first of whole words that counts
+-- the first valid word of a range of whole words
 pub word_meets : (words some full : List ℕ) (first last : ℕ) → AreFilled words some → (r : Option ℕ) → is_some r ≡ true → IfSome r (IsFirst (has_bit some) first last) → SomeBetween (has_number words some full) (first * 64) (last * 64)
 word_meets words some full first last filled None is found = absurd (true≢false (sym is))
 word_meets words some full first last filled (Some m) is found =
@@ -294,7 +294,7 @@ pub same_meets : (test same : ℕ → Bool) (from end : ℕ) → ((n : ℕ) → 
 same_meets test same from end is true s = (s.0, s.1, s.2, is s.0 ∙ s.3)
 same_meets test same from end is false none = λ n reached low. is n ∙ none n reached low
 
--- ---- what the words are like
+-- ---- the invariant of the words
 
 pub ranges_with : (words some full new_words new_some new_full : List ℕ) → AreRanges words some full → length new_words ≡ length words → length new_some ≡ length some → length new_full ≡ length full
     → AreFilled new_words new_some → ((m : ℕ) → has_bit new_full m ≡ true → m < length words) → AreRanges new_words new_some new_full
@@ -320,7 +320,7 @@ whole_with words some full new first last are b inside m one =
       ]
     ]
 
--- bits that are taken out were there
+-- cleared bits were set
 pub fewer : (old new : List ℕ) (from end : ℕ) → Becomes false (has_bit old) (has_bit new) from end → (m : ℕ) → has_bit new m ≡ true → has_bit old m ≡ true
 fewer old new from end b m one =
     elim (cases_lt m from) [
@@ -334,7 +334,7 @@ fewer old new from end b m one =
 pub fewer_filled : (words some new : List ℕ) → AreFilled words some → ((m : ℕ) → has_bit new m ≡ true → has_bit some m ≡ true) → AreFilled words new
 fewer_filled words some new filled less m one = filled m (less m one)
 
--- ---- room
+-- ---- capacity
 
 pub record Longer (old new : List ℕ) : Type 0 where
   pub longer : length old ≤ length new
@@ -389,7 +389,7 @@ no_numbers =
     same_set nat_cmp_total nat_cmp-IsAntisymmetric _ _
     (λ n. contains-numbers [] [] [] ranges_of_none n ∙ uncounted_number [] [] [] n (no_word [] (n / 64) (omega arith)) (no_word [] (n / 64) (omega arith)) ∙ sym (contains-empty nat_cmp n))
 
--- the set becomes what the test does
+-- the set of a test becomes that of the new test
 pub set_becomes : (value : Bool) (words some full new_words new_some new_full : List ℕ) (from end : ℕ) → AreRanges words some full → AreRanges new_words new_some new_full
     → Becomes value (has_number words some full) (has_number new_words new_some new_full) from end
     → Becomes value (set.contains (numbers words some full)) (set.contains (numbers new_words new_some new_full)) from end
@@ -399,7 +399,7 @@ set_becomes value words some full new_words new_some new_full from end old new b
       others = λ n out. contains-numbers new_words new_some new_full new n ∙ b.others n out ∙ sym (contains-numbers words some full old n);
     }
 
--- past the words there is no number
+-- no number is past the words
 past_words : (words some full : List ℕ) (n : ℕ) → AreRanges words some full → 64 * length words ≤ n → has_number words some full n ≡ false
 past_words words some full n are past =
     absent_number words some full n

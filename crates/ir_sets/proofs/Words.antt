@@ -1,4 +1,4 @@
--- Bits of words.
+-- The bits of words.
 use Rattle.std.proofs.Common.{◌≡◌, ℕ, zero, suc, ◌+◌, ◌-◌, ◌*◌, ◌/◌, ◌%◌, ◌^◌, ◌<◌, ◌≤◌, Bool, true, false, not, ◌&&◌, ◌||◌, List, [], ◌∷◌, ◌++◌, length, get_or, take, set, replicate, filter, nat_eq, count_ones, true≢false, bit_and, bit_or, refl, sym, ap, inl, inr, ◌∙◌, arith, w64, pow_pos, pow-suc, pow_mono, mod-eq_of_lt}
 use Rattle.std.specs.Int.{bit_at, trailing_zeros}
 use Rattle.std.specs.Int.Count.{ones_step, ones-le}
@@ -80,7 +80,7 @@ module _ (words : List ℕ) (number : ℕ) where
         | inr other ↦ rw (ne_eqb n number other) refl
       ]
 
--- words of zeros after
+-- zero words that are appended
 pub longer : (words : List ℕ) (count n : ℕ) → has_bit (words ++ replicate count 0) n ≡ has_bit words n
 longer words count n =
     same_word (words ++ replicate count 0) words n
@@ -94,7 +94,7 @@ longer words count n =
           ] ∙ sym (get_or_past words (n / 64) 0 out)
     ])
 
--- ---- the bits between two places
+-- ---- a range of bits
 
 mask_fits : (low high : ℕ) → high ≤ 64 → 2 ^ high - 2 ^ low < 2 ^ 64
 mask_fits low high most = let whole : 2 ^ high ≤ 2 ^ 64 = pow_mono most in omega (arith, pow_pos low, pow_pos high)
@@ -117,7 +117,7 @@ outside low high i out =
     ]
 
 module _ (words : List ℕ) (place next : ℕ) (before : place < next) (within : next ≤ (place / 64 + 1) * 64) (inside : place / 64 < length words) where
-  -- a word of which the bits from one place on, below another, are changed alone
+  -- a word of which only the bits in a range are changed
   changed : (word : ℕ) (bit : Bool)
       → ((i : ℕ) → i < 64 → place % 64 ≤ i → i < next - place / 64 * 64 → nat_eq (bit_at word i) 1 ≡ bit)
       → ((i : ℕ) → i < 64 → (place % 64 ≤ i → i < next - place / 64 * 64 → ⊥) → bit_at word i ≡ bit_at (get_or words (place / 64) 0) i)
@@ -164,7 +164,7 @@ module _ (words : List ℕ) (place next : ℕ) (before : place < next) (within :
       record { within = parts.0; others = parts.1 }
 
 module _ (value : Bool) (old now new : ℕ → Bool) (from place next : ℕ) (reached : from ≤ place) (before : place ≤ next) where
-  -- one range, and then the one after it
+  -- a range, and then the one after it
   pub becomes_more : Becomes value old now from place → Becomes value now new place next → Becomes value old new from next
   becomes_more early late =
       record {
@@ -175,7 +175,7 @@ module _ (value : Bool) (old now new : ℕ → Bool) (from place next : ℕ) (re
         others = λ n out. late.others n (λ l h. out (omega arith) h) ∙ early.others n (λ l h. out l (omega arith));
       }
 
-  -- one range, and then the one before it
+  -- a range, and then the one before it
   pub becomes_before : Becomes value old now place next → Becomes value now new from place → Becomes value old new from next
   becomes_before late early =
       record {
@@ -186,10 +186,10 @@ module _ (value : Bool) (old now new : ℕ → Bool) (from place next : ℕ) (re
         others = λ n out. early.others n (λ l h. out l (omega arith)) ∙ late.others n (λ l h. out (omega arith) h);
       }
 
--- ---- the first bit from a place on
+-- ---- the first set bit from an index on
 
 module _ (words : List ℕ) (place word : ℕ) (is : word ≡ get_or words (place / 64) 0) (fits : word < 2 ^ 64) where
-  -- the bits of the word from the place on
+  -- the bits of the word from the index on
   ahead : (t : ℕ) → place % 64 + t < 64 → has_bit words (place + t) ≡ nat_eq (bit_at (word / 2 ^ (place % 64)) t) 1
   unfolding has_bit
   ahead t low =
@@ -232,7 +232,7 @@ none_more test from middle end early late n reached within =
 pub none_past : (words : List ℕ) (place end : ℕ) → length words ≤ place / 64 → NoneBetween (has_bit words) place end
 none_past words place end out n reached within = no_word words n (omega arith)
 
--- ---- the greatest
+-- ---- the greatest set bit
 
 module _ (before : List ℕ) (last high : ℕ) (least : 2 ^ high ≤ last) (most : last < 2 * 2 ^ high) (low : high < 64) where
   last_word : get_or (before ++ last ∷ []) (length before) 0 ≡ last
@@ -266,7 +266,7 @@ module _ (before : List ℕ) (last high : ℕ) (least : 2 ^ high ≤ last) (most
         ];
       }
 
--- ---- how many
+-- ---- the number of set bits
 
 pub range_split : (a n m : ℕ) → range_with_len a (n + m) ≡ range_with_len a n ++ range_with_len (a + n) m
 range_split a zero m = let none : zero + m ≡ m = omega arith in let same : a + zero ≡ a = omega arith in rw (none, same) refl
@@ -275,7 +275,7 @@ range_split a (suc n) m =
     let on : a + 1 + n ≡ a + suc n = omega arith in
     rw more (ap (λ l. a ∷ l) (range_split (a + 1) n m ∙ ap (λ b. range_with_len (a + 1) n ++ range_with_len b m) on))
 
--- a number below 2 ^ k has as many ones as there are places below k of which it has the bit
+-- a number below 2 ^ k has as many ones as there are set bits below k
 ones_of : (k word from : ℕ) (p : ℕ → Bool) → word < 2 ^ k → ((t : ℕ) → t < k → p (from + t) ≡ nat_eq (bit_at word t) 1) → length (filter p (range_with_len from k)) ≡ count_ones word
 ones_of zero word from p small tells = omega (arith, ones-le 0 word small)
 ones_of (suc k) word from p small tells =
@@ -317,7 +317,7 @@ kept_at_most p xs = omega (arith, length-filter_both p (λ x. not (p x)) (λ x. 
 pub count_most : (words : List ℕ) (from count : ℕ) → length (bits_from words from count) ≤ count
 count_most words from count = omega (arith, kept_at_most (has_bit words) (range_with_len from count), length-range_with_len from count)
 
--- ---- the words up to the last that is not 0
+-- ---- the words up to the last one that is not 0
 
 pub front_bits : (words : List ℕ) (count : ℕ) → ((k : ℕ) → count ≤ k → get_or words k 0 ≡ 0) → (n : ℕ) → has_bit (take count words) n ≡ has_bit words n
 front_bits words count zeros n =
@@ -327,7 +327,7 @@ front_bits words count zeros n =
       | inr out ↦ get_or_past (take count words) (n / 64) 0 (omega (arith, length-take count words)) ∙ sym (zeros (n / 64) out)
     ])
 
--- a word that is not 0 has a bit
+-- a word that is not 0 has a set bit
 pub some_bit : (words : List ℕ) (i : ℕ) → 0 < get_or words i 0 → get_or words i 0 < 2 ^ 64 → (n : ℕ) × (n / 64 ≡ i) × (has_bit words n ≡ true)
 unfolding has_bit
 some_bit words i some small =
@@ -360,7 +360,7 @@ last_some words before last is trimmed =
       | inr some ↦ omega arith
     ]
 
--- ---- in order, from a place on
+-- ---- in order, from an index on
 
 none_kept : (p : ℕ → Bool) (from count : ℕ) → ((n : ℕ) → from ≤ n → n < from + count → p n ≡ false) → filter p (range_with_len from count) ≡ []
 none_kept p from zero none = refl

@@ -1,4 +1,4 @@
--- The handles of a set in their order.
+-- The handles of a set in ascending order.
 use Rattle.std.specs.Prelude.{◌≡◌, ℕ, List, nat_eq}
 use Rattle.std.specs.List.{list_any}
 use Rattle.std.specs.List.Sorted.{IsStrictlyIncreasing}

@@ -1,4 +1,4 @@
-//! Sets of numbers as bits of words of 64: the bit of a number stands in the word `number / 64`.
+//! Bit sets in words of 64 bits: the bit of a number is in the word `number / 64`.
 
 ghost use Rattle.std.specs.Prelude.{◌≡◌, ◌*◌, ◌^◌, ◌<◌, ◌≤◌, ◌&&◌, ◌||◌, ◌-◌, ℕ, true, false, length, max, nat_eq, not, IfNone, IfSome, OnOk, OnErr};
 ghost use Rattle.std.specs.Int.{div_ceil};
@@ -6,7 +6,7 @@ ghost use Rattle.ir_sets.specs.Bits.{has_bit, bits_of, Becomes, NoneBetween, IsF
 
 use std::alloc::AllocError;
 
-/// Whether a number is one of them.
+/// Whether a number is a member.
 pub fn contains(words: &[u64], number: usize) -> bool
     ensures { result ≡ has_bit words.now number }
 {
@@ -16,11 +16,11 @@ pub fn contains(words: &[u64], number: usize) -> bool
     }
 }
 
-/// Makes room for the numbers below `end`, and changes none of them.
+/// Makes room for the numbers below `end`, and leaves the members unchanged.
 ///
 /// # Errors
 ///
-/// `AllocError` where there is no memory. The words then stay as they were.
+/// `AllocError` on out of memory. The words are then unchanged.
 pub fn reserve(words: &mut Vec<u64>, end: usize) -> Result<(), AllocError>
     ensures room { OnOk result (end ≤ 64 * length words.new.items) }
     ensures len { OnOk result (length words.new.items ≡ max (length words.old.items) (div_ceil end 64)) }
@@ -35,7 +35,7 @@ pub fn reserve(words: &mut Vec<u64>, end: usize) -> Result<(), AllocError>
     Ok(())
 }
 
-/// Adds a number that there is room for.
+/// Inserts a number, for which there is room.
 pub fn insert(words: &mut [u64], number: usize)
     requires { number < 64 * length words.old }
     ensures len { length words.new ≡ length words.old }
@@ -44,7 +44,7 @@ pub fn insert(words: &mut [u64], number: usize)
     words[number / 64] |= 1 << (number % 64);
 }
 
-/// Takes a number out, if it is one of them.
+/// Removes a number, if it is a member.
 pub fn remove(words: &mut [u64], number: usize)
     ensures len { length words.new ≡ length words.old }
     ensures bits { (n : ℕ) → has_bit words.new n ≡ (not (nat_eq n number) && has_bit words.old n) }
@@ -54,7 +54,7 @@ pub fn remove(words: &mut [u64], number: usize)
     }
 }
 
-// The word that has the bits from `low` on, below `high`.
+// The word with the bits `low..high` set.
 fn ones_between(low: usize, high: usize) -> u64
     requires ordered { low < high }
     requires within { high ≤ 64 }
@@ -63,7 +63,7 @@ fn ones_between(low: usize, high: usize) -> u64
     (u64::MAX >> (64 - (high - low))) << low
 }
 
-/// Adds the numbers from one on, below another, for which there is room. The time is that of the words between the two.
+/// Inserts the numbers `from..end`, for which there is room. It takes time linear in the words of the range.
 pub fn insert_between(words: &mut [u64], from: usize, end: usize)
     requires room { end ≤ 64 * length words.old }
     requires small { end ≤ 2 ^ 32 }
@@ -79,7 +79,7 @@ pub fn insert_between(words: &mut [u64], from: usize, end: usize)
     }
 }
 
-/// Takes the numbers from one on, below another, out. The time is that of the words between the two.
+/// Removes the numbers `from..end`. It takes time linear in the words of the range.
 pub fn remove_between(words: &mut [u64], from: usize, end: usize)
     requires room { end ≤ 64 * length words.old }
     requires small { end ≤ 2 ^ 32 }
@@ -95,7 +95,7 @@ pub fn remove_between(words: &mut [u64], from: usize, end: usize)
     }
 }
 
-/// The first number from one on, below another, if there is one. The time is that of the words between the two.
+/// The first member in `from..end`, if any. It takes time linear in the words of the range.
 pub fn first_between(words: &[u64], from: usize, end: usize) -> Option<usize>
     requires { end ≤ 2 ^ 32 }
     ensures none { IfNone result (NoneBetween (has_bit words.now) from end) }
@@ -116,7 +116,7 @@ pub fn first_between(words: &[u64], from: usize, end: usize) -> Option<usize>
     None
 }
 
-// How many numbers there are.
+// The number of members.
 pub(crate) fn count(words: &[u64]) -> usize
     requires { IsShort words.now }
     ensures { result ≡ length (bits_of words.now) }
@@ -128,7 +128,7 @@ pub(crate) fn count(words: &[u64]) -> usize
     total
 }
 
-// The greatest number of words of which the last is not 0.
+// The number of words up to the last one that is not 0.
 pub(crate) fn greatest(words: &[u64]) -> Option<usize>
     requires trimmed { IsTrimmed words.now }
     requires short { IsShort words.now }
@@ -139,7 +139,7 @@ pub(crate) fn greatest(words: &[u64]) -> Option<usize>
     Some(before.len() * 64 + last.ilog2() as usize)
 }
 
-// Frees the words after the last one that is not 0.
+// Truncates the words after the last one that is not 0.
 pub(crate) fn trim(words: &mut Vec<u64>)
     ensures shorter { length words.new.items ≤ length words.old.items }
     ensures trimmed { IsTrimmed words.new.items }

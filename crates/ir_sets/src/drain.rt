@@ -1,4 +1,4 @@
-//! Taking the values out of an arena.
+//! The iterator that moves the values out of a unique arena.
 
 ghost use Rattle.std.specs.Prelude.{◌≡◌, ◌≤◌, length};
 ghost use Rattle.std.specs.List.{zip};
@@ -12,10 +12,10 @@ use std::hash::Hash;
 use std::marker::{Model, PhantomData};
 use std::vec;
 
-/// The values that were taken out of an arena, in order, each with the handle that it had there and
-/// its span. In a contract it is the list of those that are still to come.
+/// The values moved out of an arena, in order, each with the handle that it had there and
+/// its span. In a contract it is the list of the remaining items.
 ///
-/// It owns them, so the arena is empty as soon as they are taken.
+/// It owns them, so the arena is empty as soon as it is drained.
 #[derive(Drop)]
 pub struct UniqueArenaDrain<T, K> {
     values: set::IntoIter<T>,
@@ -39,7 +39,7 @@ impl<T, K> Model for UniqueArenaDrain<T, K> {
 }
 
 impl<T: Eq + Hash + Drop, K> UniqueArenaDrain<T, K> {
-    // The values of an arena with these values and spans.
+    // The iterator over these values and spans.
     pub(crate) fn new(values: IndexSet<T, KeyedState>, spans: Vec<Span>) -> Self
         requires even { length spans.items ≡ length values.keys }
         requires few { length values.keys ≤ 4294967295 }

@@ -14,12 +14,12 @@ use std::alloc::{AllocError, Global};
 use std::hash::Hash;
 use std::marker::{Model, PhantomData};
 
-/// An arena, whatever its values are: what is known of it is how many handles it has. `K` is the type
+/// An arena of any kind, as a number of handles. `K` is the type parameter
 /// of its handles.
 pub trait ArenaType<K> {
     ghost handle_count: { Self → ℕ };
 
-    /// The number of values, and so of handles.
+    /// The number of values, which is the number of handles.
     fn len(&self) -> usize
         ensures value { result ≡ handle_count self.now }
         ensures in_range { handle_count self.now ≤ 4294967295 };
@@ -41,11 +41,11 @@ impl<T: Eq + Hash, K> ArenaType<K> for UniqueArena<T, K> {
     }
 }
 
-/// A set of handles: a bit for each, in words of 64 up to that of the greatest one. In a contract it is the set of their
-/// places.
+/// A set of handles: a bit for each, in words of 64 up to the word of the greatest one. In a contract it is the set of their
+/// indices.
 ///
-/// Naga's set remembers how many handles the arena has that it was made for; here
-/// [`HandleSet::all_possible`] is handed the arena.
+/// Naga's set stores the number of handles of its arena; here
+/// [`HandleSet::all_possible`] takes the arena as an argument.
 #[derive(Drop)]
 #[derive_where(Debug)]
 pub struct HandleSet<K> {
@@ -69,15 +69,15 @@ impl<K> Model for HandleSet<K> {
 }
 
 impl<K> HandleSet<K> {
-    /// A set with no handle, for those of `arena`. It allocates nothing: its room grows with its greatest
-    /// member, where naga makes room for each handle of the arena beforehand.
+    /// An empty set for the handles of `arena`. It allocates nothing, and grows up to its greatest
+    /// member, where naga allocates for each handle of the arena beforehand.
     pub fn for_arena<A: ArenaType<K>>(alloc: Global, _arena: &A) -> Self
         ensures { result ≡ set.empty }
     {
         HandleSet::new(alloc)
     }
 
-    /// The handles of `arena`, which are all that a set for it can have.
+    /// All handles of `arena`.
     pub fn all_possible<A: ArenaType<K>>(arena: &A) -> Range<K>
         ensures { result ≡ (0, A.handle_count arena.now) }
     {
@@ -94,14 +94,14 @@ impl<K> HandleSet<K> {
         }
     }
 
-    /// The number of handles. They are counted word by word, in a time that grows with the greatest handle.
+    /// The number of members, counted word by word, in time linear in the greatest member.
     pub fn len(&self) -> usize
         ensures { result ≡ set.len self.now }
     {
         bits::count(&self.words)
     }
 
-    /// Whether there is no handle.
+    /// Whether the set is empty.
     pub fn is_empty(&self) -> bool
         ensures { IsTrue result ↔ (self.now ≡ set.empty) }
     {
@@ -115,11 +115,11 @@ impl<K> HandleSet<K> {
         bits::contains(&self.words, handle.index())
     }
 
-    /// Makes `handle` a member, and answers whether it was none before.
+    /// Inserts `handle`, and returns whether it is new.
     ///
     /// # Errors
     ///
-    /// `AllocError` where there is no memory for a new member. The set then stays as it was.
+    /// `AllocError` on out of memory for a new member. The set is then unchanged.
     pub fn insert(&mut self, handle: Handle<K>) -> Result<bool, AllocError>
         ensures added { IfOk result (λ added. added ≡ not (set.contains self.old handle)) }
         ensures ok { OnOk result (self.new ≡ set.insert self.old handle) }
@@ -135,8 +135,8 @@ impl<K> HandleSet<K> {
         Ok(true)
     }
 
-    /// Takes `handle` out, and answers whether it was a member. Where it was the greatest, the words after the next one go,
-    /// each of which an earlier [`HandleSet::insert`] has added.
+    /// Removes `handle`, and returns whether it was a member. If it was the greatest, the words after the next greatest are
+    /// truncated; each of them was added by an earlier [`HandleSet::insert`], so the time is amortised.
     pub fn remove(&mut self, handle: Handle<K>) -> bool
         ensures removed { result ≡ set.contains self.old handle }
         ensures members { self.new ≡ set.remove self.old handle }
@@ -150,7 +150,7 @@ impl<K> HandleSet<K> {
         true
     }
 
-    /// Takes the greatest handle out, or answers `None` where there is none.
+    /// Removes and returns the greatest member, or `None` if the set is empty.
     pub fn pop(&mut self) -> Option<Handle<K>>
         ensures empty { IsNone result ↔ (self.old ≡ set.empty) }
         ensures member { IfSome result (λ h. IsTrue (set.contains self.old h)) }
@@ -164,21 +164,21 @@ impl<K> HandleSet<K> {
         Some(Handle::at(place))
     }
 
-    /// Takes all handles out. The set keeps its memory.
+    /// Removes all members. The set keeps its memory.
     pub fn clear(&mut self)
         ensures { self.new ≡ set.empty }
     {
         self.words.clear();
     }
 
-    /// Takes all handles out, so that those of `arena` can be put in. The set keeps its memory.
+    /// Removes all members, so that the set can be used for `arena`. The set keeps its memory.
     pub fn clear_for_arena<A: ArenaType<K>>(&mut self, _arena: &A)
         ensures { self.new ≡ set.empty }
     {
         self.clear();
     }
 
-    /// The handles in ascending order.
+    /// The members in ascending order.
     pub fn iter(&self) -> Iter<'_, K>
         ensures { ListsMembers self.now result }
     {
@@ -186,12 +186,12 @@ impl<K> HandleSet<K> {
     }
 }
 
-/// The handles of a set in ascending order. In a contract it is the list of the places of those that
-/// are still to come.
+/// The members of a set in ascending order. In a contract it is the list of the indices of the
+/// remaining members.
 #[derive(Drop)]
 pub struct Iter<'a, K> {
     words: &'a [u64],
-    // from which place on they are still to come
+    // the index from which on members are still to be yielded
     next: usize,
     as_keys: PhantomData<K>,
 }
@@ -208,7 +208,7 @@ impl<'a, K> Model for Iter<'a, K> {
 }
 
 impl<'a, K> Iter<'a, K> {
-    // An iterator over all handles of these words.
+    // An iterator over all members of these words.
     fn new(words: &'a [u64]) -> Self
         requires { AreShown words.now }
         ensures { result ≡ bits_of words.now }

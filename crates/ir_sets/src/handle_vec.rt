@@ -1,4 +1,4 @@
-//! Values that are kept by handle.
+//! Vectors that are indexed by handles.
 
 ghost use Rattle.std.specs.Prelude.{◌≡◌, ◌<◌, ◌++◌, ◌↔◌, [], ◌∷◌, Some, length, slice_get, IsTrue, IsSome, OnOk, OnErr};
 ghost use Rattle.std.specs.Option.{option_copied};
@@ -8,10 +8,10 @@ use std::alloc::{AllocError, Global};
 use std::marker::{Model, PhantomData};
 use std::ops::Index;
 
-/// A list with a value for each of the first handles of an arena, in order. In a contract it is the
+/// A vector with a value for each of the first handles of an arena, in order. In a contract it is the
 /// list of the values.
 ///
-/// `T` is that of the handles, `U` that of the values.
+/// `T` is the type parameter of the handles, `U` the type of the values.
 #[derive(Drop)]
 #[derive_where(Debug; U)]
 pub struct HandleVec<T, U> {
@@ -28,7 +28,7 @@ impl<T, U> Model for HandleVec<T, U> {
 }
 
 impl<T, U> HandleVec<T, U> {
-    /// An empty list, which allocates nothing.
+    /// An empty vector, which allocates nothing.
     pub fn new(alloc: Global) -> Self
         ensures { result ≡ [] }
     {
@@ -45,18 +45,18 @@ impl<T, U> HandleVec<T, U> {
         self.inner.len()
     }
 
-    /// Whether there is no value.
+    /// Whether the vector is empty.
     pub fn is_empty(&self) -> bool
         ensures { IsTrue result ↔ (self.now ≡ []) }
     {
         self.inner.is_empty()
     }
 
-    /// Adds the value of the next handle. Naga panics at another handle.
+    /// Appends the value of the next handle. Naga panics at any other handle.
     ///
     /// # Errors
     ///
-    /// `AllocError` where there is no memory. The list then stays as it was.
+    /// `AllocError` on out of memory. The vector is then unchanged.
     pub fn insert(&mut self, handle: Handle<T>, value: U) -> Result<(), AllocError>
     where
         U: Drop,
@@ -69,7 +69,7 @@ impl<T, U> HandleVec<T, U> {
         Ok(())
     }
 
-    /// The value of `handle`, if there is one.
+    /// The value of `handle`, if any.
     pub fn get(&self, handle: Handle<T>) -> Option<&U>
         ensures found { IsSome result ↔ (handle < length self.now) }
         ensures value { option_copied result ≡ slice_get self.now handle }
@@ -77,7 +77,7 @@ impl<T, U> HandleVec<T, U> {
         self.inner.get(handle.index())
     }
 
-    /// Frees all values. The list keeps its memory.
+    /// Drops all values. The vector keeps its memory.
     pub fn clear(&mut self)
     where
         U: Drop,

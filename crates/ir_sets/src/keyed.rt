@@ -1,22 +1,22 @@
-//! Hashers that know a key.
+//! Keyed hashers.
 
 ghost use Rattle.std.specs.Prelude.{◌≡◌};
 ghost use Rattle.ir_sets.specs.Keys.{hasher_with, hasher_of_bytes, initial_hasher};
 
 use std::hash::{BuildHasher, DefaultHasher, Hasher};
 
-/// Makes hashers that know a key: SipHash-1-3 of the key and then of what is hashed.
+/// A `BuildHasher` with a key: its hashers compute SipHash-1-3 of the key followed by the value.
 ///
-/// Which values share a place of a table then depends on the key. Attacker-controlled values get a key that is made of
-/// the bytes which bring them ([`KeyedState::of_bytes`]): whoever changes a value to let it share a place with others
-/// changes the key as well, and all places with it.
+/// Which values collide in a hash table then depends on the key. For attacker-controlled values the key is the hash of
+/// the input that contains them ([`KeyedState::of_bytes`]): whoever changes a value to make it collide with others
+/// changes the key as well, and with it all buckets.
 #[derive(Clone, Copy)]
 pub struct KeyedState {
     initial: DefaultHasher,
 }
 
 impl KeyedState {
-    /// With a key of these two numbers.
+    /// A hasher state with these two numbers as its key.
     pub fn with_keys(key0: u64, key1: u64) -> KeyedState
         ensures { initial_hasher result ≡ hasher_with key0 key1 }
     {
@@ -26,7 +26,7 @@ impl KeyedState {
         KeyedState { initial }
     }
 
-    /// With a key that is made of bytes: their hash, and the hash of them and a byte 0.
+    /// A hasher state with a key from bytes: their hash, and the hash of them followed by a byte 0.
     pub fn of_bytes(bytes: &[u8]) -> KeyedState
         ensures { initial_hasher result ≡ hasher_of_bytes bytes.now }
     {

@@ -1,11 +1,11 @@
-//! Sets of handles, values that are kept by handle, and arenas of values no two of which are equal.
+//! Sets of handles, vectors that are indexed by handles, and arenas of distinct values.
 //!
 //! The modules and names are those of naga's `arena`.
 //!
-//! In a contract a [`handle_set::HandleSet`] is the set of its handles' places, and a
+//! In a contract a [`handle_set::HandleSet`] is the set of its members' indices, and a
 //! [`handle_vec::HandleVec`] the list of its values. A [`unique_arena::UniqueArena`] is the list of its values with their
-//! spans, as an arena of [`ir_arena`] is, and keeps the values in an `IndexSet`, which looks a value up by its hash. The
-//! hashes know a key ([`keyed`]), which whoever reads attacker-controlled values makes of them.
+//! spans, like an arena of [`ir_arena`], and stores the values in an `IndexSet`, which looks a value up by its hash. The
+//! hashers have a key ([`keyed`]), which readers of attacker-controlled input derive from that input.
 #![tactic(auto)]
 
 pub mod bits;

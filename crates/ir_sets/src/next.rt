@@ -1,4 +1,4 @@
-//! For each place the first from it on that passes a test.
+//! For each index the next index that passes a test.
 
 ghost use Rattle.std.specs.Prelude.{◌≡◌, ℕ, ◌<◌, ◌≤◌, Bool, min, length, IfNone, IfOk, IfSome};
 ghost use Rattle.ir_sets.specs.Bits.{IsFirst, NoneBetween};
@@ -6,22 +6,22 @@ ghost use Rattle.ir_sets.specs.Next.{AreNext};
 
 use std::alloc::{AllocError, Global};
 
-/// A test of places.
+/// A test of indices.
 pub trait PlaceTest {
-    /// What it says of each.
+    /// The result of the test for each index.
     ghost passes: { Self → ℕ → Bool };
 
-    /// Whether a place passes.
+    /// Whether an index passes.
     fn passes(&self, place: usize) -> bool
         requires { place < 4294967295 }
         ensures { result ≡ passes self.now place };
 }
 
-/// For each place below a count the first from it on that passes, the count where none does. It looks at each place once.
+/// For each index below `count` the first one from it on that passes, `count` if none does. It tests each index once.
 ///
 /// # Errors
 ///
-/// `AllocError` where there is no memory.
+/// `AllocError` on out of memory.
 pub fn next_passing<T: PlaceTest>(
     alloc: Global,
     count: usize,
@@ -43,8 +43,8 @@ pub fn next_passing<T: PlaceTest>(
     Ok(next)
 }
 
-/// The first place from one on, below another, that passes the test of which these are the next ones ([`next_passing`]). It
-/// takes the same time for any range.
+/// The first index in `from..end` that passes the test for which `next` was computed ([`next_passing`]). It
+/// takes constant time.
 pub fn first_passing(next: &[u32], from: usize, end: usize) -> Option<usize>
     ensures within { IfSome result (λ n. n < end) }
     ensures none { IfNone result ((test : ℕ → Bool) → AreNext test (length next.now) next.now → NoneBetween test from (min end (length next.now))) }

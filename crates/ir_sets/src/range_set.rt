@@ -1,4 +1,4 @@
-//! Sets of numbers to which whole ranges are added.
+//! Sets of numbers with fast insertion of ranges.
 
 ghost use Rattle.std.specs.Prelude.{◌≡◌, ℕ, ◌+◌, ◌*◌, ◌/◌, ◌^◌, ◌<◌, ◌≤◌, true, false, length, OnOk, OnErr};
 ghost use Rattle.std.specs.Bool.{MatchBool};
@@ -10,16 +10,16 @@ use crate::bits;
 use std::alloc::{AllocError, Global};
 use std::marker::Model;
 
-/// A set of numbers, a bit for each in words of 64, with two more bits for each word: whether it counts, and whether all of its
-/// numbers are members. So to add a range, to look for one, or to take one out goes over a word for each 4096 of its numbers. In
+/// A set of numbers, a bit for each in words of 64, with two more bits for each word: whether the word is valid, and whether all of
+/// its numbers are members. So an insertion, a search or a removal of a range visits one word per 4096 numbers of the range. In
 /// a contract it is the set of the numbers.
 #[derive(Drop)]
 pub struct RangeSet {
-    // a bit for each number
+    // the bit of each number
     words: Vec<u64>,
-    // a bit for each word that counts; such a word is not 0
+    // a bit for each valid word; a valid word is not 0, and all others are ignored
     some: Vec<u64>,
-    // a bit for each word of which all numbers are members, whatever it is
+    // a bit for each word of which all numbers are members, whether valid or not
     full: Vec<u64>,
 }
 
@@ -38,7 +38,7 @@ impl Model for RangeSet {
     ghost invariant = { λ s. AreRanges s.words.items s.some.items s.full.items };
 }
 
-// Makes a word count, with the members that it had.
+// Makes a word valid, with the same members.
 fn begin(words: &mut [u64], some: &mut [u64], index: usize)
     requires within { index < length words.old }
     requires within_some { index < 64 * length some.old }
@@ -55,7 +55,7 @@ fn begin(words: &mut [u64], some: &mut [u64], index: usize)
     bits::insert(some, index);
 }
 
-// Adds numbers of one word, from one on, below another.
+// Inserts the numbers `from..end` of one word.
 fn add_part(words: &mut [u64], some: &mut [u64], from: usize, end: usize)
     requires one_word { end ≤ (from / 64 + 1) * 64 }
     requires small { end ≤ 2 ^ 32 }
@@ -74,7 +74,7 @@ fn add_part(words: &mut [u64], some: &mut [u64], from: usize, end: usize)
     bits::insert_between(words, from, end);
 }
 
-// Makes a word count whose numbers are all members.
+// Makes a full word valid, and no longer marks it as full.
 fn spell(words: &mut [u64], some: &mut [u64], full: &mut [u64], index: usize)
     requires within { index < length words.old }
     requires within_some { index < 64 * length some.old }
@@ -94,7 +94,7 @@ fn spell(words: &mut [u64], some: &mut [u64], full: &mut [u64], index: usize)
     bits::remove(full, index);
 }
 
-// Makes a word that is 0 count no more.
+// Makes a word invalid if it is 0.
 fn drop_empty(words: &[u64], some: &mut [u64], index: usize)
     requires within { index < length words.now }
     requires filled { AreFilledBut words.now some.old index }
@@ -109,7 +109,7 @@ fn drop_empty(words: &[u64], some: &mut [u64], index: usize)
     bits::remove(some, index);
 }
 
-// Takes numbers of one word out, from one on, below another.
+// Removes the numbers `from..end` of one word.
 fn take_part(words: &mut [u64], some: &mut [u64], full: &mut [u64], from: usize, end: usize)
     requires one_word { end ≤ (from / 64 + 1) * 64 }
     requires small { end ≤ 2 ^ 32 }
@@ -131,7 +131,7 @@ fn take_part(words: &mut [u64], some: &mut [u64], full: &mut [u64], from: usize,
     drop_empty(words, some, from / 64);
 }
 
-// Whether one of the numbers of one word is a member, from one on, below another.
+// Whether one of the numbers `from..end` of one word is a member.
 fn meets_part(words: &[u64], some: &[u64], full: &[u64], from: usize, end: usize) -> bool
     requires one_word { end ≤ (from / 64 + 1) * 64 }
     requires small { end ≤ 2 ^ 32 }
@@ -150,7 +150,7 @@ fn meets_part(words: &[u64], some: &[u64], full: &[u64], from: usize, end: usize
     bits::first_between(words, from, end).is_some()
 }
 
-// Whether one of the numbers of whole words is a member, from one word on, below another.
+// Whether one of the numbers of a range of whole words is a member.
 fn meets_whole(words: &[u64], some: &[u64], full: &[u64], first: usize, last: usize) -> bool
     requires small { last ≤ 2 ^ 32 }
     requires filled { AreFilled words.now some.now }
@@ -162,7 +162,7 @@ fn meets_whole(words: &[u64], some: &[u64], full: &[u64], first: usize, last: us
     bits::first_between(full, first, last).is_some()
 }
 
-// Whether one of the numbers from one on, below another, is a member.
+// Whether one of the numbers `from..end` is a member.
 fn meets_all(words: &[u64], some: &[u64], full: &[u64], from: usize, end: usize) -> bool
     requires small { end ≤ 2 ^ 32 }
     requires filled { AreFilled words.now some.now }
@@ -182,7 +182,7 @@ fn meets_all(words: &[u64], some: &[u64], full: &[u64], from: usize, end: usize)
     meets_whole(words, some, full, first, last)
 }
 
-// Adds the numbers from one on, below another.
+// Inserts the numbers `from..end`.
 fn add_all(words: &mut [u64], some: &mut [u64], full: &mut [u64], from: usize, end: usize)
     requires ordered { from < end }
     requires small { end ≤ 2 ^ 32 }
@@ -205,7 +205,7 @@ fn add_all(words: &mut [u64], some: &mut [u64], full: &mut [u64], from: usize, e
     add_part(words, some, last * 64, end);
 }
 
-// Takes the numbers from one on, below another, out.
+// Removes the numbers `from..end`.
 fn take_all(words: &mut [u64], some: &mut [u64], full: &mut [u64], from: usize, end: usize)
     requires ordered { from < end }
     requires small { end ≤ 2 ^ 32 }
@@ -229,7 +229,7 @@ fn take_all(words: &mut [u64], some: &mut [u64], full: &mut [u64], from: usize, 
     take_part(words, some, full, last * 64, end);
 }
 
-// Makes room for the numbers below `end`. Where there is no memory, room for some may have been made.
+// Makes room for the numbers below `end`. On out of memory, room for some of them may have been made.
 fn make_room(
     words: &mut Vec<u64>,
     some: &mut Vec<u64>,
@@ -259,7 +259,7 @@ fn has(words: &[u64], some: &[u64], full: &[u64], number: usize) -> bool
 }
 
 impl RangeSet {
-    /// A set with no number, which allocates nothing.
+    /// An empty set, which allocates nothing.
     pub fn new(alloc: Global) -> Self
         ensures { result ≡ set.empty }
     {
@@ -274,7 +274,7 @@ impl RangeSet {
     ///
     /// # Errors
     ///
-    /// `AllocError` where there is no memory. The set stays as it was.
+    /// `AllocError` on out of memory. The members are then unchanged.
     pub fn reserve(&mut self, end: usize) -> Result<(), AllocError>
         requires { end ≤ 2 ^ 32 }
         ensures { self.new ≡ self.old }
@@ -289,7 +289,7 @@ impl RangeSet {
         has(&self.words, &self.some, &self.full, number)
     }
 
-    /// Whether one of the numbers from one on, below another, is a member.
+    /// Whether one of the numbers `from..end` is a member.
     pub fn meets(&self, from: usize, end: usize) -> bool
         requires { end ≤ 2 ^ 32 }
         ensures { MatchBool result (SomeBetween (set.contains self.now) from end) (NoneBetween (set.contains self.now) from end) }
@@ -297,11 +297,11 @@ impl RangeSet {
         meets_all(&self.words, &self.some, &self.full, from, end)
     }
 
-    /// Makes the numbers from one on, below another, members.
+    /// Inserts the numbers `from..end`.
     ///
     /// # Errors
     ///
-    /// `AllocError` where there is no memory. The set then stays as it was.
+    /// `AllocError` on out of memory. The set is then unchanged.
     pub fn insert_between(&mut self, from: usize, end: usize) -> Result<(), AllocError>
         requires { end ≤ 2 ^ 32 }
         ensures added { OnOk result (Becomes true (set.contains self.old) (set.contains self.new) from end) }
@@ -315,7 +315,7 @@ impl RangeSet {
         Ok(())
     }
 
-    /// Takes the numbers from one on, below another, out.
+    /// Removes the numbers `from..end`.
     pub fn remove_between(&mut self, from: usize, end: usize)
         requires { end ≤ 2 ^ 32 }
         ensures { Becomes false (set.contains self.old) (set.contains self.new) from end }

@@ -1,4 +1,4 @@
-//! The arena that holds no two equal values.
+//! The arena of distinct values.
 
 ghost use Rattle.std.specs.Prelude.{◌≡◌, ◌<◌, ◌≤◌, ◌++◌, ◌↔◌, Some, true, false, [], ◌∷◌, length, map, IsTrue, IsOk, IfOk, IfErr, IfSome, IfNone, OnOk, OnErr};
 ghost use Rattle.ir_arena.specs.found.Arenas.{value_of_entry, span_of_entry, value_at, span_at, with_value, has_equal, found_at, place_of, with_entry, IsDistinctBy};
@@ -18,16 +18,16 @@ use std::marker::{Model, PhantomData};
 use std::mem;
 use std::ops::Index;
 
-/// A list of values with their spans, no two of the values equal. A value's handle is its place, so
-/// two values of the arena are equal exactly where their handles are.
+/// A list of distinct values with their spans. A value's handle is its index, so
+/// two values of the arena are equal exactly if their handles are.
 ///
-/// In a contract it is the list of the pairs of a value and its span. An arena holds at most
+/// In a contract it is the list of the pairs of a value and its span. An arena has at most
 /// 4294967295 values.
 ///
-/// Its values lie in an `IndexSet`, their spans in a list beside it. Hashers know the key that
-/// the arena was made with.
+/// Its values are in an `IndexSet`, their spans in a list of the same length. The hashers have the key that
+/// was given to the arena's constructor.
 ///
-/// Its handles are of type `Handle<K>`, as those of [`ir_arena::arena::Arena`] are.
+/// Its handles are of type `Handle<K>`, like those of [`ir_arena::arena::Arena`].
 #[derive(Drop)]
 #[derive_where(Debug; T)]
 pub struct UniqueArena<T: Eq + Hash, K = T> {
@@ -48,8 +48,8 @@ impl<T: Eq + Hash, K> Model for UniqueArena<T, K> {
     ghost invariant = { λ a. (length a.spans.items ≡ length a.values.keys) × (length a.values.keys ≤ 4294967295) };
 }
 
-/// Two arenas are equal where they have as many values, and each is equal to the other's at its place and has the same
-/// span.
+/// Two arenas are equal if they have equally many values, and the values and spans at each index are
+/// equal.
 impl<T: Eq + Hash, K> PartialEq for UniqueArena<T, K> {
     ghost use Rattle.ir_arena.specs.found.Equality.{same_entries, same_entries_per};
 
@@ -69,15 +69,15 @@ impl<T: Eq + Hash, K> Eq for UniqueArena<T, K> {
 }
 
 impl<T: Eq + Hash, K> UniqueArena<T, K> {
-    /// An empty arena, which allocates nothing. Its hashers have a key that all know; for values
-    /// that are attacker-controlled take [`UniqueArena::with_hasher`].
+    /// An empty arena, which allocates nothing. Its hashers have a publicly known key; for
+    /// attacker-controlled values use [`UniqueArena::with_hasher`].
     pub fn new(alloc: Global) -> Self
         ensures { result ≡ [] }
     {
         UniqueArena::with_hasher(alloc, KeyedState::with_keys(0, 0))
     }
 
-    /// An empty arena, which allocates nothing, whose hashers know this key.
+    /// An empty arena, which allocates nothing, whose hashers have this key.
     pub fn with_hasher(alloc: Global, hash_builder: KeyedState) -> Self
         ensures { result ≡ [] }
     {
@@ -88,11 +88,11 @@ impl<T: Eq + Hash, K> UniqueArena<T, K> {
         }
     }
 
-    /// The same with room for so many values.
+    /// An empty arena with this capacity, whose hashers have this key.
     ///
     /// # Errors
     ///
-    /// `AllocError` where there is no memory.
+    /// `AllocError` on out of memory.
     pub fn with_capacity_and_hasher(
         alloc: Global,
         count: usize,
@@ -109,12 +109,12 @@ impl<T: Eq + Hash, K> UniqueArena<T, K> {
         })
     }
 
-    /// An arena that holds the same, each value with its span. It requires that values which hold the same
-    /// compare the same, so that the copies of unequal values are unequal.
+    /// A copy of the arena: values with the same views, and the same spans. It requires that values with equal views
+    /// compare equal, so that the copies of distinct values are distinct.
     ///
     /// # Errors
     ///
-    /// `AllocError` where there is no memory.
+    /// `AllocError` on out of memory.
     pub fn clone(&self, alloc: Global) -> Result<Self, AllocError>
     where
         T: Copied + Drop,
@@ -139,7 +139,7 @@ impl<T: Eq + Hash, K> UniqueArena<T, K> {
         self.values.len()
     }
 
-    /// Whether there is no value.
+    /// Whether the arena is empty.
     pub fn is_empty(&self) -> bool
         ensures { IsTrue result ↔ (self.now ≡ []) }
     {
@@ -162,7 +162,7 @@ impl<T: Eq + Hash, K> UniqueArena<T, K> {
         self.values.as_slice()
     }
 
-    // Their spans.
+    // The spans in order.
     fn spans(&self) -> &[Span]
         ensures spans { result.now ≡ map span_of_entry self.now }
         ensures len { length result.now ≡ length self.now }
@@ -170,7 +170,7 @@ impl<T: Eq + Hash, K> UniqueArena<T, K> {
         self.spans.as_slice()
     }
 
-    // The place of the value that is equal to `value`.
+    // The index of the value that is equal to `value`.
     fn find(&self, value: &T) -> Option<usize>
         ensures value { result ≡ found_at T.eq self.now value.now }
         ensures in_range { IfSome result (λ place. (place < length self.now) × (place < 4294967295)) }
@@ -180,13 +180,13 @@ impl<T: Eq + Hash, K> UniqueArena<T, K> {
         self.values.get_index_of(value)
     }
 
-    /// The handle of the value that is equal to `value`. Where there is none, adds `value` at the
-    /// end. A value that stands already keeps its first span.
+    /// The handle of the value that is equal to `value`. If there is none, appends
+    /// `value`. A value that is present keeps its first span.
     ///
     /// # Errors
     ///
-    /// `AllocError` where there is no memory for a new value, or where 4294967295 values have taken
-    /// each index. The arena then stays as it was.
+    /// `AllocError` on out of memory for a new value, or if the arena has 4294967295 values
+    /// already. The arena is then unchanged.
     pub fn insert(&mut self, value: T, span: Span) -> Result<Handle<K>, AllocError>
     where
         T: Drop,
@@ -196,7 +196,7 @@ impl<T: Eq + Hash, K> UniqueArena<T, K> {
         ensures err { OnErr result (self.new ≡ self.old) }
         ensures err_absent { OnErr result (has_equal T.eq self.old value ≡ false) }
 
-        // where no equal value stands, it goes last
+        // a value that is equal to none is appended
         ensures appends_to { IfOk result (λ h. has_equal T.eq self.old value ≡ false → h ≡ length self.old) }
         ensures appends { OnOk result (has_equal T.eq self.old value ≡ false → self.new ≡ self.old ++ (value, span) ∷ []) }
     {
@@ -213,7 +213,7 @@ impl<T: Eq + Hash, K> UniqueArena<T, K> {
         }
     }
 
-    // Adds a value at the end that is equal to none.
+    // Appends a value that is equal to none.
     fn push(&mut self, value: T, span: Span) -> Result<(), AllocError>
     where
         T: Drop,
@@ -228,12 +228,12 @@ impl<T: Eq + Hash, K> UniqueArena<T, K> {
         Ok(())
     }
 
-    /// Puts `new` in the place of the value at `old`, whose span it takes.
+    /// Replaces the value at `old` by `new`; the span stays.
     ///
     /// # Errors
     ///
-    /// `AllocError` where there is no memory for one more value: `new` goes last before the value at
-    /// `old` gives its place to it. The arena then stays as it was.
+    /// `AllocError` on out of memory for one more value, because `new` is appended before the value at
+    /// `old` is removed. The arena is then unchanged.
     pub fn replace(&mut self, old: Handle<K>, new: T) -> Result<(), AllocError>
     where
         T: Drop,
@@ -247,7 +247,7 @@ impl<T: Eq + Hash, K> UniqueArena<T, K> {
         Ok(())
     }
 
-    /// The handle of the value that is equal to `value`, if there is one.
+    /// The handle of the value that is equal to `value`, if any.
     pub fn get(&self, value: &T) -> Option<Handle<K>>
         ensures value { result ≡ found_at T.eq self.now value.now }
         ensures in_range { IfSome result (λ h. h < length self.now) }
@@ -262,7 +262,7 @@ impl<T: Eq + Hash, K> UniqueArena<T, K> {
     ///
     /// # Errors
     ///
-    /// [`BadHandle`] where the arena has no such place.
+    /// [`BadHandle`] if the handle is not in the arena.
     pub fn get_handle(&self, handle: Handle<K>) -> Result<&T, BadHandle>
     where
         K: Kind,
@@ -280,7 +280,7 @@ impl<T: Eq + Hash, K> UniqueArena<T, K> {
         Ok(&self.values()[index])
     }
 
-    /// The span of the value at `handle`, or [`Span::UNDEFINED`] where the arena has no such place.
+    /// The span of the value at `handle`, or [`Span::UNDEFINED`] if the handle is not in the arena.
     pub fn get_span(&self, handle: Handle<K>) -> Span
         ensures { result ≡ span_at self.now handle }
     {
@@ -291,11 +291,11 @@ impl<T: Eq + Hash, K> UniqueArena<T, K> {
         Span::UNDEFINED
     }
 
-    /// Tests that the arena has the place of `handle`.
+    /// Checks that `handle` is in the arena.
     ///
     /// # Errors
     ///
-    /// [`BadHandle`] where it does not.
+    /// [`BadHandle`] if it is not.
     pub fn check_contains_handle(&self, handle: Handle<K>) -> Result<(), BadHandle>
     where
         K: Kind,
@@ -313,7 +313,7 @@ impl<T: Eq + Hash, K> UniqueArena<T, K> {
         }
     }
 
-    /// Frees all values. The arena keeps its memory.
+    /// Drops all values. The arena keeps its memory.
     pub fn clear(&mut self)
     where
         T: Drop,
@@ -323,7 +323,7 @@ impl<T: Eq + Hash, K> UniqueArena<T, K> {
         self.spans.clear();
     }
 
-    /// Takes all values into an arena of their own, and leaves this one empty. Their handles stay.
+    /// Moves all values into a new arena, and leaves this one empty. Their handles stay.
     pub fn take(&mut self) -> Self
         ensures taken { result ≡ self.old }
         ensures emptied { self.new ≡ [] }
@@ -332,7 +332,7 @@ impl<T: Eq + Hash, K> UniqueArena<T, K> {
         mem::replace(self, empty)
     }
 
-    /// Takes all values out, and leaves the arena empty.
+    /// Moves all values out, and leaves the arena empty.
     pub fn drain_all(&mut self) -> UniqueArenaDrain<T, K>
     where
         T: Drop,

@@ -1,4 +1,4 @@
--- `==` of built-ins is equality.
+-- `==` of `BuiltIn` is equality.
 use Rattle.std.proofs.Common.{◌≡◌, IsTrue, Bool, rules, inl}
 use Rattle.std.specs.Bool.{beq}
 use Rattle.ir_kinds.specs.declared.bindings.BuiltIn.{BuiltIn}
@@ -12,7 +12,7 @@ same_flag a b e = search rules
 abbrev flag : Test Bool
 flag = (beq, same_flag)
 
--- all stand alone but the position, which may be invariant, and barycentric coordinates, which may be in perspective
+-- no built-in has a field but `Position` (`invariant`) and `Barycentric` (`perspective`)
 abbrev laws : Laws enum.parts enum.make
 laws = (
   inl tt,

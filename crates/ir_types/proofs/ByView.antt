@@ -1,11 +1,11 @@
--- Types that hold the same compare the same.
+-- Types with equal views compare equal.
 use Rattle.std.proofs.Common.{◌≡◌, Bool, true, false, true≢false, refl, sym, ◌∙◌}
 use Rattle.ir_types.specs.judged.Plain.{type_view}
 use Rattle.ir_types.specs.declared.types.IrType.{IrType}
 use Rattle.ir_types.specs.contracts.types.IrTypePartialEq.TheImpl.{ghosts}
 use Rattle.ir_types.proofs.TypeEquality.{type_eq}
 
--- a truth value that holds just where another does is the other
+-- two bools that imply each other are equal
 same_truth : (x y : Bool) → (x ≡ true → y ≡ true) → (y ≡ true → x ≡ true) → x ≡ y
 same_truth true y h k = sym (h refl)
 same_truth false true h k = absurd (true≢false (sym (k refl)))

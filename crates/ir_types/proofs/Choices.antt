@@ -1,4 +1,4 @@
--- A law of a derived `==`, from one law a variant: what it takes grows with the variants, and not with their pairs.
+-- A law of a derived `==`, from one law per variant, so that the proof grows with the variants and not with their pairs.
 use Rattle.std.proofs.Common.{◌≡◌, IsTrue, Bool, true, false, true≢false, ◌&&◌, refl, sym, ap, ◌∙◌, List, [], ◌∷◌, ◌⊎◌, inl, inr}
 use denote.Struct.Field.{Field}
 use denote.Struct.Values.{Values}
@@ -13,7 +13,7 @@ both false y e = absurd (true≢false (sym e))
 abbrev pub Test : Type 0 → Type 0
 Test A = (eq : A → A → Bool) × ((a b : A) → IsTrue (eq a b) → a ≡ b)
 
--- one for each field
+-- one equality for each field
 abbrev pub Tests : List Field → Type 0
 Tests [] = Unit {0}
 Tests (F ∷ Fs) = Test F.Value × Tests Fs
@@ -30,11 +30,11 @@ same_fields (F ∷ G ∷ Fs) tests x y e =
     let h : IsTrue (tests.0.0 x.0 y.0) × IsTrue (all_equal (G ∷ Fs) tests.1 x.1 y.1) = both _ _ e in
     λ i. (tests.0.1 x.0 y.0 h.0 i, same_fields (G ∷ Fs) tests.1 x.1 y.1 h.1 i)
 
--- the `==` of the fields of one variant, and that it says what a view gives of them
+-- the `==` of the fields of one variant, and that it agrees with equality of the views
 abbrev pub Law : {W : Type 0} (Fs : List Field) → (Values Fs → W) → Type 0
 Law Fs view = (eq : Values Fs → Values Fs → Bool) × ((x y : Values Fs) → IsTrue (eq x y) → view x ≡ view y)
 
--- for each variant its fields' tests, or such a law
+-- for each variant its fields' equalities, or such a law
 abbrev pub Laws : {W : Type 0} (Fss : List (List Field)) → (Choice Fss → W) → Type 0
 Laws [] view = Unit {0}
 Laws (Fs ∷ Fss) view = (Tests Fs ⊎ Law Fs (λ x. view (inl x))) × Laws Fss (λ c. view (inr c))
@@ -60,7 +60,7 @@ same_choice (Fs ∷ Fss) view laws (inl x) (inr d) e = absurd (true≢false (sym
 same_choice (Fs ∷ Fss) view laws (inr c) (inl y) e = absurd (true≢false (sym e))
 same_choice (Fs ∷ Fss) view laws (inr c) (inr d) e = same_choice Fss (λ k. view (inr k)) laws.1 c d e
 
--- what is `==` has one view
+-- values that are `==` have equal views
 pub same_view : {W : Type 0} (N : Record) (view : N.D → W) (laws : Laws N.parts (λ c. view (N.make c))) (a b : N.D)
     → IsTrue (by false false N.parts (equalities N.parts (λ c. view (N.make c)) laws) (N.as_values a) (N.as_values b)) → view a ≡ view b
 same_view N view laws a b e =

@@ -1,4 +1,4 @@
--- Spans that are known, by what a clause sees of them.
+-- Defined spans, by their views.
 use Rattle.std.proofs.Common.{◌≡◌, ◌<◌, ℕ, zero, suc, true, List, [], ◌∷◌, String, Global, map, length, slice_index_or, refl, sym, ap, ◌∙◌, arith}
 use Rattle.std.proofs.lemmas.List.{length-map}
 use Rattle.std.specs.List.{AllPass}
@@ -11,7 +11,7 @@ span_got [] k d = refl
 span_got (x ∷ xs) zero d = refl
 span_got (x ∷ xs) (suc k) d = span_got xs k d
 
--- a list that is seen as one of known spans has known spans
+-- a list whose view is one of defined spans has defined spans
 pub known_alike : (xs ys : List (Span × String Global)) → map context_of xs ≡ map context_of ys → AllPass (λ context. is_defined_span context.0) ys → AllPass (λ context. is_defined_span context.0) xs
 known_alike xs ys e known k d within =
     let alike = span_got xs k d ∙ (ap (λ l. (slice_index_or l k (context_of d)).0) e ∙ sym (span_got ys k d)) in

@@ -1,4 +1,4 @@
--- `==` of plain words is equality, and so is that of what may be missing; and as tests of fields.
+-- `==` of enums without fields is equality, and so is that of options; and both as equalities of fields.
 use Rattle.std.proofs.Common.{◌≡◌, IsTrue, rules, true, false, true≢false, Bool, refl, sym, Option, Some, None, ◌&&◌, ap, ℕ, nat_eq, List, [], ◌∷◌, map, inl}
 use Rattle.std.specs.Bool.{beq}
 use Rattle.std.specs.Option.{option_eq}
@@ -23,7 +23,7 @@ use Rattle.ir_kinds.specs.contracts.bindings.BindingPartialEq.TheImpl as bound
 use Rattle.ir_types.proofs.BuiltIns.{same_built_in}
 use Rattle.ir_types.proofs.Choices.{Test, Laws, both, same_view}
 
--- where `==` of some values is equality, so is that of what may be missing, and of lists of them by what they hold
+-- if `==` of some values is equality, so is that of options and lists of them, by their views
 pub same_option : {A : Type 0} (eq : A → A → Bool) → ((a b : A) → IsTrue (eq a b) → a ≡ b) → (x y : Option A) → IsTrue (option_eq eq x y) → x ≡ y
 same_option eq same None None e = refl
 same_option eq same None (Some y) e = absurd (true≢false (sym e))

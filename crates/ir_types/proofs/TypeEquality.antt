@@ -1,4 +1,4 @@
--- `==` of types is equality of what they hold.
+-- `==` of types is equality of their views.
 use Rattle.std.proofs.Common.{◌≡◌, ◌↔◌, IsTrue, rules, true, false, true≢false, Bool, refl, ap, subst, sym, ◌∙◌, Option, Some, None, ◌&&◌, ℕ, nat_eq, List, [], ◌∷◌, map, option_map, string_bytes, inl, inr}
 use Rattle.std.specs.Bool.{beq}
 use Rattle.std.specs.String.{string_eq}
@@ -104,7 +104,7 @@ same_structs ms ms2 n n2 e =
     let h1 : IsTrue (pointwise of_member.ghosts.eq ms.items ms2.items) × IsTrue (nat_eq n n2) = both _ _ e in
     λ i. struct (same_list member_view of_member.ghosts.eq same_member ms.items ms2.items h1.0 i) (same_number n n2 h1.1 i)
 
--- in the order in which they are declared
+-- in the order of declaration
 abbrev laws : Laws types.enum.parts (λ c. inner_view (types.enum.make c))
 laws = (
   inl (scalar_test, tt),
@@ -150,12 +150,12 @@ laws = (
 same_inner : (a b : TypeInner) → IsTrue (of_inner.ghosts.eq a b) → inner_view a ≡ inner_view b
 same_inner a b e = same_view types.enum inner_view laws a b e
 
--- ---- what holds the same compares equal
+-- ---- equal views compare equal
 
 some_is : {A : Type 0} (x y : A) → Some x ≡ Some y → x ≡ y
 some_is x y e = cc
 
--- the inner form that is no struct
+-- the inner type is no struct
 abbrev unplain : PlainInner → Option TypeInner
 unplain (struct members span) = None
 unplain (plain t) = Some t

@@ -1,4 +1,4 @@
-//! Spans with their descriptions.
+//! Copies of labelled spans.
 
 ghost use Rattle.std.specs.Prelude.{◌≡◌, [], map, IsOk, IfOk};
 ghost use Rattle.ir_types.specs.found.Faults.{context_of};
@@ -6,7 +6,7 @@ ghost use Rattle.ir_types.specs.found.Faults.{context_of};
 use crate::with_span::SpanContext;
 use std::alloc::{AllocError, Global};
 
-// The same spans with the same descriptions, in memory of their own. It fails where that is wanting.
+// The same labelled spans in memory of their own. The error is out of memory.
 pub(crate) fn copy_contexts(
     alloc: Global,
     contexts: &[SpanContext],

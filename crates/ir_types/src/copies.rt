@@ -1,4 +1,4 @@
-// Types that are copied with an arena.
+// Types implement `Copied`, so that an arena of them can be cloned.
 use crate::types::IrType;
 use ir_arena::copied::Copied;
 use std::alloc::{AllocError, Global};

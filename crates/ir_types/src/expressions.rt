@@ -12,28 +12,28 @@ use ir_kinds::{
 };
 use std::alloc::{AllocError, Global};
 
-/// How much of an image's detail a sample takes (naga's `SampleLevel`).
+/// The level of detail of an image sample (naga's `SampleLevel`).
 #[derive(Clone, Copy, PartialEq, Debug)]
 pub enum SampleLevel {
-    /// By the derivatives of the coordinate.
+    /// Computed from the derivatives of the coordinate.
     Auto,
-    /// The finest.
+    /// Level zero.
     Zero,
-    /// This one.
+    /// This level.
     Exact(Handle<key::Expression>),
-    /// As `Auto` does, with this added.
+    /// As `Auto`, with this bias added.
     Bias(Handle<key::Expression>),
-    /// By how fast the coordinate is said to change.
+    /// Computed from these gradients of the coordinate.
     Gradient {
-        /// From one fragment to the next on the right.
+        /// The gradient in x.
         x: Handle<key::Expression>,
-        /// From one fragment to the next below.
+        /// The gradient in y.
         y: Handle<key::Expression>,
     },
 }
 
 impl SampleLevel {
-    /// Whether it requires derivatives that are taken from neighbouring fragments.
+    /// Whether it requires implicit derivatives, which are taken across neighbouring fragments.
     pub fn implicit_derivatives(self) -> bool
         ensures { result ≡ implicit_derivatives self }
     {
@@ -44,124 +44,124 @@ impl SampleLevel {
     }
 }
 
-/// What is required of an image (naga's `ImageQuery`).
+/// A query of an image (naga's `ImageQuery`).
 #[derive(Clone, Copy, PartialEq, Debug)]
 pub enum ImageQuery {
-    /// How many texels it has each way.
+    /// The size in texels.
     Size {
-        /// At which level of detail; the finest where there is none.
+        /// The level of detail; level zero if `None`.
         level: Option<Handle<key::Expression>>,
     },
-    /// How many levels of detail it has.
+    /// The number of mip levels.
     NumLevels,
-    /// How many layers it has.
+    /// The number of array layers.
     NumLayers,
-    /// How many samples a texel has.
+    /// The number of samples per texel.
     NumSamples,
 }
 
-/// The memory that a cooperative matrix is loaded from or stored to (naga's `CooperativeData`).
+/// The memory operand of a cooperative load or store (naga's `CooperativeData`).
 #[derive(Clone, Copy, PartialEq, Debug)]
 pub struct CooperativeData {
-    /// Where the first scalar lies.
+    /// A pointer to the first scalar.
     pub pointer: Handle<key::Expression>,
-    /// From the beginning of one row or column to that of the next, in scalars.
+    /// The stride between rows or columns, in scalars.
     pub stride: Handle<key::Expression>,
-    /// Whether rows lie one after the other, and not columns.
+    /// Whether the layout is row-major.
     pub row_major: bool,
 }
 
-/// What is computed in a function or at the module's top (naga's `Expression`).
+/// An expression of a function, or a global expression (naga's `Expression`).
 #[derive(PartialEq, Debug, Drop)]
 pub enum Expression {
-    /// A value that is written.
+    /// A literal.
     Literal(Literal),
-    /// A constant of the module.
+    /// A constant.
     Constant(Handle<key::Constant>),
-    /// An override of the module.
+    /// An override.
     Override(Handle<key::Override>),
-    /// The zero of a type.
+    /// The zero value of a type.
     ZeroValue(Handle<key::IrType>),
-    /// A value made of parts.
+    /// A composite of components.
     Compose {
-        /// Its type.
+        /// The type of the composite.
         ty: Handle<key::IrType>,
-        /// The parts in order.
+        /// The components in order.
         components: Vec<Handle<key::Expression>>,
     },
-    /// A part at an index that is computed.
+    /// An access with a computed index.
     Access {
-        /// What has the part.
+        /// The composite, or a pointer to it.
         base: Handle<key::Expression>,
-        /// Which part.
+        /// The index.
         index: Handle<key::Expression>,
     },
-    /// A part at an index that is written.
+    /// An access with an index that is known statically.
     AccessIndex {
-        /// What has the part.
+        /// The composite, or a pointer to it.
         base: Handle<key::Expression>,
-        /// Which part.
+        /// The index.
         index: u32,
     },
-    /// A vector with one scalar everywhere.
+    /// A vector with all components equal to a scalar.
     Splat {
-        /// How many.
+        /// The size of the vector.
         size: VectorSize,
         /// The scalar.
         value: Handle<key::Expression>,
     },
-    /// A vector of components of another.
+    /// A vector of components of another vector.
     Swizzle {
-        /// How many.
+        /// The size of the result.
         size: VectorSize,
-        /// The other.
+        /// The vector.
         vector: Handle<key::Expression>,
-        /// Which component each is; as many count as the size says.
+        /// The components; the first `size` of them count.
         pattern: [SwizzleComponent; 4],
     },
-    /// The function's argument at this index.
+    /// The function argument at this index.
     FunctionArgument(u32),
-    /// A global variable: a pointer to it, or what it is where it is a handle.
+    /// A global variable: a pointer to it, or its value in the address space `Handle`.
     GlobalVariable(Handle<key::GlobalVariable>),
-    /// A pointer to a local variable of the function.
+    /// A pointer to a local variable.
     LocalVariable(Handle<key::LocalVariable>),
-    /// What lies where a pointer points.
+    /// A load through a pointer.
     Load {
         /// The pointer.
         pointer: Handle<key::Expression>,
     },
-    /// A sample of an image.
+    /// An image sample.
     ImageSample {
         /// The image.
         image: Handle<key::Expression>,
         /// The sampler.
         sampler: Handle<key::Expression>,
-        /// Which component of four texels is gathered, if that is what is done.
+        /// The component that is gathered, if it is a gather.
         gather: Option<SwizzleComponent>,
-        /// Where it is sampled.
+        /// The texture coordinate.
         coordinate: Handle<key::Expression>,
-        /// In which layer.
+        /// The array layer.
         array_index: Option<Handle<key::Expression>>,
-        /// How many texels beside that place.
+        /// The offset in texels.
         offset: Option<Handle<key::Expression>>,
-        /// At which level of detail.
+        /// The level of detail.
         level: SampleLevel,
-        /// What the depth is compared with.
+        /// The depth reference value of a comparison.
         depth_ref: Option<Handle<key::Expression>>,
-        /// Whether the coordinate is kept off the border by half a texel.
+        /// Whether the coordinate is clamped to half a texel from the edge.
         clamp_to_edge: bool,
     },
-    /// A texel of an image.
+    /// A load of a texel.
     ImageLoad {
         /// The image.
         image: Handle<key::Expression>,
-        /// Which texel.
+        /// The texel coordinate.
         coordinate: Handle<key::Expression>,
-        /// In which layer.
+        /// The array layer.
         array_index: Option<Handle<key::Expression>>,
-        /// Which sample of it.
+        /// The sample index.
         sample: Option<Handle<key::Expression>>,
-        /// At which level of detail.
+        /// The level of detail.
         level: Option<Handle<key::Expression>>,
     },
     /// An image query.
@@ -171,126 +171,126 @@ pub enum Expression {
         /// The query.
         query: ImageQuery,
     },
-    /// A unary operation.
+    /// A unary expression.
     Unary {
-        /// The operation.
+        /// The operator.
         op: UnaryOperator,
-        /// The value.
+        /// The operand.
         expr: Handle<key::Expression>,
     },
-    /// An operation on two values.
+    /// A binary expression.
     Binary {
-        /// The operation.
+        /// The operator.
         op: BinaryOperator,
-        /// The first.
+        /// The left operand.
         left: Handle<key::Expression>,
-        /// The second.
+        /// The right operand.
         right: Handle<key::Expression>,
     },
     /// A selection: one of two values.
     Select {
-        /// The condition, component by component where it is a vector.
+        /// The condition, which selects component by component if it is a vector.
         condition: Handle<key::Expression>,
-        /// What is taken where it holds.
+        /// The value if true.
         accept: Handle<key::Expression>,
-        /// What is taken where it doesn't.
+        /// The value if false.
         reject: Handle<key::Expression>,
     },
-    /// A derivative of a value in screen space.
+    /// A derivative in screen space.
     Derivative {
         /// The axis.
         axis: DerivativeAxis,
-        /// How finely it is taken.
+        /// The precision.
         ctrl: DerivativeControl,
-        /// The value.
+        /// The operand.
         expr: Handle<key::Expression>,
     },
-    /// A relational function.
+    /// A call of a relational function.
     Relational {
         /// The function.
         fun: RelationalFunction,
-        /// The value.
+        /// The argument.
         argument: Handle<key::Expression>,
     },
-    /// A math function.
+    /// A call of a math function.
     Math {
         /// The function.
         fun: MathFunction,
-        /// Its first argument.
+        /// The first argument.
         arg: Handle<key::Expression>,
-        /// Its second argument.
+        /// The second argument.
         arg1: Option<Handle<key::Expression>>,
-        /// Its third argument.
+        /// The third argument.
         arg2: Option<Handle<key::Expression>>,
-        /// Its fourth argument.
+        /// The fourth argument.
         arg3: Option<Handle<key::Expression>>,
     },
-    /// A conversion to another kind of scalar.
+    /// A cast to another scalar kind.
     As {
-        /// The value.
+        /// The operand.
         expr: Handle<key::Expression>,
-        /// The kind.
+        /// The new scalar kind.
         kind: ScalarKind,
-        /// How many bytes the scalar then has; where there is none, the same bits are read anew.
+        /// The new width in bytes of a conversion; a bitcast if `None`.
         convert: Option<Bytes>,
     },
     /// The result of a call of this function.
     CallResult(Handle<key::Function>),
     /// The result of an atomic operation.
     AtomicResult {
-        /// Its type.
+        /// The type of the result.
         ty: Handle<key::IrType>,
-        /// Whether it is the answer of an exchange that compares.
+        /// Whether the operation is a compare-exchange.
         comparison: bool,
     },
     /// The result of a uniform load of workgroup memory.
     WorkGroupUniformLoadResult {
-        /// Its type.
+        /// The type of the result.
         ty: Handle<key::IrType>,
     },
-    /// The length of the runtime-sized array that a pointer points to, in elements.
+    /// The length of a runtime-sized array, by a pointer to it.
     ArrayLength(Handle<key::Expression>),
-    /// The vertices of the triangle that a ray hit.
+    /// The vertex positions of the triangle that the ray hit.
     RayQueryVertexPositions {
         /// The ray query.
         query: Handle<key::Expression>,
-        /// Whether the hit is the one that was settled on.
+        /// Whether it is the committed intersection, or else the candidate.
         committed: bool,
     },
-    /// The result of proceeding with a ray query: whether it went on.
+    /// The result of a `Proceed` of a ray query: whether there is another candidate.
     RayQueryProceedResult,
-    /// The intersection that a ray query found.
+    /// An intersection of a ray query.
     RayQueryGetIntersection {
         /// The ray query.
         query: Handle<key::Expression>,
-        /// Whether the hit is the one that was settled on.
+        /// Whether it is the committed intersection, or else the candidate.
         committed: bool,
     },
     /// The result of a subgroup ballot.
     SubgroupBallotResult,
     /// The result of a subgroup operation.
     SubgroupOperationResult {
-        /// Its type.
+        /// The type of the result.
         ty: Handle<key::IrType>,
     },
     /// A load of a cooperative matrix.
     CooperativeLoad {
-        /// How many columns.
+        /// The number of columns.
         columns: CooperativeSize,
-        /// How many scalars a column has.
+        /// The number of rows.
         rows: CooperativeSize,
-        /// Which operand of a product it is.
+        /// The role in a multiply-add.
         role: CooperativeRole,
         /// The memory (naga's `data`).
         block: CooperativeData,
     },
-    /// The product of two cooperative matrices, with a third added.
+    /// A multiply-add of cooperative matrices, `a * b + c`.
     CooperativeMultiplyAdd {
-        /// The first.
+        /// The left factor.
         a: Handle<key::Expression>,
-        /// The second.
+        /// The right factor.
         b: Handle<key::Expression>,
-        /// The third.
+        /// The addend.
         c: Handle<key::Expression>,
     },
 }
@@ -308,8 +308,8 @@ impl Copied for Expression {
 }
 
 impl Expression {
-    /// Whether it is in scope everywhere in its function and is never emitted: literals, constants, overrides, zeros,
-    /// arguments and variables.
+    /// Whether the expression is in scope in the whole function and never emitted: literals, constants, overrides, zero
+    /// values, arguments and variables.
     pub fn needs_pre_emit(&self) -> bool
         ensures { result ≡ always_in_scope self.now }
     {
@@ -351,7 +351,7 @@ impl Expression {
         }
     }
 
-    /// Whether an access at this index is dynamic: it is neither a literal, nor a constant, nor a zero.
+    /// Whether an access with this index is dynamic: the index is neither a literal, nor a constant, nor a zero value.
     pub fn is_dynamic_index(&self) -> bool
         ensures { result ≡ is_dynamic self.now }
     {
@@ -404,7 +404,7 @@ impl Expression {
         }
     }
 
-    // An equal expression, where it holds no list.
+    // An equal expression, if it is no `Compose`.
     fn copy_plain(&self) -> Expression
         requires { IsPlain (expression_view self.now) }
         ensures { expression_view result ≡ expression_view self.now }
@@ -435,7 +435,7 @@ impl Expression {
         }
     }
 
-    // An equal expression that computes something of its operands.
+    // An equal expression of a kind that computes on its operands.
     fn copy_computed(&self) -> Expression
         requires { IsComputed self.now }
         ensures { expression_view result ≡ expression_view self.now }
@@ -484,7 +484,7 @@ impl Expression {
         }
     }
 
-    // An equal expression that is found in an image.
+    // An equal expression on an image, or of the kinds below.
     fn copy_found(&self) -> Expression
         requires { IsImageOrResult self.now }
         ensures { expression_view result ≡ expression_view self.now }
@@ -529,7 +529,7 @@ impl Expression {
         }
     }
 
-    // An equal expression that denotes what a statement answered, or that is of rays or of cooperative matrices.
+    // An equal result of a statement, or an equal expression of ray queries or cooperative matrices.
     fn copy_result(&self) -> Expression
         requires { IsResult self.now }
         ensures { expression_view result ≡ expression_view self.now }

@@ -1,11 +1,11 @@
-// Names for the lists that a handle may point into: `Handle<key::Expression>` is a place in a function's expressions.
+// Tags for the arenas that a handle may index: `Handle<key::Expression>` is an index into a function's expressions.
 //
-// They stand in place of the items' own types, so that no item leads back to itself through a handle. Each has the word
-// that the errors of its handles tell.
+// They replace the items' own types as the handles' type parameter, so that no item's type is recursive through a handle. Each
+// has the word that `BadHandle` errors report.
 
 use ir_arena::handle::Kind;
 
-/// The module's types.
+/// Tag of the module's types.
 #[derive(Clone, Copy)]
 pub enum IrType {}
 
@@ -19,7 +19,7 @@ impl Kind for IrType {
     }
 }
 
-/// The module's constants.
+/// Tag of the module's constants.
 #[derive(Clone, Copy)]
 pub enum Constant {}
 
@@ -33,7 +33,7 @@ impl Kind for Constant {
     }
 }
 
-/// The module's overrides.
+/// Tag of the module's overrides.
 #[derive(Clone, Copy)]
 pub enum Override {}
 
@@ -47,7 +47,7 @@ impl Kind for Override {
     }
 }
 
-/// The module's global variables.
+/// Tag of the module's global variables.
 #[derive(Clone, Copy)]
 pub enum GlobalVariable {}
 
@@ -61,7 +61,7 @@ impl Kind for GlobalVariable {
     }
 }
 
-/// A function's local variables.
+/// Tag of a function's local variables.
 #[derive(Clone, Copy)]
 pub enum LocalVariable {}
 
@@ -75,7 +75,7 @@ impl Kind for LocalVariable {
     }
 }
 
-/// A function's expressions, or the module's global expressions.
+/// Tag of a function's expressions, or the module's global expressions.
 #[derive(Clone, Copy)]
 pub enum Expression {}
 
@@ -89,7 +89,7 @@ impl Kind for Expression {
     }
 }
 
-/// The module's functions.
+/// Tag of the module's functions.
 #[derive(Clone, Copy)]
 pub enum Function {}
 
@@ -103,7 +103,7 @@ impl Kind for Function {
     }
 }
 
-/// The module's nodes of diagnostic filters.
+/// Tag of the module's diagnostic filter nodes.
 #[derive(Clone, Copy)]
 pub enum DiagnosticFilterNode {}
 

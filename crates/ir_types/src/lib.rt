@@ -1,6 +1,6 @@
-//! The types and the expressions of the IR, and the names of the lists that handles point into.
+//! The types and the expressions of the IR, and the tags of the arenas that handles index.
 //!
-//! Errors with the parts of the source that they speak of, and the answer of checking calls. Their names are those of naga's
+//! Also errors with labelled spans, and the error type of validating calls. The names are those of naga's
 //! `span`; [`refusal::Refusal`] is this project's own.
 #![tactic(auto)]
 

@@ -1,4 +1,4 @@
-// The type of a literal.
+// The scalar and the inner type of a literal.
 ghost use Rattle.std.specs.Prelude.{◌≡◌};
 ghost use Rattle.ir_kinds.specs.declared.scalars.Scalar.{Scalar};
 ghost use Rattle.ir_types.specs.judged.Plain.{plain, inner_view};
@@ -7,12 +7,12 @@ ghost use Rattle.ir_types.specs.declared.types.TypeInner.TheVariants as inner;
 use crate::types::TypeInner;
 use ir_kinds::Literal;
 
-/// What a literal has that needs types (calls of naga's `Literal`).
+/// The methods of naga's `Literal` that need types.
 pub trait LiteralExt: Sized {
-    /// Its scalar.
+    /// The scalar type.
     ghost scalar_of: { Self → Scalar };
 
-    /// What its type is made of: its scalar (naga's `Literal::ty_inner`).
+    /// The inner type: its scalar (naga's `Literal::ty_inner`).
     fn ty_inner(self) -> TypeInner
         ensures { inner_view result ≡ plain (inner.Scalar (scalar_of self)) };
 }

@@ -1,14 +1,14 @@
-//! The answer of checking calls.
+//! The error type of validating calls.
 
 use crate::with_span::WithSpan;
 use std::alloc::{AllocError, AllocFailed};
 
-/// Why a checking call gives no answer: there is no memory, or what it checks has a fault.
+/// Why a validating call fails: out of memory, or the input is invalid.
 #[derive(PartialEq, Debug, Drop)]
 pub enum Refusal<E> {
-    /// A growth was refused.
+    /// An allocation failed.
     Memory(AllocError),
-    /// What was checked breaks a rule.
+    /// The input breaks a rule.
     Fault(WithSpan<E>),
 }
 
@@ -40,7 +40,7 @@ impl<T: Drop, E> From<AllocFailed<T>> for Refusal<E> {
 
     ghost from_gives = { λ _ r. r ≡ Memory alloc_error };
 
-    /// The refusal of a growth whose value is dropped.
+    /// Out of memory; the value that was not added is dropped.
     fn from(_refused: AllocFailed<T>) -> Self {
         Refusal::Memory(AllocError)
     }

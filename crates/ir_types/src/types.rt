@@ -10,14 +10,14 @@ use ir_kinds::{
 };
 use std::alloc::{AllocError, Global};
 
-/// How many elements an array has (naga's `ArraySize`).
+/// The size of an array (naga's `ArraySize`).
 #[derive(Clone, Copy, PartialEq, Eq, Hash, Debug)]
 pub enum ArraySize {
-    /// So many; at least one.
+    /// A constant size, at least one.
     Constant(u32),
-    /// As many as an override says.
+    /// An override-sized array.
     Pending(Handle<key::Override>),
-    /// As many as the buffer holds.
+    /// A runtime-sized array.
     Dynamic,
 }
 
@@ -28,117 +28,117 @@ pub struct StructMember {
     pub name: Option<String>,
     /// Its type.
     pub ty: Handle<key::IrType>,
-    /// What binds it at an interface of a stage, if anything.
+    /// The binding, if it is an input or output of a shader stage.
     pub binding: Option<Binding>,
-    /// Where it begins, in bytes from the struct's beginning.
+    /// The offset from the start of the struct, in bytes.
     pub offset: u32,
 }
 
-/// What a type is made of (naga's `TypeInner`).
+/// The shape of a type (naga's `TypeInner`).
 #[derive(Clone, PartialEq, Eq, Hash, Debug, Drop)]
 pub enum TypeInner {
     /// A scalar.
     Scalar(Scalar),
-    /// Scalars in a row.
+    /// A vector.
     Vector {
-        /// How many.
+        /// The number of components.
         size: VectorSize,
-        /// What each is.
+        /// The component type.
         scalar: Scalar,
     },
-    /// Column vectors in a row.
+    /// A matrix.
     Matrix {
-        /// How many columns.
+        /// The number of columns.
         columns: VectorSize,
-        /// How many scalars a column has.
+        /// The number of rows.
         rows: VectorSize,
-        /// What each is.
+        /// The component type.
         scalar: Scalar,
     },
-    /// A matrix that invocations work on together.
+    /// A cooperative matrix, which the invocations of a subgroup share.
     CooperativeMatrix {
-        /// How many columns.
+        /// The number of columns.
         columns: CooperativeSize,
-        /// How many scalars a column has.
+        /// The number of rows.
         rows: CooperativeSize,
-        /// What each is.
+        /// The component type.
         scalar: Scalar,
-        /// Which operand of a product it is.
+        /// The role in a multiply-add.
         role: CooperativeRole,
     },
-    /// An atomic scalar.
+    /// An atomic.
     Atomic(Scalar),
-    /// A pointer to a value of a type of the module.
+    /// A pointer to a type of the module.
     Pointer {
-        /// The type that it points to.
+        /// The pointee type.
         base: Handle<key::IrType>,
-        /// Where the value lies.
+        /// The address space.
         space: AddressSpace,
     },
-    /// A pointer to a scalar or a vector.
+    /// A pointer to a scalar or a vector, whose pointee type need not be in the module.
     ValuePointer {
-        /// How many scalars the vector has; a scalar where there is none.
+        /// The size of the vector; a scalar if `None`.
         size: Option<VectorSize>,
-        /// What each is.
+        /// The scalar type.
         scalar: Scalar,
-        /// Where the value lies.
+        /// The address space.
         space: AddressSpace,
     },
-    /// Elements of one type in a row.
+    /// An array.
     Array {
-        /// The elements' type.
+        /// The element type.
         base: Handle<key::IrType>,
-        /// How many.
+        /// The size.
         size: ArraySize,
-        /// From the beginning of one to that of the next, in bytes.
+        /// The stride between elements, in bytes.
         stride: u32,
     },
-    /// Members of several types.
+    /// A struct.
     Struct {
-        /// The members in order.
+        /// The members, in order.
         members: Vec<StructMember>,
-        /// How long the whole is, in bytes.
+        /// The size of the struct, in bytes.
         span: u32,
     },
     /// An image.
     Image {
-        /// How many dimensions it has.
+        /// The dimension.
         dim: ImageDimension,
-        /// Whether it is one of several layers.
+        /// Whether it is an array of images.
         arrayed: bool,
-        /// What its texels are.
+        /// The class: sampled, depth, external or storage.
         class: ImageClass,
     },
     /// A sampler.
     Sampler {
-        /// Whether it compares depths.
+        /// Whether it is a comparison sampler.
         comparison: bool,
     },
-    /// What rays are traced in.
+    /// An acceleration structure.
     AccelerationStructure {
-        /// Whether a hit gives the vertices.
+        /// Whether ray queries on it may return vertex positions.
         vertex_return: bool,
     },
     /// A ray query.
     RayQuery {
-        /// Whether a hit gives the vertices.
+        /// Whether it may return vertex positions.
         vertex_return: bool,
     },
-    /// Resources of one type in a row.
+    /// A binding array of resources.
     BindingArray {
-        /// The elements' type.
+        /// The type of an element.
         base: Handle<key::IrType>,
-        /// How many.
+        /// The size.
         size: ArraySize,
     },
 }
 
-/// A type with the name that it may have (naga's `Type`).
+/// A type with an optional name (naga's `Type`).
 #[derive(PartialEq, Eq, Hash, Debug, Drop)]
 pub struct IrType {
     /// The name in the source, if any.
     pub name: Option<String>,
-    /// What it is made of.
+    /// The inner type.
     pub inner: TypeInner,
 }
 
@@ -177,7 +177,7 @@ fn clone_members(alloc: Global, members: &[StructMember]) -> Result<Vec<StructMe
 }
 
 impl TypeInner {
-    /// An equal inner form in memory of its own. The error is out of memory.
+    /// An equal inner type in memory of its own. The error is out of memory.
     pub fn clone(&self, alloc: Global) -> Result<TypeInner, AllocError>
         ensures { IfOk result (λ copy. inner_view copy ≡ inner_view self.now) }
     {

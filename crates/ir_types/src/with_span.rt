@@ -1,4 +1,4 @@
-//! Errors with the parts of the source that they speak of.
+//! Errors with labelled spans of the source.
 
 ghost use Rattle.std.specs.Prelude.{◌≡◌, ◌++◌, [], map, string_bytes, IsTrue, IsOk, IfOk, IfErr, OnErr};
 ghost use Rattle.std.specs.List.{AllPass};
@@ -12,10 +12,10 @@ use std::error::Error;
 use std::fmt::{self, Display};
 use std::slice;
 
-/// A part of the source, and a text that says what stands there.
+/// A span, and the label that says what is there.
 pub type SpanContext = (Span, String);
 
-/// An error with the parts of the source that it speaks of, each of which is known.
+/// An error with labelled spans, each of which is defined (naga's `WithSpan`).
 #[derive(PartialEq, Debug, Drop)]
 pub struct WithSpan<E> {
     inner: E,
@@ -37,12 +37,12 @@ impl<E> WithSpan<E> {
         }
     }
 
-    /// An error with the same spans and the same descriptions, in memory of its own, whose inner error is a clone of
+    /// An error with the same labelled spans in memory of its own, whose inner error is a clone of
     /// this one's.
     ///
     /// # Errors
     ///
-    /// Where there is no memory. An error with no span needs none beyond what the clone of the inner one needs.
+    /// Out of memory. An error without spans needs no memory beyond that of the inner clone.
     #[tactic(auto, using(crate::proofs::Known::known_alike))]
     pub fn clone(&self, alloc: Global) -> Result<Self, AllocError>
     where
@@ -56,14 +56,14 @@ impl<E> WithSpan<E> {
         Ok(WithSpan { inner, spans })
     }
 
-    /// The error itself.
+    /// The inner error.
     pub fn as_inner(&self) -> &E
         ensures { result.now ≡ error_of self.now }
     {
         &self.inner
     }
 
-    /// The error itself, without its spans.
+    /// The inner error, without its spans.
     pub fn into_inner(self) -> E
         ensures { result ≡ error_of self }
     {
@@ -71,7 +71,7 @@ impl<E> WithSpan<E> {
         inner
     }
 
-    /// The spans, each with its description, in the order in which they were added.
+    /// The labelled spans, in the order in which they were added.
     pub fn spans(&self) -> slice::Iter<'_, SpanContext>
         ensures spans { map context_of (iter_rest result) ≡ spans_of self.now }
         ensures known { AllPass (λ context. is_defined_span context.0) (spans_of self.now) }
@@ -79,12 +79,12 @@ impl<E> WithSpan<E> {
         self.spans.iter()
     }
 
-    /// The error with one more span, and a text that says what stands there. A span that is not known
-    /// is not added.
+    /// Adds a span with a label. An undefined span
+    /// is ignored.
     ///
     /// # Errors
     ///
-    /// Where there is no memory, the error with the spans that it had.
+    /// On out of memory, the error with the spans that it had.
     pub fn with_span(self, span: Span, description: &str) -> Result<Self, AllocFailed<Self>>
         ensures error { IfOk result (λ fault. error_of fault ≡ error_of self) }
         ensures spans { IfOk result (λ fault. spans_of fault ≡ with_context (spans_of self) span description.entry.now) }
@@ -100,11 +100,11 @@ impl<E> WithSpan<E> {
         }
     }
 
-    /// The error with one more span and its description. A span that is not known is not added.
+    /// Adds a labelled span. An undefined span is ignored.
     ///
     /// # Errors
     ///
-    /// As those of [`WithSpan::with_span`].
+    /// Those of [`WithSpan::with_span`].
     pub fn with_context(mut self, context: SpanContext) -> Result<Self, AllocFailed<Self>>
         ensures error { IfOk result (λ fault. error_of fault ≡ error_of self) }
         ensures spans { IfOk result (λ fault. spans_of fault ≡ with_context (spans_of self) context.0 (string_bytes context.1)) }
@@ -121,7 +121,7 @@ impl<E> WithSpan<E> {
         }
     }
 
-    /// The error as one of another type, with the same spans.
+    /// Converts the inner error to another type; the spans stay.
     pub fn into_other<E2: From<E>>(self) -> WithSpan<E2>
         ensures error { E2.from_gives (error_of self) (error_of result) }
         ensures spans { spans_of result ≡ spans_of self }
@@ -133,11 +133,11 @@ impl<E> WithSpan<E> {
         }
     }
 
-    /// The error that `func` makes of this one, with its own spans first and then those of this one.
+    /// Replaces the inner error by the error that `func` returns for it, with that error's spans first and then those of `self`.
     ///
     /// # Errors
     ///
-    /// Where there is no memory, the error that `func` made, with its own spans.
+    /// On out of memory, the error that `func` returned, with its own spans.
     pub fn and_then<E2, F: FnOnce(E) -> WithSpan<E2>>(
         self,
         func: F,
@@ -158,7 +158,7 @@ impl<E> WithSpan<E> {
 impl<E: Display> Display for WithSpan<E> {
     ghost output = { λ fault. E.output fault.inner };
 
-    /// The text of the error, without its spans.
+    /// The message of the inner error, without the spans.
     fn fmt<W: fmt::Write>(&self, f: &mut fmt::Formatter<W>) -> fmt::Result {
         self.inner.fmt(f)
     }

@@ -1,4 +1,4 @@
--- The buffers of an accepted module.
+-- The buffers of a valid module.
 use Rattle.std.proofs.Common.{◌≡◌, ◌<◌, ◌⊎◌, inl, inr, ℕ, List, Bool, true, true≢false, Option, Some, None, IsTrue, All, length, slice_get, unwrap_or, zero, suc, [], ◌∷◌, refl, sym, ap, subst, ◌∙◌, arith, if◌then◌else◌}
 use Rattle.std.proofs.lemmas.List.Elements.{All-contains_itself}
 use Rattle.std.proofs.lemmas.Option.{slice_get_within}
@@ -36,7 +36,7 @@ use Rattle.typing_layout.specs.judged.Rules.{ShapeOK}
 use Rattle.typing_layout.specs.judged.Tree.{Tree, scalar, vector, matrix, cooperative_matrix, atomic, pointer, value_pointer, array, struct, image, sampler, acceleration_structure, ray_query, binding_array}
 use Rattle.typing_layout.specs.judged.View.{type_tree}
 
--- of what the rules of types require, so much counts for leaves
+-- the part of the checks of a type that leaves depend on
 shape_counts : (c : Capabilities) (resolved : Bool) (t : Tree) → ShapeOK c resolved t → ShapesOK t
 shape_counts c resolved (array base n stride) h = h.1
 shape_counts c resolved (struct ms span) h = h
@@ -53,7 +53,7 @@ shape_counts c resolved (acceleration_structure vertex_return) h = tt
 shape_counts c resolved (ray_query vertex_return) h = tt
 shape_counts c resolved (binding_array base n) h = tt
 
--- a storage buffer can hold the type of a buffer, or a uniform one can
+-- the storage or the uniform layout of a buffer's type is valid
 serves : (flags : ValidationFlags) (a : AddressSpace) (i : Option PlainInner) (t : Tree) → IsTrue (is_buffer a) → Has flags.0 STRUCT_LAYOUTS.0 → LiesIn flags a i t → FitsStorageBuffer t ⊎ FitsUniformBuffer t
 serves flags space.Uniform i t b asked lies = inr (lies asked)
 serves flags (space.Storage access) i t b asked lies = inl (lies.0 asked)
@@ -66,7 +66,7 @@ serves flags space.TaskPayload i t b asked lies = absurd (true≢false (sym b))
 serves flags space.RayPayload i t b asked lies = absurd (true≢false (sym b))
 serves flags space.IncomingRayPayload i t b asked lies = absurd (true≢false (sym b))
 
--- the type that counts is that of the variable, or an earlier one
+-- the type whose layout is reported is that of the variable, or an earlier one
 unwrapped : (types : List PlainType) → TypesGoBack types → (ty many : ℕ) (i : Option PlainInner) → inner_at types ty ≡ i → ty < many → unwrap_or (array_base i) ty < many
 unwrapped types back ty many None at lt = lt
 unwrapped types back ty many (Some (written_struct members span)) at lt = lt
@@ -89,7 +89,7 @@ unwrapped types back ty many (Some (plain (inner.BindingArray base n))) at lt =
 counted_within : (types : List PlainType) → TypesGoBack types → (ty many : ℕ) → ty < many → effective_type types ty < many
 counted_within types back ty many lt = unwrapped types back ty many (inner_at types ty) refl lt
 
--- ---- what the accepted handles give
+-- ---- what valid handles imply
 
 some_is : {A : Type 0} {x y : A} → Some x ≡ Some y → x ≡ y
 some_is e = cc (e)
@@ -106,7 +106,7 @@ types_go_back m ok = record {
       (λ k d lt. ok.back (a_type handle) (a_type _) (type_on_named x.1 (All-contains_itself (named_types x.0.inner) k d lt))));
 }
 
--- ---- a buffer of an accepted module
+-- ---- a buffer of a valid module
 
 line_of : (types : List PlainType) (number : ℕ) (v : PlainGlobal) (b : Bool) → is_buffer v.space ≡ b → b ≡ true
     → buffer_of types number v ≡ buffer_line number (size (buffer_type types v)) (alignment (buffer_type types v))

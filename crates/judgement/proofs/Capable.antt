@@ -1,4 +1,4 @@
--- What more capabilities accept.
+-- A module that is valid with some capabilities is valid with more.
 use Rattle.std.proofs.Common.{◌≡◌, ℕ, Bool, sym, subst}
 use Rattle.ir_flags.specs.Sets.{Has}
 use Rattle.ir_flags.specs.declared.settings.TheConstants.ValidationFlags.{CONSTANTS}

@@ -1,7 +1,7 @@
--- What holds of each of finitely many, or fails first, where nobody requires it to be found.
+-- Finite search without a decision procedure: all items have a property, or one is the first without it (as double negations).
 use Rattle.std.proofs.Common.{◌≡◌, ◌⊎◌, inl, inr, ℕ, zero, suc, ◌<◌, subst, sym, arith, rules}
 
--- it can't fail to hold
+-- its double negation holds
 abbrev pub Holds : Type 0 → Type 0
 Holds A = ¬ (¬ A)
 
@@ -14,7 +14,7 @@ then a f = λ n. a (λ x. f x n)
 pub either : (A : Type 0) → Holds (A ⊎ (¬ A))
 either A = λ n. n (inr (λ a. n (inl a)))
 
--- The first of so many numbers that does not have the property, where each before it has.
+-- The least of the first `n` numbers without the property.
 pub record IsFirstWithout (P : ℕ → Type 0) (count place : ℕ) : Type 0 where
   pub within : place < count
   pub before : (j : ℕ) → j < place → P j
@@ -45,7 +45,7 @@ one_more P n (inl all) =
       | inr not_last ↦ surely (inr (n, record { within = omega arith; before = all; fails = not_last }))
     ])
 
--- each has the property, or one is the first that hasn't
+-- each has the property, or one is the first without it
 pub all_or_first : (P : ℕ → Type 0) (count : ℕ) → Holds (Sought P count)
 all_or_first P zero = surely (inl (λ j lt. absurd (omega (arith, lt))))
 all_or_first P (suc n) = then (all_or_first P n) (one_more P n)

@@ -5,7 +5,7 @@ use Rattle.judgement.specs.found.ModuleLaws.{OneFailure, NoneFails}
 use Rattle.ir_flags.specs.declared.settings.Settings.{Settings}
 use Rattle.judgement.specs.judged.ModuleSteps.{ModuleStep, layout, type, typing, expression, constant, override, step_rank, StepOK, IsFirstFailing}
 
--- the step of a rank
+-- the step at a rank
 ranked : ℕ → ModuleStep
 ranked zero = layout
 ranked (suc zero) = type

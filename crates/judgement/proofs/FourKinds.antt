@@ -1,4 +1,4 @@
--- Uses of global variables are of four kinds.
+-- The four flags of uses of global variables.
 use Rattle.std.proofs.Common.{◌≡◌, ◌<◌, inl, inr, ℕ, ◌+◌, List, ◌∷◌, ◌++◌, map, Option, Some, None, option_map, subst, sym, ◌∙◌, arith, []}
 use Rattle.std.proofs.lemmas.Bool.{cases_lt}
 use Rattle.std.proofs.lemmas.Nat.Bits.{bit_at_above}
@@ -21,7 +21,7 @@ use Rattle.spec_expressions.specs.declared.operand.Usage.TheVariants.{Base, Read
 
 -- ---- operands
 
--- each of them makes a use of these kinds alone
+-- each makes a use with these flags alone
 abbrev AreKinds : List Operand → Type 0
 AreKinds [] = Unit {0}
 AreKinds (o ∷ os) = (o.use_bits < 16) × AreKinds os
@@ -136,7 +136,7 @@ bit_of_kind n k lt bit = elim (cases_lt k 4) [
 direct_kind : (g k : ℕ) (f : PlainFunction) → UsesDirectly g k f → k < 4
 direct_kind g k f u = bit_of_kind u.operand.use_bits k (kind_among (effects_of f) (takes u.operand) (in_function f) u.taken) u.bit
 
--- a use of a global variable has one of four bits
+-- a use of a global variable has one of four flags
 pub use_kind : (m : PlainModule) (f : PlainFunction) (g k : ℕ) → HasUse m f g k → k < 4
 use_kind m f g k (inl r) = direct_kind g k (chain_end f r.chain) r.holds
 use_kind m f g k (inr q) = bit_of_kind QUERY.0 k (omega arith) q.0

@@ -1,4 +1,4 @@
--- What an entry point's lines tell is what something reached from it names.
+-- An entry point's lines list exactly what a function reachable from it references.
 use Rattle.std.proofs.Common.{◌≡◌, ◌≢◌, ◌≤◌, inl, inr, ℕ, zero, suc, ◌/◌, ◌%◌, ◌==◌, Bool, true, false, not, true≢false, List, [], ◌∷◌, ◌++◌, refl, sym, ap, subst, ◌∙◌, arith}
 use Rattle.std.specs.Prelude.{slice_index_or}
 use Rattle.std.specs.Int.{bit_at}
@@ -12,7 +12,7 @@ use Rattle.spec_expressions.specs.judged.Values.{StartsAt, is_global, accessed, 
 use Rattle.judgement.specs.found.ReportLaws.{NamedAreReported}
 use Rattle.judgement.specs.judged.Lines.{is_used}
 
--- ---- chains one after another
+-- ---- composition of call chains
 
 end_joined : (f : PlainFunction) (first second : List Step) → chain_end f (second ++ first) ≡ chain_end (chain_end f first) second
 end_joined f first [] = refl
@@ -22,7 +22,7 @@ joined : (m : PlainModule) (f : PlainFunction) (first second : List Step) → Is
 joined m f first [] a b = a
 joined m f first (s ∷ second) a b = (subst (λ h. Calls m h s) (sym (end_joined f first second)) b.0, joined m f first second a b.1)
 
--- what something reached reaches is reached
+-- reachability is transitive
 further : (m : PlainModule) (f : PlainFunction) (P : PlainFunction → Type 0) (first : List Step) → IsChain m f first → Reaches m (chain_end f first) P → Reaches m f P
 further m f P first a r = record {
   chain = r.chain ++ first;
@@ -30,7 +30,7 @@ further m f P first a r = record {
   holds = subst P (sym (end_joined f first r.chain)) r.holds;
 }
 
--- ---- what is used is named
+-- ---- what is used is referenced
 
 starts_named : (f : PlainFunction) (e g : ℕ) → StartsAt f.expressions e g → NamesGlobal g f
 starts_named f e g (is_global at) = (e, at)
@@ -41,12 +41,12 @@ used_is_named : (m : PlainModule) (f : PlainFunction) (g k : ℕ) → HasUse m f
 used_is_named m f g k (inl r) = record { chain = r.chain; is_chain = r.is_chain; holds = starts_named (chain_end f r.chain) r.holds.operand.handle g r.holds.starts }
 used_is_named m f g k (inr q) = record { chain = q.1.chain; is_chain = q.1.is_chain; holds = q.1.holds.0 }
 
--- ---- what is named is used
+-- ---- what is referenced is used
 
 none_of_zero : (u : GlobalUse) (k : ℕ) → u.0 ≡ 0 → bit_at u.0 k ≡ 1 → ⊥
 none_of_zero u k is e = let z : 0 ≡ 1 = sym (bit_at-zero k) ∙ (sym (ap (λ n. bit_at n k) is) ∙ e) in omega (arith, z)
 
--- something that is named has a use
+-- a referenced variable has a use
 unused : (m : PlainModule) (f : PlainFunction) (g : ℕ) → ((k : ℕ) → HasUse m f g k → ⊥) → Reaches m f (NamesGlobal g) → ⊥
 unused m f g none r = none 2 (inr (
   refl,
@@ -59,7 +59,7 @@ unused m f g none r = none 2 (inr (
 
 -- ---- bits
 
--- a number that is not 0 has a bit, within as many as the fuel
+-- a nonzero number has a set bit, below the fuel
 bit_within : (fuel n : ℕ) → n ≤ fuel → n ≢ 0 → (k : ℕ) × (bit_at n k ≡ 1)
 bit_within zero n le not = absurd (not (omega (arith, le)))
 bit_within (suc fuel) n le not = elim (cases_eq (n % 2) 1) [
@@ -80,7 +80,7 @@ zero_is n e = eqb-true n 0 (turned (n == 0) e) where
   turned true x = refl
   turned false x = absurd (true≢false x)
 
--- what is used has a use of some kind
+-- a variable with uses has a use flag
 pub used_bit : (uses : List GlobalUse) (g : ℕ) → is_used (slice_index_or uses g no_use) ≡ true → (k : ℕ) × (bit_at (slice_index_or uses g no_use).0 k ≡ 1)
 used_bit uses g used = let u = slice_index_or uses g no_use in bit_within u.0 u.0 (omega arith) (not_zero u.0 used)
 

@@ -1,4 +1,4 @@
--- A number with given bits, and a list with a given item at each place, where nobody requires them to be found.
+-- The existence of a number with given bits, and of a list with given items (as double negations).
 use Rattle.std.proofs.Common.{◌≡◌, ◌<◌, ◌⊎◌, inl, inr, ℕ, zero, suc, ◌+◌, ◌*◌, ◌/◌, ◌%◌, List, [], ◌∷◌, length, refl, sym, ap, subst, ◌∙◌, arith}
 use Rattle.std.specs.Prelude.{◌↔◌, slice_index_or}
 use Rattle.std.specs.Int.{bit_at}
@@ -30,7 +30,7 @@ module _ (P : ℕ → Type 0) (x b : ℕ) (higher : HasBits (λ k. P (suc k)) x)
   with_lowest : HasBits P (2 * x + b)
   with_lowest = record { exact = with_lowest_at }
 
--- there is a number with finitely many bits
+-- a number with finitely many bits exists
 pub some_number : (n : ℕ) (P : ℕ → Type 0) → ((k : ℕ) → P k → k < n) → Holds ((x : ℕ) × HasBits P x)
 some_number zero P below = surely (0, no_bits P (λ k p. let lt = below k p in omega (arith, lt)))
 some_number (suc n) P below =
@@ -43,7 +43,7 @@ some_number (suc n) P below =
 
 -- ---- lists
 
--- it has so many items, and each stands at its place as it should, from a number on
+-- it has this length, and each item from an index on is as required
 pub record HasItems {A : Type 0} (none : A) (Q : ℕ → A → Type 0) (first n : ℕ) (xs : List A) : Type 0 where
   pub many : length xs ≡ n
   pub each : (i : ℕ) → i < n → Q (first + i) (slice_index_or xs i none)

@@ -1,4 +1,4 @@
--- A module has one report at most.
+-- A module has at most one report.
 use Rattle.std.proofs.Common.{◌≡◌, ◌<◌, ◌+◌, ℕ, zero, suc, false, List, [], ◌∷◌, ◌++◌, length, slice_get, Some, refl, sym, ap, subst, ◌∙◌, arith}
 use Rattle.std.specs.Prelude.{slice_index_or, flat_map}
 use Rattle.spec_expressions.specs.declared.global_use.GlobalUse.{GlobalUse}
@@ -12,7 +12,7 @@ use Rattle.judgement.proofs.Uses.{SameBits, same_line}
 
 -- ---- lists
 
--- what is reported of each is the same, so what is reported of all is
+-- if the text of each item is unique, so is that of the list
 each_same : {X : Type 0} (none : X) (told : ℕ → X → List ℕ) (first : ℕ) (us vs : List X) → length us ≡ length vs
     → ((i n : ℕ) → n ≡ first + i → i < length us → told n (slice_index_or us i none) ≡ told n (slice_index_or vs i none))
     → each_from told first us ≡ each_from told first vs
@@ -23,7 +23,7 @@ each_same none told first (u ∷ us) (v ∷ vs) many same =
     ap (λ line. line ++ each_from told (suc first) us) (same zero first (omega arith) (omega arith))
     ∙ ap (λ rest. told first v ++ rest) (each_same none told (suc first) us vs (omega (arith, many)) (λ i n is lt. same (suc i) n (omega (arith, is)) (omega (arith, lt))))
 
--- of each two that stand at one place both are one
+-- any two results at one index are equal
 one_list : (E X : Type 0) (es : List E) (xs ys : List X) → length xs ≡ length es → length ys ≡ length es → ((k : ℕ) (e : E) (a b : X) → slice_get es k ≡ Some e → slice_get xs k ≡ Some a → slice_get ys k ≡ Some b → a ≡ b) → xs ≡ ys
 one_list E X [] [] [] a b same = refl
 one_list E X [] (y ∷ ys) bs a b same = absurd (omega (arith, a))

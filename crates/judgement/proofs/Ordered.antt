@@ -1,4 +1,4 @@
--- Pairs of small numbers in order, where nobody requires them to be found.
+-- The existence of a sorted list of pairs of bounded numbers with a property (as double negations).
 use Rattle.std.proofs.Common.{◌≡◌, ◌<◌, ◌≤◌, ◌⊎◌, inl, inr, ℕ, zero, suc, List, [], ◌∷◌, refl, sym, ap, subst, ◌∙◌, arith}
 use Rattle.std.specs.Prelude.{◌↔◌}
 use Rattle.std.specs.List.{AllByRecursion}
@@ -30,7 +30,7 @@ less a b lt = is_less a b (nat_cmp a b) lt (ranked a b (nat_cmp a b) refl)
 equal : (a b : ℕ) → a ≡ b → nat_cmp a b ≡ Equal
 equal a b e = is_equal a b (nat_cmp a b) e (ranked a b (nat_cmp a b) refl)
 
--- the pair comes after (i, j), or is it
+-- the pair is (i, j) or a later one
 abbrev IsFrom : (i j : ℕ) → ℕ × ℕ → Type 0
 IsFrom i j p = (i < p.0) ⊎ ((p.0 ≡ i) × (j ≤ p.1))
 
@@ -103,7 +103,7 @@ module _ (P : ℕ × ℕ → Type 0) (n : ℕ) (below : (p : ℕ × ℕ) → P p
   one_more : (i j : ℕ) → Some_ i (suc j) → Holds (Some_ i j)
   one_more i j found = then (either (P (i, j))) (λ o. surely (one_more_by i j found o))
 
-  -- down a row
+  -- over one row, from its end
   down : (i j : ℕ) → Some_ i j → Holds (Some_ i 0)
   down i zero found = surely found
   down i (suc j) found = then (one_more i j found) (λ f. down i j f)
@@ -119,7 +119,7 @@ module _ (P : ℕ × ℕ → Type 0) (n : ℕ) (below : (p : ℕ × ℕ) → P p
   row_exact : (i : ℕ) (found : Some_ (suc i) 0) (p : ℕ × ℕ) → IsAmong p found.0 ↔ (P p × IsFrom i n p)
   row_exact i found p = (λ among. (let r = (found.1.exact p).0 among in (r.0, after i p r.1)), λ r. (found.1.exact p).1 (r.0, back i p (below p r.0).1 r.1))
 
-  -- a row begins where the next one is at hand
+  -- a row starts where the next is complete
   row_end : (i : ℕ) → Some_ (suc i) 0 → Some_ i n
   row_end i found = (found.0, record { ordered = found.1.ordered; exact = row_exact i found })
 
@@ -144,6 +144,6 @@ module _ (P : ℕ × ℕ → Type 0) (n : ℕ) (below : (p : ℕ × ℕ) → P p
   all_exact : (found : Some_ 0 0) (p : ℕ × ℕ) → IsAmong p found.0 ↔ P p
   all_exact found p = (λ among. ((found.1.exact p).0 among).0, λ h. (found.1.exact p).1 (h, all_from p))
 
-  -- they are in order in some list
+  -- they are sorted in some list
   pub some_ordered : Holds ((xs : List (ℕ × ℕ)) × (IsStrictlySortedBy pair_cmp xs × ((p : ℕ × ℕ) → IsAmong p xs ↔ P p)))
   some_ordered = then (rows n at_end) (λ found. surely (found.0, (found.1.ordered, all_exact found)))

@@ -1,4 +1,4 @@
--- The leaves of a type of a buffer lie one after the other.
+-- The leaves of a buffer's type are in ascending order without overlap.
 use Rattle.std.proofs.Common.{◌≡◌, ℕ, suc, ◌+◌, ◌*◌, ◌<◌, ◌≤◌, ◌⊎◌, inl, inr, List, [], ◌∷◌, map, Option, Some, IfSome, true≢false, refl, sym, subst, slice_get, length, arith}
 use Rattle.std.specs.Int.{◌∣◌, IsPowerOfTwo}
 use Rattle.std.proofs.lemmas.Nat.Gcd.{dvd_refl, dvd_trans, dvd-zero}
@@ -15,7 +15,7 @@ use Rattle.judgement.specs.judged.Leaves.{leaf_inside, repeated, leaves, member_
 use Rattle.typing_layout.specs.judged.Parts.{TreeMember, member_list, end_of, Everywhere, EverywhereIn}
 use Rattle.typing_layout.specs.judged.Tree.{Tree, scalar, vector, matrix, cooperative_matrix, atomic, pointer, value_pointer, array, struct, image, sampler, acceleration_structure, ray_query, binding_array, Members, no_members, member}
 
--- arrays without a length have one element, or there is none
+-- runtime-sized arrays have one element, or none
 abbrev Bounded : (held : ℕ) → Type 0 → Type 0
 Bounded held sized = (held ≡ 1) ⊎ sized
 
@@ -34,18 +34,18 @@ whole_runs a s = (omega arith, dvd_refl a, dvd-zero a, omega arith)
 
 -- ---- members
 
--- the first one begins at this byte or later
+-- the first one's offset is at least this
 abbrev BeginsFrom : ℕ → List TreeMember → Type 0
 BeginsFrom low ps = (p : TreeMember) → slice_get ps 0 ≡ Some p → low ≤ p.offset
 
--- each one begins at the end of the one before, or later
+-- each one's offset is at or after the end of the previous one
 abbrev Follow : List TreeMember → Type 0
 Follow ps = (k : ℕ) (p q : TreeMember) → slice_get ps k ≡ Some p → slice_get ps (suc k) ≡ Some q → end_of p ≤ q.offset
 
 in_order_follow : (ps : List TreeMember) → IsInOrder ps → Follow ps
 in_order_follow ps ordered k p q e g = subst (λ o. IfSome o (λ a. end_of a ≤ q.offset)) e (ordered (suc k) q g)
 
--- what the rules of a struct say of its members
+-- what the checks of a struct say about its members
 record Held (ps : List TreeMember) (span : ℕ) : Type 0 where
   sized : (k : ℕ) (p : TreeMember) → slice_get ps k ≡ Some p → suc k < length ps → HasFlag Sized p.of_type
   within : (k : ℕ) (p : TreeMember) → slice_get ps k ≡ Some p → end_of p ≤ span
@@ -142,7 +142,7 @@ mutual
       (h.aligned 0 here refl) (start here refl) (h.within 0 here refl) (λ r e. h.sized 0 here refl (more_than_one (member_list ms) here r e)) (λ r e. h.follow 0 here r refl e)
       (λ mid begins. members_run held (suc part) ms mid span a laid.1 ok.1 strides.1 storage.1 host.1 (dvd_trans (greatest_alignment ms) (divides_max_right (alignment t) (greatest_alignment ms) p q) d) begins (held_rest here (member_list ms) span h))
 
--- ---- what serves as a uniform buffer serves as a storage buffer
+-- ---- a valid uniform layout implies a valid storage layout
 
 mutual
   to_storage : (t : Tree) → Everywhere LayoutOK t → Everywhere UniformAt t → Everywhere StorageAt t

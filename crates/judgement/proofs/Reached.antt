@@ -1,4 +1,4 @@
--- How the steps follow one another.
+-- The order of the steps.
 use Rattle.std.proofs.Common.{◌≡◌, ◌<◌, ◌⊎◌, inl, inr, ℕ, Bool, zero, suc, sym, subst, arith, rules}
 use Rattle.ir_flags.specs.Sets.{Has}
 use Rattle.ir_flags.specs.declared.settings.TheConstants.ValidationFlags.{CONSTANTS}
@@ -11,11 +11,11 @@ use Rattle.judgement.specs.judged.ModuleSteps.{ModuleStep, layout, type, typing,
 below_or_same : (a b : ℕ) → a < suc b → (a < b) ⊎ (a ≡ b)
 below_or_same a b lt = search rules
 
--- where the handles are in order, the first step is reached
+-- if the handles are valid, the first step is reached
 pub reach_first : (s : Settings) (resolved : Bool) (m : PlainModule) → HandlesOK m → IsReached s resolved m layout
 reach_first s resolved m ok = record { handles = ok; earlier = λ other lt. absurd (omega (arith, lt)) }
 
--- where each item passes a step, the next one is reached
+-- if each item passes a step, the next one is reached
 pub reach : (s : Settings) (resolved : Bool) (m : PlainModule) (step next : ModuleStep) → step_rank next ≡ suc (step_rank step) → IsReached s resolved m step → StepPasses s resolved m step → IsReached s resolved m next
 reach s resolved m step next follows reached passes = record {
   handles = reached.handles;
@@ -34,7 +34,7 @@ passed s resolved m reached last expression = reached.earlier expression (omega 
 passed s resolved m reached last constant = reached.earlier constant (omega arith)
 passed s resolved m reached last override = last
 
--- where each item passes the last one, the module is accepted
+-- if each item passes the last step, the module is valid
 pub all_passed : (s : Settings) (resolved : Bool) (m : PlainModule) → IsReached s resolved m override → StepPasses s resolved m override → ModuleOK s resolved m
 all_passed s resolved m reached last = record { handles = reached.handles; steps = passed s resolved m reached last }
 
@@ -46,6 +46,6 @@ unasked s resolved m reached unwanted expression = record { each = λ index with
 unasked s resolved m reached unwanted constant = record { each = λ index within has. absurd (unwanted has) }
 unasked s resolved m reached unwanted override = record { each = λ index within has. absurd (unwanted has) }
 
--- where nothing is required of values, it is accepted as soon as its global expressions have types
+-- if values are not checked, it is valid as soon as the types of its global expressions are inferred
 pub nothing_asked : (s : Settings) (resolved : Bool) (m : PlainModule) → IsReached s resolved m expression → (Has s.flags.0 CONSTANTS.0 → ⊥) → ModuleOK s resolved m
 nothing_asked s resolved m reached unwanted = record { handles = reached.handles; steps = unasked s resolved m reached unwanted }

@@ -1,4 +1,4 @@
--- Leaves that lie one after the other.
+-- Leaves in ascending order without overlap.
 use Rattle.std.proofs.Common.{ℕ, zero, suc, ◌+◌, ◌*◌, ◌≤◌, inl, List, [], ◌∷◌, ◌++◌, map, arith}
 use Rattle.std.specs.Int.{◌∣◌}
 use Rattle.std.specs.List.{All, AllPairs}
@@ -9,7 +9,7 @@ use Rattle.std.proofs.Math.Nat.{dvd-add, dvd-mul_left_of_dvd}
 use Rattle.judgement.specs.judged.Sound.{LeavesApart}
 use Rattle.judgement.specs.judged.Leaves.{Leaf, leaf_inside, repeated}
 
--- from low to high, each at a multiple of its alignment, which divides a
+-- in ascending order, each at a multiple of its alignment, which divides `a`
 abbrev pub Runs : (a low : ℕ) → List Leaf → (high : ℕ) → Type 0
 Runs a low [] high = low ≤ high
 Runs a low (l ∷ ls) high = (low ≤ l.first) × (l.alignment ∣ a) × (l.alignment ∣ l.first) × Runs a (l.first + l.length) ls high
@@ -30,7 +30,7 @@ pub runs_append : (a low : ℕ) (xs : List Leaf) (mid : ℕ) (ys : List Leaf) (h
 runs_append a low [] mid ys high r q = runs_lower a mid low ys high r q
 runs_append a low (l ∷ ls) mid ys high r q = (r.0, r.1, r.2, runs_append a (l.first + l.length) ls mid ys high r.3 q)
 
--- moved to the place of a part
+-- shifted to the offset of a part
 pub runs_inside : (a part offset low : ℕ) (ls : List Leaf) (high : ℕ) → a ∣ offset → Runs a low ls high → Runs a (offset + low) (map (leaf_inside part offset) ls) (offset + high)
 runs_inside a part offset low [] high d r = omega arith
 runs_inside a part offset low (l ∷ ls) high d r = (
@@ -40,7 +40,7 @@ runs_inside a part offset low (l ∷ ls) high d r = (
   runs_lower a (offset + (l.first + l.length)) (offset + l.first + l.length) (map (leaf_inside part offset) ls) (offset + high) (omega arith) (runs_inside a part offset (l.first + l.length) ls high d r.3),
 )
 
--- one element after the other
+-- one element after another
 pub runs_repeated : (a stride : ℕ) (ls : List Leaf) (high : ℕ) → a ∣ stride → Runs a 0 ls high → high ≤ stride → (n part : ℕ) → Runs a (part * stride) (repeated n part stride ls) ((part + n) * stride)
 unfolding repeated
 runs_repeated a stride ls high d r le zero part = omega arith
@@ -52,7 +52,7 @@ runs_repeated a stride ls high d r le (suc n) part =
     runs_higher a (suc part * stride) _ ((suc part + n) * stride) ((part + suc n) * stride) (omega arith) (runs_repeated a stride ls high d r le n (suc part)) in
     runs_append a (part * stride) _ (suc part * stride) _ ((part + suc n) * stride) placed rest
 
--- ---- what that gives
+-- ---- consequences
 
 pub runs_aligned : (a low : ℕ) (ls : List Leaf) (high : ℕ) → Runs a low ls high → All (λ l. l.alignment ∣ l.first) ls
 runs_aligned a low [] high r = All-nil _

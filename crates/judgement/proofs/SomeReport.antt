@@ -1,4 +1,4 @@
--- There is a report on each module whose handles are in order.
+-- Every module with valid handles has a report (as a double negation).
 use Rattle.std.proofs.Common.{◌≡◌, ◌<◌, ℕ, zero, suc, ◌+◌, List, [], ◌∷◌, ◌++◌, length, Option, Some, None, slice_get, refl, ap, subst, ◌∙◌, arith}
 use Rattle.std.specs.Prelude.{flat_map, slice_index_or}
 use Rattle.spec_expressions.specs.declared.global_use.GlobalUse.{GlobalUse}
@@ -22,7 +22,7 @@ use Rattle.judgement.specs.found.ReportLaws.{SomeReport}
 use Rattle.judgement.specs.judged.Lines.{buffers, entry_lines}
 use Rattle.judgement.specs.judged.Reports.{AreUses, ArePairs, IsEntryReport, IsReport}
 
--- ---- pairs are of global variables that are there
+-- ---- sampled pairs are of existing global variables
 
 module _ (m : PlainModule) (f : PlainFunction) (ok : HandlesInRange m f) where
   variable_within : (h v g : ℕ) → slice_get f.expressions h ≡ Some (plain (x.GlobalVariable v)) → Some (Global v) ≡ Some (Global g) → g < length m.globals
@@ -42,7 +42,7 @@ module _ (m : PlainModule) (f : PlainFunction) (ok : HandlesInRange m f) where
   place_within : (h g : ℕ) → global_or_argument f.expressions h ≡ Some (Global g) → g < length m.globals
   place_within h g e = occurs_within h g (slice_get f.expressions h) refl e
 
--- where all that expressions of the caller mean is there, so is what a callee's are seen to be
+-- if the caller's sampled expressions denote existing variables, so do those of its callees, seen from the caller
 module _ (m : PlainModule) (meaning : ℕ → Option GlobalOrArgument) (within : (h g : ℕ) → meaning h ≡ Some (Global g) → g < length m.globals) where
   argument_within : (g : ℕ) (o : Option ℕ) → argument_means meaning o ≡ Some (Global g) → g < length m.globals
   argument_within g None e = absurd (let y = e in cc)
@@ -90,7 +90,7 @@ module _ (m : PlainModule) (handles : HandlesOK m) (number : ℕ) (e : PlainEntr
 
 -- ---- a module
 
--- entry points from a number on are those of a module
+-- the entry points of a module from an index on
 abbrev AreThere : PlainModule → (first : ℕ) → List PlainEntry → Type 0
 AreThere m first es = (i : ℕ) (e : PlainEntry) → slice_get es i ≡ Some e → slice_get m.entries (first + i) ≡ Some e
 

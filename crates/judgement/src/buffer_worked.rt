@@ -1,5 +1,5 @@
-//! The leaves of small types, worked out by hand and computed by the prover. A leaf is written as its path, its first byte, its
-//! length and its alignment.
+//! The leaves of small types, computed by hand and by the prover. A leaf is written as its path, its offset, its
+//! size and its alignment.
 //!
 //! The functions do nothing: their contracts are the examples.
 
@@ -10,7 +10,7 @@ ghost use Rattle.ir_types.specs.declared.types.ArraySize.TheVariants.{Constant, 
 ghost use Rattle.judgement.specs.judged.Leaves.{leaves, leaf};
 ghost use Rattle.typing_layout.specs.judged.Tree.{scalar, vector, matrix, atomic, array, struct, sampler, no_members, member};
 
-/// The leaves of types that hold none but themselves, or none at all.
+/// The leaves of types without elements or members.
 pub fn alone()
     ensures float { leaves 1 (scalar (floating 4)) ≡ leaf [] 0 4 4 ∷ [] }
     ensures matrix { leaves 1 (matrix Tri Bi (floating 4)) ≡ leaf [] 0 24 8 ∷ [] }
@@ -18,8 +18,8 @@ pub fn alone()
     ensures opaque { leaves 1 (sampler false) ≡ [] }
 {}
 
-/// The leaves of elements, one after the other: as many as the array has, one where an override says how many, and of an array
-/// without a length as many as the buffer has.
+/// The leaves of array elements, in order: as many as the array's length, one for an override-sized array, and for a runtime-sized
+/// array as many as the buffer holds.
 #[tactic(auto, unfolding(crate::specs::judged::Leaves::repeated))]
 pub fn elements()
     ensures so_many { leaves 1 (array (atomic (unsigned 4)) (Constant 2) 8) ≡ leaf (0 ∷ []) 0 4 4 ∷ leaf (1 ∷ []) 8 4 4 ∷ [] }
@@ -29,7 +29,7 @@ pub fn elements()
     ensures none { leaves 0 (array (scalar (unsigned 4)) Dynamic 4) ≡ [] }
 {}
 
-/// The leaves of members, and of what they hold.
+/// The leaves of struct members, and of their parts.
 #[tactic(auto, unfolding(crate::specs::judged::Leaves::repeated))]
 pub fn members()
     ensures apart { leaves 1 (struct (member (scalar (floating 4)) None 0 (member (vector Quad (floating 4)) None 16 no_members)) 32)

@@ -1,29 +1,29 @@
-// What is found of a document.
+// The result of validating a document.
 ghost use Rattle.std.specs.Prelude.{◌≡◌, IfOk, string_bytes};
 
 use std::alloc::{AllocError, Global};
 use std::fmt::{self, Display};
 
-/// A step of the judgement that names the item which fails it.
+/// A step of validation whose errors name an item.
 #[derive(Clone, Copy, Debug, PartialEq, Eq)]
 pub enum Step {
-    /// The layouts of types.
+    /// Layouts of types.
     Layout,
-    /// The rules of types.
+    /// The checks of types.
     Type,
-    /// The types of global expressions.
+    /// Type inference of global expressions.
     Typing,
-    /// The rules of global expressions.
+    /// The checks of global expressions.
     Expression,
-    /// The rules of constants.
+    /// The checks of constants.
     Constant,
-    /// The rules of overrides.
+    /// The checks of overrides.
     Override,
-    /// The rules of global variables.
+    /// The checks of global variables.
     Global,
-    /// The rules of functions.
+    /// The checks of functions.
     Function,
-    /// The rules of entry points.
+    /// The checks of entry points.
     Entry,
 }
 
@@ -33,7 +33,7 @@ impl Display for Step {
 
     ghost output = { λ s. Some (step_word s) };
 
-    /// Writes the step's word.
+    /// Writes the name of the step.
     fn fmt<W: fmt::Write>(&self, f: &mut fmt::Formatter<W>) -> fmt::Result {
         match self {
             Step::Layout => write!(f, "layout"),
@@ -49,26 +49,26 @@ impl Display for Step {
     }
 }
 
-/// What is found of a document.
+/// The result of validating a document.
 #[derive(Clone, Copy, Debug, PartialEq, Eq)]
 pub enum Finding {
-    /// No step fails.
+    /// The module is valid.
     Accepted {
-        /// Scope was checked strictly: `STRICT_SCOPE` is among the flags, and so is `BLOCKS`, which it acts under.
+        /// The module is valid, with strict scope: the flags include `STRICT_SCOPE`, and `BLOCKS`, without which it has no effect.
         strict: bool,
     },
-    /// The bytes spell no document.
+    /// The bytes are not a document.
     RefusedDocument,
-    /// Some handle names nothing, or something that does not come before what depends on it.
+    /// A handle is out of bounds or a forward dependency.
     RefusedHandles,
-    /// The step that fails, and the least index of an item that fails it.
+    /// The first failing step, and the least index of an item that fails it.
     Refused(Step, usize),
 }
 
 impl Finding {
     ghost use Rattle.judgement.specs.judged.Text.{text_of};
 
-    /// The line that tells it, ended by a line feed. The error is out of memory.
+    /// The line of text for the result, with a line feed. The error is out of memory.
     pub fn text(self, alloc: Global) -> Result<String, AllocError>
         ensures { IfOk result (λ text. string_bytes text ≡ text_of self) }
     {

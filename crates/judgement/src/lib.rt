@@ -1,9 +1,9 @@
-//! The judgement of a document: what a module has to meet up to its overrides, step by step, and which step fails first
-//! (`specs/judged/ModuleSteps.antt`); all steps (`specs/judged/Steps.antt`); the report of an accepted module, its buffers
-//! and what its entry points use, as lines (`specs/judged/Lines.antt`, `Reports.antt`); and what is found of a document, with
-//! its text (`specs/judged/Text.antt`). What lies inside a buffer (`specs/judged/Leaves.antt`): the leaves of its type, which
-//! are the scalars, vectors, matrices and atomics inside a value, each with the way to it and its bytes; and that they are
-//! aligned, apart and inside ([`buffer_laws`]).
+//! The validation of a document, as definitions: the requirements on a module up to its overrides, step by step, and the first
+//! failing step (`specs/judged/ModuleSteps.antt`); all steps (`specs/judged/Steps.antt`); the report of a valid module, with its
+//! buffers and its entry points' resources, as lines (`specs/judged/Lines.antt`, `Reports.antt`); and the result for a document,
+//! with its text (`specs/judged/Text.antt`). The contents of a buffer (`specs/judged/Leaves.antt`): the leaves of its type, which
+//! are the scalars, vectors, matrices and atomics inside a value, each with its path and byte range; leaves are
+//! aligned, disjoint and in bounds ([`buffer_laws`]).
 //!
 //! The functions do nothing: their contracts are the laws.
 #![tactic(auto)]

@@ -2,18 +2,18 @@
 
 ghost use Rattle.judgement.specs.found.ModuleLaws.{MoreCapabilities, OneFailure, NoneFails};
 
-/// What is accepted where shaders may use less is accepted where they may use more.
+/// A module that is valid with some capabilities is valid with more.
 pub fn more_capabilities()
     ensures { MoreCapabilities }
 {}
 
-/// At most one step fails first, and at one index.
+/// At most one step and one index fail first.
 #[tactic(auto, using(crate::proofs::Failures::one_failure))]
 pub fn one_failure()
     ensures { OneFailure }
 {}
 
-/// Where a step fails first, the module is not accepted.
+/// If a step fails first, the module is invalid.
 #[tactic(auto, using(crate::proofs::Failures::none_fails))]
 pub fn none_fails()
     ensures { NoneFails }

@@ -1,4 +1,4 @@
-//! Lines of small reports, worked out by hand and computed by the prover.
+//! Lines of small reports, computed by hand and by the prover.
 //!
 //! The functions do nothing: their contracts are the examples.
 
@@ -9,7 +9,7 @@ ghost use Rattle.ir_kinds.specs.declared.spaces.AddressSpace.TheVariants.{Unifor
 ghost use Rattle.spec_expressions.specs.judged.Summaries.{no_use};
 ghost use Rattle.judgement.specs.judged.Lines.{is_buffer, is_used, use_words};
 
-/// What a host fills with bytes.
+/// Which address spaces are those of buffers.
 pub fn buffers()
     ensures uniform { is_buffer Uniform ≡ true }
     ensures storage { is_buffer (Storage LOAD) ≡ true }
@@ -17,7 +17,7 @@ pub fn buffers()
     ensures of_a_workgroup { is_buffer WorkGroup ≡ false }
 {}
 
-/// The words of uses, in their order.
+/// The words of `GlobalUse` flags, in order.
 pub fn uses()
     ensures read { use_words READ ≡ codes " read" }
     ensures write { use_words WRITE ≡ codes " write" }

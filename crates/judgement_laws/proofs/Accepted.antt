@@ -1,4 +1,4 @@
--- Runs of an accepted entry point: how deep they are, what they pass, use and execute.
+-- Runs of a valid entry point: their call depth, and what they pass, use and execute.
 use Rattle.std.proofs.Common.{◌≡◌, ◌∙◌, ◌⊎◌, inl, inr, ℕ, zero, suc, ℤ, false, ◌+◌, ◌-◌, ◌<◌, ◌≤◌, length, List, [], ◌∷◌, Option, Some, None, Contains, slice_get, get_or, refl, sym, ap, subst, arith, ⊎_elim}
 use Rattle.std.specs.Prelude.{IsSomeAnd, option_to_list}
 use Rattle.std.specs.List.{AllByRecursion, range_with_len}
@@ -80,7 +80,7 @@ pub all_weaken : {A : Type 0} (P Q : A → Type 0) → ((a : A) → P a → Q a)
 all_weaken P Q g [] h = tt
 all_weaken P Q g (x ∷ xs) h = (g x h.0, all_weaken P Q g xs h.1)
 
--- what a statement introduces is an expression of the function
+-- an expression that a statement emits or returns is one of the function
 module _ (m : PlainModule) (f : PlainFunction) (handles : HandlesInRange m f) (p : Place) (e : ℕ) where
   answer_there : (s : PlainStatement) → OccursAt f.body p s → (o : Option ℕ) → statement_result s ≡ o → Contains (option_to_list o) e → e < length f.expressions
   answer_there s stands None is held = none_held e held
@@ -114,14 +114,14 @@ module _ (m : PlainModule) (f : PlainFunction) (handles : HandlesInRange m f) (p
       by_spot (statement s) is held = statement_there s is held
       by_spot (loop_condition o) is held = none_held e held
 
--- ---- what the rules of functions give at the places of a body
+-- ---- what the rules of functions imply at the positions of a body
 
--- The strict scope is as it should be, and what denotes answers has no operands.
+-- The strict scope is valid, and expressions that denote results have no operands.
 pub record IsStrict (f : PlainFunction) : Type 0 where
   pub scope : StrictOK f
   pub answers : AnswersNameNothing f
 
--- In a function at index k, where a stage may run what these may run.
+-- In a function at index k, for a stage that may run each of these functions.
 pub record Fits (strictly : Type 0) (m : PlainModule) (subgroups : ShaderStages) (stages : List ShaderStages) (stage : ℕ) (k : ℕ) (f : PlainFunction) : Type 0 where
   pub scope : ScopeOK f
   pub strict : strictly → IsStrict f
@@ -213,7 +213,7 @@ module _ (s : Settings) (m : PlainModule) (number : ℕ) (a : IsAcceptedEntry s 
       (λ p function arguments result stands. a.handles.entries number e a.entry.at (done p) (item (target.Function function)) (statement_calls stands refl))
       (a.entry.ok.runs.statements a.blocks) (a.entry.ok.runs.expressions a.expressions)
 
-  -- a frame of such a function, not too deep
+  -- a frame of such a function, within the call depth
   pub record Fine (frame : Frame) : Type 0 where
     pub index : ℕ
     pub deep : frame.depth + index ≤ length m.functions
@@ -234,7 +234,7 @@ module _ (s : Settings) (m : PlainModule) (number : ℕ) (a : IsAcceptedEntry s 
       not_deeper : (d i j n : ℕ) → d + i ≤ n → j < i → (d + 1) + j ≤ n
       not_deeper d i j n le lt = omega (arith, le, lt)
 
-  -- what is known of the events of its runs, whatever is used, global variables and ends of functions aside
+  -- laws of the events of its runs, whatever is used, except for global variables and falling off the end
   abbrev Holds : Event → Type 0
   Holds (entered depth) = depth ≤ length m.functions
   Holds (executed f p) = (v : PlainStatement) × OccursAt f.body p v × Has (statement_stages s.subgroup_stages stages v).0 stage

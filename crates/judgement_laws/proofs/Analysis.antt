@@ -1,4 +1,4 @@
--- The analysis of a function finds the same faults with other returns.
+-- The analysis of a function returns the same errors with other returns.
 use Rattle.std.proofs.Common.{◌≡◌, ◌⊎◌, inl, inr, ℕ, None, List, refl, sym, subst, IsTrue}
 use Rattle.ir_flags.specs.declared.settings.ValidationFlags.{ValidationFlags}
 use Rattle.ir_blocks.specs.judged.Plain.{PlainBlock}

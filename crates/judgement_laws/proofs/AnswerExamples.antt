@@ -1,4 +1,4 @@
--- One call that answers, and nothing beside it.
+-- One call with a result, and nothing else.
 use Rattle.std.proofs.Common.{◌≡◌, ℕ, zero, suc, [], Some, refl, sym, ◌∙◌}
 use Rattle.ir_blocks.specs.judged.Places.{Place, here, later, inside, condition}
 use Rattle.ir_blocks.specs.judged.Plain.{call, stop}

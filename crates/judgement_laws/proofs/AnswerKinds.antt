@@ -1,4 +1,4 @@
--- What denotes the result of a statement has no operands, where strict scope is as it should be.
+-- Expressions that denote the result of a statement have no operands, if strict scope is valid.
 use Rattle.std.proofs.Common.{◌≡◌, ℕ, Option, Some, None, IsSomeAnd, option_and_then, slice_get, refl, sym, ap, ◌∙◌, subst, []}
 use Rattle.ir_blocks.specs.judged.Places.{Place, OccursAt}
 use Rattle.ir_blocks.specs.judged.Plain.{PlainOperation, control_barrier, memory_barrier, store, image_store, atomic, image_atomic, uniform_load, ray_query, ballot, collective, gather, cooperative_store, ray_pipeline, PlainStatement, emit, block, if_, switch, loop, break, continue, return, kill, operation, call}
@@ -27,7 +27,7 @@ some_and : {A : Type 0} (o : Option A) (P : A → Type 0) → IsSomeAnd o P → 
 some_and None P h = absurd h
 some_and (Some a) P h = (a, h)
 
--- what a reading of an expression tells is reported of that expression
+-- from a property of the expression read to one of the expression
 told : {A : Type 0} (read : PlainExpression → Option A) (o : Option PlainExpression) (P : A → Type 0) (v : PlainExpression) → IsSomeAnd (option_and_then read o) P → o ≡ Some v → (a : A) × (read v ≡ Some a)
 told read o P v h is = by_read (read v) refl (subst (λ z. IsSomeAnd (option_and_then read z) P) is h)
   where

@@ -1,4 +1,4 @@
--- What denotes an answer is the result of one statement of its kind.
+-- An expression that denotes a result is the result of one statement of its kind.
 use Rattle.std.proofs.Common.{◌≡◌, ◌∙◌, ℕ, [], Bool, Option, Some, None, is_some, option_and_then, slice_get, sym, ap, subst}
 use Rattle.std.proofs.lemmas.Option.{slice_get_within}
 use Rattle.std.specs.Prelude.{IsSomeAnd}
@@ -26,11 +26,11 @@ some_and : {A : Type 0} (P : A → Type 0) (o : Option A) → IsSomeAnd o P → 
 some_and P None h = absurd h
 some_and P (Some a) h = (a, h)
 
--- the result of a call is none of an atomic operation
+-- the result of a call is not that of an atomic operation
 undeclared : (P : AtomicAnswer → Type 0) (o : Option PlainExpression) (function : ℕ) → o ≡ Some (plain (x.CallResult function)) → ¬ IsSomeAnd (option_and_then declared_answer o) P
 undeclared P o function at h = subst (λ z. IsSomeAnd (option_and_then declared_answer z) P) at h
 
--- what an operation answers says whether it compares
+-- the result type of an atomic operation determines whether it is a compare-exchange
 compared : (c : BlockContext) (s : Scalar) (o : Option ℕ) (a : AtomicAnswer) → AtomicAnswerOK c s o a → is_some o ≡ a.comparison
 compared c s None a h = sym h.1
 compared c s (Some compare) a h = sym h.2

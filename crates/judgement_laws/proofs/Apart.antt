@@ -1,4 +1,4 @@
--- The global variables of an entry point's report have bindings that differ.
+-- The global variables of an entry point's report have distinct bindings.
 use Rattle.std.proofs.Common.{◌≡◌, ◌<◌, inl, inr, ℕ, List, Option, Some, None, IsSome, IsTrue, length, slice_get, option_and_then, refl, subst, sym, ap, ◌∙◌, true≢false}
 use Rattle.std.specs.Int.{bit_at}
 use Rattle.std.proofs.lemmas.Option.{slice_get_within}
@@ -18,12 +18,12 @@ use Rattle.judgement.specs.judged.Reports.{IsEntryReport}
 some_is : {A : Type 0} {x y : A} → Some x ≡ Some y → x ≡ y
 some_is e = cc (e)
 
--- what has a binding is a variable of the module
+-- a variable with a binding is one of the module
 bound_in : (m : PlainModule) (g : ℕ) (b : ResourceBinding) (o : Option PlainGlobal) → slice_get m.globals g ≡ o → option_and_then (λ (v : PlainGlobal). v.binding) o ≡ Some b → g < length m.globals
 bound_in m g b None at e = absurd (let h = e in cc)
 bound_in m g b (Some v) at e = slice_get_within m.globals g v at
 
--- a stage that may have a payload uses it
+-- a payload of a stage that may have one is used
 uses_payload : (stage : ShaderStage) → IsTrue (has_payload stage) → (k : ℕ) × (bit_at (own_payload_use stage).0 k ≡ 1)
 uses_payload Task may = (0, refl)
 uses_payload Mesh may = (0, refl)

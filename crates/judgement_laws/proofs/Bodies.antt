@@ -1,4 +1,4 @@
--- The conditions on a body hold of each body that is alike.
+-- The requirements of a body hold of each body that is alike.
 use native.Mathlib.Omega.{arith}
 use Rattle.std.proofs.Common.{◌≡◌, ◌⊎◌, inl, inr, ℕ, Bool, false, Option, Some, None, [], refl, sym, ap, subst, ◌∙◌, IsTrue}
 use Rattle.std.specs.Prelude.{Contains, ◌<◌}
@@ -22,7 +22,7 @@ use Rattle.judgement_laws.proofs.Heads.{simple_is, by_head, checked_head, introd
 
 -- ---- properties of statements
 
--- the property is seen in what a statement is, the blocks inside it aside
+-- the property depends only on a statement's head, its nested blocks aside
 abbrev pub LooksAtHead : (PlainStatement → Type 0) → Type 0
 LooksAtHead P = (s t : PlainStatement) → head_of t ≡ head_of s → P s → P t
 
@@ -96,7 +96,7 @@ control_moves b c h ok p s exit stands leaves = by_kind (h.statements p s stands
     by_kind (kept t at head) = ok p t exit at (sym (by_head (λ u. exit_of (shape_of u)) exit_head s t head) ∙ leaves)
     by_kind (extra is rest r behind) = subst (λ x. IsTrue (may_leave x (parts_around [] p))) (exit_is exit (sym (ap (λ u. exit_of (shape_of u)) is) ∙ leaves)) r
 
--- ---- answers
+-- ---- results of statements
 
 no_answer : (e : ℕ) → None ≡ Some e → ⊥
 no_answer e h = let x = h in cc

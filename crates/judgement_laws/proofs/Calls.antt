@@ -1,4 +1,4 @@
--- Chains of calls, and what a function has over all of them, are alike.
+-- Call chains, and what a function has over all of them, are alike.
 use Rattle.std.proofs.Common.{◌≡◌, inl, inr, ℕ, Option, Some, List, [], ◌∷◌, ◌++◌, slice_get, refl, sym, ap, subst, ◌∙◌}
 use Rattle.ir_items.specs.judged.Plain.{PlainFunction, PlainModule}
 use Rattle.ir_types.specs.judged.ExpressionPlain.{plain}
@@ -18,7 +18,7 @@ same_expressions l = sym (ap (λ x. x.expressions) l.rest)
 pub same_effects : {f g : PlainFunction} → LikeFunction f g → effects_of f ≡ effects_of g
 same_effects l = λ i. expressions_effects 0 (same_expressions l i) ++ l.body.effects i
 
--- the step as the other module has it
+-- the step in the other module
 pub record StepMoves (n : PlainModule) (g : PlainFunction) (s : Step) : Type 0 where
   pub step : Step
   pub calls : Calls n g step

@@ -1,4 +1,4 @@
--- The frames of a run are at the ends of chains of calls, so what is named and sampled there is reported by the chains.
+-- The frames of a run are at the ends of call chains, so what is referenced and sampled there is reported by the chains.
 use Rattle.std.proofs.Common.{◌≡◌, ◌∙◌, ℕ, zero, suc, ℤ, ◌+◌, ◌<◌, length, List, [], ◌∷◌, ◌++◌, inl, map, Option, Some, None, slice_get, option_map, refl, sym, ap, subst, arith}
 use Rattle.std.specs.Prelude.{unwrap_or}
 use Rattle.std.specs.List.{AllByRecursion}
@@ -33,7 +33,7 @@ use Rattle.spec_runs.proofs.Scopes.{skipped_is_lawful}
 some_is : {A : Type 0} {x y : A} → Some x ≡ Some y → x ≡ y
 some_is e = cc (e)
 
--- ---- a call that stands in a body is one of its effects
+-- ---- a call in a body is one of its effects
 
 case_among : (cases : PlainCases) (k : ℕ) (x : Effect) → IsAmong x (effects_in (case_body cases k)) → IsAmong x (effects_in_cases cases)
 case_among no_case k x h = elim h [ ]
@@ -68,7 +68,7 @@ call_among f p function arguments result stands =
     (occurs_among p f.body (call function arguments result) (runs function arguments) stands
     (among-right (map takes (statement_uses (call function arguments result))) (runs function arguments ∷ []) _ (inl refl)))
 
--- ---- so is a sampling among the expressions
+-- ---- so is a sampling in an expression
 
 expression_among : (first e : ℕ) (xs : List PlainExpression) (x : PlainExpression) (y : Effect) → slice_get xs e ≡ Some x → IsAmong y (sampling_at (first + e) x) → IsAmong y (expressions_effects first xs)
 expression_among first e [] x y at h = absurd (cc (at))
@@ -125,7 +125,7 @@ module _ (s : Settings) (m : PlainModule) (number : ℕ) (a : IsAcceptedEntry s 
   abbrev f : PlainFunction
   f = a.entry.entry.function
 
-  -- the frames of its runs, with what they name in range
+  -- the frames of its runs, with what they reference in range
   record Reported (frame : Frame) : Type 0 where
     pub fine : Fine s m number a frame
     pub within : InChain m f frame
@@ -149,7 +149,7 @@ module _ (s : Settings) (m : PlainModule) (number : ℕ) (a : IsAcceptedEntry s 
     record { chain = t.within.chain; is_chain = t.within.is_chain; holds = subst (NamesGlobal g) (sym t.within.ends) (e, at) },
   )
 
-  -- what an expression samples, where its image and its sampler denote global variables
+  -- what an expression samples, if its image and its sampler denote global variables
   samples_hold : (frame : Frame) → Reported frame → (e : ℕ) (x : PlainExpression) (image sampler : ℕ) → slice_get frame.function.expressions e ≡ Some x → sampling_at e x ≡ sampling e image sampler ∷ [] → AllByRecursion Holds (pair_of (global_denoted frame image) (global_denoted frame sampler))
   samples_hold frame t e x image sampler at is = by_pair (global_denoted frame image) (global_denoted frame sampler) refl refl
     where

@@ -1,4 +1,4 @@
--- A body and the body completed with returns are alike.
+-- A body is alike to the same body with missing returns inserted.
 use Rattle.std.proofs.Common.{◌≡◌, ◌⊎◌, inl, inr, ℕ, zero, suc, Bool, true, false, Option, None, List, [], ◌∷◌, ◌++◌, refl, sym, ap, subst, ◌∙◌}
 use Rattle.ir_blocks.specs.judged.Plain.{PlainStatement, block, if_, switch, return, PlainBlock, stop, next, PlainCases, no_case, case}
 use Rattle.ir_blocks.specs.judged.Shapes.{Shape, leaves, nests, chooses, switches, shape_of, Part, inner, accepting, rejecting, case_at, loop_body, loop_continuing, case_body, part_of}
@@ -10,16 +10,16 @@ use Rattle.spec_expressions.specs.judged.Effects.{statement_effects, effects_in,
 use Rattle.spec_expressions.specs.judged.Positions.{Holds, holds_later, holds_inside}
 use Rattle.judgement_laws.specs.found.Alike.{Carried, kept, extra, Alike}
 
--- ---- parts of a finished statement (as in TailLaws, where these are not public)
+-- ---- parts of a completed statement (as in TailLaws, where these are not public)
 
--- a case that ends is completed, and any other stays
+-- a case that ends is completed, and any other is unchanged
 case_either : (cs : PlainCases) (k : ℕ) → (CaseEnds cs k × (case_body (finished_cases cs) k ≡ completed (case_body cs k))) ⊎ (case_body (finished_cases cs) k ≡ case_body cs k)
 case_either no_case k = inr refl
 case_either (case value body true rest) zero = inr refl
 case_either (case value body false rest) zero = inl (refl, refl)
 case_either (case value body falls rest) (suc k) = case_either rest k
 
--- a tail part is completed, and any other stays
+-- a block in tail position is completed, and any other is unchanged
 part_either : (s : PlainStatement) (part : Part)
     → (IsTailPart (shape_of s) part × (part_of (shape_of (finished s)) part ≡ completed (part_of (shape_of s) part))) ⊎ (part_of (shape_of (finished s)) part ≡ part_of (shape_of s) part)
 part_either (block b) inner = inl (tt, refl)
@@ -46,7 +46,7 @@ part_tail (switch selector cases) (case_at k) h = case_tail cases k h
 part_tail (switch selector cases) _ h = absurd h
 part_tail s part h = absurd h
 
--- ---- nothing in an empty block, and after a return alone
+-- ---- no statement in an empty block, or after a single return
 
 pub nothing_in_stop : (p : Place) → spot_at p stop ≡ nothing
 nothing_in_stop here = refl
@@ -143,7 +143,7 @@ nothing_behind : (g : Bool) (p : Place) → spot_at (later p) (ending g) ≡ not
 nothing_behind true p = nothing_in_stop p
 nothing_behind false p = refl
 
--- what stands after something that holds an open end, where that is first in its block
+-- what follows a statement that contains an open end, if that is first in its block
 first_behind : {p : Place} (c : PlainBlock) (u : PlainStatement) → c ≡ next u stop → Before here p → spot_at p c ≡ nothing
 first_behind c u is (earlier {p = p}) = ap (spot_at (later p)) is ∙ nothing_in_stop p
 
@@ -213,7 +213,7 @@ mutual
   effects_cases (case value body true rest) = ap (λ x. effects_in body ++ x) (effects_cases rest)
   effects_cases (case value body false rest) = λ i. effects_completed body i ++ effects_cases rest i
 
--- ---- the whole
+-- ---- the whole body
 
 carried_there : (b : PlainBlock) (p : Place) (s : PlainStatement) → OccursAt b p s → Carried b (completed b) p s
 carried_there b p s e = let k = tail.kept p b s e in kept k.0 k.1 k.2

@@ -1,4 +1,4 @@
--- An entry point is accepted alike with other returns.
+-- An entry point is valid alike with other returns.
 use Rattle.std.proofs.Common.{inl, inr, ℕ, true, Option, List, refl, sym, ap, subst, ◌∙◌}
 use Rattle.std.specs.Prelude.{◌<◌, ◌-◌, ◌^◌, length}
 use Rattle.ir_flags.proofs.SetLaws.{all_shader_stages}
@@ -36,7 +36,7 @@ use Rattle.judgement_laws.proofs.Likeness.{function_back, entry_back, module_bac
 use Rattle.judgement_laws.proofs.Shared.{if_some_moves}
 use Rattle.spec_expressions.specs.judged.Firsts.{FailsFirst}
 
--- ---- what connects it with other stages and with hosts
+-- ---- its interface to other stages and to the host
 
 module _ (m : PlainModule) (functions : List PlainFunction) (entries : List PlainEntry) (x : PlainEntry) (f : PlainFunction) where
   abbrev n : PlainModule
@@ -137,7 +137,7 @@ among_nine AnyHit = refl
 among_nine ClosestHit = refl
 among_nine Miss = refl
 
--- the stage of an entry point is one of those that there are
+-- the stage of an entry point is one of all stages
 among_all : (stage : ShaderStage) → Has all_stages.0 (stage_set stage).0
 among_all stage = subst (λ bits. Has bits (stage_set stage).0) (sym all_shader_stages) (among_nine stage)
 

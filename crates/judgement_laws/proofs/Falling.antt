@@ -1,4 +1,4 @@
--- Chains of calls run functions of falling index.
+-- Call chains call functions of decreasing index.
 use Rattle.std.proofs.Common.{◌≡◌, ◌<◌, ◌++◌, ℕ, List, [], ◌∷◌, Some, length, slice_get}
 use Rattle.ir_items.specs.judged.Plain.{PlainFunction, PlainModule}
 use Rattle.typing_handles.proofs.Ordered.{order_gives_conditions}
@@ -10,7 +10,7 @@ use Rattle.spec_statements.proofs.CallLaws.{calls_precede}
 use Rattle.spec_expressions.specs.judged.FunctionHandles.{CalleesPrecede}
 use Rattle.spec_expressions.specs.judged.ModuleHandles.{HandlesOK}
 
--- the last one, or where the chain begins
+-- the last one, or the beginning of the chain
 abbrev head_or : List ℕ → ℕ → ℕ
 head_or [] index = index
 head_or (i ∷ earlier) index = i
@@ -25,7 +25,7 @@ module _ (m : PlainModule) (handles : HandlesOK m) where
   precede_at _ _ (at_entry k {e = e} at) = ((order_gives_conditions m handles).entries k e at).callees
 
   module _ (f : PlainFunction) (index : ℕ) (begins : BeginsAt m f index) where
-    -- the functions that a chain runs, and what those come before that its end names
+    -- the functions that a chain calls, and those that its last one references, which precede them
     record Along (chain : List Step) : Type 0 where
       indexes : List ℕ
       are : AreRun m f chain indexes

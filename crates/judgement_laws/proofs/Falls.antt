@@ -1,4 +1,4 @@
--- Where returns are put in, a function with a result falls off only by a break out of a final switch.
+-- If missing returns are inserted, a function with a result falls off its end only by a break out of a final switch.
 use Rattle.std.proofs.Common.{◌≡◌, ◌∙◌, ℕ, List, Option, Some, None, slice_get, refl, sym, subst}
 use Rattle.std.specs.Prelude.{IsSomeAnd}
 use Rattle.std.proofs.lemmas.Option.{slice_get_within}
@@ -21,7 +21,7 @@ use Rattle.spec_runs.proofs.Falls.{Closed, CasesEnd, SwitchesEnd, falls_by_break
 some_is : {A : Type 0} {x y : A} → Some x ≡ Some y → x ≡ y
 some_is e = cc (e)
 
--- nothing stands at an open end
+-- no statement is at an open end
 open_nothing : {b : PlainBlock} {p : Place} → IsOpenEnd b p → spot_at p b ≡ nothing
 open_nothing empty = refl
 open_nothing (after_last goes) = refl

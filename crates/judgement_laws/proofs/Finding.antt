@@ -1,4 +1,4 @@
--- What is found of modules that differ in returns alone is the same.
+-- The validation results of modules that differ only in returns are equal.
 use Rattle.std.proofs.Common.{Bool, true, false, sym, subst}
 use Rattle.ir_flags.specs.declared.settings.Settings.{Settings}
 use Rattle.ir_items.specs.judged.Plain.{PlainModule}
@@ -42,7 +42,7 @@ judged_alike m n l = record {
 pub returns_keep_finding : ReturnsKeepFinding
 returns_keep_finding d m none r s f = (judged_alike d m (like_returned d m none r)).finding s f
 
--- ---- whatever a document says of returns
+-- ---- whether a document requests returns or not
 
 like_prepared : (d p : PlainModule) (returns : Bool) → HasNoResult d → IsPrepared returns d p → LikeModule d p
 like_prepared d p true none r = like_returned d p none r

@@ -1,4 +1,4 @@
--- A function is accepted alike with other returns.
+-- A function is valid alike with other returns.
 use Rattle.std.proofs.Common.{◌≡◌, ℕ, Bool, false, Option, None, List, refl, sym, ap, subst, ◌∙◌}
 use Rattle.std.specs.Prelude.{◌<◌, length}
 use Rattle.ir_blocks.specs.judged.Places.{Place, OccursAt}
@@ -29,7 +29,7 @@ use Rattle.judgement_laws.proofs.Rules.{rule_moves, interface_moves}
 use Rattle.judgement_laws.proofs.Typing.{same_results, typed_moves}
 use Rattle.spec_expressions.specs.judged.Firsts.{FailsFirst}
 
--- ---- the arity of calls
+-- ---- the number of arguments of calls
 
 no_call : (callee : ℕ) (arguments : List ℕ) (result : Option ℕ) → return None ≡ call callee arguments result → ⊥
 no_call callee arguments result is = let x = is in cc

@@ -1,4 +1,4 @@
--- Handles in order stay in order.
+-- Valid handles stay valid.
 use Rattle.std.proofs.Common.{◌≡◌, ℕ, Some, List, slice_get, sym, subst}
 use Rattle.std.specs.Prelude.{◌<◌, Contains}
 use Rattle.ir_blocks.specs.judged.Plain.{PlainBlock}

@@ -1,4 +1,4 @@
--- What is seen of a statement from outside: most rules see no more.
+-- The head of a statement, which is all that most rules depend on.
 use Rattle.std.proofs.Common.{◌≡◌, ℕ, Bool, false, List, ◌∷◌, refl, sym, ap, subst, ◌∙◌}
 use Rattle.std.specs.Prelude.{Contains, ◌≢◌}
 use Rattle.std.specs.List.{AllPairs}
@@ -23,7 +23,7 @@ use Rattle.spec_statements.specs.judged.Switches.{case_values, falls_at_end, Cas
 use Rattle.spec_statements.specs.judged.Tables.{statement_checked, introduced}
 use Rattle.judgement_laws.proofs.Shared.{some_and}
 
--- a statement without blocks is what is seen of it from outside
+-- a statement without blocks is its head
 pub simple_is : (t s : PlainStatement) → head_of t ≡ s → HoldsNoBlock s → t ≡ s
 simple_is (block b) s e h = absurd (subst HoldsNoBlock (sym e) h)
 simple_is (if_ test accept reject) s e h = absurd (subst HoldsNoBlock (sym e) h)
@@ -31,7 +31,7 @@ simple_is (switch selector cases) s e h = absurd (subst HoldsNoBlock (sym e) h)
 simple_is (loop body continuing break_if) s e h = absurd (subst HoldsNoBlock (sym e) h)
 simple_is u s e h = e
 
--- what a function sees of a statement, where it looks at its head alone
+-- the rules of a function on a statement, if they depend on its head alone
 pub by_head : {X : Type 0} (h : PlainStatement → X) → ((s : PlainStatement) → h (head_of s) ≡ h s) → (s t : PlainStatement) → head_of t ≡ head_of s → h s ≡ h t
 by_head h same s t e = sym (same s) ∙ (sym (ap h e) ∙ same t)
 

@@ -1,4 +1,4 @@
--- Modules that differ by returns alone: how they arise, and that the relation goes both ways.
+-- Modules that differ only in returns: how they arise, and the symmetry of the relation.
 use Rattle.std.proofs.Common.{◌≡◌, inl, ℕ, zero, suc, Some, None, List, [], ◌∷◌, slice_get, refl, sym, ap, subst, ◌∙◌}
 use Rattle.std.specs.List.{AllZip}
 use Rattle.ir_blocks.specs.judged.Plain.{PlainBlock}
@@ -9,7 +9,7 @@ use Rattle.judgement_laws.specs.found.Alike.{kept, IsCarried, Alike}
 use Rattle.judgement_laws.specs.judged.Like.{Matched, LikeFunction, LikeEntry, LikeModule, HasNoResult}
 use Rattle.judgement_laws.proofs.Completed.{completed_alike}
 
--- ---- both ways
+-- ---- symmetry
 
 pub alike_back : {b c : PlainBlock} → Alike b c → Alike c b
 alike_back a = record { there = a.back; back = a.there; effects = sym a.effects }
@@ -58,7 +58,7 @@ like_itself m none = record {
   rest = refl;
 }
 
--- ---- what holds with the other bodies, holds of what is like
+-- ---- a property of a module with other bodies is one of the module
 
 pub over_like : {m n : PlainModule} {f g : PlainFunction} (P : PlainModule → PlainFunction → Type 0) → LikeModule m n → LikeFunction f g
     → P (record m { functions = n.functions; entries = n.entries }) (record f { body = g.body }) → P n g
@@ -73,7 +73,7 @@ pub over_entry : {m n : PlainModule} {x y : PlainEntry} (P : PlainModule → Pla
     → P (record m { functions = n.functions; entries = n.entries }) (record x { function = record x.function { body = y.function.body } }) → P n y
 over_entry {m} {n} {x} {y} P l k h = subst (λ z. P z y) (sym l.rest) (subst (P (record m { functions = n.functions; entries = n.entries })) (sym (entry_is k)) h)
 
--- ---- from a module with returns put in
+-- ---- from a module with missing returns inserted
 
 some_is : {A : Type 0} {x y : A} → Some x ≡ Some y → x ≡ y
 some_is e = cc (e)

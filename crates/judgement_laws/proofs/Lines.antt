@@ -1,4 +1,4 @@
--- What the lines of an entry point tell, and that they stand in the report.
+-- What the lines of an entry point list, and that they are in the report.
 use Rattle.std.proofs.Common.{◌≡◌, ◌<◌, ◌⊎◌, inl, inr, ℕ, zero, suc, ◌+◌, List, [], ◌∷◌, ◌++◌, Bool, true, false, true≢false, ◌||◌, ◌&&◌, not, Option, Some, None, IsTrue, length, slice_get, refl, sym, ap, subst, arith, if◌then◌else◌}
 use Rattle.std.specs.Prelude.{codes, decimal, flat_map, slice_index_or}
 use Rattle.std.proofs.lemmas.Bool.{eqb-true}
@@ -53,7 +53,7 @@ module _ (number : ℕ) (e : PlainEntry) (uses : List GlobalUse) where
 entry_whole : (number : ℕ) (e : PlainEntry) (uses : List GlobalUse) (pairs : List (ℕ × ℕ)) → AreWhole (entry_lines number e uses pairs)
 entry_whole number e uses pairs = whole_append (variable_lines number e uses) (flat_map pair_line pairs) (variables_whole number e uses) (whole_flat pair_line pair_whole pairs)
 
--- ---- where the lines of an entry point stand
+-- ---- where the lines of an entry point are
 
 module _ (number : ℕ) (e : PlainEntry) (uses : List GlobalUse) (pairs : List (ℕ × ℕ)) where
   payload_stands : HasLines (own_line (codes "payload") e.payload) (entry_lines number e uses pairs)
@@ -77,7 +77,7 @@ module _ (number : ℕ) (e : PlainEntry) (uses : List GlobalUse) (pairs : List (
   pair_stands : (p : ℕ × ℕ) → IsAmong p pairs → HasLines (pair_line p) (entry_lines number e uses pairs)
   pair_stands p among = has_right _ (variable_lines number e uses) _ (variables_whole number e uses) (has_flat pair_line pair_whole pairs p among)
 
--- ---- what the lines tell
+-- ---- what the lines list
 
 either_true : (a b : Bool) → (a || b) ≡ true → (a ≡ true) ⊎ (b ≡ true)
 either_true true b e = inl refl

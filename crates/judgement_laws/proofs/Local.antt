@@ -1,4 +1,4 @@
--- Chains of one module are chains of each that differs elsewhere.
+-- Call chains of one module are chains of each that differs elsewhere.
 use Rattle.std.proofs.Common.{◌≡◌, inl, inr, ◌<◌, ℕ, List, [], ◌∷◌, ◌++◌, length, slice_get, refl, sym, ap, subst, ◌∙◌}
 use Rattle.spec_expressions.specs.judged.Pairs.{SamplingPair}
 use Rattle.spec_expressions.specs.declared.sampling.GlobalOrArgument.TheVariants.{Global}
@@ -11,7 +11,7 @@ use Rattle.judgement_laws.proofs.Lines.{entries_are_reported}
 use Rattle.judgement_laws.specs.judged.Lines.{HasLines}
 use Rattle.judgement_laws.specs.judged.Local.{AgreeFrom, DifferElsewhere, ReportsAreLocal}
 
--- a chain after a chain
+-- composition of chains
 end_after : (f : PlainFunction) (before after : List Step) → chain_end f (after ++ before) ≡ chain_end (chain_end f before) after
 end_after f before [] = refl
 end_after f before (s ∷ after) = refl
@@ -20,7 +20,7 @@ chain_behind : (m : PlainModule) (f : PlainFunction) (before after : List Step) 
 chain_behind m f before [] first rest = first
 chain_behind m f before (s ∷ after) first rest = (subst (λ h. Calls m h s) (sym (end_after f before after)) rest.0, chain_behind m f before after first rest.1)
 
--- what is agreed on from f is from each function that it reaches
+-- if modules agree on all functions reachable from f, they agree on those reachable from each of these
 agree_there : (m n : PlainModule) (f : PlainFunction) (chain : List Step) → IsChain m f chain → AgreeFrom m n f → AgreeFrom m n (chain_end f chain)
 agree_there m n f chain is agree after rest at callee arguments call =
     agree (after ++ chain) (chain_behind m f chain after is rest) at callee arguments (ap (λ h. slice_get (effects_of h) at) (end_after f chain after) ∙ call)
@@ -32,7 +32,7 @@ chain_kept : (m n : PlainModule) (f : PlainFunction) (chain : List Step) → Agr
 chain_kept m n f [] agree is = tt
 chain_kept m n f (s ∷ before) agree is = (call_kept m n f before s is.1 agree is.0, chain_kept m n f before agree is.1)
 
--- and the other way: by the same agreement, which is read along chains of m
+-- the converse, by the same agreement along chains of m
 chain_back : (m n : PlainModule) (f : PlainFunction) (chain : List Step) → AgreeFrom m n f → IsChain n f chain → IsChain m f chain
 chain_back m n f [] agree is = tt
 chain_back m n f (s ∷ before) agree is =

@@ -1,4 +1,4 @@
--- The steps over a module before its functions are passed alike where functions have other bodies.
+-- The steps before the check of functions have the same results if functions have other bodies.
 use Rattle.std.proofs.Common.{◌≡◌, ℕ, Bool, Option, Some, None, List, refl, sym, subst}
 use Rattle.std.specs.Prelude.{◌<◌, length}
 use Rattle.ir_flags.specs.declared.settings.Capabilities.{Capabilities}

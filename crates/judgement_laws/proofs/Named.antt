@@ -1,4 +1,4 @@
--- What a function names, it names with other returns too.
+-- What a function references, it references with other returns too.
 use Rattle.std.proofs.Common.{◌≡◌, Some, None, sym, subst}
 use Rattle.std.specs.Prelude.{Contains}
 use Rattle.ir_blocks.specs.judged.Plain.{PlainBlock}

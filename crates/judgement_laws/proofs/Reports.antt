@@ -1,4 +1,4 @@
--- The reports of modules that differ by returns alone are the same.
+-- The reports of modules that differ only in returns are equal.
 use Rattle.std.proofs.Common.{ℕ, List, sym, ap, subst, ◌∙◌}
 use Rattle.std.specs.Prelude.{◌<◌, ◌++◌, length, flat_map}
 use Rattle.ir_items.specs.judged.Plain.{PlainEntry, PlainModule}

@@ -1,4 +1,4 @@
--- The rule of a statement is met alike where functions have other bodies.
+-- The rule of a statement holds alike if functions have other bodies.
 use Rattle.std.proofs.Common.{◌≡◌, ℕ, Bool, Option, Some, None, List, slice_get, sym, subst}
 use Rattle.ir_blocks.specs.judged.Plain.{PlainOperation, control_barrier, memory_barrier, store, image_store, atomic, image_atomic, uniform_load, ray_query, ballot, collective, gather, cooperative_store, ray_pipeline, PlainStatement, return, operation, call, PlainBlock}
 use Rattle.ir_blocks.specs.declared.operations.AtomicFunction.{AtomicFunction}

@@ -1,4 +1,4 @@
--- Scope in bodies that are written out: a test of a whole body, and tests of one place.
+-- Scope in concrete bodies: a test of a whole body, and tests of one position.
 use Rattle.std.proofs.Common.{◌≡◌, ◌&&◌, ◌||◌, not, ℕ, zero, suc, Bool, true, false, List, [], ◌∷◌, ◌++◌, ◌⊎◌, inl, inr, ⊎_elim, Option, Some, None, IsSomeAnd, Contains, nat_eq, slice_get, arith, refl, sym, ap, ◌∙◌, subst, true≢false}
 use Rattle.std.proofs.lemmas.Bool.{eqb-true, eq-eqb}
 use Rattle.ir_blocks.specs.judged.Places.{Place, here, later, inside, condition, spot_at, condition_of}
@@ -57,7 +57,7 @@ abbrev mutual
   cases_fine f scope no_case = true
   cases_fine f scope (case value body falls rest) = fine f scope body && cases_fine f scope rest
 
--- ---- what they say
+-- ---- their meaning
 
 both : (a b : Bool) → a && b ≡ true → (a ≡ true) × (b ≡ true)
 both true b e = (refl, e)
@@ -170,19 +170,19 @@ not_both : (b : Bool) → b ≡ true → not b ≡ true → ⊥
 not_both true h n = true≢false (sym n)
 not_both false h n = true≢false (sym h)
 
--- all of the body is in order
+-- all of the body is valid
 pub in_order : (f : PlainFunction) → fine f [] f.body ≡ true → ScopeOK f
 in_order f h = record {
   in_scope = λ p e used. (scope_by_walk_lem f p e).1 (known_so f (visible [] p f.body) e (each_held _ _ (used_fine f p f.body [] h) e used));
   fresh = λ p e brought scope. not_both (known f (visible [] p f.body) e) (so_known f (visible [] p f.body) e ((scope_by_walk_lem f p e).0 scope)) (each_held _ _ (brought_fine f p f.body [] h) e brought);
 }
 
--- ---- one place
+-- ---- one position
 
 -- an expression is used where it is not in scope
 pub used_early : (f : PlainFunction) (p : Place) (e : ℕ) → holds (checked_at (spot_at p f.body)) e ≡ true → known f (visible [] p f.body) e ≡ false → ScopeOK f → ⊥
 used_early f p e used unknown ok = true≢false (sym (so_known f (visible [] p f.body) e ((scope_by_walk_lem f p e).0 (ok.in_scope p e (holds_held _ e used)))) ∙ unknown)
 
--- an expression is brought into scope that is there
+-- an expression enters scope twice
 pub brought_again : (f : PlainFunction) (p : Place) (e : ℕ) → holds (introduced_at (spot_at p f.body)) e ≡ true → known f (visible [] p f.body) e ≡ true → ScopeOK f → ⊥
 brought_again f p e brought there ok = ok.fresh p e (holds_held _ e brought) ((scope_by_walk_lem f p e).1 (known_so f (visible [] p f.body) e there))

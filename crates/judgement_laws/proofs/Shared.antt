@@ -1,4 +1,4 @@
--- What is said of a value that may be there, over another condition.
+-- From one condition on an optional value to another.
 use Rattle.std.proofs.Common.{Option, Some, None}
 use Rattle.std.specs.Prelude.{IfSome, IsSomeAnd}
 

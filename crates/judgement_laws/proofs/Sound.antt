@@ -1,4 +1,4 @@
--- What is promised of a module that is accepted.
+-- The guarantees for a valid module.
 use Rattle.std.proofs.Common.{◌≡◌, ◌∙◌, ◌⊎◌, inl, inr, ℕ, zero, suc, Bool, true, false, true≢false, IsTrue, List, [], ◌∷◌, Some, length, slice_get, refl, sym, subst}
 use Rattle.std.specs.List.{AllZip}
 use Rattle.std.specs.Prelude.{slice_index_or}
@@ -28,7 +28,7 @@ use Rattle.judgement_laws.proofs.Lines.{global_told, pair_told, entries_are_repo
 some_is : {A : Type 0} {x y : A} → Some x ≡ Some y → x ≡ y
 some_is e = cc (e)
 
--- what stands at a place of the second list is related to something of the first
+-- an item of the second list is related to one of the first
 zipped : {A B : Type 0} (R : A → B → Type 0) (xs : List A) (ys : List B) → AllZip R xs ys → (i : ℕ) (y : B) → slice_get ys i ≡ Some y → (x : A) × R x y
 zipped R [] [] h i y at = absurd (cc (at))
 zipped R [] (z ∷ ys) h i y at = absurd h
@@ -46,7 +46,7 @@ prepared_have : (returns : Bool) (d m : PlainModule) → IsPrepared returns d m 
 prepared_have true d m p is = returned_have d m p
 prepared_have false d m p is = absurd (true≢false (sym is))
 
--- ---- lines report what is named and sampled
+-- ---- lines list what is referenced and sampled
 
 module _ (m : PlainModule) (number : ℕ) (e : PlainEntry) (lines : List ℕ) (r : IsEntryReport m number e lines) where
   uses_told : (g : ℕ) → NamedOK m e.function (named g) → (own : Bool) → is_own e g ≡ own → IsTrue (is_own e g) ⊎ IsTrue (is_used (slice_index_or r.uses g no_use))
@@ -77,7 +77,7 @@ module _ (m : PlainModule) (number : ℕ) (e : PlainEntry) (lines : List ℕ) (r
   each_sampled (fell_off f last) h = tt
   each_sampled escaped h = tt
 
--- ---- accepted entry points and modules
+-- ---- valid entry points and modules
 
 pub accepted_entry : (s : Settings) (m : PlainModule) (strict : Bool) → IsFinding s m (Accepted strict) → AreChecked s → (number : ℕ) (e : PlainEntry) → slice_get m.entries number ≡ Some e → IsAcceptedEntry s m number
 accepted_entry s m strict found checked number e at =

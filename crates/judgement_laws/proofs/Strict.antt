@@ -12,7 +12,7 @@ use Rattle.judgement_laws.specs.found.Alike.{IsCarried, Alike}
 use Rattle.judgement_laws.proofs.Bodies.{carry, looks, is_same, none_contained, introduces}
 use Rattle.judgement_laws.proofs.Heads.{needed_head}
 
--- a statement that holds no blocks stands in the other body too
+-- a statement without blocks is in the other body too
 stands_too : {b c : PlainBlock} (u : PlainStatement) → HoldsNoBlock u → head_of u ≡ u → (return None ≡ u → ⊥) → IsCarried b c → (p : Place) → OccursAt b p u → OccursAt c p u
 stands_too u none own other h p stands = let k = carry (λ s. s ≡ u) (is_same u none own) other h p u stands refl in k.1 ∙ ap statement k.2
 

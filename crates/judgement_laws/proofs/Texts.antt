@@ -1,4 +1,4 @@
--- Lines that stand in a text.
+-- Lines that occur in a text.
 use Rattle.std.proofs.Common.{◌≡◌, inl, inr, ℕ, zero, suc, ◌+◌, List, [], ◌∷◌, ◌++◌, Bool, true, false, Some, refl, sym, ap, subst, ◌∙◌, slice_get, append_assoc, append-nil, arith, if◌then◌else◌}
 use Rattle.std.specs.Prelude.{codes, flat_map}
 use Rattle.typing_rules.specs.judged.Laws.{IsAmong}

@@ -1,4 +1,4 @@
--- Types of expressions see nothing of other functions but their results.
+-- The types of expressions depend on other functions only by their results.
 use Rattle.std.proofs.Common.{◌≡◌, ℕ, Option, Some, None, List, slice_get, refl, sym, ap, ◌∙◌}
 use Rattle.std.specs.Prelude.{◌==◌, Result, Err, option_and_then, option_map, ok_or, if◌then◌else◌, length}
 use Rattle.ir_items.specs.judged.Plain.{PlainFunction}

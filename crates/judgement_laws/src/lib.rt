@@ -1,7 +1,7 @@
-//! What is known of every module that is accepted, by the definitions alone: its chains of calls end, its bindings differ
-//! ([`accepted_laws`]); every run of its entry points is good, and the lines of the report tell what it names and samples
-//! ([`run_laws`]); and where none of its functions has a result, it makes no difference whether missing returns are put in
-//! ([`return_laws`]). What the definitions say of small examples, worked out by hand and computed by the prover:
+//! Laws of every valid module, from the definitions alone: its call chains are finite, its bindings are distinct
+//! ([`accepted_laws`]); every run of its entry points is safe, and the report lists what it references and samples
+//! ([`run_laws`]); and if none of its functions has a result, inserting missing returns makes no difference
+//! ([`return_laws`]). Examples of the definitions, computed by hand and by the prover:
 //! [`rule_examples`], [`statement_examples`], [`run_examples`].
 //!
 //! The functions do nothing: their contracts are the laws and the examples.

@@ -1,33 +1,33 @@
-//! Where no function and no entry point of a module has a result, it makes no difference whether missing returns are put in.
+//! If no function and no entry point of a module has a result, inserting missing returns makes no difference.
 //!
 //! The functions do nothing: their contracts are the laws.
 
 ghost use Rattle.judgement_laws.specs.found.Alike.{CompletedAlike};
 ghost use Rattle.judgement_laws.specs.found.ReturnLaws.{ReturnsKeepFinding, ReturnsKeepHandles, ReturnsKeepReport, ReturnsDontMatter};
 
-/// All of a body is in the body completed with returns, at the same places, and the other way round, but for returns without a
-/// value at open ends; and both have the same effects in the same order.
+/// A body and the same body with missing returns inserted have the same statements at the same positions, except for returns
+/// without a value at open ends; and both have the same effects in the same order.
 pub fn completed_alike()
     ensures { CompletedAlike }
 {}
 
-/// The handles of a module without results are in order exactly where they are with returns put in.
+/// A module without results has valid handles exactly if it has valid handles with missing returns inserted.
 pub fn returns_keep_handles()
     ensures { ReturnsKeepHandles }
 {}
 
-/// What is found of a module without results is what is found of it with returns put in: accepted, or refused at the same step and the
-/// same index.
+/// The result for a module without results is that for it with missing returns inserted: valid, or invalid at the same step and
+/// index.
 pub fn returns_keep_finding()
     ensures { ReturnsKeepFinding }
 {}
 
-/// The report on a module without results is the report on it with returns put in.
+/// The report of a module without results is that of it with missing returns inserted.
 pub fn returns_keep_report()
     ensures { ReturnsKeepReport }
 {}
 
-/// A document without results has the same finding and the same report, whether it requires returns or not.
+/// A document without results has the same validation result and the same report, whether it requests returns or not.
 pub fn returns_dont_matter()
     ensures { ReturnsDontMatter }
 {}

@@ -1,4 +1,4 @@
-//! What the definitions of the judgement say of small examples, worked out by hand and computed by the prover.
+//! Examples of the definitions of validation, computed by hand and by the prover.
 //!
 //! The functions do nothing: their contracts are the examples.
 
@@ -16,7 +16,7 @@ ghost use Rattle.judgement.specs.judged.Text.{text_of};
 ghost use Rattle.judgement.specs.declared.finding.Finding.TheVariants.{Accepted, RefusedDocument, RefusedHandles, Refused};
 ghost use Rattle.judgement.specs.declared.finding.Step.TheVariants.{«Type», Function};
 
-/// The line of each finding.
+/// The line of text of each validation result.
 pub fn lines()
     ensures accepted { text_of (Accepted false) ≡ codes "accepted\n" }
     ensures accepted_strict { text_of (Accepted true) ≡ codes "accepted strict\n" }
@@ -26,7 +26,7 @@ pub fn lines()
     ensures later_function { text_of (Refused Function 12) ≡ codes "refused function 12\n" }
 {}
 
-/// What a statement names; what is inside it names for itself.
+/// What a statement references; nested statements are not included.
 pub fn references()
     ensures operands_of_a_call { statement_operands (call 1 (0 ∷ 2 ∷ []) (Some 3)) ≡ 0 ∷ 2 ∷ [] }
     ensures callee_of_a_call { statement_callee (call 1 (0 ∷ 2 ∷ []) (Some 3)) ≡ Some 1 }
@@ -39,7 +39,7 @@ pub fn references()
     ensures range_of_an_emit { statement_range (emit 1 3) ≡ Some (record { first = 1; end = 3 }) }
 {}
 
-/// Which scalars may be types.
+/// Which scalars are valid types.
 pub fn scalars()
     ensures half_with_its_capability { IsKindAllowed SHADER_FLOAT16 Float 2 }
     ensures half_without_it { ¬ IsKindAllowed (record { 0 = 0 }) Float 2 }
@@ -49,7 +49,7 @@ pub fn scalars()
     ensures abstract_integer { ¬ IsKindAllowed (record { 0 = 0 }) AbstractInt 8 }
 {}
 
-/// Where a statement may leave by, from the innermost part outward.
+/// How control flow may leave a statement, from the innermost construct outward.
 pub fn control()
     ensures break_in_a_body { may_leave breaks [] ≡ false }
     ensures break_in_a_case { may_leave breaks (case_at 0 ∷ []) ≡ true }
@@ -63,7 +63,7 @@ pub fn control()
     ensures kill_in_a_continuing_part { may_leave kills (loop_continuing ∷ []) ≡ true }
 {}
 
-/// Where returns are put in.
+/// Where missing returns are inserted.
 pub fn completed_bodies()
     ensures nothing { completed stop ≡ next (return None) stop }
     ensures behind_a_call { completed (next (call 0 [] None) stop) ≡ next (call 0 [] None) (next (return None) stop) }

@@ -1,4 +1,4 @@
-//! Runs in which a continue skips something, and events that are not good.
+//! Runs in which `Continue` skips a statement, and events that are not safe.
 ghost use Rattle.std.specs.Prelude.{◌≡◌, [], ◌∷◌, Some, None, pos};
 ghost use Rattle.ir_blocks.specs.judged.Places.{here, later, inside};
 ghost use Rattle.ir_blocks.specs.judged.Shapes.{loop_body, accepting, case_at};
@@ -10,7 +10,7 @@ ghost use Rattle.spec_runs.specs.judged.Scoping.{checked_operands};
 ghost use Rattle.spec_runs.specs.found.Worked.{module_of, calling, skipping, breaking, using_too_early};
 ghost use Rattle.judgement_laws.specs.found.RunExamples.{answered, continuing, nested};
 
-/// A continue skips what is left of its loop's body at the top level, in its own turn.
+/// `Continue` skips the rest of the loop body, at its top level, in the same iteration.
 pub fn skips()
     ensures skipped { trace_of checked_operands (module_of []) continuing (pos 1 ∷ pos 1 ∷ []) 9
         ≡ entered 0 ∷ executed continuing here ∷ executed continuing (inside loop_body here) ∷ used continuing [] [] 0 ∷ executed continuing (inside loop_body (inside accepting here)) ∷ used continuing [] (2 ∷ []) 2
@@ -25,14 +25,14 @@ pub fn skips()
         ∷ fell_off nested (Some (inside loop_body (later here))) ∷ [] }
 {}
 
-/// A function with a result that is left by a break out of its last switch falls off, and its caller goes on as if it had answered.
+/// A function with a result that breaks out of its last switch falls off its end, and its caller continues as if it had returned.
 pub fn falls_in_a_call()
     ensures { trace_of checked_operands (module_of (breaking ∷ [])) answered (pos 7 ∷ []) 9
         ≡ entered 0 ∷ executed answered here ∷ passed answered breaking [] ∷ entered 1 ∷ executed breaking here ∷ used breaking [] [] 0 ∷ executed breaking (inside (case_at 0) here)
         ∷ fell_off breaking (Some (inside (case_at 0) here)) ∷ introduced_expression answered 0 ∷ fell_off answered (Some here) ∷ [] }
 {}
 
-/// Events that are not good, and good ones beside them.
+/// Events that are not safe, and safe ones for comparison.
 pub fn events()
     ensures deep { ¬ DepthOK 0 (entered 1) }
     ensures not_live { ¬ LiveOK (used using_too_early [] [] 1) }

@@ -1,4 +1,4 @@
-//! What the rules of statements say of small functions, worked out by hand and computed by the prover.
+//! The rules of statements on small functions, computed by hand and by the prover.
 //!
 //! The functions do nothing: their contracts are the examples.
 ghost use Rattle.std.specs.Prelude.{[], ◌∷◌, None, Some, true, false, pos};
@@ -22,7 +22,7 @@ ghost use Rattle.spec_statements.specs.judged.Switches.{SwitchOK};
 ghost use Rattle.judgement_laws.specs.found.Worked.{one, two, use_of, over_truths, over_answer, first_answered, storing, calling, answering, allowing};
 ghost use Rattle.typing_forms.specs.declared.form.Form.TheVariants as form;
 
-/// What is in scope where.
+/// Scope: what is in scope where.
 pub fn scope()
     ensures emitted_twice { ¬ ScopeOK (over_truths (two (emit 1 2) (emit 1 2))) }
     ensures emitted_in_two_blocks { ScopeOK (over_truths (two (block (one (emit 1 2))) (block (one (emit 1 2))))) }
@@ -36,8 +36,8 @@ pub fn scope()
     ensures used_behind_its_loop { ¬ ScopeOK (over_truths (two (loop (one (emit 1 2)) stop (Some 1)) (use_of 1))) }
 {}
 
-/// What is in strict scope where: after a continue nothing is for a loop's condition, in front of one and after that of a loop
-/// inside it is; and an operand that nothing emits is not, where the expression is emitted that has it.
+/// Strict scope: after a continue, nothing is in scope for a loop's `break_if`, whether before or after a nested
+/// loop; and an operand that nothing emits is not in scope where an expression that uses it is emitted.
 pub fn strict_scope()
     ensures behind_a_continue { ¬ InStrictScope (over_truths (one (loop (two (if_ 0 (one continue) stop) (emit 1 2)) stop (Some 1)))) condition 1 }
     ensures before_a_continue { InStrictScope (over_truths (one (loop (two (emit 1 2) (if_ 0 (one continue) stop)) stop (Some 1)))) condition 1 }
@@ -45,7 +45,7 @@ pub fn strict_scope()
     ensures operand_not_emitted { ¬ InStrictScope (over_truths (one (emit 2 3))) here 1 }
 {}
 
-/// What denotes the results of calls. The flags are all six, and that of blocks alone.
+/// What denotes the results of calls. The flags are all six, or `BLOCKS` alone.
 pub fn answers()
     ensures answered { AnsweredOnce (record { 0 = 63 }) (over_answer (one (call 0 [] (Some 0)))) }
     ensures answered_in_two_blocks { ¬ AnsweredOnce (record { 0 = 63 }) (over_answer (two (block (one (call 0 [] (Some 0)))) (block (one (call 0 [] (Some 0)))))) }

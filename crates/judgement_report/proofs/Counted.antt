@@ -21,7 +21,7 @@ use Rattle.typing_layout.specs.declared.layout.TypeLayout.{TypeLayout}
 same : (b base : ℕ) → Some b ≡ Some base → b ≡ base
 same b base e = cc
 
--- the elements of a binding array come before it
+-- the element type of a binding array precedes it
 base_before : (types : List PlainType) → TypesGoBack types → (type base : ℕ) (o : Option PlainInner) → inner_at types type ≡ o → array_base o ≡ Some base → base < type
 base_before types back type base (Some (plain (inner.BindingArray b n))) at e =
     subst (λ k. k < type) (same b base e) (All-head (λ named. named < type) b [] (back.each type (plain (inner.BindingArray b n)) at))
@@ -34,7 +34,7 @@ counted_by types back type within (Some base) e = let before = base_before types
 pub counted_there : (types : List PlainType) → TypesGoBack types → (type : ℕ) → type < length types → effective_type types type < length types
 counted_there types back type within = counted_by types back type within (array_base (inner_at types type)) refl
 
--- a buffer's line tells the layout
+-- a buffer's line has the layout of its type
 pub buffer_told : (types : List PlainType) (number : ℕ) (v : PlainGlobal) (type : ℕ) (l : TypeLayout) → is_buffer v.space ≡ true → type ≡ effective_type types v.ty → IsLayoutOf (type_tree types type) l
     → buffer_line number l.size l.alignment ≡ buffer_of types number v
 buffer_told types number v type l buffer counts is =
@@ -43,6 +43,6 @@ buffer_told types number v type l buffer counts is =
     ∙ (ap (λ n. buffer_line number (size (type_tree types (effective_type types v.ty))) n) here.alignment
     ∙ sym (ap (λ b. if b then buffer_line number (size (type_tree types (effective_type types v.ty))) (alignment (type_tree types (effective_type types v.ty))) else []) buffer))
 
--- the variable that an arena has at a place is the module's
+-- the variable at an index of an arena is the module's
 pub global_found : {T View : Type 0} (view : T → View) (entries : List (T × Span)) (h : ℕ) (v : T) → Some v ≡ value_at entries h → slice_get (map view (values_of entries)) h ≡ Some (view v)
 global_found view entries h v at = slice_get-map view (values_of entries) h ∙ ap (option_map view) (slice_get-map value_of_entry entries h ∙ sym at)

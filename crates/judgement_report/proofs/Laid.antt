@@ -1,4 +1,4 @@
--- What a module whose types are laid out gives to the walk over them.
+-- What a module with layouts provides to the traversal of its types.
 use Rattle.std.proofs.Common.{◌≡◌, ◌<◌, ◌≤◌, ℕ, zero, suc, List, [], ◌∷◌, Some, map, length, slice_get, option_map, sym, ap, subst, ◌∙◌, arith}
 use Rattle.std.proofs.lemmas.Option.{slice_get-map}
 use Rattle.ir_arena.specs.found.Arenas.{value_at, value_of_entry}

@@ -18,7 +18,7 @@ lines_append text strides start (x ∷ xs) ys =
     let line : List ℕ = leaf_line (text x.steps) (strides ++ stride_words x.steps) (start + x.first) x.length x.alignment in
     ap (λ r. line ++ r) (lines_append text strides start xs ys) ∙ sym (append_assoc line (row_lines text strides start xs) (row_lines text strides start ys))
 
--- of the rows of a part, as those of the whole
+-- of the rows of a part, as rows of the whole
 lines_inside : (text : List Step → List ℕ) (strides : List ℕ) (start : ℕ) (step : Step) (offset : ℕ) (xs : List Row)
     → row_lines text strides start (map (row_inside step offset) xs) ≡ row_lines (λ p. text (step ∷ p)) (strides ++ stride_word step) (start + offset) xs
 lines_inside text strides start step offset [] = refl
@@ -31,7 +31,7 @@ lines_inside text strides start step offset (x ∷ xs) =
 
 -- ---- elements
 
--- what is written of one element is that of all
+-- the lines of one element are those of all
 pub elements_written : (types : List PlainType) (before path strides apart : List ℕ) (base start count stride : ℕ) (rs : List Row) (old after : List ℕ) → count ≢ 0
     → path ≡ to_elements before count → apart ≡ strides ++ stride_word (to_each count stride) → after ≡ old ++ row_lines (path_along types path (parts_at types base)) apart start rs
     → after ≡ old ++ row_lines (path_along types before (numbered base)) strides start (elements count stride rs)

@@ -1,4 +1,4 @@
--- One element or member more, and what lies at a handle.
+-- One more element or member, and the leaves at a handle.
 use Rattle.std.proofs.Common.{◌≡◌, ◌≢◌, ◌<◌, ◌≤◌, ◌+◌, ◌-◌, ◌*◌, ℕ, zero, suc, List, [], ◌∷◌, ◌++◌, Some, None, map, length, get_or, drop, refl, ap, sym, ◌∙◌, arith, add-one, append_assoc, append-nil}
 use Rattle.std.proofs.Math.Seq.{drop-cons}
 use Rattle.ir_types.specs.judged.Plain.{PlainInner, PlainType, member_view}
@@ -46,7 +46,7 @@ pub no_elements : (old : List Leaf) (start stride : ℕ) (ls : List Place) → o
 unfolding repeated
 no_elements old start stride ls = sym (append-nil old)
 
--- an element begins within the size of the array
+-- an element is within the size of the array
 pub element_offset : (place count stride : ℕ) → place < count → count * stride ≤ 2147483647 → place * stride ≤ 2147483647
 element_offset place count stride lt le = grind arith
 

@@ -1,4 +1,4 @@
--- The uses and the pairs of an entry point's function, with uses noted of its own variables.
+-- The uses and the sampled pairs of an entry point's function, with the uses of its own variables added.
 use Rattle.std.proofs.Common.{◌≡◌, ◌⊎◌, ◌||◌, inl, inr, ℕ, Bool, true, false, true≢false, Option, Some, refl, sym, ap, ◌∙◌}
 use Rattle.spec_expressions.specs.declared.sampling.GlobalOrArgument.TheVariants.{Global}
 use Rattle.ir_items.specs.judged.Plain.{PlainEntry}

@@ -18,12 +18,12 @@ use Rattle.typing_layout.specs.judged.Layout.{size, alignment}
 use Rattle.typing_layout.specs.judged.View.{type_tree}
 use Rattle.typing_layout.specs.declared.layout.TypeLayout.{TypeLayout}
 
--- ---- the type that counts is there
+-- ---- the type whose layout is reported exists
 
 same : (b base : ℕ) → Some b ≡ Some base → b ≡ base
 same b base e = cc
 
--- the elements of a binding array come before it
+-- the element type of a binding array precedes it
 base_before : (types : List PlainType) → TypesGoBack types → (type base : ℕ) (o : Option PlainInner) → inner_at types type ≡ o → array_base o ≡ Some base → base < type
 base_before types back type base (Some (plain (inner.BindingArray b n))) at e =
     subst (λ k. k < type) (same b base e) (All-head (λ named. named < type) b [] (back.each type (plain (inner.BindingArray b n)) at))
@@ -36,7 +36,7 @@ counted_by types back type within (Some base) e = let before = base_before types
 pub counted_there : (types : List PlainType) → TypesGoBack types → (type : ℕ) → type < length types → effective_type types type < length types
 counted_there types back type within = counted_by types back type within (array_base (inner_at types type)) refl
 
--- what is written of a buffer is what describes it
+-- the text written for a buffer is its line
 pub buffer_described : (types : List PlainType) → TypesGoBack types → (number : ℕ) (v : PlainGlobal) (ty step : ℕ) (l : TypeLayout) (old middle after : List ℕ) → is_buffer v.space ≡ true
     → ty ≡ effective_type types v.ty → IsLayoutOf (type_tree types ty) l → step ≡ l.alignment → middle ≡ old ++ buffer_line number l.size step
     → after ≡ middle ++ row_lines (path_along types [] (parts_at types ty)) [] 0 (listed (type_tree types ty)) → after ≡ old ++ described types number v
@@ -61,7 +61,7 @@ each_next told first [] place x at = let h = at in absurd (cc)
 each_next told first (y ∷ ys) zero x at = let is : y ≡ x = (let h = at in cc) in ap (λ z. told first z ++ each_from told (suc first) ys) is
 each_next told first (y ∷ ys) (suc place) x at = each_next told first ys place x at
 
--- what is reported of one more is written
+-- one more item is written
 pub each_more : {X : Type 0} (told : ℕ → X → List ℕ) (xs : List X) (number : ℕ) (x : X) (middle after whole : List ℕ) → slice_get xs number ≡ Some x
     → middle ++ each_from told number (drop number xs) ≡ whole → after ≡ middle ++ told number x → after ++ each_from told (number + 1) (drop (number + 1) xs) ≡ whole
 each_more told xs number x middle after whole at is written =

@@ -1,4 +1,4 @@
--- The rows of a value stand for its leaves.
+-- The rows of a value represent its leaves.
 use Rattle.std.proofs.Common.{◌≡◌, ◌+◌, ◌*◌, ℕ, zero, suc, List, [], ◌∷◌, ◌++◌, map, inl, inr, refl, sym, ap, subst, ◌∙◌, arith}
 use Rattle.std.specs.Prelude.{◌↔◌}
 use Rattle.spec_expressions.proofs.Members.{among-left, among-right, among-cases}
@@ -8,7 +8,7 @@ use Rattle.judgement_report.specs.Laws.{RowsAreLeaves}
 use Rattle.judgement_report.specs.Runs.{Row, Step, to_part, to_each, row_inside, elements, listed, member_rows, reached_by, stands_for, all_stand_for}
 use Rattle.typing_layout.specs.judged.Tree.{Tree, scalar, vector, matrix, cooperative_matrix, atomic, pointer, value_pointer, array, struct, image, sampler, acceleration_structure, ray_query, binding_array, Members, no_members, member}
 
--- they have the same members
+-- both have the same members
 abbrev Same : List Leaf → List Leaf → Type 0
 Same xs ys = (l : Leaf) → IsAmong l xs ↔ IsAmong l ys
 
@@ -30,7 +30,7 @@ same_both a b c d h k l = (
   λ x. elim (among-cases b d l x) [ inl y ↦ among-left a c l ((h l).1 y) | inr y ↦ among-right a c l ((k l).1 y) ],
 )
 
--- four lists, the two in the middle exchanged
+-- four lists, the middle two swapped
 half : (a b c d : List Leaf) (l : Leaf) → IsAmong l ((a ++ c) ++ (b ++ d)) → IsAmong l ((a ++ b) ++ (c ++ d))
 half a b c d l x = elim (among-cases (a ++ c) (b ++ d) l x) [
   | inl y ↦ elim (among-cases a c l y) [

@@ -13,7 +13,7 @@ use Rattle.typing_rules.specs.judged.Laws.{IsAmong}
 use Rattle.judgement.specs.judged.Lines.{each_from}
 use Rattle.judgement.specs.judged.Reports.{IsEntryReport}
 
--- one piece more
+-- one more piece
 pub further : (before middle after a b : List ℕ) → middle ≡ before ++ a → after ≡ middle ++ b → after ≡ before ++ (a ++ b)
 further before middle after a b first second = second ∙ (ap (λ t. t ++ b) first ∙ append_assoc before a b)
 
@@ -25,7 +25,7 @@ each_next told first [] place x at = let h = at in absurd (cc)
 each_next told first (y ∷ ys) zero x at = let is : y ≡ x = (let h = at in cc) in ap (λ z. told first z ++ each_from told (suc first) ys) is
 each_next told first (y ∷ ys) (suc place) x at = each_next told first ys place x at
 
--- what is reported of one more is written
+-- one more item is written
 pub each_more : {X : Type 0} (told : ℕ → X → List ℕ) (xs : List X) (number : ℕ) (x : X) (middle after whole : List ℕ) → slice_get xs number ≡ Some x
     → middle ++ each_from told number (drop number xs) ≡ whole → after ≡ middle ++ told number x → after ++ each_from told (number + 1) (drop (number + 1) xs) ≡ whole
 each_more told xs number x middle after whole at is written =
@@ -34,7 +34,7 @@ each_more told xs number x middle after whole at is written =
     (ap (λ t. t ++ each_from told (suc number) (drop (suc number) xs)) written
     ∙ (append_assoc middle (told number x) (each_from told (suc number) (drop (suc number) xs)) ∙ (ap (λ t. middle ++ t) (sym (each_next told number xs number x at)) ∙ is)))
 
--- and so of all
+-- and so all are
 pub each_done : {X : Type 0} (told : ℕ → X → List ℕ) (xs : List X) (number : ℕ) (text whole : List ℕ) → length xs ≤ number → text ++ each_from told number (drop number xs) ≡ whole → text ≡ whole
 each_done told xs number text whole past is = sym (append-nil text) ∙ (sym (ap (λ rest. text ++ each_from told number rest) (drop_all number xs past)) ∙ is)
 
@@ -47,7 +47,7 @@ global_is : {x y : ℕ} → Global x ≡ Global y → x ≡ y
 global_is e = cc (e)
 
 module _ (image sampler : ℕ) where
-  -- the two numbers are reported exactly of the two global variables
+  -- the two indices are those of the two global variables
   next_numbered : (a b : GlobalOrArgument) (rest : List (ℕ × ℕ)) (pairs : List SamplingPair) → IsAmong (image, sampler) rest ↔ IsAmong (Global image, Global sampler) pairs
       → IsAmong (image, sampler) (cons_option (numbers_in a b) rest) ↔ IsAmong (Global image, Global sampler) ((a, b) ∷ pairs)
   next_numbered (Global x) (Global y) rest pairs r = (
@@ -67,7 +67,7 @@ module _ (image sampler : ℕ) where
   numbered [] = (λ none. none, λ none. none)
   numbered (p ∷ pairs) = next_numbered p.0 p.1 (filter_map numbers_of pairs) pairs (numbered pairs)
 
--- what is written of an entry point is its report
+-- the text written for an entry point is its report
 pub reported : (m : PlainModule) (number : ℕ) (e : PlainEntry) (info : FunctionInfo) (lines : List ℕ) → IsEntryInfo m e info → AreLinesOf number e info lines → IsEntryReport m number e lines
 reported m number e info lines is written = record {
   uses = info.uses.items;
@@ -121,7 +121,7 @@ one_more_each m number e entries lines many at is before k d told there found = 
       subst (λ j. IsEntryReport m j d told) place (subst (λ f. IsEntryReport m number f told) same (subst (IsEntryReport m number e) last.1 is)))
 ]
 
--- one entry point more
+-- one more entry point
 pub one_more : (m : PlainModule) (number : ℕ) (e : PlainEntry) (info : FunctionInfo) (before middle after : List ℕ) → slice_get m.entries number ≡ Some e → IsEntryInfo m e info
     → Tells (AreEntryLines m number) before middle → Tells (AreLinesOf number e info) middle after → Tells (AreEntryLines m (number + 1)) before after
 one_more m number e info before middle after at is so_far next =

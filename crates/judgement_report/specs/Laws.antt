@@ -1,4 +1,4 @@
--- When what is kept of an entry point is what the report reads, and when a module has what its leaves require.
+-- When an entry point's info has what the report reads, and when a module meets the requirements of its leaves.
 use Rattle.std.specs.Prelude.{◌≡◌, ◌<◌, ◌↔◌, ℕ, Bool, length}
 use Rattle.ir_flags.specs.declared.settings.Settings.{Settings}
 use Rattle.spec_expressions.specs.judged.Pairs.{SamplingPair}
@@ -15,21 +15,21 @@ use Rattle.spec_expressions.specs.judged.CallChains.{HasUse, HasPair}
 use Rattle.spec_expressions.specs.judged.Summaries.{HasUseBit}
 use Rattle.spec_interface.specs.judged.Uses.{EntryUses}
 
--- It has the uses of global variables that the entry point makes, over all chains of calls of its function and by its payload and
--- its mesh output, and the pairs of its function.
+-- It has the uses of global variables by all functions reachable from the entry point and by its payload and
+-- its mesh output, and the sampled pairs of its function.
 pub record IsNotedOf (m : PlainModule) (e : PlainEntry) (info : FunctionInfo) : Type 0 where
   pub many : length info.uses.items ≡ length m.globals
   pub uses : (g k : ℕ) → g < length m.globals → HasUseBit info.uses.items g k ↔ EntryUses e (HasUse m e.function) g k
   pub pairs : (p : SamplingPair) → IsAmong p info.sampling.items ↔ HasPair m e.function p
 
--- such an info is what the report reads
+-- such an info has what the report reads
 abbrev pub NotedIsReported : Type 0
 NotedIsReported = (m : PlainModule) (e : PlainEntry) (info : FunctionInfo) → IsNotedOf m e info → IsEntryInfo m e info
 
--- each type of a module that the steps up to overrides accept has a layout
+-- each type of a module that passes the steps up to overrides has a layout
 abbrev pub AcceptedIsLaid : Type 0
 AcceptedIsLaid = (s : Settings) (resolved : Bool) (m : PlainModule) → ModuleOK s resolved m → AreLaid m
 
--- the leaves that the rows of a value stand for are those of the value, where an array without a length has one element
+-- the leaves that the rows of a value represent are those of the value, with one element for a runtime-sized array
 abbrev pub RowsAreLeaves : Type 0
 RowsAreLeaves = (t : Tree) (l : Leaf) → IsAmong l (leaves 1 t) ↔ IsAmong l (all_stand_for (listed t))

@@ -1,4 +1,4 @@
--- The leaves of a global variable as they are listed.
+-- The leaves of a global variable, as listed.
 use Rattle.std.specs.Prelude.{◌≡◌, ◌≤◌, ◌<◌, ◌+◌, ◌*◌, ℕ, List, Some, map, length, slice_get}
 use Rattle.ir_items.specs.judged.GlobalPlain.{PlainGlobal}
 use Rattle.ir_items.specs.judged.Plain.{PlainModule}
@@ -14,18 +14,18 @@ use Rattle.typing_layout.specs.found.Held.{AreLayouts}
 use Rattle.typing_layout.specs.judged.Layout.{LayoutOK}
 use Rattle.typing_layout.specs.judged.View.{type_tree}
 
--- a leaf of a value that begins at a byte, without its path
+-- a leaf of a value at an offset, without its path
 abbrev pub row : (start : ℕ) → Place → Leaf
 row start l = record { first = start + l.first; len = l.length; alignment = l.alignment }
 
 abbrev pub rows : (start : ℕ) → List Place → List Leaf
 rows start ls = map (row start) ls
 
--- each type of the list is at most as large as types may be
+-- each type of the list is within the maximum type size
 abbrev pub AreInRange : List PlainType → Type 0
 AreInRange types = (handle : ℕ) (i : PlainInner) → inner_at types handle ≡ Some i → type_size i ≤ MAX_TYPE_SIZE
 
--- where types nest so deep, no byte of a value that begins at this one is past what a `u64` counts
+-- with this nesting depth, no offset in a value at this one overflows a `u64`
 abbrev pub HasRoom : (start depth : ℕ) → Type 0
 HasRoom start depth = start + depth * 4294967296 ≤ 18446744073709551616
 
@@ -33,14 +33,14 @@ HasRoom start depth = start + depth * 4294967296 ≤ 18446744073709551616
 abbrev pub AreLaid : PlainModule → Type 0
 AreLaid m = (handle : ℕ) → handle < length m.types → LayoutOK (type_tree m.types handle)
 
--- These are the leaves of the global variable at a handle, in the order of their paths, where an array without a length has one
--- element: of a binding array those of one element.
+-- The leaves of the global variable at a handle, in the order of their paths, with one element for a runtime-sized
+-- array; for a binding array those of one element.
 pub record AreLeavesOf (m : PlainModule) (global : ℕ) (found : List Leaf) : Type 0 where
   pub variable : PlainGlobal
   pub at : slice_get m.globals global ≡ Some variable
   pub are : found ≡ rows 0 (leaves 1 (buffer_type m.types variable))
 
--- what is kept of a module has the layout of each of its types
+-- the `ModuleInfo` has the layout of each type of the module
 pub record AreLayoutsIn (m : PlainModule) (info : ModuleInfo) : Type 0 where
   pub layouts : AreLayouts m.types info.layouter
   pub all : length info.layouter ≡ length m.types

@@ -16,7 +16,7 @@ use ir_types::{TypeInner, key};
 use std::alloc::AllocError;
 use typing_infos::ModuleInfo;
 
-// Whether a host fills it with bytes.
+// Whether an address space is that of a buffer.
 const fn is_buffer(space: AddressSpace) -> bool
     ensures { result ≡ is_buffer space }
 {
@@ -33,7 +33,7 @@ const fn is_buffer(space: AddressSpace) -> bool
     }
 }
 
-// The type of the elements of a binding array; `None` of anything else.
+// The element type of a binding array; `None` for any other type.
 fn array_base(inner: &TypeInner) -> Option<Handle<key::IrType>>
     ensures { result ≡ array_base (Some (inner_view inner.now)) }
 {
@@ -43,7 +43,7 @@ fn array_base(inner: &TypeInner) -> Option<Handle<key::IrType>>
     }
 }
 
-// The type whose layout is reported: of a binding array that of its elements.
+// The type whose layout is reported: for a binding array its element type.
 fn counted(module: &Module, ty: Handle<key::IrType>) -> Handle<key::IrType>
     requires { ty < length (module_view «module».now).types }
     ensures { result ≡ effective_type (module_view «module».now).types ty }
@@ -51,7 +51,7 @@ fn counted(module: &Module, ty: Handle<key::IrType>) -> Handle<key::IrType>
     array_base(&module.types[ty].inner).unwrap_or(ty)
 }
 
-// The line of a global variable, where it is a buffer.
+// The line of a global variable, if it is a buffer.
 fn write_variable(
     text: &mut String,
     module: &Module,

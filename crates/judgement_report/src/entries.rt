@@ -15,7 +15,7 @@ use spec_expressions::GlobalUse;
 use std::alloc::{AllocError, Global};
 use typing_infos::{FunctionInfo, ModuleInfo};
 
-// The variable that holds what a mesh shader gives.
+// The output variable of a mesh shader.
 fn mesh_output(entry: &EntryPoint) -> Option<Handle<key::GlobalVariable>>
     ensures { result ≡ mesh_output (entry_view entry.now) }
 {
@@ -25,7 +25,7 @@ fn mesh_output(entry: &EntryPoint) -> Option<Handle<key::GlobalVariable>>
     }
 }
 
-// Whether it is this global variable.
+// Whether a handle is that of this global variable.
 fn is_at(own: Option<Handle<key::GlobalVariable>>, number: usize) -> bool
     ensures { result ≡ is_at own number }
 {
@@ -42,7 +42,7 @@ fn is_own(entry: &EntryPoint, number: usize) -> bool
     is_at(entry.task_payload, number) || is_at(mesh_output(entry), number)
 }
 
-// The line of a global variable that is used and is not the entry point's own.
+// The line of a global variable that is used and is neither payload nor mesh output.
 fn write_use(
     text: &mut String,
     entry: &EntryPoint,
@@ -58,7 +58,7 @@ fn write_use(
     }
 }
 
-// The lines of the global variables that are used and are not the entry point's own.
+// The lines of the global variables that are used and are neither payload nor mesh output.
 fn write_uses(text: &mut String, entry: &EntryPoint, uses: &[GlobalUse]) -> Result<(), AllocError>
     ensures { OnOk result (string_bytes text.new ≡ string_bytes text.old ++ each_from (global_line (entry_view entry.now)) 0 uses.now) }
 {
@@ -68,7 +68,7 @@ fn write_uses(text: &mut String, entry: &EntryPoint, uses: &[GlobalUse]) -> Resu
     Ok(())
 }
 
-// The lines of an entry point up to those of its global variables, by its number and their uses.
+// The lines of an entry point up to those of its global variables, by its index and their uses.
 fn write_variables(
     text: &mut String,
     number: usize,
@@ -83,7 +83,7 @@ fn write_variables(
     write_uses(text, entry, uses)
 }
 
-// The lines of an entry point, by its number and what is kept of its function.
+// The lines of an entry point, by its index and its `FunctionInfo`.
 fn write_entry(
     alloc: Global,
     text: &mut String,

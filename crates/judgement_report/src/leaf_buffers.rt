@@ -15,7 +15,7 @@ use ir_types::{IrType, TypeInner, key};
 use std::alloc::{AllocError, Global};
 use typing_forms::inner_of;
 
-/// The type whose leaves count: of a binding array that of its elements.
+/// The type whose leaves are listed: for a binding array its element type.
 pub(crate) fn counted(
     types: &UniqueArena<IrType, key::IrType>,
     ty: Handle<key::IrType>,
@@ -28,20 +28,20 @@ pub(crate) fn counted(
     }
 }
 
-/// Where the scalars, vectors, matrices and atomics inside a global variable lie, in the order of their paths: members and elements
-/// as they follow one another, all inside one before those of the next. Of a binding array they are those of one element; an array
-/// whose length an override or the buffer gives counts as one element.
+/// The offsets of the scalars, vectors, matrices and atomics inside a global variable, in the order of their paths: depth first, by
+/// members and elements in order. For a binding array they are those of one element; an
+/// override-sized or runtime-sized array counts as one element.
 ///
-/// `handles` requires that the handles of the module are in order, `laid` that each of its types has a layout, and `there` that the
-/// variable is one of the module's. The steps of the check up to its types accept no module without the first two. No sum of
-/// offsets wraps, whatever sizes the types have.
+/// `handles` requires that the handles of the module are valid, `laid` that each of its types has a layout, and `there` that the
+/// variable is in the module. The steps of validation up to its types imply the first two. No sum of
+/// offsets wraps, whatever the sizes of the types.
 ///
-/// Each leaf is listed as often as it lies in the value, so an array takes as much memory as it has elements. The call nests as
-/// deep as types do.
+/// Each leaf is listed once for each occurrence, so an array takes memory proportional to its length. The recursion is as
+/// deep as types nest.
 ///
 /// # Errors
 ///
-/// There was no memory. Nothing is kept then.
+/// Out of memory. Nothing is allocated then.
 pub fn buffer_leaves(
     alloc: Global,
     module: &Module,

@@ -1,4 +1,4 @@
-//! The lines of the leaves of a value, in the order of their paths: one for those at one place in each element of an array.
+//! The lines of the leaves of a value, in the order of their paths: one line for the same leaf of all elements of an array.
 
 ghost use Rattle.std.specs.Prelude.{◌≡◌, ◌≤◌, ◌+◌, ◌++◌, ◌∷◌, [], map, OnOk, string_bytes};
 ghost use Rattle.ir_types.specs.judged.Plain.{inner_view, member_view};
@@ -19,20 +19,20 @@ use ir_types::{IrType, StructMember, TypeInner, key};
 use std::alloc::{AllocError, Global};
 use typing_forms::{TypeInnerExt, inner_of};
 
-/// The deepest that the types of a buffer nest whose leaves are listed: so deep does a call go.
+/// The maximum nesting depth of a buffer's types in a listing, which bounds the recursion.
 pub const MAX_NESTING: usize = 255;
 
-/// A listing ends at the line that goes past so many bytes.
+/// The maximum size of a listing in bytes: it ends at the line that exceeds it.
 pub const MAX_LISTING: usize = 16777216;
 
-// A path as it is written: a dot where it has no step.
+// A path as text: a dot if it has no steps.
 fn path_word(path: &str) -> &str
     ensures { result.now ≡ path_word path.now }
 {
     if path.is_empty() { "." } else { path }
 }
 
-// Writes where a leaf lies.
+// Writes the path of a leaf.
 fn write_place(
     text: &mut String,
     path: &str,
@@ -62,7 +62,7 @@ fn write_line(
     text.push_str("\n")
 }
 
-// Writes the line of the leaf that a value at this byte is itself. The error is out of memory, or that the text is too long.
+// Writes the line of a value at this offset that is itself a leaf. The error is out of memory, or that the text is too long.
 fn write_leaf(
     inner: &TypeInner,
     alignment: u64,
@@ -79,7 +79,7 @@ fn write_leaf(
     write_line(text, path, strides, start, inner.size(), alignment)
 }
 
-// Writes the lines of the leaves of so many elements, the first of which begins at this byte.
+// Writes the lines of the leaves of `n` elements, the first of which is at this offset.
 #[cycle(lines)]
 fn write_elements(
     alloc: Global,
@@ -105,7 +105,7 @@ fn write_elements(
     write_along(alloc, types, depth, base, &inside, &apart, start, text)
 }
 
-// Writes the lines of the leaves of the members of a struct that begins at this byte.
+// Writes the lines of the leaves of the members of a struct at this offset.
 #[cycle(lines)]
 fn write_members(
     alloc: Global,
@@ -139,7 +139,7 @@ fn write_members(
     Ok(())
 }
 
-// Writes the lines of the leaves of a value at this byte, whose type is made so.
+// Writes the lines of the leaves of a value at this offset, by its `TypeInner`.
 #[cycle(lines)]
 fn write_inner(
     alloc: Global,
@@ -205,8 +205,8 @@ fn write_inner(
     }
 }
 
-/// Writes the lines of the leaves of a value of the type at a handle, which begins at this byte and has this path. The error is
-/// out of memory, or that types nest deeper than this, or that the text is too long.
+/// Writes the lines of the leaves of a value of the type at a handle, at this offset and with this path. The error is
+/// out of memory, or that types nest deeper than the maximum, or that the text is too long.
 #[cycle(lines)]
 pub(crate) fn write_along(
     alloc: Global,

@@ -16,18 +16,18 @@ use ir_types::{ArraySize, IrType, StructMember, TypeInner, key};
 use std::alloc::AllocError;
 use typing_forms::{TypeInnerExt, inner_of};
 
-/// Where a scalar, a vector, a matrix or an atomic lies in a buffer.
+/// A leaf of a buffer: the byte range of a scalar, vector, matrix or atomic.
 #[derive(Clone, Copy, PartialEq, Eq, Debug)]
 pub struct Leaf {
-    /// Its first byte, from the buffer's beginning.
+    /// Its offset in the buffer, in bytes.
     pub first: u64,
-    /// How many bytes it takes.
+    /// Its size in bytes.
     pub len: u64,
-    /// Of how many bytes its first one is to be a multiple.
+    /// Its alignment in bytes.
     pub alignment: u64,
 }
 
-// Adds the leaf that a value at this byte is itself.
+// Appends the leaf of a value at this offset that is itself a leaf.
 fn add_leaf(
     inner: &TypeInner,
     alignment: u64,
@@ -44,7 +44,7 @@ fn add_leaf(
     Ok(())
 }
 
-/// The alignment in bytes of a vector whose scalars take so many.
+/// The alignment in bytes of a vector with scalars of this width.
 pub(crate) fn vector_alignment(size: VectorSize, width: u8) -> u64
     ensures { result ≡ vector_alignment size width }
 {
@@ -54,7 +54,7 @@ pub(crate) fn vector_alignment(size: VectorSize, width: u8) -> u64
     }
 }
 
-/// How many elements count: one where the length is not known.
+/// The number of elements that are listed: one if the length is not known.
 pub(crate) fn counted(size: ArraySize) -> u32
     ensures { result ≡ counted size }
 {
@@ -64,7 +64,7 @@ pub(crate) fn counted(size: ArraySize) -> u32
     }
 }
 
-// Adds the leaves of so many elements, the first of which begins at this byte.
+// Appends the leaves of `n` elements, the first of which is at this offset.
 #[cycle(leaves)]
 fn add_elements(
     types: &UniqueArena<IrType, key::IrType>,
@@ -87,7 +87,7 @@ fn add_elements(
     Ok(())
 }
 
-// Adds the leaves of the members of a struct that begins at this byte.
+// Appends the leaves of the members of a struct at this offset.
 #[cycle(leaves)]
 fn add_members(
     types: &UniqueArena<IrType, key::IrType>,
@@ -107,7 +107,7 @@ fn add_members(
     Ok(())
 }
 
-// Adds the leaves of a value at this byte, whose type is made so.
+// Appends the leaves of a value at this offset, by its `TypeInner`.
 #[cycle(leaves)]
 fn add_inner(
     types: &UniqueArena<IrType, key::IrType>,
@@ -149,7 +149,7 @@ fn add_inner(
     }
 }
 
-/// Adds the leaves of a value of the type at a handle, which begins at this byte, along so many handles at most.
+/// Appends the leaves of a value of the type at a handle, at this offset, with this limit on the nesting depth.
 #[cycle(leaves)]
 pub(crate) fn add_along(
     types: &UniqueArena<IrType, key::IrType>,

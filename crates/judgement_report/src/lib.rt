@@ -1,8 +1,8 @@
-//! The report of a module that was accepted, and what lies inside its buffers: their leaves, the scalars, vectors, matrices and
-//! atomics, each with its bytes.
+//! The report of a valid module, and the contents of its buffers: their leaves, the scalars, vectors, matrices and
+//! atomics, each with its byte range.
 //!
-//! Which text the report is say the definitions of `judgement`. What is required of the module and of what validation keeps of it
-//! stands in `specs/`.
+//! `judgement` defines which text is the report. The requirements on the module and its `ModuleInfo`
+//! are in `specs/`.
 #![tactic(auto)]
 
 mod buffers;

@@ -1,4 +1,4 @@
-//! Lines that are written after a text.
+//! Writing of lines to the end of a text.
 
 ghost use Rattle.std.specs.Prelude.{◌≡◌, ◌++◌, OnOk, string_bytes, codes, decimal};
 ghost use Rattle.judgement.specs.judged.Lines.{buffer_line, head_line, own_line, has, is_used, word_if, use_words, pair_line};
@@ -9,7 +9,7 @@ use ir_types::key;
 use spec_expressions::GlobalUse;
 use std::alloc::AllocError;
 
-/// That of a buffer, by its number, its size and its alignment in bytes.
+/// Writes the line of a buffer, by its index, its size and its alignment in bytes.
 pub(crate) fn write_buffer(
     text: &mut String,
     number: usize,
@@ -21,14 +21,14 @@ pub(crate) fn write_buffer(
     write!(text, "buffer {number} size {size} alignment {alignment}\n")
 }
 
-/// That with which an entry point begins.
+/// Writes the first line of an entry point.
 pub(crate) fn write_head(text: &mut String, number: usize) -> Result<(), AllocError>
     ensures { OnOk result (string_bytes text.new ≡ string_bytes text.old ++ head_line number) }
 {
     write!(text, "entry {number}\n")
 }
 
-/// That of a payload or a mesh output, where there is one.
+/// Writes the line of a payload or a mesh output, if there is one.
 pub(crate) fn write_own(
     text: &mut String,
     word: &str,
@@ -45,7 +45,7 @@ pub(crate) fn write_own(
     }
 }
 
-// A word after others, where it holds.
+// Appends a word if a condition holds.
 fn write_word(text: &mut String, holds: bool, word: &str) -> Result<(), AllocError>
     ensures { OnOk result (string_bytes text.new ≡ string_bytes text.old ++ word_if holds word.now) }
 {
@@ -56,7 +56,7 @@ fn write_word(text: &mut String, holds: bool, word: &str) -> Result<(), AllocErr
     }
 }
 
-// Whether a use is of this kind, among others.
+// Whether the uses contain this flag.
 fn has(kinds: GlobalUse, kind: GlobalUse) -> bool
     ensures { result ≡ has kinds kind }
 {
@@ -70,7 +70,7 @@ pub(crate) fn is_used(kinds: GlobalUse) -> bool
     !kinds.is_empty()
 }
 
-// The words of a use.
+// Writes the words of the uses of a global variable.
 fn write_words(text: &mut String, kinds: GlobalUse) -> Result<(), AllocError>
     ensures { OnOk result (string_bytes text.new ≡ string_bytes text.old ++ use_words kinds) }
 {
@@ -80,7 +80,7 @@ fn write_words(text: &mut String, kinds: GlobalUse) -> Result<(), AllocError>
     write_word(text, has(kinds, GlobalUse::ATOMIC), "atomic")
 }
 
-/// That of a global variable and its use.
+/// Writes the line of a global variable and its uses.
 pub(crate) fn write_global(
     text: &mut String,
     number: usize,
@@ -93,7 +93,7 @@ pub(crate) fn write_global(
     text.push_str("\n")
 }
 
-/// That of an image and the sampler that it is sampled by.
+/// Writes the line of an image and the sampler it is sampled with.
 pub(crate) fn write_pair(text: &mut String, image: usize, sampler: usize) -> Result<(), AllocError>
     ensures { OnOk result (string_bytes text.new ≡ string_bytes text.old ++ pair_line (image, sampler)) }
 {

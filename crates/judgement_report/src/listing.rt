@@ -16,7 +16,7 @@ use ir_kinds::AddressSpace;
 use std::alloc::{AllocError, Global};
 use typing_infos::ModuleInfo;
 
-// Whether a host fills it with bytes.
+// Whether an address space is that of a buffer.
 const fn is_buffer(space: AddressSpace) -> bool
     ensures { result ≡ is_buffer space }
 {
@@ -45,7 +45,7 @@ fn write_buffer(
     write!(text, "buffer {number} size {size} alignment {alignment}\n")
 }
 
-// Writes the lines of a global variable, where it is a buffer.
+// Writes the lines of a global variable, if it is a buffer.
 fn write_variable(
     alloc: Global,
     module: &Module,
@@ -69,17 +69,17 @@ fn write_variable(
     write_along(alloc, &module.types, MAX_NESTING, ty, "", "", 0, text)
 }
 
-/// The lines of the storage and uniform buffers of a module, in order: of each the line that the report has, and after it the lines
-/// of its leaves, with path, first byte, length and alignment. Of leaves that lie at one place in each element of an array there is
-/// one line, with the numbers of the elements in its path and how far apart they begin.
+/// The lines of a module's storage and uniform buffers, in order: for each the line of the report, followed by the lines
+/// of its leaves, with path, offset, size and alignment. The same leaf of all elements of an array has
+/// one line, with the range of indices in its path and with the stride.
 ///
-/// `handles` requires that the handles of the module are in order, `laid` that each of its types has a layout, and `layouts` that what
-/// is kept of the module has these layouts.
+/// `handles` requires that the handles of the module are valid, `laid` that each of its types has a layout, and `layouts` that the
+/// `ModuleInfo` has these layouts.
 ///
 /// # Errors
 ///
-/// There was no memory, or the types of a buffer nest deeper than [`MAX_NESTING`], or the listing is longer than
-/// [`MAX_LISTING`](crate::MAX_LISTING). Nothing is kept then.
+/// Out of memory, or the types of a buffer nest deeper than [`MAX_NESTING`], or the listing is longer than
+/// [`MAX_LISTING`](crate::MAX_LISTING). Nothing is allocated then.
 pub fn leaf_report(alloc: Global, module: &Module, info: &ModuleInfo) -> Result<String, AllocError>
     requires handles { HandlesOK (module_view «module».now) }
     requires laid { AreLaid (module_view «module».now) }

@@ -6,14 +6,14 @@ ghost use Rattle.judgement_report.specs.Runs.{to_each};
 
 use std::alloc::{AllocError, Global};
 
-// Whether it is a letter, a digit, an underscore or a byte of a character that is not ASCII.
+// Whether a byte is an ASCII letter, a digit, an underscore or part of a non-ASCII character.
 const fn is_word_byte(byte: u8) -> bool
     ensures { result ≡ is_word_byte byte }
 {
     byte.is_ascii_alphanumeric() || byte == b'_' || !byte.is_ascii()
 }
 
-// Whether all are such bytes.
+// Whether all bytes are.
 fn are_word_bytes(bytes: &[u8]) -> bool
     ensures { result ≡ are_word_bytes bytes.now }
 {
@@ -25,7 +25,7 @@ fn are_word_bytes(bytes: &[u8]) -> bool
     true
 }
 
-// Whether a name is written as it is: so that no name is taken for a number, or for several steps or lines.
+// Whether a name is written unchanged: only if it can't be confused with an index, with several steps or with several lines.
 fn is_word(name: &str) -> bool
     ensures { result ≡ is_word name.now }
 {
@@ -36,14 +36,14 @@ fn is_word(name: &str) -> bool
     }
 }
 
-// A dot after what comes before, if anything does.
+// Writes a dot after the preceding path, if that is not empty.
 fn dot_after(before: &str) -> &'static str
     ensures { result.now ≡ dot_after before.now }
 {
     if before.is_empty() { "" } else { "." }
 }
 
-// Writes how a member is called: by its name, where that is a word, and else by its number.
+// Writes a member's step: its name, if that is a plain word, or else its index.
 fn write_word(path: &mut String, name: &Option<String>, number: usize) -> Result<(), AllocError>
     ensures { OnOk result (string_bytes path.new ≡ string_bytes path.old ++ member_word (option_map string_bytes name.now) number) }
 {
@@ -59,7 +59,7 @@ fn write_word(path: &mut String, name: &Option<String>, number: usize) -> Result
     }
 }
 
-/// A path with a step after it to the member with this name, where it has one, and this number.
+/// A path extended by a step to the member with this name, if it has one, and this index.
 pub(crate) fn to_member(
     alloc: Global,
     before: &str,
@@ -74,7 +74,7 @@ pub(crate) fn to_member(
     Ok(path)
 }
 
-// Writes the numbers of so many elements, of which the first is 0.
+// Writes the index range of `n` elements from 0 on.
 fn write_range(path: &mut String, count: u32) -> Result<(), AllocError>
     ensures { OnOk result (string_bytes path.new ≡ string_bytes path.old ++ range_word count) }
 {
@@ -85,7 +85,7 @@ fn write_range(path: &mut String, count: u32) -> Result<(), AllocError>
     }
 }
 
-/// A path with a step after it to each of so many elements.
+/// A path extended by a step to each of `n` elements.
 pub(crate) fn to_elements(alloc: Global, before: &str, count: u32) -> Result<String, AllocError>
     ensures { IfOk result (λ path. string_bytes path ≡ to_elements before.now count) }
 {
@@ -96,7 +96,7 @@ pub(crate) fn to_elements(alloc: Global, before: &str, count: u32) -> Result<Str
     Ok(path)
 }
 
-/// How far apart elements begin, after the same of what they are in: nothing more where there is one.
+/// The strides with that of an array appended: nothing is appended if it has one element.
 pub(crate) fn with_stride(
     alloc: Global,
     before: &str,

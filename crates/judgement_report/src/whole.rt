@@ -11,9 +11,9 @@ use ir_items::Module;
 use std::alloc::{AllocError, Global};
 use typing_infos::ModuleInfo;
 
-/// The report of an accepted module, by what validation keeps of it: the size and the alignment of each buffer, and of each
-/// entry point its payload and mesh output, how what is reached from it uses each other global variable, and which images are
-/// sampled by which samplers. Each line ends with a line feed.
+/// The report of a valid module, given its `ModuleInfo`: the size and the alignment of each buffer, and for each
+/// entry point its payload and mesh output, the uses of each other global variable by functions reachable from it, and which images
+/// are sampled with which samplers. Each line ends with a line feed.
 ///
 /// # Errors
 ///

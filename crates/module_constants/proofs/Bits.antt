@@ -1,4 +1,4 @@
--- The bits of ids.
+-- The bits of the id set.
 use Rattle.std.proofs.Common.{w64, zero, suc, [], ◌∷◌, ◌++◌, refl, ◌≡◌, ◌≢◌, ◌<◌, ◌⊎◌, inl, inr, ◌↔◌, ℕ, ◌/◌, ◌%◌, ◌*◌, ◌^◌, List, length, get_or, slice_set, bit_or, true, false, sym, ap, subst, ◌∙◌, true≢false, arith}
 use Rattle.std.specs.Int.{bit_at}
 use Rattle.std.proofs.lemmas.Bool.{cases_lt}
@@ -11,7 +11,7 @@ use Rattle.module_constants.specs.declared.ids.OverrideIds.{OverrideIds}
 abbrev IsAt : (words : List ℕ) → (id : ℕ) → Type 0
 IsAt words id = bit_at (get_or words (id / 64) 0) (id % 64) ≡ 1
 
--- a word with one bit more
+-- a word with one more bit set
 abbrev added_to : (word bit : ℕ) → ℕ
 added_to word bit = bit_or word (1 * 2 ^ bit % 2 ^ 64)
 
@@ -59,7 +59,7 @@ in_words words id q lt =
       ]
     ]
 
--- an empty word after the last one
+-- an empty word appended
 pub read_behind : (words : List ℕ) (k : ℕ) → get_or (words ++ 0 ∷ []) k 0 ≡ get_or words k 0
 read_behind [] zero = refl
 read_behind [] (suc k) = refl
@@ -72,7 +72,7 @@ kept_at v w same q = (
   (λ e. subst (λ x. bit_at x (q % 64) ≡ 1) (same (q / 64)) e),
 )
 
--- an id that was noted already
+-- an id that is already in the set
 pub noted_already : (before after : OverrideIds) (word id : ℕ) → ((k : ℕ) → get_or after.words.items k 0 ≡ get_or before.words.items k 0)
     → word ≡ get_or after.words.items (id / 64) 0 → bit_at word (id % 64) ≡ 1 → IsNoted before after id false
 noted_already before after word id same is has =
@@ -84,7 +84,7 @@ noted_already before after word id same is has =
       all = λ q. ((λ s. inl ((kept q).1 s)), (λ h. elim h [ inl was ↦ (kept q).0 was | inr own ↦ subst (IsAt after.words.items) (sym own) there ]));
     }
 
--- an id that was not
+-- an id that is new
 pub noted_now : (before after : OverrideIds) (words : List ℕ) (word place id : ℕ) → place ≡ id / 64 → ((k : ℕ) → get_or words k 0 ≡ get_or before.words.items k 0) → place < length words
     → word ≡ get_or words place word → (bit_at word (id % 64) ≡ 1 → ⊥) → after.words.items ≡ slice_set words place (added_to word (id % 64)) → IsNoted before after id true
 noted_now before after words word place id here same lt is not made =

@@ -1,4 +1,4 @@
--- Values with a fault don't make a composed one.
+-- Component types with an error don't compose a value.
 use Rattle.std.proofs.Common.{◌≡◌, inl, inr, ℕ, List, [], ◌∷◌, None, map, refl, subst}
 use Rattle.module_constants.specs.Laws.{CompositionRefuted, ComponentsRefuted}
 use Rattle.typing_errors.specs.declared.compose.ComposeError.TheVariants as compose

@@ -1,4 +1,4 @@
--- The info at an index is that of the type there.
+-- The `TypeInfo` at an index is that of the type there.
 use Rattle.std.proofs.Common.{◌≡◌, ◌<◌, ℕ, List, length, get_or, sym, subst}
 use Rattle.std.proofs.lemmas.Option.{slice_get-get_or}
 use Rattle.ir_types.specs.judged.Plain.{PlainType}

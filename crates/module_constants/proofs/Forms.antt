@@ -1,4 +1,4 @@
--- The form at a place.
+-- The form at an index.
 use Rattle.std.proofs.Common.{◌≡◌, ◌<◌, ℕ, zero, suc, List, [], ◌∷◌, Some, map, length, slice_get, get_or, refl, arith}
 
 pub mapped_at : {A B : Type 0} (f : A → B) (xs : List A) (k : ℕ) (d : A) → k < length xs → Some (f (get_or xs k d)) ≡ slice_get (map f xs) k

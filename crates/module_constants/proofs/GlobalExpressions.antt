@@ -1,4 +1,4 @@
--- A global expression with a fault is not accepted.
+-- A global expression with an error is rejected.
 use Rattle.std.proofs.Common.{◌≡◌, Bool, ap, subst, ◌∙◌}
 use Rattle.module_constants.proofs.Compositions.{components_refuted}
 use Rattle.module_constants.proofs.Literals.{literal_refuted}

@@ -1,4 +1,4 @@
--- The ids of the overrides before a place, and of those before the next one.
+-- The ids of the overrides before an index, and before the next index.
 use Rattle.std.proofs.Common.{◌≡◌, ◌<◌, ◌↔◌, ◌⊎◌, inl, inr, ℕ, ◌+◌, List, Option, Some, None, Bool, true, false, slice_get, refl, sym, ap, subst, ◌∙◌, true≢false, arith, rules}
 use Rattle.ir_items.specs.judged.GlobalPlain.{PlainOverride}
 use Rattle.module_constants.specs.Ids.{AreIds, AreIdsOrMore, IsNotedIf, IsSeen}
@@ -11,7 +11,7 @@ below_or_same h k lt = search rules
 one : (os : List PlainOverride) (place : ℕ) (a b : PlainOverride) → slice_get os place ≡ Some a → slice_get os place ≡ Some b → a ≡ b
 one os place a b e f = cc (e, f)
 
--- an id that is taken before the next place is taken before this one, or that of the override here
+-- an id used before the next index is used before this one, or is the id of the override here
 taken_more : (os : List PlainOverride) (place id : ℕ) (o : PlainOverride) → slice_get os place ≡ Some o → IsTaken os (place + 1) id → IsTaken os place id ⊎ (o.id ≡ Some id)
 taken_more os place id o at taken = elim (below_or_same taken.earlier place taken.before) [
   | inl less ↦ inl (record { earlier = taken.earlier; before = less; override = taken.override; at = taken.at; has = taken.has })
@@ -56,14 +56,14 @@ noted_ids os place o before after (Some id) own ids at is noted = record {
   );
 }
 
--- an id that was not noted is no earlier one's
+-- an id that is not in the set is not that of an earlier override
 pub own_is : (os : List PlainOverride) (place : ℕ) (before after : OverrideIds) (id : Option ℕ) (own : Bool) → AreIds os place before → IsNotedIf before after id own → own ≡ true → (q : ℕ) → id ≡ Some q → IsTaken os place q → ⊥
 own_is os place before after None own ids noted fresh q e taken = cc (e)
 own_is os place before after (Some id) own ids noted fresh q e taken =
     let same : id ≡ q = cc (e) in
     noted.fresh fresh ((ids.each id).1 (subst (IsTaken os place) (sym same) taken))
 
--- one that was noted is
+-- an id in the set is that of an earlier override
 pub taken_is : (os : List PlainOverride) (place : ℕ) (before after : OverrideIds) (id : Option ℕ) (own : Bool) → AreIds os place before → IsNotedIf before after id own → own ≡ false → (q : ℕ) × (id ≡ Some q) × IsTaken os place q
 taken_is os place before after None own ids noted none = absurd (true≢false (sym noted.0 ∙ none))
 taken_is os place before after (Some id) own ids noted none = (id, refl, (ids.each id).0 (noted.repeated none))
@@ -71,14 +71,14 @@ taken_is os place before after (Some id) own ids noted none = (id, refl, (ids.ea
 pub none_before : (os : List PlainOverride) (ids : OverrideIds) → ((id : ℕ) → IsSeen ids id → ⊥) → AreIds os 0 ids
 none_before os ids none = record { each = λ id. ((λ s. absurd (none id s)), (λ taken. let lt = taken.before in absurd (omega (arith, lt)))) }
 
--- with its own noted
+-- with the override's id inserted
 pub more_ids : (os : List PlainOverride) (place : ℕ) (ids : OverrideIds) → AreIds os (place + 1) ids → AreIdsOrMore os place ids
 more_ids os place ids are = record {
   earlier = λ id taken. (are.each id).1 (taken_still os place id taken);
   only = λ id seen. (are.each id).0 seen;
 }
 
--- with none noted
+-- with no id to insert
 pub same_ids : (os : List PlainOverride) (place : ℕ) (before after : OverrideIds) → AreIds os place before → ((id : ℕ) → IsSeen after id ↔ IsSeen before id) → AreIdsOrMore os place after
 same_ids os place before after are same = record {
   earlier = λ id taken. (same id).1 ((are.each id).1 taken);

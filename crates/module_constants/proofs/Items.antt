@@ -1,4 +1,4 @@
--- A constant or an override with a fault is not accepted.
+-- A constant or an override with an error is rejected.
 use Rattle.std.proofs.Common.{◌≡◌, ◌⊎◌, inl, inr, ℕ, List, Option, Some, None, IsSome, IsTrue, Bool, false, true≢false, refl, sym, ap, subst, ◌∙◌}
 use Rattle.module_constants.specs.Constants.{IsFaultOf}
 use Rattle.module_constants.specs.Overrides.{IsFaultOf as IsOverrideFaultOf}
@@ -42,7 +42,7 @@ constant_refuted m handle e wrong ok = constant_wrong m handle wrong.constant e 
 
 -- ---- overrides
 
--- what is required of an override
+-- requirements of an override
 abbrev Fine : (resolved : Bool) → PlainModule → (handle : ℕ) → PlainOverride → Type 0
 Fine resolved m handle o = (IsSome o.name ⊎ IsSome o.id) × ((id : ℕ) → o.id ≡ Some id → ¬ IsTaken m.overrides handle id) × IsOverrideType m.types o.ty × DefaultOK resolved m o.ty o.init
 

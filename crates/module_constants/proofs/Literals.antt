@@ -1,4 +1,4 @@
--- A literal with a fault may not be used.
+-- A literal with an error is rejected.
 use Rattle.module_constants.specs.Laws.{LiteralRefuted}
 use Rattle.ir_kinds.specs.judged.Values.{literal_scalar}
 use Rattle.module_type_checks.proofs.Scalars.{width_refuted}

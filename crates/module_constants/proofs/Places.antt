@@ -1,4 +1,4 @@
--- Components place by place.
+-- Components index by index.
 use Rattle.std.proofs.Common.{◌≡◌, ◌<◌, ◌≤◌, ◌+◌, ◌⊎◌, inl, inr, ◌↔◌, ℕ, zero, suc, List, [], ◌∷◌, Some, Bool, true, IsTrue, map, length, sum, take, min, slice_get, get_or, refl, sym, ap, subst, ◌∙◌, arith, rules}
 use Rattle.std.proofs.lemmas.List.Sums.{sum-map, sum_by_more}
 use Rattle.module_constants.specs.Compositions.{in_32_bits}

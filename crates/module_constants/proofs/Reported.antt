@@ -1,4 +1,4 @@
--- What is reported of an item in a list is reported of it at its handle.
+-- The `TypeInfo` in a list is that of the type at its handle.
 use Rattle.std.proofs.Common.{◌≡◌, ◌≢◌, inl, inr, ◌<◌, ◌+◌, ◌∙◌, ℕ, List, [], ◌∷◌, Some, Bool, Result, Ok, Err, MatchResult, length, map, slice_get, sym, subst, refl, arith}
 use Rattle.module_constants.proofs.GlobalExpressions.{expression_refuted}
 use Rattle.module_constants.proofs.Items.{constant_refuted, override_refuted}
@@ -25,7 +25,7 @@ use Rattle.typing_layout.specs.judged.Constness.{IsOfKind}
 use Rattle.typing_layout.specs.declared.constness.ExpressionKind.{ExpressionKind}
 use Rattle.typing_layout.specs.declared.constness.ExpressionKind.TheVariants.{Runtime}
 
--- what is accepted below a place, and at it, is accepted below the next one
+-- what is accepted below an index, and at it, is accepted below the next one
 pub accepted_more : (OK : ℕ → Type 0) (place at : ℕ) → ((handle : ℕ) → handle < place → OK handle) → at ≡ place → OK at → (handle : ℕ) → handle < place + 1 → OK handle
 accepted_more OK place at before same ok handle lt = elim (below_or_same handle place lt) [
   | inl less ↦ before handle less

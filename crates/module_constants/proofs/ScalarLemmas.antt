@@ -1,4 +1,4 @@
--- The scalars that a pipeline may give, in two parts.
+-- The scalars that a pipeline can set, in two parts.
 use Rattle.std.proofs.Common.{◌≡◌, ◌<◌, ◌⊎◌, inl, inr, ℕ, zero, suc, Contains, slice_index_or, arith}
 use Rattle.ir_kinds.specs.declared.scalars.Scalar.{Scalar}
 use Rattle.module_constants.specs.Kinds.{integer_scalars, float_scalars}

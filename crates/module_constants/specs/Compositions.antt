@@ -1,4 +1,4 @@
--- Why values don't make a composed one.
+-- The errors of composing a value of a type.
 use Rattle.std.specs.Prelude.{◌≡◌, ◌≢◌, ℕ, List, Some, None, min, slice_get}
 use Rattle.typing_errors.specs.declared.compose.ComposeError.{ComposeError}
 use Rattle.typing_errors.specs.declared.compose.ComposeError.TheVariants as compose
@@ -8,15 +8,15 @@ use Rattle.typing_forms.specs.judged.Resolutions.{inner_at}
 use Rattle.typing_forms.specs.declared.form.Form.{Form}
 use Rattle.typing_forms.specs.judged.Parts.{components_of}
 
--- a number as far as 32 bits tell it
+-- an integer, saturated to 32 bits
 abbrev pub in_32_bits : ℕ → ℕ
 in_32_bits n = min n 4294967295
 
--- nothing of the type at a handle is composed
+-- the type at a handle can't be composed
 abbrev pub IsNotComposed : List PlainType → (type : ℕ) → Type 0
 IsNotComposed types type = (i : PlainInner) → inner_at types type ≡ Some i → components_of i ≡ None
 
--- the value has so many parts, and other than so many are given
+-- the type has a number of parts, and another number of components is given
 pub record IsCountFault (types : List PlainType) (type : ℕ) (forms : List Form) (given expected : ℕ) : Type 0 where
   pub i : PlainInner
   pub at : inner_at types type ≡ Some i
@@ -26,7 +26,7 @@ pub record IsCountFault (types : List PlainType) (type : ℕ) (forms : List Form
   pub told_given : given ≡ in_32_bits (parts_given i forms)
   pub told_parts : expected ≡ in_32_bits parts
 
--- the value has parts, and the component at this place does not fit
+-- the type has parts, and the component at this index has the wrong type
 pub record IsComponentFault (types : List PlainType) (type : ℕ) (forms : List Form) (index : ℕ) : Type 0 where
   pub i : PlainInner
   pub at : inner_at types type ≡ Some i

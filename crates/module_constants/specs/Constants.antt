@@ -1,4 +1,4 @@
--- Why a constant is refused.
+-- The errors of constants.
 use Rattle.std.specs.Prelude.{◌≡◌, ◌≢◌, ℕ, Some, slice_get}
 use Rattle.module_constants.specs.declared.constant_error.ConstantError.{ConstantError}
 use Rattle.module_constants.specs.declared.constant_error.ConstantError.TheVariants as error
@@ -18,7 +18,7 @@ IsFaultOf m constant error.InitializerExprType = (k : ExpressionKind) × IsOfKin
 IsFaultOf m constant error.InvalidType = (t : Form) × HasGlobalType m constant.init t × (t ≢ form_of_type m.types constant.ty)
 IsFaultOf m constant error.NonConstructibleType = ¬ HasFlag Constructible (type_tree m.types constant.ty)
 
--- the constant at a handle has this fault
+-- the constant at a handle has this error
 pub record IsConstantFault (m : PlainModule) (handle : ℕ) (e : ConstantError) : Type 0 where
   pub constant : PlainConstant
   pub at : slice_get m.constants handle ≡ Some constant

@@ -1,4 +1,4 @@
--- Why a global expression is refused.
+-- The errors of global expressions.
 use Rattle.std.specs.Prelude.{◌≡◌, ◌≢◌, ℕ, List, Some, Bool, map, slice_get}
 use Rattle.module_constants.specs.Compositions.{IsComposeFault}
 use Rattle.typing_errors.specs.declared.compose.ComposeError.{ComposeError}
@@ -20,13 +20,13 @@ use Rattle.typing_layout.specs.declared.constness.ExpressionKind.{ExpressionKind
 use Rattle.typing_layout.specs.declared.constness.ExpressionKind.TheVariants.{Runtime}
 use Rattle.typing_errors.specs.Answers.{fault_of, ReportsFault}
 
--- the components of a composition have types whose forms don't make one of the type that it says
+-- the types of the components don't compose the type of the `Compose`
 pub record IsComponentsFault (context : Context) (expressions : List PlainExpression) (type : ℕ) (components : List ℕ) (e : ComposeError) : Type 0 where
   pub form : ℕ → Form
   pub typed : (component : ℕ) → IsAmong component components → HasTypeAmong context expressions component (form component)
   pub fault : IsComposeFault context.types type (map form components) e
 
--- the global expression is a composition that can't be made
+-- the global expression is a `Compose` whose components do not fit
 pub record IsBadComposition (m : PlainModule) (handle : ℕ) (e : ComposeError) : Type 0 where
   pub expression : PlainExpression
   pub at : slice_get m.global_expressions handle ≡ Some expression
@@ -35,7 +35,7 @@ pub record IsBadComposition (m : PlainModule) (handle : ℕ) (e : ComposeError) 
   pub is : required_of expression ≡ of_composition type components
   pub fault : IsComponentsFault (outside m) m.global_expressions type components e
 
--- it is a literal that may not be used
+-- it is a literal that is not allowed
 pub record IsBadLiteral (capabilities : Capabilities) (m : PlainModule) (handle : ℕ) (e : LiteralError) : Type 0 where
   pub expression : PlainExpression
   pub at : slice_get m.global_expressions handle ≡ Some expression
@@ -43,7 +43,7 @@ pub record IsBadLiteral (capabilities : Capabilities) (m : PlainModule) (handle 
   pub is : required_of expression ≡ of_literal value
   pub fault : IsLiteralFault capabilities value e
 
--- it was not worked out, and nothing keeps its value from being known
+-- it was not evaluated, and is neither a runtime expression nor an override-expression that may still wait
 pub record IsNotWorkedOut (resolved : Bool) (m : PlainModule) (handle : ℕ) : Type 0 where
   pub expression : PlainExpression
   pub at : slice_get m.global_expressions handle ≡ Some expression
@@ -53,7 +53,7 @@ pub record IsNotWorkedOut (resolved : Bool) (m : PlainModule) (handle : ℕ) : T
   pub known : kind ≢ Runtime
   pub due : ¬ MayWait resolved kind
 
--- where types are found: it has none
+-- its type can't be inferred
 abbrev pub IsUntyped : PlainModule → (handle : ℕ) → ConstExpressionError → Type 0
 IsUntyped m handle error.NonConstOrOverride = ⊥
 IsUntyped m handle error.NonFullyEvaluatedConst = ⊥
@@ -62,7 +62,7 @@ IsUntyped m handle (error.Literal e) = ⊥
 IsUntyped m handle (error.Typing e) = ReportsFault (outside m) m.global_expressions handle (fault_of e)
 IsUntyped m handle error.Other = ⊥
 
--- where each has a type
+-- if every expression has a type
 abbrev pub IsConstExpressionFault : Capabilities → (resolved : Bool) → PlainModule → (handle : ℕ) → ConstExpressionError → Type 0
 IsConstExpressionFault capabilities resolved m handle error.NonConstOrOverride = IsOfKind m.global_expressions handle Runtime
 IsConstExpressionFault capabilities resolved m handle error.NonFullyEvaluatedConst = IsNotWorkedOut resolved m handle

@@ -1,11 +1,11 @@
--- Items one after the other.
+-- Checks of items in order.
 use Rattle.std.specs.Prelude.{◌<◌, ℕ}
 
--- each of the first so many is accepted
+-- the first `n` items are accepted
 pub record AreAccepted (OK : ℕ → Type 0) (count : ℕ) : Type 0 where
   pub each : (handle : ℕ) → handle < count → OK handle
 
--- it is the first of so many that is not, and has this fault
+-- it is the first rejected item, and has this error
 pub record IsFirstRefused (OK : ℕ → Type 0) (Fault : ℕ → Type 0) (count handle : ℕ) : Type 0 where
   pub within : handle < count
   pub fault : Fault handle

@@ -1,4 +1,4 @@
--- The scalars that a pipeline may give, in two parts.
+-- The scalars that a pipeline can set, in two parts.
 use Rattle.std.specs.Prelude.{List, [], ◌∷◌}
 use Rattle.ir_kinds.specs.judged.Scalars.{boolean, signed, unsigned, floating}
 use Rattle.ir_kinds.specs.declared.scalars.Scalar.{Scalar}

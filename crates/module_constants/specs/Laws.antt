@@ -1,4 +1,4 @@
--- What has a fault is not accepted.
+-- An item with an error is rejected.
 use Rattle.std.specs.Prelude.{ℕ, List, Bool}
 use Rattle.module_constants.specs.Compositions.{IsComposeFault}
 use Rattle.module_constants.specs.Constants.{IsConstantFault}

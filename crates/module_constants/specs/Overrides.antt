@@ -1,4 +1,4 @@
--- Why an override is refused.
+-- The errors of overrides.
 use Rattle.std.specs.Prelude.{◌≡◌, ◌≢◌, ℕ, Some, None, Bool, true, slice_get}
 use Rattle.module_constants.specs.declared.override_error.OverrideError.{OverrideError}
 use Rattle.module_constants.specs.declared.override_error.OverrideError.TheVariants as error
@@ -22,7 +22,7 @@ IsFaultOf resolved m handle override error.NonConstructibleType = ¬ HasFlag Con
 IsFaultOf resolved m handle override error.TypeNotScalar = ¬ IsOverrideType m.types override.ty
 IsFaultOf resolved m handle override error.UninitializedOverride = (resolved ≡ true) × (override.init ≡ None)
 
--- the override at a handle has this fault
+-- the override at a handle has this error
 pub record IsOverrideFault (resolved : Bool) (m : PlainModule) (handle : ℕ) (e : OverrideError) : Type 0 where
   pub override : PlainOverride
   pub at : slice_get m.overrides handle ≡ Some override

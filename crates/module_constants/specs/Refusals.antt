@@ -1,4 +1,4 @@
--- Why constants, global expressions and overrides are refused.
+-- The errors of constants, global expressions and overrides.
 use Rattle.std.specs.Prelude.{◌≡◌, ◌≢◌, ◌⊎◌, ℕ, [], Option, Some, None, Bool, true, IsSome}
 use Rattle.module_constants.specs.Constants.{IsConstantFault}
 use Rattle.module_constants.specs.Expressions.{IsConstExpressionFault}
@@ -24,23 +24,23 @@ use Rattle.typing_forms.specs.declared.form.Form.{Form}
 use Rattle.typing_layout.specs.judged.Constness.{IsOfKind}
 use Rattle.typing_layout.specs.declared.constness.ExpressionKind.TheVariants.{Const, Runtime}
 
--- a constant may stand
+-- a constant is valid
 pub record IsFineConstant (m : PlainModule) (c : PlainConstant) : Type 0 where
   pub composed : HasFlag Constructible (type_tree m.types c.ty)
   pub known : IsOfKind m.global_expressions c.init Const
   pub typed : HasGlobalType m c.init (form_of_type m.types c.ty)
 
--- why a constant is refused: it has a fault, which refutes it
+-- an error of a constant, which implies that it is invalid
 pub record IsConstantRefused (m : PlainModule) (handle : ℕ) (e : ConstantError) : Type 0 where
   pub fault : IsConstantFault m handle e
   pub not : ¬ ConstantOK m handle
 
--- the same of a global expression
+-- an error of a global expression, which implies that it is invalid
 pub record IsExpressionRefused (capabilities : Capabilities) (resolved : Bool) (m : PlainModule) (handle : ℕ) (e : ConstExpressionError) : Type 0 where
   pub fault : IsConstExpressionFault capabilities resolved m handle e
   pub not : ¬ GlobalExpressionOK capabilities resolved m handle
 
--- what an override has where the pipeline gives it no value is refused
+-- the initializer of an override is invalid
 abbrev pub IsDefaultFault : (resolved : Bool) → PlainModule → (type : ℕ) → Option ℕ → OverrideError → Type 0
 IsDefaultFault resolved m type None error.UninitializedOverride = resolved ≡ true
 IsDefaultFault resolved m type None _ = ⊥
@@ -48,13 +48,13 @@ IsDefaultFault resolved m type (Some init) error.InitializerExprType = IsOfKind 
 IsDefaultFault resolved m type (Some init) error.InvalidType = (t : Form) × HasGlobalType m init t × (t ≢ form_of_type m.types type)
 IsDefaultFault resolved m type (Some init) _ = ⊥
 
--- an override may stand, whatever ids those before it have
+-- an override is valid, its id aside
 pub record IsFineBesideId (resolved : Bool) (m : PlainModule) (o : PlainOverride) : Type 0 where
   pub named : IsSome o.name ⊎ IsSome o.id
   pub scalar : IsOverrideType m.types o.ty
   pub default : DefaultOK resolved m o.ty o.init
 
--- why an override is refused: it has a fault, which refutes it, or there is no memory
+-- the error of an override, which implies that it is invalid, or out of memory
 pub record IsOverrideRefused (resolved : Bool) (m : PlainModule) (handle : ℕ) (e : OverrideError) : Type 0 where
   pub fault : IsOverrideFault resolved m handle e
   pub not : ¬ OverrideOK resolved m handle

@@ -1,4 +1,4 @@
--- What is required of global expressions, where it is known when their values are known.
+-- Requirements of global expressions, given their expression kinds.
 use Rattle.std.specs.Prelude.{Bool}
 use Rattle.module_constants.specs.Expressions.{IsComponentsFault}
 use Rattle.typing_errors.specs.declared.const_expressions.ConstExpressionError.{ConstExpressionError}
@@ -14,7 +14,7 @@ abbrev pub IsLate : (resolved : Bool) → ExpressionKind → ConstExpressionErro
 IsLate resolved kind error.NonFullyEvaluatedConst = ¬ MayWait resolved kind
 IsLate resolved kind _ = ⊥
 
--- what is required is not met
+-- a requirement is not met
 abbrev pub IsUnmet : Capabilities → (resolved : Bool) → PlainModule → ExpressionKind → GlobalRequirement → ConstExpressionError → Type 0
 IsUnmet capabilities resolved m kind (of_literal value) (error.Literal e) = IsLiteralFault capabilities value e
 IsUnmet capabilities resolved m kind (of_literal value) _ = ⊥

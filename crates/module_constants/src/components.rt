@@ -1,4 +1,4 @@
-//! The components of a composition, by the forms of their types.
+//! The components of a `Compose` expression, by the forms of their types.
 
 ghost use Rattle.std.specs.Prelude.{◌≡◌, ◌<◌, Some, length, map, slice_get};
 ghost use Rattle.module_constants.specs.Composed.{AreScalars, form_known, forms_of};
@@ -11,17 +11,17 @@ use ir_sets::unique_arena::UniqueArena;
 use ir_types::{IrType, key};
 use typing_forms::{Form, TypeResolution, form_of};
 
-/// The components of a composition, in order.
+/// The components of a `Compose` expression, in order.
 #[derive(Clone, Copy)]
 pub enum Components<'a> {
-    /// They are expressions of a list.
+    /// They are expressions of an arena.
     Expressions {
-        /// The forms of the types of all expressions of the list.
+        /// The forms of the types of all expressions of the arena.
         forms: &'a [Form],
-        /// The components among them.
+        /// The handles of the components.
         handles: &'a [Handle<key::Expression>],
     },
-    /// They have these types.
+    /// The components have these types.
     Types {
         /// The module's types.
         types: &'a UniqueArena<IrType, key::IrType>,
@@ -30,7 +30,7 @@ pub enum Components<'a> {
     },
 }
 
-// The form of the type of an expression, if its type is known.
+// The form of an expression's type, if the type is known.
 fn form_known(forms: &[Form], expression: Handle<key::Expression>) -> Form
     ensures { result ≡ form_known forms.now expression }
 {
@@ -40,7 +40,7 @@ fn form_known(forms: &[Form], expression: Handle<key::Expression>) -> Form
     }
 }
 
-/// How many components there are.
+/// The number of components.
 #[tactic(auto, using(crate::proofs::Forms::many_mapped))]
 pub(crate) fn count_of(components: &Components<'_>) -> usize
     ensures { result ≡ length (forms_of components.now) }
@@ -51,7 +51,7 @@ pub(crate) fn count_of(components: &Components<'_>) -> usize
     }
 }
 
-// The form of the type of one of these expressions.
+// The form of the type of the expression at a handle.
 #[tactic(auto, using(crate::proofs::Forms::mapped_at))]
 fn form_of_named(forms: &[Form], handles: &[Handle<key::Expression>], place: usize) -> Form
     requires { place < length handles.now }
@@ -60,7 +60,7 @@ fn form_of_named(forms: &[Form], handles: &[Handle<key::Expression>], place: usi
     form_known(forms, handles[place])
 }
 
-// The form of one of these types.
+// The form of the type at a handle.
 #[tactic(auto, using(crate::proofs::Forms::mapped_at))]
 fn form_of_given(
     types: &UniqueArena<IrType, key::IrType>,
@@ -73,7 +73,7 @@ fn form_of_given(
     form_of(types, &resolutions[place])
 }
 
-/// The form of the type of one of the components.
+/// The form of the type of one component.
 #[tactic(auto, using(crate::proofs::Forms::below_mapped))]
 pub(crate) fn form_at(components: &Components<'_>, place: usize) -> Form
     requires { place < length (forms_of components.now) }
@@ -85,7 +85,7 @@ pub(crate) fn form_at(components: &Components<'_>, place: usize) -> Form
     }
 }
 
-/// How many scalars a value of a form adds to a vector of a scalar, if it may be a component of one.
+/// The number of scalars that a component of this form adds to a vector of a scalar type; `None` if it is not allowed there.
 pub(crate) fn scalars_of(scalar: Scalar, form: Form) -> Option<u32>
     ensures { AreScalars scalar form result }
 {

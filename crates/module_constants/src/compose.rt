@@ -1,4 +1,4 @@
-//! Values that are composed.
+//! Checks of `Compose` expressions.
 
 ghost use Rattle.std.specs.Prelude.{◌≡◌, ◌<◌, ◌≤◌, ◌↔◌, ℕ, IsTrue, Some, length, map, slice_get, sum, MatchResult};
 ghost use Rattle.module_constants.specs.Compositions.{in_32_bits, IsComposeFault};
@@ -21,7 +21,7 @@ use typing_errors::ComposeError;
 use typing_forms::laws::form_equality;
 use typing_forms::{Form, TypeInnerExt, TypeResolution, form_of_type, inner_of};
 
-// Whether a value of this form may be the member at a place.
+// Whether a value of this form may be the struct member at an index.
 fn fits_member_at(
     types: &UniqueArena<IrType, key::IrType>,
     members: &[StructMember],
@@ -35,7 +35,7 @@ fn fits_member_at(
     form_equality(form, form_of_type(types, members[place].ty))
 }
 
-// The same where there may be no such member: past the last one anything may stand.
+// As above, but true for an index past the last member.
 fn fits_member(
     types: &UniqueArena<IrType, key::IrType>,
     members: &[StructMember],
@@ -51,7 +51,7 @@ fn fits_member(
     true
 }
 
-// A number as far as 32 bits tell it.
+// An integer, saturated to 32 bits.
 fn in_32_bits(number: usize) -> u32
     ensures { result ≡ in_32_bits number }
 {
@@ -62,7 +62,7 @@ fn in_32_bits(number: usize) -> u32
     }
 }
 
-// The fault of the component at a place.
+// The error of the component at an index.
 fn misfit(place: usize) -> ComposeError
     ensures { result ≡ compose.ComponentType (in_32_bits place) }
 {
@@ -71,8 +71,8 @@ fn misfit(place: usize) -> ComposeError
     }
 }
 
-// How many scalars the components add to a vector of a scalar, as far as 32 bits tell it, where each may be one of its
-// components.
+// The number of scalars, saturated to 32 bits, that the components add to a vector of a scalar type, if each may be a
+// component of it.
 fn scalars_of_all(scalar: Scalar, components: &Components<'_>) -> Result<u32, ComposeError>
     ensures { MatchResult result
         (λ given. AllFit (IsScalars scalar) (forms_of components.now) × (given ≡ in_32_bits (sum (map scalars_in (forms_of components.now)))))
@@ -90,7 +90,7 @@ fn scalars_of_all(scalar: Scalar, components: &Components<'_>) -> Result<u32, Co
     Ok(given)
 }
 
-// Whether each component is of one form.
+// Whether every component has one form.
 fn check_each(wanted: &Form, components: &Components<'_>) -> Result<(), ComposeError>
     ensures { MatchResult result
         (λ _. AllFit (IsForm wanted.now) (forms_of components.now))
@@ -104,7 +104,7 @@ fn check_each(wanted: &Form, components: &Components<'_>) -> Result<(), ComposeE
     Ok(())
 }
 
-// Whether each component may be the member at its place.
+// Whether each component has the type of the member at its index.
 fn check_each_member(
     types: &UniqueArena<IrType, key::IrType>,
     members: &[StructMember],
@@ -122,7 +122,7 @@ fn check_each_member(
     Ok(())
 }
 
-// Whether as many components are given as are wanted.
+// Whether the number of components is the expected one.
 fn check_many(given: usize, expected: usize) -> Result<(), ComposeError>
     ensures { MatchResult result (λ _. given ≡ expected) (IsOtherCount given expected) }
 {
@@ -135,7 +135,7 @@ fn check_many(given: usize, expected: usize) -> Result<(), ComposeError>
     })
 }
 
-// Whether so many scalars, as far as 32 bits tell it, are as many as are wanted.
+// Whether the number of scalars, saturated to 32 bits, is the expected one.
 fn check_total(given: u32, expected: usize) -> Result<(), ComposeError>
     requires { expected ≤ 4 }
     ensures { (all : ℕ) → given ≡ in_32_bits all → MatchResult result (λ _. all ≡ expected) (IsOtherCount all expected) }
@@ -149,7 +149,7 @@ fn check_total(given: u32, expected: usize) -> Result<(), ComposeError>
     })
 }
 
-// Whether the components make a vector of so many scalars.
+// Whether the components compose a vector of this size.
 fn check_vector(
     scalar: Scalar,
     components: &Components<'_>,
@@ -164,7 +164,7 @@ fn check_vector(
     check_total(given, expected)
 }
 
-// Whether the components are so many of one form.
+// Whether the components are this many values of one form.
 fn check_alike(
     wanted: &Form,
     components: &Components<'_>,
@@ -178,7 +178,7 @@ fn check_alike(
     check_many(count_of(components), expected)
 }
 
-// Whether the components are those of a struct.
+// Whether the components match the members of a struct.
 fn check_struct(
     types: &UniqueArena<IrType, key::IrType>,
     members: &[StructMember],
@@ -193,7 +193,7 @@ fn check_struct(
     check_many(count_of(components), expected)
 }
 
-// Whether the components make a value of what is made of so many parts.
+// Whether the components compose a value of a type with this number of parts.
 fn check_parts(
     types: &UniqueArena<IrType, key::IrType>,
     inner: &TypeInner,
@@ -229,12 +229,12 @@ fn check_parts(
     }
 }
 
-/// Whether components make a value of the type at a handle.
+/// Whether the components compose a value of the type at a handle.
 ///
 /// # Errors
 ///
-/// Nothing of the type is composed, a component does not fit, or they are too few or too many: each is answered only where
-/// it stands.
+/// The type can't be composed, a component has the wrong type, or the number of components is wrong. An error is returned only
+/// if its condition holds.
 pub fn check_composition(
     types: &UniqueArena<IrType, key::IrType>,
     ty: Handle<key::IrType>,
@@ -253,12 +253,12 @@ pub fn check_composition(
     check_parts(types, inner, components, expected)
 }
 
-/// Whether values of these types make one of the type at a handle (naga's `validate_compose`).
+/// Whether values of these types compose one of the type at a handle (naga's `validate_compose`).
 ///
 /// # Errors
 ///
-/// Nothing of the type is composed, a component does not fit, or they are too few or too many: each is answered only where
-/// it stands.
+/// The type can't be composed, a component has the wrong type, or the number of components is wrong. An error is returned only
+/// if its condition holds.
 pub fn validate_compose(
     self_ty: Handle<key::IrType>,
     gctx: GlobalCtx<'_>,

@@ -1,17 +1,17 @@
-//! Why a constant is refused.
+//! The errors of constants.
 
 use thiserror::Error;
 
-/// Why a constant is refused (naga's `ConstantError`).
+/// The error of an invalid constant (naga's `ConstantError`).
 #[derive(Clone, Copy, PartialEq, Debug, Error)]
 pub enum ConstantError {
-    /// The value of its initialiser is not known as the module is written.
+    /// Its initializer is not a const-expression.
     #[error("the initializer must be a const-expression")]
     InitializerExprType,
-    /// Its initialiser is of another type than the constant.
+    /// Its initializer has a type other than the constant's.
     #[error("the initializer has another type than the constant")]
     InvalidType,
-    /// Values of its type can't be composed.
+    /// Its type is not constructible.
     #[error("the type is not constructible")]
     NonConstructibleType,
 }

@@ -1,4 +1,4 @@
-//! Constants.
+//! The checks of constants.
 
 ghost use Rattle.std.specs.Prelude.{◌<◌, length, MatchResult};
 ghost use Rattle.module_constants.specs.Constants.{IsConstantFault, IsFaultOf};
@@ -16,17 +16,17 @@ use ir_types::key;
 use thiserror::Error;
 use typing_layout::ExpressionKind;
 
-/// A constant that is refused (naga's `ValidationError::Constant`).
+/// An invalid constant (naga's `ValidationError::Constant`).
 #[derive(Clone, Copy, PartialEq, Debug, Error)]
 #[error("constant {constant:?} is invalid: {error}")]
 pub struct InvalidConstant {
-    /// The constant.
+    /// The handle of the constant.
     pub constant: Handle<key::Constant>,
-    /// What is wrong with it.
+    /// Its error.
     pub error: ConstantError,
 }
 
-// Whether a constant may stand.
+// Whether a constant is valid.
 fn check_constant(context: &GlobalContext<'_>, item: &Constant) -> Result<(), ConstantError>
     requires known { IsKnown context.now }
     requires ty { item.now.ty < length context.now.infos.now }
@@ -48,12 +48,12 @@ fn check_constant(context: &GlobalContext<'_>, item: &Constant) -> Result<(), Co
     Ok(())
 }
 
-/// Whether a module may have the constant at a handle (naga's `validate_constant`).
+/// Whether the constant at a handle is valid (naga's `validate_constant`).
 ///
 /// # Errors
 ///
-/// Values of its type can't be composed, or its initialiser is no constant or of another type: each is answered only where
-/// it stands.
+/// Its type is not constructible, or its initializer is not a const-expression or has another type. An error is returned only
+/// if its condition holds.
 pub fn validate_constant(
     context: &GlobalContext<'_>,
     handle: Handle<key::Constant>,
@@ -65,11 +65,11 @@ pub fn validate_constant(
     check_constant(context, &context.module.constants[handle])
 }
 
-/// Whether a module may have its constants. Each is visited once.
+/// Whether all constants of a module are valid. Each is visited once.
 ///
 /// # Errors
 ///
-/// The first that is refused, with a fault of its own.
+/// The first invalid constant, with one of its errors.
 pub fn validate_constants(context: &GlobalContext<'_>) -> Result<(), InvalidConstant>
     requires known { IsKnown context.now }
     ensures { MatchResult result

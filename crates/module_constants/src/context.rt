@@ -1,4 +1,4 @@
-//! What the rules of global expressions, constants and overrides may look at.
+//! The context in which global expressions, constants and overrides are checked.
 
 ghost use Rattle.std.specs.Prelude.{◌≡◌, ◌<◌, ◌↔◌, IsTrue, List, Some, length, slice_get};
 ghost use Rattle.module_constants.specs.Known.{IsKnown, IsJudged, module_in};
@@ -17,24 +17,24 @@ use typing_forms::laws::form_equality;
 use typing_forms::{Form, form_of_type};
 use typing_layout::{ExpressionKind, ExpressionKindTracker, TypeFlags, TypeInfo};
 
-/// What the rules of global expressions, constants and overrides may look at.
+/// The context in which global expressions, constants and overrides are checked.
 #[derive(Clone, Copy)]
 pub struct GlobalContext<'a> {
-    /// What shaders may use beyond the common part.
+    /// The enabled capabilities.
     pub capabilities: Capabilities,
-    /// Whether each override has its value.
+    /// Whether overrides are resolved.
     pub overrides_resolved: bool,
     /// The module.
     pub module: &'a Module,
-    /// When the values of its global expressions are known.
+    /// The expression kinds of its global expressions (constant, override or runtime).
     pub kinds: &'a ExpressionKindTracker,
     /// The forms of the types of its global expressions.
     pub forms: &'a [Form],
-    /// What is reported of its types.
+    /// The `TypeInfo`s of its types.
     pub infos: &'a [TypeInfo],
 }
 
-/// When the value of a global expression is known.
+/// The expression kind of a global expression.
 pub(crate) fn known_kind(
     context: &GlobalContext<'_>,
     expression: Handle<key::Expression>,
@@ -52,7 +52,7 @@ pub(crate) fn known_kind(
     ExpressionKind::Runtime
 }
 
-/// Whether a global expression is of the type at a handle.
+/// Whether a global expression has the type at a handle.
 pub(crate) fn has_type(
     context: &GlobalContext<'_>,
     expression: Handle<key::Expression>,
@@ -68,14 +68,14 @@ pub(crate) fn has_type(
     )
 }
 
-// Whether values of a type of which this is reported can be composed.
+// Whether a type with this `TypeInfo` is constructible.
 fn has_constructible(info: TypeInfo) -> bool
     ensures { (types : List PlainType) (t : Tree) → HasInfo types t info → IsTrue result ↔ HasFlag Constructible t }
 {
     info.flags.contains(TypeFlags::CONSTRUCTIBLE)
 }
 
-/// Whether values of the type at a handle can be composed.
+/// Whether the type at a handle is constructible.
 pub(crate) fn is_composed(context: &GlobalContext<'_>, ty: Handle<key::IrType>) -> bool
     requires known { IsKnown context.now }
     requires within { ty < length context.now.infos.now }

@@ -1,4 +1,4 @@
-//! Global expressions.
+//! The checks of global expressions.
 
 ghost use Rattle.std.specs.Prelude.{◌≡◌, ◌<◌, Some, length, slice_get, MatchResult};
 ghost use Rattle.module_constants.specs.Expressions.{IsComponentsFault, IsConstExpressionFault};
@@ -22,17 +22,17 @@ use thiserror::Error;
 use typing_errors::{ComposeError, ConstExpressionError};
 use typing_layout::ExpressionKind;
 
-/// A global expression that is refused (naga's `ValidationError::ConstExpression`).
+/// An invalid global expression (naga's `ValidationError::ConstExpression`).
 #[derive(Clone, PartialEq, Debug, Drop, Error)]
 #[error("global expression {expression:?} is invalid: {error}")]
 pub struct InvalidGlobalExpression {
-    /// The expression.
+    /// The handle of the expression.
     pub expression: Handle<key::Expression>,
-    /// What is wrong with it.
+    /// Its error.
     pub error: ConstExpressionError,
 }
 
-// Whether the components of a composition make it.
+// Whether the components of a `Compose` compose its type.
 fn check_components(
     context: &GlobalContext<'_>,
     handle: Handle<key::Expression>,
@@ -52,7 +52,7 @@ fn check_components(
     check_composition(&context.module.types, ty, &named)
 }
 
-// Whether an expression that has to be worked out may still stand.
+// Whether an expression that must be evaluated to a literal may remain unevaluated.
 fn check_late(resolved: bool, kind: ExpressionKind) -> Result<(), ConstExpressionError>
     ensures { MatchResult result (λ _. MayWait resolved kind) (IsLate resolved kind) }
 {
@@ -70,7 +70,7 @@ fn check_late(resolved: bool, kind: ExpressionKind) -> Result<(), ConstExpressio
     }
 }
 
-// Whether what is required of a global expression is met, where its value is of a kind.
+// Whether a global expression meets its requirements, given its expression kind.
 fn check_met(
     context: &GlobalContext<'_>,
     kind: ExpressionKind,
@@ -131,13 +131,13 @@ fn check_met(
     }
 }
 
-/// Whether a module may have the global expression at a handle (naga's `validate_const_expression`). That it has a type is
-/// known.
+/// Whether the global expression at a handle is valid (naga's `validate_const_expression`). Its type is already
+/// inferred.
 ///
 /// # Errors
 ///
-/// Its value is known only when the shader runs, it was not worked out, it is a literal that may not be used, or a
-/// composition that can't be made: each is answered only where it occurs.
+/// It is a runtime expression, it was not evaluated, it is a literal that is not allowed, or a `Compose` whose components do
+/// not fit. An error is returned only if its condition holds.
 #[tactic(auto, using(crate::proofs::Reported::expression_refused))]
 pub fn validate_const_expression(
     context: &GlobalContext<'_>,
@@ -161,11 +161,11 @@ pub fn validate_const_expression(
     )
 }
 
-/// Whether a module may have its global expressions. Each is visited once, with its components.
+/// Whether all global expressions of a module are valid. Each is visited once, with its components.
 ///
 /// # Errors
 ///
-/// The first that is refused, with a fault of its own.
+/// The first invalid expression, with one of its errors.
 pub fn validate_const_expressions(
     context: &GlobalContext<'_>,
 ) -> Result<(), InvalidGlobalExpression>

@@ -1,4 +1,4 @@
-//! The forms of the types of expressions, made once for all of them.
+//! The forms of the types of expressions, computed once for all of them.
 
 ghost use Rattle.std.specs.Prelude.{◌≡◌, IfOk, map};
 ghost use Rattle.typing_forms.specs.judged.Resolutions.{types_view};

@@ -1,4 +1,4 @@
-//! The ids that overrides have.
+//! The set of override ids.
 
 ghost use Rattle.std.specs.Prelude.{◌≡◌, ◌<◌, ◌↔◌, ℕ, IsTrue, OnErr, OnOk, IfOk, length, slice_index_or};
 ghost use Rattle.std.specs.Int.{bit_at};
@@ -6,13 +6,13 @@ ghost use Rattle.module_constants.specs.Ids.{IsNoted, IsSeen};
 
 use std::alloc::{AllocError, Global};
 
-/// Ids that overrides have: a bit for each, 64 in a word, so that noting one takes the same time whatever the others are.
+/// The set of ids of overrides: a bitset in 64-bit words, so that inserting an id takes constant time.
 #[derive(Drop)]
 pub struct OverrideIds {
     words: Vec<u64>,
 }
 
-// Whether a word has a bit.
+// Whether a bit of a word is set.
 fn has_bit(word: u64, bit: u16) -> bool
     requires { bit < 64 }
     ensures { IsTrue result ↔ (bit_at word bit ≡ 1) }
@@ -20,7 +20,7 @@ fn has_bit(word: u64, bit: u16) -> bool
     (word >> bit) % 2 == 1
 }
 
-// Adds empty words until there is one at a place. The error is out of memory.
+// Appends empty words until there is one at an index. The error is out of memory.
 fn make_room(words: &mut Vec<u64>, place: usize) -> Result<(), AllocError>
     requires { place < 1024 }
     ensures long { OnOk result (place < length words.new.items) }
@@ -33,7 +33,7 @@ fn make_room(words: &mut Vec<u64>, place: usize) -> Result<(), AllocError>
 }
 
 impl OverrideIds {
-    /// No ids. It takes no memory.
+    /// The empty set. It allocates nothing.
     pub fn new(alloc: Global) -> OverrideIds
         ensures { (id : ℕ) → ¬ IsSeen result id }
     {
@@ -42,7 +42,7 @@ impl OverrideIds {
         }
     }
 
-    /// Notes an id, and answers whether it was none of them. The error is out of memory, and leaves the same ids.
+    /// Inserts an id and returns whether it is new. The error is out of memory, and leaves the set unchanged.
     pub fn insert(&mut self, id: u16) -> Result<bool, AllocError>
         ensures noted { IfOk result (IsNoted self.old self.new id) }
         ensures err { OnErr result ((other : ℕ) → IsSeen self.new other ↔ IsSeen self.old other) }

@@ -1,8 +1,8 @@
-//! Which global expressions, constants and overrides a module may have, once its types are judged and its global expressions
-//! have types; overrides one after the other, with the ids of those before each.
+//! The checks of a module's global expressions, constants and overrides, after its types are checked and the types of its global
+//! expressions are inferred. Overrides are checked in order, with the set of ids of the overrides before each.
 //!
-//! Values that are composed of components whose types are known; why a constant and an override are refused, and where the
-//! faults of global expressions, constants and overrides stand.
+//! Also the check of `Compose` expressions by the types of their components, and the errors of global expressions, constants
+//! and overrides with their handles.
 #![tactic(auto)]
 
 mod components;

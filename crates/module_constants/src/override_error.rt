@@ -1,29 +1,29 @@
-//! Why an override is refused.
+//! The errors of overrides.
 
 use thiserror::Error;
 
-/// Why an override is refused (naga's `OverrideError`).
+/// The error of an invalid override (naga's `OverrideError`).
 #[derive(Clone, Copy, PartialEq, Debug, Error)]
 pub enum OverrideError {
     /// It has neither a name nor an id, so no pipeline can give it a value.
     #[error("the override must have a name or an id")]
     MissingNameAndID,
-    /// An override before it has its id.
+    /// An earlier override has the same id.
     #[error("an earlier override has the same id")]
     DuplicateID,
-    /// The value of its initialiser is known only when the shader runs.
+    /// Its initializer is a runtime expression.
     #[error("the initializer must be a const-expression or an override-expression")]
     InitializerExprType,
-    /// Its initialiser is of another type than the override.
+    /// Its initializer has a type other than the override's.
     #[error("the initializer has another type than the override")]
     InvalidType,
-    /// Values of its type can't be composed.
+    /// Its type is not constructible.
     #[error("the type is not constructible")]
     NonConstructibleType,
-    /// It is of no scalar that a pipeline may give.
+    /// Its type is not a scalar that a pipeline can set.
     #[error("the type of an override must be a scalar")]
     TypeNotScalar,
-    /// Overrides are resolved, and it has no value.
+    /// Overrides are resolved, and it has no initializer.
     #[error("the override has no value")]
     UninitializedOverride,
 }

@@ -1,4 +1,4 @@
-//! Overrides, each alone.
+//! The checks of one override.
 
 ghost use Rattle.std.specs.Prelude.{◌≡◌, ◌<◌, ◌+◌, ◌↔◌, ℕ, IsTrue, Contains, Some, length, IfOk, IfErr, OnOk, OnErr, MatchResult};
 ghost use Rattle.module_constants.specs.Overrides.{IsFaultOf};
@@ -24,21 +24,21 @@ use std::alloc::{AllocError, Global};
 use typing_forms::inner_of;
 use typing_layout::ExpressionKind;
 
-// Whether a scalar is a truth value or an integer of which a pipeline may give a value.
+// Whether a scalar is a bool or an integer that a pipeline can set.
 fn is_override_integer(scalar: Scalar) -> bool
     ensures { IsTrue result ↔ Contains integer_scalars scalar }
 {
     scalar == Scalar::BOOL || scalar == Scalar::I32 || scalar == Scalar::U32
 }
 
-// Whether a scalar is a float of which a pipeline may give a value.
+// Whether a scalar is a float that a pipeline can set.
 fn is_override_float(scalar: Scalar) -> bool
     ensures { IsTrue result ↔ Contains float_scalars scalar }
 {
     scalar == Scalar::F16 || scalar == Scalar::F32 || scalar == Scalar::F64
 }
 
-// Whether a pipeline may give a value of a scalar.
+// Whether a pipeline can set a value of this scalar.
 #[tactic(auto, using(crate::proofs::ScalarLemmas::either_kind, crate::proofs::ScalarLemmas::of_integers, crate::proofs::ScalarLemmas::of_floats))]
 fn is_override_scalar(scalar: Scalar) -> bool
     ensures { IsTrue result ↔ Contains override_scalars scalar }
@@ -46,7 +46,7 @@ fn is_override_scalar(scalar: Scalar) -> bool
     is_override_integer(scalar) || is_override_float(scalar)
 }
 
-// Whether the type at a handle is a scalar of which a pipeline may give a value.
+// Whether the type at a handle is a scalar that a pipeline can set.
 fn is_override_type(types: &UniqueArena<IrType, key::IrType>, ty: Handle<key::IrType>) -> bool
     ensures { IsTrue result ↔ IsOverrideType (types_view types.now) ty }
 {
@@ -71,7 +71,7 @@ fn is_override_type(types: &UniqueArena<IrType, key::IrType>, ty: Handle<key::Ir
     }
 }
 
-// Whether an override of a type may have this value where the pipeline gives none.
+// Whether an override of a type may have this initializer.
 fn check_default(
     context: &GlobalContext<'_>,
     ty: Handle<key::IrType>,
@@ -98,7 +98,7 @@ fn check_default(
     Ok(())
 }
 
-// Whether an override may stand, whatever ids those before it have.
+// Whether an override is valid, its id aside.
 fn check_beside_id(context: &GlobalContext<'_>, item: &Override) -> Result<(), OverrideError>
     requires known { IsKnown context.now }
     requires ty { item.now.ty < length context.now.infos.now }
@@ -119,7 +119,7 @@ fn check_beside_id(context: &GlobalContext<'_>, item: &Override) -> Result<(), O
     check_default(context, item.ty, item.init)
 }
 
-// Notes the id of an override, if it has one, and answers whether none was noted that is the same. The error is out of memory.
+// Inserts the id of an override, if it has one, and returns whether it is new. The error is out of memory.
 fn note_id(ids: &mut OverrideIds, id: Option<u16>) -> Result<bool, AllocError>
     ensures noted { IfOk result (IsNotedIf ids.old ids.new id) }
     ensures err { OnErr result ((other : ℕ) → IsSeen ids.new other ↔ IsSeen ids.old other) }
@@ -133,15 +133,15 @@ fn note_id(ids: &mut OverrideIds, id: Option<u16>) -> Result<bool, AllocError>
     }
 }
 
-/// Whether a module may have the override at a handle (naga's `validate_override`). `ids` are those of the overrides before
-/// it; its own is added.
+/// Whether the override at a handle is valid (naga's `validate_override`). `ids` are those of the overrides before
+/// it; its own is inserted.
 ///
 /// # Errors
 ///
-/// It has neither a name nor an id, an override before it has its id, its type is no scalar that an override may have, its
-/// initialiser is known only when the shader runs or of another type, or it has none and overrides are resolved: each is
-/// answered only where it occurs, with no span; or out of memory. The ids are then those of the overrides before it, and
-/// perhaps its own.
+/// It has neither a name nor an id, an earlier override has its id, its type is not a scalar that an override may have, its
+/// initializer is a runtime expression or has another type, or it has none and overrides are resolved: each is returned
+/// only if its condition holds, with no span. Or out of memory. After an error the ids are those of the overrides before it,
+/// possibly with its own.
 pub fn validate_override(
     alloc: Global,
     context: &GlobalContext<'_>,

@@ -1,4 +1,4 @@
--- Flags of types that may not be there.
+-- Type flags at a handle that may be out of range.
 use Rattle.std.proofs.Common.{◌≡◌, ◌<◌, ◌≤◌, ◌↔◌, ◌==◌, ℕ, zero, suc, List, [], ◌∷◌, Some, None, Bool, false, IsTrue, length, get_or, slice_get, option_map, bit_and, true≢false, refl, sym, ap, subst, ◌∙◌, arith, rules, tests}
 use Rattle.std.proofs.lemmas.Option.{slice_get-get_or}
 use Rattle.ir_types.specs.judged.Plain.{PlainType}
@@ -27,7 +27,7 @@ none_sized types h le has = true≢false (sym (subst (HasFlag Sized) (none_there
 pub none_composed : (types : List PlainType) (h : ℕ) → length types ≤ h → HasFlag Constructible (type_tree types h) → ⊥
 none_composed types h le has = true≢false (sym (subst (HasFlag Constructible) (none_there types h le) has))
 
--- a test of a flag in the info of a type is one of the type
+-- a flag test of a `TypeInfo` is one of the type
 test_is : (a b : ℕ) (r : Bool) → r ≡ (a == b) → IsTrue r ↔ (a ≡ b)
 test_is a b r e = (λ t. search (rules, tests), λ q. search (rules, tests))
 

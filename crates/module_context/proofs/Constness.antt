@@ -1,4 +1,4 @@
--- Which expressions are constant.
+-- Which expressions are const-expressions.
 use Rattle.std.proofs.Common.{◌≡◌, ◌<◌, ◌≤◌, ◌↔◌, ℕ, zero, suc, List, [], ◌∷◌, Some, IsTrue, nat_lt, length, slice_get, refl, ◌∙◌, ap, arith, rules, tests}
 use Rattle.ir_types.specs.judged.ExpressionPlain.{PlainExpression}
 use Rattle.typing_layout.proofs.Latest.{one_kind}
@@ -11,7 +11,7 @@ within [] h x e = cc (e)
 within (y ∷ ys) zero x e = omega arith
 within (y ∷ ys) (suc h) x e = let less = within ys h x e in omega (arith, less)
 
--- what stands there, where the list is long enough
+-- the element at an index, if the list is long enough
 stands : {A : Type 0} (xs : List A) (h : ℕ) → h < length xs → (x : A) × (slice_get xs h ≡ Some x)
 stands [] h lt = absurd (omega (arith, lt))
 stands (x ∷ xs) zero lt = (x, refl)
@@ -33,6 +33,6 @@ constant_at xs kinds h known = (
 pub none_past : (xs : List PlainExpression) (h : ℕ) → length xs ≤ h → IsOfKind xs h Const → ⊥
 none_past xs h le is = let less = kind_within xs h Const is in absurd (omega (arith, le, less))
 
--- where an index is not below a length, nothing holds that would require it
+-- an index out of bounds satisfies no requirement of an element
 pub past_the_last : (index many : ℕ) (T : Type 0) → many ≤ index → (T → ⊥) → IsTrue (nat_lt index many) ↔ T
 past_the_last index many T le none = (λ t. let lt : index < many = search (rules, tests, t) in absurd (omega (arith, lt, le)), λ k. absurd (none k))

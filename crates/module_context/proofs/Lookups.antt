@@ -1,4 +1,4 @@
--- What the view of an arena has at a handle, from what is read there.
+-- The view of an arena at a handle, from the value read there.
 use Rattle.std.proofs.Common.{◌≡◌, ℕ, zero, suc, ◌≤◌, ◌∙◌, List, [], ◌∷◌, map, length, slice_get, Some, None, option_map, refl, sym, ap, arith}
 use Rattle.ir_arena.specs.found.Arenas.{value_at}
 use Rattle.ir_arena.specs.declared.span.Span.{Span}

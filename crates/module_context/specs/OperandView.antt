@@ -1,4 +1,4 @@
--- What a context holds, as plain data.
+-- The context of a check, as plain data.
 use Rattle.std.specs.Prelude.{◌≡◌, List, length, map}
 use Rattle.ir_types.specs.judged.ExpressionPlain.{PlainExpression, expression_view}
 use Rattle.ir_items.specs.found.GlobalView.{values_of}
@@ -23,7 +23,7 @@ scene_in c = record {
   forms = c.forms.now;
 }
 
--- the infos are those of all types, and the kinds those of all expressions
+-- there is a `TypeInfo` for every type and a kind for every expression
 pub record IsKnown (c : CheckContext) : Type 0 where
   pub told : AreInfos (types_in c) c.infos.now
   pub many : length c.infos.now ≡ length (types_in c)

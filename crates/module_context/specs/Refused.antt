@@ -1,4 +1,4 @@
--- How an expression is refused that breaks a rule without a name.
+-- The error of an expression that breaks a rule with no error of its own.
 use Rattle.std.specs.Prelude.{◌≡◌}
 use Rattle.typing_errors.specs.declared.expressions.ExpressionError.{ExpressionError}
 use Rattle.typing_errors.specs.declared.expressions.ExpressionError.TheVariants.{Other}

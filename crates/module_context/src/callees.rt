@@ -1,4 +1,4 @@
-//! Where the stages of functions are read that an expression or a body names.
+//! Lookup of the shader stages of the functions that an expression or a body calls.
 
 ghost use Rattle.std.specs.Prelude.{◌≡◌, List};
 ghost use Rattle.ir_flags.specs.declared.stages.ShaderStages.{ShaderStages};
@@ -9,16 +9,16 @@ use ir_arena::handle::Handle;
 use ir_flags::ShaderStages;
 use ir_types::key;
 
-/// The stages that may run the module's functions, as far as they are known.
+/// The stages that may run the module's functions, if known.
 pub trait CalleeStages {
     ghost stages: { Self → List ShaderStages };
 
-    /// Those that may run a function, and all where none are known.
+    /// The stages that may run a function; all stages if unknown.
     fn stages_at(&self, function: Handle<key::Function>) -> ShaderStages
         ensures { result ≡ callee_stages (stages self.now) function };
 }
 
-/// Stages that stand in a list, one for each function.
+/// A list of stages, one entry for each function.
 #[derive(Clone, Copy)]
 pub struct ListedStages<'a>(
     /// The list.

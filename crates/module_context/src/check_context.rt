@@ -1,4 +1,4 @@
-//! What the checks of an expression may look at.
+//! The context in which an expression is checked.
 
 ghost use Rattle.std.specs.Prelude.{◌≡◌, ◌↔◌, IsTrue, option_and_then, option_map, slice_get};
 ghost use Rattle.ir_types.specs.judged.ExpressionPlain.{expression_view};
@@ -23,22 +23,22 @@ use ir_types::{Expression, IrType, TypeInner, key};
 use typing_forms::{Form, inner_of};
 use typing_layout::{ExpressionKindTracker, TypeFlags, TypeInfo};
 
-/// What the checks of an expression may look at.
+/// The context in which an expression is checked.
 #[derive(Clone, Copy)]
 pub struct CheckContext<'a> {
-    /// What shaders may use beyond the common part.
+    /// The enabled capabilities.
     pub capabilities: Capabilities,
     /// The module's types.
     pub types: &'a UniqueArena<IrType, key::IrType>,
-    /// What is reported of each of them.
+    /// The `TypeInfo`s of the types.
     pub infos: &'a [TypeInfo],
-    /// The expressions among which the one stands: those of a function, or those of the module.
+    /// The expression arena: that of a function or of the module.
     pub expressions: &'a Arena<Expression, key::Expression>,
-    /// The form of the type of each of them.
+    /// The form of the type of each expression.
     pub forms: &'a [Form],
-    /// When the value of each of them is known.
+    /// The expression kind of each expression.
     pub kinds: &'a ExpressionKindTracker,
-    /// The stages that may run the module's functions, as far as they are known.
+    /// The stages that may run the module's functions, if known.
     pub callees: &'a [ShaderStages],
 }
 
@@ -85,7 +85,7 @@ fn literal_of(expression: &Expression) -> Option<Literal>
 }
 
 impl<'a> CheckContext<'a> {
-    /// The form of the type of an expression, [`Form::Nothing`] where there is none.
+    /// The form of the type of an expression, or [`Form::Nothing`] if it has none.
     pub fn form_at(&self, handle: Handle<key::Expression>) -> Form
         ensures { result ≡ form_among (scene_in self.now).forms handle }
     {
@@ -95,7 +95,7 @@ impl<'a> CheckContext<'a> {
         }
     }
 
-    /// The literal that the expression at a handle is, if it is one.
+    /// The literal at a handle, if the expression there is one.
     #[tactic(auto, using(crate::proofs::Lookups::found, crate::proofs::Lookups::missing))]
     pub fn literal_at(&self, handle: Handle<key::Expression>) -> Option<Literal>
         ensures { result ≡ option_and_then literal_of (slice_get (expressions_in self.now) handle) }
@@ -106,7 +106,7 @@ impl<'a> CheckContext<'a> {
         }
     }
 
-    /// What a pointer leads to, where that is neither a scalar nor a vector.
+    /// The base type of a pointer, if it is neither a scalar nor a vector.
     pub fn pointed_in(&self, of: Form) -> Option<&TypeInner>
         ensures { option_map (λ found. inner_view found.now) result ≡ pointed_in (types_in self.now) of }
     {
@@ -116,7 +116,7 @@ impl<'a> CheckContext<'a> {
         }
     }
 
-    // Whether a type may be used for something that images are not used for.
+    // Whether a type has a type flag.
     fn has(&self, ty: Handle<key::IrType>, flag: TypeFlags) -> bool
         requires { IsKnown self.now }
         ensures data { flag.0 ≡ 1 → IsTrue result ↔ HasFlag Data (type_tree (types_in self.now) ty) }
@@ -129,7 +129,7 @@ impl<'a> CheckContext<'a> {
         }
     }
 
-    /// Whether values of a type can be stored.
+    /// Whether a type has the `DATA` flag.
     pub fn is_data(&self, ty: Handle<key::IrType>) -> bool
         requires { IsKnown self.now }
         ensures { IsTrue result ↔ HasFlag Data (type_tree (types_in self.now) ty) }
@@ -137,7 +137,7 @@ impl<'a> CheckContext<'a> {
         self.has(ty, TypeFlags::DATA)
     }
 
-    /// Whether the size of values of a type is known.
+    /// Whether a type has the `SIZED` flag.
     pub fn is_sized(&self, ty: Handle<key::IrType>) -> bool
         requires { IsKnown self.now }
         ensures { IsTrue result ↔ HasFlag Sized (type_tree (types_in self.now) ty) }
@@ -145,7 +145,7 @@ impl<'a> CheckContext<'a> {
         self.has(ty, TypeFlags::SIZED)
     }
 
-    /// Whether values of a type can be composed.
+    /// Whether a type is constructible.
     pub fn is_constructible(&self, ty: Handle<key::IrType>) -> bool
         requires { IsKnown self.now }
         ensures { IsTrue result ↔ HasFlag Constructible (type_tree (types_in self.now) ty) }
@@ -153,7 +153,7 @@ impl<'a> CheckContext<'a> {
         self.has(ty, TypeFlags::CONSTRUCTIBLE)
     }
 
-    /// Whether the value of an expression is known as the module is written.
+    /// Whether an expression is a const-expression.
     pub fn is_const(&self, handle: Handle<key::Expression>) -> bool
         requires { IsKnown self.now }
         ensures { IsTrue result ↔ IsOfKind (expressions_in self.now) handle Const }

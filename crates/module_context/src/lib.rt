@@ -1,5 +1,5 @@
-//! What the checks of expressions and of statements look at: the types of a function's expressions and what these are made of
-//! ([`CheckContext`]), shapes of values and images, the stages of the functions that these name, and how an expression is refused.
+//! The context of the checks of expressions and of statements: the types of a function's expressions and their `TypeInner`
+//! ([`CheckContext`]), shapes of values and images, the stages of called functions, and the error for a rule without a name.
 #![tactic(auto)]
 
 mod callees;

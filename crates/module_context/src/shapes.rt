@@ -1,4 +1,4 @@
-//! What a type is made of.
+//! Tests and parts of types.
 
 ghost use Rattle.std.specs.Prelude.{◌≡◌, ◌↔◌, IsTrue};
 ghost use Rattle.spec_statements.specs.judged.Shapes.{IsInteger, IsFloating, IsBool, IsNumeric, IsIntegerScalar, shaped_of, form_of_shape, image_type_of, sampler_of};
@@ -10,7 +10,7 @@ use ir_types::key;
 use spec_statements::{ImageType, Shape, Shaped};
 use typing_forms::Form;
 
-/// Whether a kind of scalar is one of integers.
+/// Whether a scalar kind is an integer kind.
 pub const fn is_integer(kind: ScalarKind) -> bool
     ensures { IsTrue result ↔ IsInteger kind }
 {
@@ -23,7 +23,7 @@ pub const fn is_integer(kind: ScalarKind) -> bool
     }
 }
 
-/// Whether a kind of scalar is one of floats that are not abstract.
+/// Whether a scalar kind is `Float`.
 pub const fn is_floating(kind: ScalarKind) -> bool
     ensures { IsTrue result ↔ IsFloating kind }
 {
@@ -37,7 +37,7 @@ pub const fn is_floating(kind: ScalarKind) -> bool
     }
 }
 
-/// Whether a kind of scalar is that of truth values.
+/// Whether the scalar kind is `Bool`.
 pub const fn is_truth(kind: ScalarKind) -> bool
     ensures { IsTrue result ↔ IsBool kind }
 {
@@ -51,7 +51,7 @@ pub const fn is_truth(kind: ScalarKind) -> bool
     }
 }
 
-/// Whether a kind of scalar is one of numbers.
+/// Whether a scalar kind is numeric.
 pub const fn is_numeric(kind: ScalarKind) -> bool
     ensures { IsTrue result ↔ IsNumeric kind }
 {
@@ -65,7 +65,7 @@ pub const fn is_numeric(kind: ScalarKind) -> bool
     }
 }
 
-/// The shape and the scalar of a scalar, a vector or a matrix.
+/// The shape and the scalar of a scalar, vector or matrix type.
 pub const fn shaped_of(of: Form) -> Option<Shaped>
     ensures { result ≡ shaped_of of }
 {
@@ -138,7 +138,7 @@ pub const fn form_of_shape(shape: Shape, scalar: Scalar) -> Form
     }
 }
 
-/// The image that a type is.
+/// The image, if a type is one.
 pub const fn image_type_of(of: Form) -> Option<ImageType>
     ensures { result ≡ image_type_of of }
 {
@@ -169,7 +169,7 @@ pub const fn image_type_of(of: Form) -> Option<ImageType>
     }
 }
 
-/// Whether the sampler that a type is compares.
+/// Whether a sampler type is a comparison sampler.
 pub const fn sampler_of(of: Form) -> Option<bool>
     ensures { result ≡ sampler_of of }
 {
@@ -192,7 +192,7 @@ pub const fn sampler_of(of: Form) -> Option<bool>
     }
 }
 
-/// The type that a pointer leads to, where it is neither a scalar nor a vector.
+/// The base type of a pointer, if it is neither a scalar nor a vector.
 pub const fn pointee_of(of: Form) -> Option<Handle<key::IrType>>
     ensures { result ≡ pointee_of of }
 {
@@ -215,7 +215,7 @@ pub const fn pointee_of(of: Form) -> Option<Handle<key::IrType>>
     }
 }
 
-/// Whether a type is that of an integer alone.
+/// Whether a type is an integer scalar.
 pub const fn is_integer_scalar(of: Form) -> bool
     ensures { IsTrue result ↔ IsIntegerScalar of }
 {
@@ -238,7 +238,7 @@ pub const fn is_integer_scalar(of: Form) -> bool
     }
 }
 
-/// Whether two types are the same.
+/// Whether two types are equal.
 #[tactic(auto, using(typing_forms::proofs::FormEquality::form_eq))]
 pub fn are_same(left: Form, right: Form) -> bool
     ensures { IsTrue result ↔ (left ≡ right) }

@@ -1,4 +1,4 @@
--- Letters of a pattern, place by place.
+-- The components of a swizzle pattern, index by index.
 use Rattle.std.proofs.Common.{◌≡◌, ◌<◌, ◌≤◌, ◌+◌, ◌⊎◌, inl, inr, ℕ, zero, suc, List, [], ◌∷◌, Some, length, slice_get, sym, ap, subst, ◌∙◌, arith, rules}
 use Rattle.module_expression_checks.specs.Letters.{MayStand, StandBelow}
 use Rattle.ir_kinds.specs.declared.scalars.SwizzleComponent.{SwizzleComponent}

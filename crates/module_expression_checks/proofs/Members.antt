@@ -5,7 +5,7 @@ use Rattle.ir_types.specs.declared.types.StructMember.{StructMember}
 use Rattle.spec_statements.specs.judged.ExpressionResults.{AreExchanged, AreExchangeMembers}
 use Rattle.typing_forms.specs.declared.form.Form.{Form}
 
--- one answer about the first two members
+-- one test of the first two members
 abbrev Reported : List PlainType → (old exchanged : StructMember) → Option Form → Form → Type 0
 Reported types old exchanged r of = (r ≡ Some of) ↔ AreExchanged (λ found. found ≡ of) types (member_view old) (member_view exchanged)
 

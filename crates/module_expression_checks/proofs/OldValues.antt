@@ -1,4 +1,4 @@
--- The value that was there before an exchange.
+-- The old value of an exchange.
 use Rattle.std.proofs.Common.{◌≡◌, ◌↔◌, List, [], ◌∷◌, Option, Some, None, Bool, false, true≢false, IsTrue, codes, subst, refl, sym, ap}
 use Rattle.ir_types.specs.judged.Plain.{PlainInner, PlainMember, PlainType, struct, plain}
 use Rattle.typing_forms.specs.judged.Forms.{form_of_type}
@@ -20,9 +20,9 @@ pub missing : (types : List PlainType) (old exchanged : PlainMember)
     → ((of : Form) → AreExchanged (λ x. x ≡ of) types old exchanged → ⊥) → (of : Form) → (None ≡ Some of) ↔ AreExchanged (λ x. x ≡ of) types old exchanged
 missing types old exchanged never of = (λ e. cc, λ h. absurd (never of h))
 
--- ---- any condition on it
+-- ---- any condition on the old value
 
--- what is reported of each form that may be there is reported of every condition
+-- what holds of each possible form holds under every condition
 pub by_test : (IsOld : Form → Type 0) (types : List PlainType) (i : Option PlainInner) (old : Form) (test : Bool)
     → ((of : Form) → (Some old ≡ Some of) ↔ IsExchangeOf (λ x. x ≡ of) types i) → IsTrue test ↔ IsOld old → IsTrue test ↔ IsExchangeOf IsOld types i
 by_test IsOld types None old test is by = absurd ((is old).0 refl)

@@ -1,4 +1,4 @@
--- How literals and compositions are refused.
+-- The errors of `Literal` and `Compose`.
 use Rattle.std.specs.Prelude.{ℕ, List}
 use Rattle.module_constants.specs.Compositions.{IsComposeFault}
 use Rattle.typing_errors.specs.declared.expressions.ExpressionError.{ExpressionError}
@@ -9,12 +9,12 @@ use Rattle.ir_types.specs.judged.Plain.{PlainType}
 use Rattle.module_type_checks.specs.Widths.{IsLiteralFault}
 use Rattle.typing_forms.specs.declared.form.Form.{Form}
 
--- the literal may not be used
+-- the literal is invalid
 abbrev pub IsBadLiteral : Capabilities → Literal → ExpressionError → Type 0
 IsBadLiteral capabilities value (error.Literal e) = IsLiteralFault capabilities value e
 IsBadLiteral capabilities value _ = ⊥
 
--- values of these forms don't make one of the type
+-- values of these forms don't compose one of the type
 abbrev pub IsBadComposition : List PlainType → (type : ℕ) → List Form → ExpressionError → Type 0
 IsBadComposition types type forms (error.Compose e) = IsComposeFault types type forms e
 IsBadComposition types type forms _ = ⊥

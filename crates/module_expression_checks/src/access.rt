@@ -1,4 +1,4 @@
-//! Indexes of accesses.
+//! Indices of `Access` and `AccessIndex`.
 
 ghost use Rattle.std.specs.Prelude.{◌≡◌, ◌<◌, ◌↔◌, IfSome, IsTrue, MatchResult, Some, option_and_then, option_map, slice_get};
 ghost use Rattle.ir_kinds.specs.judged.Scalars.{component_count};
@@ -16,9 +16,9 @@ use module_context::{CheckContext, is_integer_scalar, refused_unless};
 use typing_errors::ExpressionError;
 use typing_forms::{Form, inner_of};
 
-// ---- how many parts there are, where the module says it
+// ---- lengths known from the module
 
-// How many elements an array of a size has.
+// The number of elements of an array, by its size.
 const fn element_count(size: ArraySize) -> Option<u32>
     ensures { result ≡ element_count size }
 {
@@ -28,7 +28,7 @@ const fn element_count(size: ArraySize) -> Option<u32>
     }
 }
 
-// How many components a value of a size has, if it is a vector.
+// The number of components, if a value is a vector.
 fn row_count(size: Option<VectorSize>) -> Option<u32>
     ensures { result ≡ option_map component_count size }
 {
@@ -38,7 +38,7 @@ fn row_count(size: Option<VectorSize>) -> Option<u32>
     }
 }
 
-// How many parts what a pointer leads to has.
+// The number of parts of a pointer's base type, if known.
 fn pointed_count(inner: &TypeInner) -> Option<u32>
     ensures { result ≡ pointed_count (Some (inner_view inner.now)) }
 {
@@ -59,7 +59,7 @@ fn pointed_count(inner: &TypeInner) -> Option<u32>
     }
 }
 
-// How many parts what a pointer to a type leads to has.
+// The number of parts of the base type of a pointer.
 fn length_at(context: &CheckContext<'_>, base: Handle<key::IrType>) -> Option<u32>
     ensures { result ≡ pointed_count (inner_at (types_in context.now) base) }
 {
@@ -69,7 +69,7 @@ fn length_at(context: &CheckContext<'_>, base: Handle<key::IrType>) -> Option<u3
     }
 }
 
-// How many parts a value of a type has, or what it leads to.
+// The number of parts of a value, or of the base of a pointer to it.
 fn known_length(context: &CheckContext<'_>, of: Form) -> Option<u32>
     ensures { result ≡ known_length (types_in context.now) of }
 {
@@ -91,7 +91,7 @@ fn known_length(context: &CheckContext<'_>, of: Form) -> Option<u32>
     }
 }
 
-// Whether an index is below the number of parts, if that is known.
+// Whether an index is below the length, if that is known.
 const fn is_below(parts: Option<u32>, index: u32) -> bool
     ensures { IsTrue result ↔ IfSome parts (λ many. index < many) }
 {
@@ -101,9 +101,9 @@ const fn is_below(parts: Option<u32>, index: u32) -> bool
     }
 }
 
-// ---- an index that is computed
+// ---- dynamic indices (`Access`)
 
-// Whether a signed number is an index of so many parts.
+// Whether a signed integer is an index below a length.
 const fn is_signed_index(parts: Option<u32>, index: i32) -> bool
     ensures { IsTrue result ↔ IsIndexOf parts index }
 {
@@ -113,7 +113,7 @@ const fn is_signed_index(parts: Option<u32>, index: i32) -> bool
     is_below(parts, index as u32)
 }
 
-// Whether a literal is an index of so many parts, if it is one of an index at all.
+// Whether a literal is an index below a length, if it is an integer literal.
 const fn is_index(parts: Option<u32>, literal: Literal) -> bool
     ensures { IsTrue result ↔ IfSome (index_of literal) (IsIndexOf parts) }
 {
@@ -133,7 +133,7 @@ const fn is_index(parts: Option<u32>, literal: Literal) -> bool
     }
 }
 
-// Whether the literal at a handle, if there is one, is an index of so many parts.
+// Whether the literal at a handle, if any, is an index below a length.
 fn is_within(context: &CheckContext<'_>, parts: Option<u32>, index: Handle<key::Expression>) -> bool
     ensures { IsTrue result
         ↔ IfSome (option_and_then index_of (option_and_then literal_of (slice_get (expressions_in context.now) index))) (IsIndexOf parts) }
@@ -153,11 +153,11 @@ fn is_access(context: &CheckContext<'_>, base: Form, index: Handle<key::Expressi
         && is_within(context, known_length(context, base), index)
 }
 
-/// Whether an expression is an index of another: an integer, and where it is written, that of a part.
+/// Whether an expression may index another: it is an integer, and in bounds if it is a literal.
 ///
 /// # Errors
 ///
-/// [`ExpressionError::Other`] where it is not.
+/// [`ExpressionError::Other`] if it may not.
 #[tactic(auto, using(module_context::proofs::Refusals::by_test))]
 pub fn check_access(
     context: &CheckContext<'_>,
@@ -171,20 +171,20 @@ pub fn check_access(
     refused_unless(is_access(context, context.form_at(base), index))
 }
 
-// ---- an index that is written
+// ---- static indices (`AccessIndex`)
 
-// Whether a number is that of a part of a value of a type, if it is known how many there are.
+// Whether an index is in bounds of a type, if the length is known.
 fn is_part(context: &CheckContext<'_>, base: Form, index: u32) -> bool
     ensures { IsTrue result ↔ AccessIndexOK (types_in context.now) base index }
 {
     is_below(known_length(context, base), index)
 }
 
-/// Whether a number is that of a part of an expression, if it is known how many there are.
+/// Whether an index is in bounds of an expression, if the length is known.
 ///
 /// # Errors
 ///
-/// [`ExpressionError::Other`] where it is not.
+/// [`ExpressionError::Other`] if it is not.
 #[tactic(auto, using(module_context::proofs::Refusals::by_test))]
 pub fn check_access_index(
     context: &CheckContext<'_>,

@@ -1,4 +1,4 @@
-//! Values that are composed.
+//! The check of `Compose` in a function.
 
 ghost use Rattle.std.specs.Prelude.{MatchResult, map};
 ghost use Rattle.module_context.specs.OperandView.{scene_in, types_in};
@@ -12,12 +12,12 @@ use module_constants::{Components, check_composition};
 use module_context::CheckContext;
 use typing_errors::ExpressionError;
 
-/// Whether components make a value of a type (naga's `validate_compose`).
+/// Whether components compose a value of a type (naga's `validate_compose`).
 ///
 /// # Errors
 ///
-/// [`ExpressionError::Compose`]: nothing of the type is composed, a component does not fit, or they are too few or too many;
-/// each is answered only where it occurs.
+/// [`ExpressionError::Compose`]: the type can't be composed, a component has the wrong type, or the number of components is
+/// wrong. An error is returned only if its condition holds.
 pub fn check_compose(
     context: &CheckContext<'_>,
     ty: Handle<key::IrType>,

@@ -1,4 +1,4 @@
-//! Which conversions there are.
+//! The check of `As`.
 
 ghost use Rattle.std.specs.Prelude.{◌↔◌, IsTrue, MatchResult};
 ghost use Rattle.module_context.specs.Refused.{IsRefused};
@@ -16,14 +16,14 @@ use module_type_checks::check_width;
 use typing_errors::ExpressionError;
 use typing_forms::Form;
 
-// Whether there is a scalar.
+// Whether a scalar type is valid.
 fn is_there(capabilities: Capabilities, scalar: Scalar) -> bool
     ensures { IsTrue result ↔ ScalarOK capabilities scalar }
 {
     check_width(capabilities, scalar).is_ok()
 }
 
-// Whether a scalar is converted to one of a kind, and of a width where that is said.
+// Whether a scalar converts to a scalar kind, and to a width if one is given.
 fn is_converted(
     capabilities: Capabilities,
     kind: ScalarKind,
@@ -38,7 +38,7 @@ fn is_converted(
     }
 }
 
-// Whether a value of a type is converted.
+// Whether a value of a type can be converted.
 fn converts(capabilities: Capabilities, kind: ScalarKind, convert: Option<Bytes>, of: Form) -> bool
     ensures { IsTrue result ↔ AsOK capabilities kind convert of }
 {
@@ -48,12 +48,12 @@ fn converts(capabilities: Capabilities, kind: ScalarKind, convert: Option<Bytes>
     }
 }
 
-/// Whether an expression is converted: to a scalar that there is, or where its bits are read anew, neither from truth
-/// values nor as such.
+/// Whether an expression can be converted: to a valid scalar type; a bitcast (no width) is neither from nor to
+/// `Bool`.
 ///
 /// # Errors
 ///
-/// [`ExpressionError::Other`] where it is not.
+/// [`ExpressionError::Other`] if it can't.
 #[tactic(auto, using(module_context::proofs::Refusals::by_test))]
 pub fn check_as(
     context: &CheckContext<'_>,

@@ -1,4 +1,4 @@
-//! Which cooperative matrices are loaded and multiplied.
+//! The checks of `CooperativeLoad` and `CooperativeMultiplyAdd`.
 
 ghost use Rattle.std.specs.Prelude.{◌↔◌, IsTrue, MatchResult};
 ghost use Rattle.module_context.specs.Refused.{IsRefused};
@@ -16,18 +16,18 @@ use typing_forms::Form;
 
 // ---- loads
 
-// Whether a type is that of a distance from row to row.
+// Whether a type is that of a stride.
 fn is_stride(of: Form) -> bool
     ensures { IsTrue result ↔ CooperativeLoadOK of }
 {
     are_same(of, Form::Scalar(Scalar::U32))
 }
 
-/// Whether a cooperative matrix is loaded by a distance from row to row: it is a 32-bit unsigned integer.
+/// Whether a cooperative matrix is loaded with a valid stride: a 32-bit unsigned integer.
 ///
 /// # Errors
 ///
-/// [`ExpressionError::Other`] where it is not.
+/// [`ExpressionError::Other`] if it is not.
 #[tactic(auto, using(module_context::proofs::Refusals::by_test))]
 pub fn check_cooperative_load(
     context: &CheckContext<'_>,
@@ -42,7 +42,7 @@ pub fn check_cooperative_load(
 
 // ---- products
 
-// Whether a shape is that of what is added to a product of so many columns and rows.
+// Whether a shape is that of the addend of a product of this many columns and rows.
 fn is_addend(columns: CooperativeSize, rows: CooperativeSize, third: Shape) -> bool
     ensures { IsTrue result ↔ IsAddend columns rows third }
 {
@@ -56,7 +56,7 @@ fn is_addend(columns: CooperativeSize, rows: CooperativeSize, third: Shape) -> b
     }
 }
 
-// Whether a shape is that of a right factor for a left one of so many columns and rows, and another fits the product.
+// Whether a shape is that of the right factor for a left factor of this many columns and rows, and another is that of the addend.
 fn is_right_factor(
     columns: CooperativeSize,
     rows: CooperativeSize,
@@ -75,7 +75,7 @@ fn is_right_factor(
     }
 }
 
-// Whether two shapes are those of factors, and a third fits their product.
+// Whether two shapes are those of factors, and a third is that of the addend.
 fn are_factors(left: Shape, right: Shape, third: Shape) -> bool
     ensures { IsTrue result ↔ AreFactors left right third }
 {
@@ -89,7 +89,7 @@ fn are_factors(left: Shape, right: Shape, third: Shape) -> bool
     }
 }
 
-// Whether two types are those of factors of one scalar, and a third fits their product.
+// Whether two types are those of factors of one scalar type, and a third is that of the addend.
 fn is_product(a: &Form, b: &Form, c: &Form) -> bool
     ensures { IsTrue result ↔ MultiplyAddOK a.now b.now c.now }
 {
@@ -107,11 +107,11 @@ fn is_product(a: &Form, b: &Form, c: &Form) -> bool
     }
 }
 
-/// Whether two cooperative matrices are multiplied, and a third is added to their product.
+/// Whether two cooperative matrices can be multiplied, and a third added to the product.
 ///
 /// # Errors
 ///
-/// [`ExpressionError::Other`] where they are not.
+/// [`ExpressionError::Other`] if not.
 #[tactic(auto, using(module_context::proofs::Refusals::by_test))]
 pub fn check_multiply_add(
     context: &CheckContext<'_>,

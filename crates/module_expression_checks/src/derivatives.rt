@@ -1,4 +1,4 @@
-//! Derivatives.
+//! The check of `Derivative`.
 
 ghost use Rattle.std.specs.Prelude.{◌↔◌, IsTrue, MatchResult};
 ghost use Rattle.module_context.specs.Refused.{IsRefused};
@@ -12,7 +12,7 @@ use module_context::{CheckContext, is_floating, refused_unless};
 use typing_errors::ExpressionError;
 use typing_forms::Form;
 
-// Whether a type is one of floats alone or in a row.
+// Whether a type is a float scalar or vector.
 fn is_slope(of: Form) -> bool
     ensures { IsTrue result ↔ DerivativeOK of }
 {
@@ -34,11 +34,11 @@ fn is_slope(of: Form) -> bool
     }
 }
 
-/// Whether a value has a derivative.
+/// Whether the derivative of a value is defined.
 ///
 /// # Errors
 ///
-/// [`ExpressionError::Other`] where it has none.
+/// [`ExpressionError::Other`] if it is not.
 #[tactic(auto, using(module_context::proofs::Refusals::by_test))]
 pub fn check_derivative(
     context: &CheckContext<'_>,

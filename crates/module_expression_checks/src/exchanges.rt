@@ -1,4 +1,4 @@
-//! What an exchange that compares answers: a struct of the value that was there, and of whether it was exchanged.
+//! The result of a compare-exchange: a struct of the old value and of whether the exchange took place.
 
 ghost use Rattle.std.specs.Prelude.{◌≡◌, ◌↔◌, IsTrue, Some, map};
 ghost use Rattle.ir_types.specs.judged.Plain.{inner_view, member_view};
@@ -22,7 +22,7 @@ fn is_named(member: &StructMember, name: &str) -> bool
     }
 }
 
-// The type of the value that was there, if two members are that, and whether it was exchanged.
+// The type of the old value, if two members are `old_value` and `exchanged`.
 #[tactic(auto, using(crate::proofs::OldValues::found, crate::proofs::OldValues::missing))]
 fn exchanged_of(
     types: &UniqueArena<IrType, key::IrType>,
@@ -42,7 +42,7 @@ fn exchanged_of(
     }
 }
 
-// The same, if members are exactly these two.
+// The type of the old value, if these are the only members.
 #[tactic(auto, using(crate::proofs::Members::two, crate::proofs::Members::other))]
 fn exchanged_among(
     types: &UniqueArena<IrType, key::IrType>,
@@ -57,7 +57,7 @@ fn exchanged_among(
     exchanged_of(types, &members[0], &members[1])
 }
 
-// The same, if a type is a struct of exactly these two.
+// The type of the old value, if a type is a struct of exactly these members.
 fn exchanged_in(types: &UniqueArena<IrType, key::IrType>, inner: &TypeInner) -> Option<Form>
     ensures { (of : Form) → (result ≡ Some of)
         ↔ IsExchangeOf (λ found. found ≡ of) (types_view types.now) (Some (inner_view inner.now)) }
@@ -80,8 +80,8 @@ fn exchanged_in(types: &UniqueArena<IrType, key::IrType>, inner: &TypeInner) -> 
     }
 }
 
-/// The type of the value that was there, if the type at a handle is what an exchange that compares answers: a struct of that
-/// value, `old_value`, and of whether it was exchanged, `exchanged`.
+/// The type of the old value, if the type at a handle is the result of a compare-exchange: a struct of `old_value`
+/// and of a bool `exchanged`.
 pub fn exchanged_value(
     types: &UniqueArena<IrType, key::IrType>,
     ty: Handle<key::IrType>,

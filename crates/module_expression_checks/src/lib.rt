@@ -1,6 +1,6 @@
-//! What is required of expressions beside their types: a module a family, of the name that its definitions have in
-//! `spec_statements`. What looks at images stands in `module_expressions`. Of maths and of results of subgroups
-//! nothing is required.
+//! The requirements of expressions beyond their types: one module for each family, named as its definitions in
+//! `spec_statements`. Images are in `module_expressions`. Math functions and subgroup results have no
+//! requirements.
 #![tactic(auto)]
 
 mod access;

@@ -1,4 +1,4 @@
-//! Which literals there are, and which types have a zero.
+//! The checks of `Literal` and `ZeroValue`.
 
 ghost use Rattle.std.specs.Prelude.{MatchResult};
 ghost use Rattle.module_context.specs.Refused.{IsRefused};
@@ -15,11 +15,11 @@ use module_context::{CheckContext, refused_unless};
 use module_type_checks::validate_literal;
 use typing_errors::ExpressionError;
 
-/// Whether a literal may be used.
+/// Whether a literal is valid.
 ///
 /// # Errors
 ///
-/// [`ExpressionError::Literal`] where there is no such scalar.
+/// [`ExpressionError::Literal`] if its scalar type is invalid.
 pub fn check_literal(capabilities: Capabilities, value: Literal) -> Result<(), ExpressionError>
     ensures { MatchResult result (λ _. LiteralOK capabilities value) (IsBadLiteral capabilities value) }
 {
@@ -29,11 +29,11 @@ pub fn check_literal(capabilities: Capabilities, value: Literal) -> Result<(), E
     }
 }
 
-/// Whether a type has a zero: values of it can be composed.
+/// Whether a type has a zero value: it is constructible.
 ///
 /// # Errors
 ///
-/// [`ExpressionError::Other`] where it has none.
+/// [`ExpressionError::Other`] if it has none.
 #[tactic(auto, using(module_context::proofs::Refusals::by_test))]
 pub fn check_zero(
     context: &CheckContext<'_>,

@@ -1,4 +1,4 @@
-//! What is loaded, and what has a length.
+//! The checks of `Load` and `ArrayLength`.
 
 ghost use Rattle.std.specs.Prelude.{◌↔◌, IsTrue, MatchResult, Some};
 ghost use Rattle.module_context.specs.Refused.{IsRefused};
@@ -16,7 +16,7 @@ use typing_forms::Form;
 
 // ---- loads
 
-// Whether what a type leads to is loaded.
+// Whether the base of a pointer type can be loaded.
 fn is_loaded(context: &CheckContext<'_>, pointer: Form) -> bool
     requires { IsKnown context.now }
     ensures { IsTrue result ↔ LoadOK (types_in context.now) pointer }
@@ -40,11 +40,11 @@ fn is_loaded(context: &CheckContext<'_>, pointer: Form) -> bool
     }
 }
 
-/// Whether what a pointer leads to is loaded: it can be stored, and its size is known.
+/// Whether the base of a pointer can be loaded: it has the `DATA` and `SIZED` flags.
 ///
 /// # Errors
 ///
-/// [`ExpressionError::Other`] where it is not.
+/// [`ExpressionError::Other`] if it can't.
 #[tactic(auto, using(module_context::proofs::Refusals::by_test))]
 pub fn check_load(
     context: &CheckContext<'_>,
@@ -60,7 +60,7 @@ pub fn check_load(
 
 // ---- lengths
 
-// Whether an array of a size is as long as its buffer.
+// Whether an array size is runtime-sized.
 const fn is_dynamic(size: ArraySize) -> bool
     ensures { IsTrue result ↔ IsDynamic size }
 {
@@ -70,7 +70,7 @@ const fn is_dynamic(size: ArraySize) -> bool
     }
 }
 
-// Whether a type is that of an array that is as long as its buffer.
+// Whether a type is a runtime-sized array.
 const fn is_runtime_array(inner: &TypeInner) -> bool
     ensures { IsTrue result ↔ IsRuntimeArray (Some (inner_view inner.now)) }
 {
@@ -92,7 +92,7 @@ const fn is_runtime_array(inner: &TypeInner) -> bool
     }
 }
 
-// Whether what a type leads to is such an array.
+// Whether the base of a pointer type is a runtime-sized array.
 fn has_length(context: &CheckContext<'_>, array: Form) -> bool
     ensures { IsTrue result ↔ ArrayLengthOK (types_in context.now) array }
 {
@@ -102,11 +102,11 @@ fn has_length(context: &CheckContext<'_>, array: Form) -> bool
     }
 }
 
-/// Whether what a pointer leads to has a length that the shader may query: it is an array that is as long as its buffer.
+/// Whether a pointer is a valid operand of `ArrayLength`: its base is a runtime-sized array.
 ///
 /// # Errors
 ///
-/// [`ExpressionError::Other`] where it has none.
+/// [`ExpressionError::Other`] if it is not.
 #[tactic(auto, using(module_context::proofs::Refusals::by_test))]
 pub fn check_array_length(
     context: &CheckContext<'_>,

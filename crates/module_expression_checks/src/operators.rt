@@ -1,4 +1,4 @@
-//! Operands of operations on one value and on two.
+//! The checks of operands of `Unary` and `Binary`.
 
 ghost use Rattle.std.specs.Prelude.{◌≡◌, ◌↔◌, IsTrue, MatchResult};
 ghost use Rattle.module_context.specs.Refused.{IsRefused};
@@ -19,9 +19,9 @@ use spec_statements::Shape;
 use typing_errors::ExpressionError;
 use typing_forms::Form;
 
-// ---- on one value
+// ---- unary operators
 
-// Whether numbers of a kind may be negative.
+// Whether a scalar kind is signed.
 const fn is_signed(kind: ScalarKind) -> bool
     ensures { IsTrue result ↔ IsSigned kind }
 {
@@ -32,7 +32,7 @@ const fn is_signed(kind: ScalarKind) -> bool
     }
 }
 
-// Whether an operation on one value takes scalars of a kind.
+// Whether a unary operator takes scalars of a kind.
 const fn takes_kind(op: UnaryOperator, kind: ScalarKind) -> bool
     ensures { IsTrue result ↔ TakesKind op kind }
 {
@@ -43,7 +43,7 @@ const fn takes_kind(op: UnaryOperator, kind: ScalarKind) -> bool
     }
 }
 
-// Whether an operation on one value takes one of a type.
+// Whether a unary operator takes a value of a type.
 fn takes(op: UnaryOperator, of: Form) -> bool
     ensures { IsTrue result ↔ UnaryOK op of }
 {
@@ -53,11 +53,11 @@ fn takes(op: UnaryOperator, of: Form) -> bool
     }
 }
 
-/// Whether an operation takes its operand.
+/// Whether a unary operator takes its operand.
 ///
 /// # Errors
 ///
-/// [`ExpressionError::Other`] where it does not.
+/// [`ExpressionError::Other`] if it does not.
 #[tactic(auto, using(module_context::proofs::Refusals::by_test))]
 pub fn check_unary(
     context: &CheckContext<'_>,
@@ -71,9 +71,9 @@ pub fn check_unary(
     refused_unless(takes(op, context.form_at(expr)))
 }
 
-// ---- on two values
+// ---- binary operators
 
-// Whether scalars of a kind are truth values or integers.
+// Whether a scalar kind is `Bool` or an integer kind.
 const fn is_bits(kind: ScalarKind) -> bool
     ensures { IsTrue result ↔ IsIntegerOrBool kind }
 {
@@ -83,7 +83,7 @@ const fn is_bits(kind: ScalarKind) -> bool
     }
 }
 
-// Whether values of a shape and a kind are added.
+// Whether values of a shape and a scalar kind can be added.
 const fn is_added(shape: Shape, kind: ScalarKind) -> bool
     ensures { IsTrue result ↔ IsAdded shape kind }
 {
@@ -93,7 +93,7 @@ const fn is_added(shape: Shape, kind: ScalarKind) -> bool
     }
 }
 
-// Whether two values are added.
+// Whether two values can be added.
 fn are_added(left: &Form, right: &Form) -> bool
     ensures { IsTrue result ↔ SumOK left.now right.now }
 {
@@ -106,7 +106,7 @@ fn are_added(left: &Form, right: &Form) -> bool
     }
 }
 
-// Whether a row of so many is multiplied with something.
+// Whether a vector of this size can be multiplied with a shape.
 fn is_row_multiplied(size: VectorSize, right: Shape) -> bool
     ensures { IsTrue result ↔ AreMultiplied (Shape.Vector size) right }
 {
@@ -135,7 +135,7 @@ fn are_shapes_multiplied(left: Shape, right: Shape) -> bool
     }
 }
 
-// Whether two values are multiplied.
+// Whether two values can be multiplied.
 fn are_multiplied(left: Form, right: Form) -> bool
     ensures { IsTrue result ↔ ProductOK left right }
 {
@@ -150,7 +150,7 @@ fn are_multiplied(left: Form, right: Form) -> bool
     }
 }
 
-// Whether a type is that of a value.
+// Whether a type is a scalar, vector or matrix.
 fn is_value(of: Form) -> bool
     ensures { IsTrue result ↔ IsMadeOf IsScalarOrVector AnyKind of }
 {
@@ -160,7 +160,7 @@ fn is_value(of: Form) -> bool
     }
 }
 
-// Whether a type is one of numbers alone or in a row.
+// Whether a type is a numeric scalar or vector.
 fn is_number(of: Form) -> bool
     ensures { IsTrue result ↔ IsMadeOf IsScalarOrVector IsNumeric of }
 {
@@ -170,7 +170,7 @@ fn is_number(of: Form) -> bool
     }
 }
 
-// Whether a type is made of truth values or integers.
+// Whether a type is a scalar or vector of bools or integers.
 fn is_of_bits(of: Form) -> bool
     ensures { IsTrue result ↔ IsMadeOf AnyShape IsIntegerOrBool of }
 {
@@ -180,7 +180,7 @@ fn is_of_bits(of: Form) -> bool
     }
 }
 
-// Whether a type is made of integers.
+// Whether a type is an integer scalar or vector.
 fn is_of_integers(of: Form) -> bool
     ensures { IsTrue result ↔ IsMadeOf AnyShape IsInteger of }
 {
@@ -190,7 +190,7 @@ fn is_of_integers(of: Form) -> bool
     }
 }
 
-// Whether integers are shifted by others.
+// Whether a type can be shifted by another.
 fn are_shifted(left: Form, right: Form) -> bool
     ensures { IsTrue result ↔ ShiftOK left right }
 {
@@ -203,7 +203,7 @@ fn are_shifted(left: Form, right: Form) -> bool
     }
 }
 
-// Whether an operation on two values takes those of two types.
+// Whether a binary operator takes values of two types.
 fn take(op: BinaryOperator, left: &Form, right: &Form) -> bool
     ensures { IsTrue result ↔ BinaryOK op left.now right.now }
 {
@@ -230,11 +230,11 @@ fn take(op: BinaryOperator, left: &Form, right: &Form) -> bool
     }
 }
 
-/// Whether an operation takes its operands.
+/// Whether a binary operator takes its operands.
 ///
 /// # Errors
 ///
-/// [`ExpressionError::Other`] where it does not.
+/// [`ExpressionError::Other`] if it does not.
 #[tactic(auto, using(module_context::proofs::Refusals::by_test))]
 pub fn check_binary(
     context: &CheckContext<'_>,

@@ -1,4 +1,4 @@
-//! Which ray queries there are.
+//! The checks of `RayQueryVertexPositions` and `RayQueryGetIntersection`.
 
 ghost use Rattle.std.specs.Prelude.{◌≡◌, ◌↔◌, IsTrue, MatchResult, Some};
 ghost use Rattle.module_context.specs.Refused.{IsRefused};
@@ -14,7 +14,7 @@ use module_context::{CheckContext, refused_unless};
 use typing_errors::ExpressionError;
 use typing_forms::Form;
 
-/// Whether the ray query that a type is gives the vertices of a hit.
+/// Whether a ray query type returns vertex positions.
 pub const fn query_of(inner: &TypeInner) -> Option<bool>
     ensures { result ≡ query_of (Some (inner_view inner.now)) }
 {
@@ -36,7 +36,7 @@ pub const fn query_of(inner: &TypeInner) -> Option<bool>
     }
 }
 
-// The same of the ray query that a pointer leads to.
+// Whether the base of a pointer is a ray query that returns vertex positions.
 fn pointed_query(context: &CheckContext<'_>, query: Form) -> Option<bool>
     ensures { result ≡ query_of (pointed_in (types_in context.now) query) }
 {
@@ -46,7 +46,7 @@ fn pointed_query(context: &CheckContext<'_>, query: Form) -> Option<bool>
     }
 }
 
-// Whether a type leads to a ray query that gives the vertices of a hit.
+// Whether a pointer type's base is a ray query that returns vertex positions.
 fn gives_positions(context: &CheckContext<'_>, query: Form) -> bool
     ensures { IsTrue result ↔ VertexPositionsOK (types_in context.now) query }
 {
@@ -56,18 +56,18 @@ fn gives_positions(context: &CheckContext<'_>, query: Form) -> bool
     }
 }
 
-// Whether a type leads to a ray query.
+// Whether a pointer type's base is a ray query.
 fn gives_intersection(context: &CheckContext<'_>, query: Form) -> bool
     ensures { IsTrue result ↔ IntersectionOK (types_in context.now) query }
 {
     pointed_query(context, query).is_some()
 }
 
-/// Whether what a pointer leads to tells the vertices of a hit: it is a ray query that gives them.
+/// Whether vertex positions can be read through a pointer: its base is a ray query that returns them.
 ///
 /// # Errors
 ///
-/// [`ExpressionError::Other`] where it does not.
+/// [`ExpressionError::Other`] if they can't.
 #[tactic(auto, using(module_context::proofs::Refusals::by_test))]
 pub fn check_vertex_positions(
     context: &CheckContext<'_>,
@@ -80,11 +80,11 @@ pub fn check_vertex_positions(
     refused_unless(gives_positions(context, context.form_at(query)))
 }
 
-/// Whether what a pointer leads to says where a ray hit: it is a ray query.
+/// Whether an intersection can be read through a pointer: its base is a ray query.
 ///
 /// # Errors
 ///
-/// [`ExpressionError::Other`] where it does not.
+/// [`ExpressionError::Other`] if it can't.
 #[tactic(auto, using(module_context::proofs::Refusals::by_test))]
 pub fn check_intersection(
     context: &CheckContext<'_>,

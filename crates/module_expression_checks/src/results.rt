@@ -1,4 +1,4 @@
-//! What statements may answer.
+//! The result types of statements.
 
 ghost use Rattle.std.specs.Prelude.{◌↔◌, IsTrue, MatchResult};
 ghost use Rattle.module_context.specs.Refused.{IsRefused};
@@ -20,14 +20,14 @@ use typing_forms::{Form, form_of_type};
 
 // ---- atomic operations
 
-// Whether atomics have a scalar.
+// Whether a scalar type may be atomic.
 fn is_atomic(capabilities: Capabilities, scalar: Scalar) -> bool
     ensures { IsTrue result ↔ AtomicOK capabilities scalar }
 {
     check_atomic(capabilities, scalar).is_ok()
 }
 
-// Whether a type is that of a scalar that atomics have.
+// Whether a type is a scalar that may be atomic.
 fn is_atomic_value(capabilities: Capabilities, of: Form) -> bool
     ensures { IsTrue result ↔ IsAtomicValue capabilities of }
 {
@@ -37,7 +37,7 @@ fn is_atomic_value(capabilities: Capabilities, of: Form) -> bool
     }
 }
 
-// Whether a type is that of what an exchange answers, with a scalar that atomics have.
+// Whether a type is the result of a compare-exchange on an atomic scalar.
 #[tactic(auto, using(crate::proofs::OldValues::by_test, crate::proofs::OldValues::by_none))]
 fn is_atomic_exchange(context: &CheckContext<'_>, ty: Handle<key::IrType>) -> bool
     ensures { IsTrue result ↔ IsExchange context.now.capabilities (types_in context.now) (inner_at (types_in context.now) ty) }
@@ -48,7 +48,7 @@ fn is_atomic_exchange(context: &CheckContext<'_>, ty: Handle<key::IrType>) -> bo
     }
 }
 
-// Whether an atomic operation may answer a value of a type.
+// Whether an atomic operation may have a result of this type.
 fn is_atomic_result(context: &CheckContext<'_>, ty: Handle<key::IrType>, comparison: bool) -> bool
     ensures { IsTrue result ↔ AtomicResultTypeOK context.now.capabilities (types_in context.now) ty comparison }
 {
@@ -59,11 +59,11 @@ fn is_atomic_result(context: &CheckContext<'_>, ty: Handle<key::IrType>, compari
     }
 }
 
-/// Whether an atomic operation may answer a value of a type: a scalar, or of an exchange that compares a struct.
+/// Whether an atomic operation may have a result of this type: a scalar, or the struct of a compare-exchange.
 ///
 /// # Errors
 ///
-/// [`ExpressionError::Other`] where it may not.
+/// [`ExpressionError::Other`] if it may not.
 #[tactic(auto, using(module_context::proofs::Refusals::by_test))]
 pub fn check_atomic_result(
     context: &CheckContext<'_>,
@@ -77,9 +77,9 @@ pub fn check_atomic_result(
     refused_unless(is_atomic_result(context, ty, comparison))
 }
 
-// ---- uniform loads
+// ---- workgroup uniform loads
 
-// Whether values of a type are of a known size and can be composed.
+// Whether a type has a fixed size and is constructible.
 fn is_loaded_uniformly(context: &CheckContext<'_>, ty: Handle<key::IrType>) -> bool
     requires { IsKnown context.now }
     ensures { IsTrue result ↔ UniformLoadOK (types_in context.now) ty }
@@ -87,11 +87,11 @@ fn is_loaded_uniformly(context: &CheckContext<'_>, ty: Handle<key::IrType>) -> b
     context.is_sized(ty) && context.is_constructible(ty)
 }
 
-/// Whether a uniform load may answer a value of a type: its size is known, and it can be composed.
+/// Whether `workgroupUniformLoad` may return this type: it has a fixed size and is constructible.
 ///
 /// # Errors
 ///
-/// [`ExpressionError::Other`] where it may not.
+/// [`ExpressionError::Other`] if it may not.
 #[tactic(auto, using(module_context::proofs::Refusals::by_test))]
 pub fn check_uniform_load(
     context: &CheckContext<'_>,

@@ -1,4 +1,4 @@
-//! Which values are chosen from, by which condition; of which values something is required.
+//! The checks of `Select` and `Relational`.
 
 ghost use Rattle.std.specs.Prelude.{◌↔◌, IsTrue, MatchResult};
 ghost use Rattle.module_context.specs.Refused.{IsRefused};
@@ -18,7 +18,7 @@ use typing_forms::Form;
 
 // ---- selections
 
-// Whether a truth value for each of so many components chooses from values of a shape.
+// Whether a bool vector of this size selects between values of a shape.
 fn is_chosen_by_row(size: VectorSize, value: Shape) -> bool
     ensures { IsTrue result ↔ ChoosesFrom (Shape.Vector size) value }
 {
@@ -28,7 +28,7 @@ fn is_chosen_by_row(size: VectorSize, value: Shape) -> bool
     }
 }
 
-// Whether truth values of one shape choose from values of another.
+// Whether bools of one shape select between values of another.
 fn chooses_from(condition: Shape, value: Shape) -> bool
     ensures { IsTrue result ↔ ChoosesFrom condition value }
 {
@@ -49,7 +49,7 @@ fn is_condition(condition: Form, value: Shape) -> bool
     }
 }
 
-// Whether a condition chooses from two values.
+// Whether a condition selects between two values.
 fn is_selection(condition: &Form, accept: &Form, reject: &Form) -> bool
     ensures { IsTrue result ↔ SelectOK condition.now accept.now reject.now }
 {
@@ -62,11 +62,11 @@ fn is_selection(condition: &Form, accept: &Form, reject: &Form) -> bool
     }
 }
 
-/// Whether a condition chooses from two values.
+/// Whether a condition selects between two values.
 ///
 /// # Errors
 ///
-/// [`ExpressionError::Other`] where it does not.
+/// [`ExpressionError::Other`] if it does not.
 #[tactic(auto, using(module_context::proofs::Refusals::by_test))]
 pub fn check_select(
     context: &CheckContext<'_>,
@@ -86,7 +86,7 @@ pub fn check_select(
 
 // ---- relational functions
 
-// Whether a shape is that of a vector.
+// Whether a shape is a vector.
 const fn is_row(shape: Shape) -> bool
     ensures { IsTrue result ↔ IsVectorShape shape }
 {
@@ -96,7 +96,7 @@ const fn is_row(shape: Shape) -> bool
     }
 }
 
-// Whether a type is that of a vector of truth values.
+// Whether a type is a bool vector.
 fn is_row_of_truths(of: Form) -> bool
     ensures { IsTrue result ↔ IsMadeOf IsVectorShape IsBool of }
 {
@@ -106,7 +106,7 @@ fn is_row_of_truths(of: Form) -> bool
     }
 }
 
-// Whether a type is one of floats alone or in a row.
+// Whether a type is a float scalar or vector.
 fn is_of_floats(of: Form) -> bool
     ensures { IsTrue result ↔ IsMadeOf IsScalarOrVector IsFloating of }
 {
@@ -130,7 +130,7 @@ fn relates(fun: RelationalFunction, of: Form) -> bool
 ///
 /// # Errors
 ///
-/// [`ExpressionError::Other`] where it does not.
+/// [`ExpressionError::Other`] if it does not.
 #[tactic(auto, using(module_context::proofs::Refusals::by_test))]
 pub fn check_relational(
     context: &CheckContext<'_>,

@@ -1,4 +1,4 @@
-//! Shapes that several families require.
+//! Shape tests that several families share.
 
 ghost use Rattle.std.specs.Prelude.{◌↔◌, IsTrue};
 ghost use Rattle.spec_statements.specs.judged.Shapes.{IsScalarShape, IsScalarOrVector, IsBool, IsMadeOf};
@@ -7,7 +7,7 @@ use module_context::{is_truth, shaped_of};
 use spec_statements::Shape;
 use typing_forms::Form;
 
-/// Whether a shape is that of one scalar.
+/// Whether a shape is a scalar.
 pub const fn is_alone(shape: Shape) -> bool
     ensures { IsTrue result ↔ IsScalarShape shape }
 {
@@ -17,7 +17,7 @@ pub const fn is_alone(shape: Shape) -> bool
     }
 }
 
-/// Whether a shape is that of a value: one scalar, or a vector.
+/// Whether a shape is a scalar or a vector.
 pub const fn is_of_value(shape: Shape) -> bool
     ensures { IsTrue result ↔ IsScalarOrVector shape }
 {
@@ -27,7 +27,7 @@ pub const fn is_of_value(shape: Shape) -> bool
     }
 }
 
-/// Whether a type is one truth value.
+/// Whether a type is `bool`.
 pub(crate) fn is_one_truth(of: Form) -> bool
     ensures { IsTrue result ↔ IsMadeOf IsScalarShape IsBool of }
 {

@@ -1,4 +1,4 @@
-//! Components of vectors in another order.
+//! The check of `Swizzle`.
 
 ghost use Rattle.std.specs.Prelude.{◌↔◌, IsTrue, MatchResult};
 ghost use Rattle.module_context.specs.Refused.{IsRefused};
@@ -15,14 +15,14 @@ use spec_statements::Shape;
 use typing_errors::ExpressionError;
 use typing_forms::Form;
 
-// Whether a letter of a pattern for so many components is that of a component, where it counts.
+// Whether the pattern's component at an index is in bounds of the vector, if the index is below the swizzle's size.
 fn may_stand(size: VectorSize, place: usize, letter: SwizzleComponent, of: VectorSize) -> bool
     ensures { IsTrue result ↔ MayStand size place letter of }
 {
     place >= u32::from(size) as usize || letter.index() < u32::from(of)
 }
 
-// Whether the letters of a pattern that count are those of components of a vector.
+// Whether the pattern's used components are in bounds of a vector.
 #[tactic(auto, using(crate::proofs::Letters::stand_none, crate::proofs::Letters::stand_more, crate::proofs::Letters::stand_all, crate::proofs::Letters::stand_not))]
 fn are_components(size: VectorSize, pattern: [SwizzleComponent; 4], of: VectorSize) -> bool
     ensures { IsTrue result ↔ AreComponents size pattern of }
@@ -35,7 +35,7 @@ fn are_components(size: VectorSize, pattern: [SwizzleComponent; 4], of: VectorSi
     true
 }
 
-// Whether a pattern puts components of a vector in order.
+// Whether a pattern is valid for a vector.
 fn is_swizzle(size: VectorSize, pattern: [SwizzleComponent; 4], of: Form) -> bool
     ensures { IsTrue result ↔ SwizzleOK size pattern of }
 {
@@ -48,11 +48,11 @@ fn is_swizzle(size: VectorSize, pattern: [SwizzleComponent; 4], of: Form) -> boo
     }
 }
 
-/// Whether a pattern puts components of a vector in order.
+/// Whether a pattern is valid for a vector.
 ///
 /// # Errors
 ///
-/// [`ExpressionError::Other`] where it does not: one of the letters that count is that of no component.
+/// [`ExpressionError::Other`] if it is not: a used component is out of bounds.
 #[tactic(auto, using(module_context::proofs::Refusals::by_test))]
 pub fn check_swizzle(
     context: &CheckContext<'_>,

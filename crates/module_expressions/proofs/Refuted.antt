@@ -1,4 +1,4 @@
--- An expression with a fault is not accepted.
+-- An expression with an error is rejected.
 use Rattle.std.proofs.Common.{◌≡◌, Option, Some, None, refl, subst}
 use Rattle.module_constants.proofs.Compositions.{composition_refuted}
 use Rattle.module_constants.proofs.Literals.{literal_refuted}
@@ -16,7 +16,7 @@ use Rattle.spec_statements.specs.judged.Expressions.{RequiredOf}
 use Rattle.spec_statements.specs.judged.Scene.{Scene}
 use Rattle.spec_expressions.specs.judged.LiteralScalars.{LiteralOK}
 
--- what is required of a literal
+-- the requirement of a literal
 asked_literal : (s : Scene) (e : Expression) (value : Literal) → literal_of (plain e) ≡ Some value → CheckOf s e → LiteralOK s.capabilities value
 asked_literal s (x.Literal own) value is ok = let same : own ≡ value = cc in subst (LiteralOK s.capabilities) same ok
 asked_literal s _ value is ok = cc

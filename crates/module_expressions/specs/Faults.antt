@@ -1,4 +1,4 @@
--- Why an expression is refused.
+-- The errors of expressions.
 use Rattle.std.specs.Prelude.{◌≡◌, ℕ, Option, Some, None, map, slice_get}
 use Rattle.module_context.specs.Refused.{IsRefused}
 use Rattle.typing_errors.specs.declared.expressions.ExpressionError.{ExpressionError}
@@ -11,23 +11,23 @@ use Rattle.spec_statements.specs.judged.Access.{literal_of}
 use Rattle.spec_statements.specs.judged.Checks.{CheckOf}
 use Rattle.spec_statements.specs.judged.Scene.{Scene, form_among}
 
--- a literal that may not be used; of any other kind what is required does not hold, and the error has no name
+-- `Literal` for an invalid literal; `Other` if any other requirement does not hold
 abbrev pub IsPlainFault : Scene → Expression → Option Literal → ExpressionError → Type 0
 IsPlainFault s expression (Some value) e = IsBadLiteral s.capabilities value e
 IsPlainFault s expression None e = IsRefused (CheckOf s expression) e
 
--- a composition that can't be made, or another expression with a fault
+-- `Compose` for invalid components, or the error of another kind of expression
 abbrev pub IsFaultOf : Scene → PlainExpression → ExpressionError → Type 0
 IsFaultOf s (compose type components) e = IsBadComposition s.types type (map (form_among s.forms) components) e
 IsFaultOf s (plain expression) e = IsPlainFault s expression (literal_of (plain expression)) e
 
--- the expression at a handle has this fault
+-- the expression at a handle has this error
 pub record IsExpressionFault (s : Scene) (handle : ℕ) (e : ExpressionError) : Type 0 where
   pub expression : PlainExpression
   pub at : slice_get s.expressions handle ≡ Some expression
   pub fault : IsFaultOf s expression e
 
--- the expression looks at an image, and what is required of it is met
+-- the expression is an image operation that meets its requirements
 abbrev pub ImageOK : Scene → PlainExpression → Type 0
 ImageOK s (plain (x.ImageSample image sampler gather coordinate array_index offset level depth_ref clamp_to_edge)) =
     CheckOf s (x.ImageSample image sampler gather coordinate array_index offset level depth_ref clamp_to_edge)

@@ -1,4 +1,4 @@
--- What has a fault is not accepted.
+-- An expression with an error is rejected.
 use Rattle.std.specs.Prelude.{ℕ}
 use Rattle.typing_errors.specs.declared.expressions.ExpressionError.{ExpressionError}
 use Rattle.module_expressions.specs.Faults.{IsExpressionFault}

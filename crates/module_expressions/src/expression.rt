@@ -1,4 +1,4 @@
-//! The checks of all kinds of expressions: one arm for each kind.
+//! The check of expressions: one arm for each variant.
 
 ghost use Rattle.std.specs.Prelude.{◌<◌, length, MatchResult};
 ghost use Rattle.module_context.specs.OperandView.{scene_in, IsKnown};
@@ -23,7 +23,7 @@ use module_expression_checks::{
 use spec_statements::Sampling;
 use typing_errors::ExpressionError;
 
-// Whether an expression looks at an image, and what is required of it is met.
+// Whether an expression is an image operation that meets its requirements.
 fn check_image(context: &CheckContext<'_>, expression: &E) -> Result<(), ExpressionError>
     requires { IsKnown context.now }
     ensures { MatchResult result
@@ -66,7 +66,7 @@ fn check_image(context: &CheckContext<'_>, expression: &E) -> Result<(), Express
     }
 }
 
-// Whether what is required of an expression is met.
+// Whether an expression meets its requirements.
 fn check_expression(context: &CheckContext<'_>, expression: &E) -> Result<(), ExpressionError>
     requires { IsKnown context.now }
     ensures { MatchResult result
@@ -126,15 +126,15 @@ fn check_expression(context: &CheckContext<'_>, expression: &E) -> Result<(), Ex
     }
 }
 
-/// Whether the expression at a handle is accepted, and which stages may run it (naga's `validate_expression`).
+/// Whether the expression at a handle is valid, and which stages may run it (naga's `validate_expression`).
 ///
-/// Requires that the handle is in, and that what the context holds of types and of constants is reported of all of them.
+/// Requires that the handle is in the arena, and that the context has all `TypeInfo`s and all expression kinds.
 ///
 /// # Errors
 ///
-/// [`ExpressionError::Literal`] and [`ExpressionError::Compose`] for a literal that may not be used and for a composition
-/// that can't be made, [`ExpressionError::Other`] where what is required of an expression of another kind does not hold; each is
-/// answered only where it occurs.
+/// [`ExpressionError::Literal`] and [`ExpressionError::Compose`] for an invalid literal and for components that do not
+/// compose the type, [`ExpressionError::Other`] for the failed requirement of any other expression. An error is
+/// returned only if its condition holds.
 pub fn validate_expression(
     context: &CheckContext<'_>,
     handle: Handle<key::Expression>,

@@ -1,4 +1,4 @@
-//! How texels are loaded, and what is required of images.
+//! The checks of `ImageLoad` and `ImageQuery`.
 
 ghost use Rattle.std.specs.Prelude.{◌↔◌, IsTrue, MatchResult};
 ghost use Rattle.module_context.specs.Refused.{IsRefused};
@@ -21,7 +21,7 @@ use typing_forms::Form;
 
 // ---- loads
 
-// Whether texels of images of so many dimensions have numbers.
+// Whether texels of images of these dimensions can be loaded by integer coordinates.
 const fn is_flat(dim: ImageDimension) -> bool
     ensures { IsTrue result ↔ IsFlat dim }
 {
@@ -31,7 +31,7 @@ const fn is_flat(dim: ImageDimension) -> bool
     }
 }
 
-/// Whether a type is that of the number of a texel each way.
+/// Whether a type is that of an integer texel coordinate.
 pub fn is_texel(dim: ImageDimension, coordinate: &Form) -> bool
     ensures { IsTrue result ↔ IsTexelCoordinate dim coordinate.now }
 {
@@ -45,7 +45,7 @@ pub fn is_texel(dim: ImageDimension, coordinate: &Form) -> bool
     }
 }
 
-// Whether images of a class are loaded from.
+// Whether an image class supports loads.
 fn is_readable(class: ImageClass) -> bool
     ensures { IsTrue result ↔ IsReadable class }
 {
@@ -55,7 +55,7 @@ fn is_readable(class: ImageClass) -> bool
     }
 }
 
-// Whether a texel is loaded from an image.
+// Whether a texel can be loaded from an image.
 fn is_texel_load(
     context: &CheckContext<'_>,
     image: &ImageType,
@@ -74,7 +74,7 @@ fn is_texel_load(
         && is_readable(image.class)
 }
 
-// Whether a texel is loaded from a value of a type.
+// Whether a texel can be loaded from a value of a type.
 fn is_image_load(
     context: &CheckContext<'_>,
     image: Form,
@@ -93,12 +93,12 @@ fn is_image_load(
     }
 }
 
-/// Whether a texel is loaded: it has a number each way, a layer, a sample and a level exactly where the image has several, and
-/// the image may be read.
+/// Whether an `ImageLoad` is valid: it has an integer coordinate of the image's dimensions, an array index, a sample and a level
+/// exactly if the image has several, and the image is readable.
 ///
 /// # Errors
 ///
-/// [`ExpressionError::Other`] where it is not.
+/// [`ExpressionError::Other`] if it is not.
 #[tactic(auto, using(module_context::proofs::Refusals::by_test))]
 pub fn check_image_load(
     context: &CheckContext<'_>,
@@ -118,7 +118,7 @@ pub fn check_image_load(
 
 // ---- queries
 
-// Whether an image has a size at a level, if one is named.
+// Whether a size query of an image may have this level, if one is given.
 fn has_size(
     context: &CheckContext<'_>,
     image: &ImageType,
@@ -132,7 +132,7 @@ fn has_size(
     }
 }
 
-// Whether a query of an image has an answer.
+// Whether a query is valid for an image.
 fn is_answered(context: &CheckContext<'_>, image: &ImageType, query: ImageQuery) -> bool
     ensures { IsTrue result ↔ IsAnswered (scene_in context.now).forms query image.now }
 {
@@ -144,7 +144,7 @@ fn is_answered(context: &CheckContext<'_>, image: &ImageType, query: ImageQuery)
     }
 }
 
-// Whether a query of a value of a type has an answer.
+// Whether a query is valid for a value of a type.
 fn is_image_query(context: &CheckContext<'_>, image: Form, query: ImageQuery) -> bool
     ensures { IsTrue result ↔ ImageQueryOK (scene_in context.now).forms image query }
 {
@@ -154,12 +154,12 @@ fn is_image_query(context: &CheckContext<'_>, image: Form, query: ImageQuery) ->
     }
 }
 
-/// Whether a query of an image has an answer: a level is named, levels, layers and samples are counted only where there are
+/// Whether an `ImageQuery` is valid: the operand is an image, and levels, layers and samples are queried only if the image has
 /// several.
 ///
 /// # Errors
 ///
-/// [`ExpressionError::Other`] where it has none.
+/// [`ExpressionError::Other`] if it is not.
 #[tactic(auto, using(module_context::proofs::Refusals::by_test))]
 pub fn check_image_query(
     context: &CheckContext<'_>,

@@ -1,4 +1,4 @@
-//! How images are sampled.
+//! The check of `ImageSample`.
 
 ghost use Rattle.std.specs.Prelude.{◌≡◌, ◌↔◌, IsTrue, IfSome, IsSomeAnd, MatchResult, true, false, is_some};
 ghost use Rattle.module_context.specs.Refused.{IsRefused};
@@ -21,7 +21,7 @@ use typing_forms::Form;
 
 // ---- samplers
 
-// Whether a type is that of a sampler that compares, or of one that does not.
+// Whether a type is a sampler, either a comparison sampler or not.
 fn is_sampler(of: Form, compares: bool) -> bool
     ensures { IsTrue result ↔ IsSomeAnd (sampler_of of) (λ comparison. comparison ≡ compares) }
 {
@@ -31,7 +31,7 @@ fn is_sampler(of: Form, compares: bool) -> bool
     }
 }
 
-// Whether what is compared with, if anything, is a float, and the image one of depths.
+// Whether the depth reference, if any, is a float and the image is a depth image.
 fn is_compared(
     context: &CheckContext<'_>,
     class: ImageClass,
@@ -48,7 +48,7 @@ fn is_compared(
 
 // ---- texels
 
-// Whether texels are put together, or only gathered where they are no floats.
+// Whether texels can be filtered, or are only gathered if they are not floats.
 fn is_filtered(class: ImageClass, gather: Option<SwizzleComponent>) -> bool
     ensures { IsTrue result ↔ IsFiltered class gather }
 {
@@ -61,9 +61,9 @@ fn is_filtered(class: ImageClass, gather: Option<SwizzleComponent>) -> bool
     }
 }
 
-// ---- places
+// ---- coordinates
 
-// Whether an expression is a place in an image of so many dimensions.
+// Whether an expression is a coordinate for an image of these dimensions.
 fn is_place(
     context: &CheckContext<'_>,
     dim: ImageDimension,
@@ -74,7 +74,7 @@ fn is_place(
     are_same(context.form_at(coordinate), along(dim, Scalar::F32))
 }
 
-// Whether an expression is an offset in an image of so many dimensions.
+// Whether an expression is an offset for an image of these dimensions.
 fn is_offset(
     context: &CheckContext<'_>,
     dim: ImageDimension,
@@ -88,7 +88,7 @@ fn is_offset(
         && dim != ImageDimension::Cube
 }
 
-// The same where there may be one.
+// Whether an optional offset is valid for an image of these dimensions.
 fn is_offset_if(
     context: &CheckContext<'_>,
     dim: ImageDimension,
@@ -105,7 +105,7 @@ fn is_offset_if(
 
 // ---- samples
 
-// Whether the sampler compares exactly where there is something to compare with.
+// Whether the sampler is a comparison sampler exactly if there is a depth reference.
 fn is_sampler_met(context: &CheckContext<'_>, image: &ImageType, by: &Sampling) -> bool
     ensures { IsTrue result
         ↔ (IsSomeAnd (sampler_of (form_among (scene_in context.now).forms by.now.sampler)) (λ comparison. comparison ≡ is_some by.now.depth_ref)
@@ -115,14 +115,14 @@ fn is_sampler_met(context: &CheckContext<'_>, image: &ImageType, by: &Sampling) 
         && is_compared(context, image.class, by.depth_ref)
 }
 
-// Whether the image has texels of one sample that are put together as they may be.
+// Whether the image is single-sampled and its texels can be filtered as required.
 fn is_class_met(image: &ImageType, by: &Sampling) -> bool
     ensures { IsTrue result ↔ ((is_multisampled image.now.class ≡ false) × IsFiltered image.now.class by.now.gather) }
 {
     !image.class.is_multisampled() && is_filtered(image.class, by.gather)
 }
 
-// Whether the coordinate, the layer and the offset are those of a place in the image.
+// Whether the coordinate, the array index and the offset are valid for the image.
 fn is_place_met(context: &CheckContext<'_>, image: &ImageType, by: &Sampling) -> bool
     requires { IsKnown context.now }
     ensures { IsTrue result
@@ -135,7 +135,7 @@ fn is_place_met(context: &CheckContext<'_>, image: &ImageType, by: &Sampling) ->
         && is_offset_if(context, image.dim, by.offset)
 }
 
-// Whether what is gathered and the level are as they may be.
+// Whether the gather component and the level are valid.
 fn is_detail_met(context: &CheckContext<'_>, image: &ImageType, by: &Sampling) -> bool
     ensures { IsTrue result
         ↔ (IfSome by.now.gather (IsGathered image.now by.now.level)
@@ -145,7 +145,7 @@ fn is_detail_met(context: &CheckContext<'_>, image: &ImageType, by: &Sampling) -
         && is_level(context, image.class, by.coordinate, by.level)
 }
 
-// Whether the image is clamped as it may be, and an external one sampled at level zero without an offset.
+// Whether clamping is valid, and an external image is sampled at level zero without an offset.
 fn is_edge_met(image: &ImageType, by: &Sampling) -> bool
     ensures { IsTrue result
         ↔ (ClampOK image.now by.now.clamp_to_edge × ExternalOK image.now.class by.now.gather by.now.offset by.now.level) }
@@ -153,7 +153,7 @@ fn is_edge_met(image: &ImageType, by: &Sampling) -> bool
     is_clamp(image, by.clamp_to_edge) && is_outside(image.class, by.gather, by.offset, by.level)
 }
 
-// Whether the image is sampled.
+// Whether the image can be sampled so.
 fn is_sampled(context: &CheckContext<'_>, image: &ImageType, by: &Sampling) -> bool
     requires { IsKnown context.now }
     ensures { IsTrue result ↔ IsSampled (expressions_in context.now) (scene_in context.now).forms image.now by.now }
@@ -165,7 +165,7 @@ fn is_sampled(context: &CheckContext<'_>, image: &ImageType, by: &Sampling) -> b
         && is_edge_met(image, by)
 }
 
-// Whether a value of a type is sampled.
+// Whether a value of a type can be sampled so.
 fn is_image_sample(context: &CheckContext<'_>, image: Form, by: &Sampling) -> bool
     requires { IsKnown context.now }
     ensures { IsTrue result ↔ ImageSampleOK (expressions_in context.now) (scene_in context.now).forms image by.now }
@@ -176,12 +176,12 @@ fn is_image_sample(context: &CheckContext<'_>, image: Form, by: &Sampling) -> bo
     }
 }
 
-/// Whether an image is sampled as it may be: by a sampler that compares exactly where there is something to compare with, at a
-/// place in the image, with what is gathered, moved and clamped as far as its class and its dimensions allow.
+/// Whether an `ImageSample` is valid: the sampler is a comparison sampler exactly if there is a depth reference, and the
+/// coordinate, gather component, offset, level and clamping are allowed for the image's class and dimensions.
 ///
 /// # Errors
 ///
-/// [`ExpressionError::Other`] where it is not.
+/// [`ExpressionError::Other`] if it is not.
 #[tactic(auto, using(module_context::proofs::Refusals::by_test))]
 pub fn check_image_sample(
     context: &CheckContext<'_>,

@@ -1,7 +1,7 @@
-//! What has a fault is not accepted.
+//! An expression with an error is rejected.
 ghost use Rattle.module_expressions.specs.Laws.{ExpressionRefuted};
 
-/// An expression with a fault is not accepted.
+/// An expression with an error is rejected.
 #[tactic(auto, using(crate::proofs::Refuted::expression_refuted))]
 pub fn expression_refuted()
     ensures { ExpressionRefuted }

@@ -1,4 +1,4 @@
-//! At which level of detail an image is sampled, what is gathered, and what is clamped.
+//! The level of detail, the gather component and the clamping of `ImageSample`.
 
 ghost use Rattle.std.specs.Prelude.{◌≡◌, ◌↔◌, IsTrue, IfSome, Bool};
 ghost use Rattle.module_context.specs.OperandView.{scene_in};
@@ -12,7 +12,7 @@ use module_context::{CheckContext, are_same, is_integer_scalar};
 use spec_statements::ImageType;
 use typing_forms::Form;
 
-/// Whether a type is that of a 32-bit float.
+/// Whether a type is `f32`.
 pub(crate) fn is_float32(of: Form) -> bool
     ensures { IsTrue result ↔ IsFloat32 of }
 {
@@ -21,7 +21,7 @@ pub(crate) fn is_float32(of: Form) -> bool
 
 // ---- levels
 
-// Whether a level is the finest.
+// Whether a level is level zero.
 const fn is_finest(level: SampleLevel) -> bool
     ensures { IsTrue result ↔ (level ≡ SampleLevel.Zero) }
 {
@@ -73,9 +73,9 @@ pub(crate) fn is_level(
     }
 }
 
-// ---- what is gathered
+// ---- gather
 
-// Whether images of so many dimensions have four texels around a place.
+// Whether images of these dimensions support gather.
 const fn has_neighbours(dim: ImageDimension) -> bool
     ensures { IsTrue result ↔ HasNeighbours dim }
 {
@@ -85,7 +85,7 @@ const fn has_neighbours(dim: ImageDimension) -> bool
     }
 }
 
-// Whether a component may be gathered of an image at a level.
+// Whether a component of an image may be gathered at a level.
 fn gathers(image: &ImageType, level: SampleLevel, letter: SwizzleComponent) -> bool
     ensures { IsTrue result ↔ IsGathered image.now level letter }
 {
@@ -94,7 +94,7 @@ fn gathers(image: &ImageType, level: SampleLevel, letter: SwizzleComponent) -> b
         && (!image.class.is_depth() || letter == SwizzleComponent::X)
 }
 
-/// The same where one may be gathered.
+/// Whether an optional gather component is valid for an image at a level.
 pub(crate) fn gathers_if(
     image: &ImageType,
     level: SampleLevel,
@@ -108,7 +108,7 @@ pub(crate) fn gathers_if(
     }
 }
 
-// ---- what is clamped
+// ---- clamping to the edge
 
 // Whether an image is external.
 const fn is_external(class: ImageClass) -> bool
@@ -130,14 +130,14 @@ fn is_of_floats(class: ImageClass) -> bool
     }
 }
 
-// Whether places in an image may be clamped.
+// Whether coordinates of an image may be clamped to the edge.
 fn is_clamped(image: &ImageType) -> bool
     ensures { IsTrue result ↔ IsClamped image.now }
 {
     image.dim == ImageDimension::D2 && !image.arrayed && is_of_floats(image.class)
 }
 
-/// Whether places in an image are clamped or not as they may be.
+/// Whether the clamping of an image is valid.
 pub(crate) fn is_clamp(image: &ImageType, clamp_to_edge: bool) -> bool
     ensures { IsTrue result ↔ ClampOK image.now clamp_to_edge }
 {

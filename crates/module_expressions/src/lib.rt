@@ -1,6 +1,6 @@
-//! Whether an expression whose operands have types is accepted, and which stages may run it; and what is required of expressions
-//! that look at images beside their types: a module a family, of the name that its definitions have in `spec_statements`. The
-//! other families stand in `module_expression_checks`.
+//! The check of an expression whose operands have types, with the stages that may run it, and the requirements of image
+//! operations: one module for each family, named as its definitions in `spec_statements`. The
+//! other families are in `module_expression_checks`.
 #![tactic(auto)]
 
 mod expression;

@@ -1,4 +1,4 @@
-//! Operands by which a texel is found.
+//! The operands that locate a texel.
 
 ghost use Rattle.std.specs.Prelude.{◌≡◌, ◌↔◌, IsTrue};
 ghost use Rattle.module_context.specs.OperandView.{scene_in};
@@ -11,7 +11,7 @@ use ir_types::key;
 use module_context::{CheckContext, is_integer_scalar};
 use typing_forms::Form;
 
-/// The type of a place in an image of so many dimensions.
+/// The type of a coordinate for an image of these dimensions.
 pub(crate) const fn along(dim: ImageDimension, scalar: Scalar) -> Form
     ensures { result ≡ coordinate_form dim scalar }
 {
@@ -28,7 +28,7 @@ pub(crate) const fn along(dim: ImageDimension, scalar: Scalar) -> Form
     }
 }
 
-/// Whether a number is given exactly where one is wanted, and is an integer.
+/// Whether an integer operand is present exactly if it is required.
 pub(crate) fn is_number_if(
     context: &CheckContext<'_>,
     wanted: bool,

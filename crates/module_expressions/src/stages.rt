@@ -1,4 +1,4 @@
-//! Which stages may run an expression.
+//! The stages that may run an expression.
 
 ghost use Rattle.std.specs.Prelude.{◌≡◌};
 ghost use Rattle.ir_types.specs.judged.ExpressionPlain.{expression_view};
@@ -9,7 +9,7 @@ use ir_flags::ShaderStages;
 use ir_types::{Expression, SampleLevel};
 use module_context::CalleeStages;
 
-// Those that may sample an image at a level.
+// The stages that may sample an image at a level.
 fn sample_stages(level: SampleLevel) -> ShaderStages
     ensures { result ≡ sample_stages level }
 {
@@ -21,7 +21,7 @@ fn sample_stages(level: SampleLevel) -> ShaderStages
     }
 }
 
-/// The stages that may run an expression, where `callees` says which may run the functions.
+/// The stages that may run an expression, given the stages of the functions in `callees`.
 pub fn expression_stages<C: CalleeStages>(callees: &C, expression: &Expression) -> ShaderStages
     ensures { result ≡ stages_of (C.stages callees.now) (expression_view expression.now) }
 {

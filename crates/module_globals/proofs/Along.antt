@@ -1,4 +1,4 @@
--- As many handles as there are types are enough for the tree of each.
+-- A depth limit of the number of types is enough for the tree of each type.
 use Rattle.std.proofs.Common.{◌≡◌, ◌<◌, ◌≤◌, inl, inr, ℕ, zero, suc, List, [], ◌∷◌, Option, Some, None, map, length, slice_get, option_map, All, refl, sym, ap, ◌∙◌, arith}
 use Rattle.std.proofs.lemmas.Bool.{cases_lt}
 use Rattle.ir_arena.specs.declared.span.Span.{Span}
@@ -11,7 +11,7 @@ use Rattle.typing_layout.specs.judged.View.{members_by, tree_by, tree_found, tre
 use Rattle.typing_forms.specs.judged.Order.{named_types, TypesGoBack}
 use Rattle.typing_forms.specs.judged.Resolutions.{inner_at, types_view}
 
--- ---- only the trees of the types that are named count
+-- ---- a tree depends only on the trees of the referenced types
 
 members_alike : (f g : ℕ → Tree) (end : ℕ) (ms : List PlainMember) → ((n : ℕ) → n < end → f n ≡ g n) → All (λ named. named < end) (map (λ m. m.ty) ms)
     → members_by f ms ≡ members_by g ms
@@ -39,9 +39,9 @@ tree_alike f g end (plain (inner.AccelerationStructure vertex_return)) same belo
 tree_alike f g end (plain (inner.RayQuery vertex_return)) same below = refl
 tree_alike f g end (plain (inner.BindingArray base size)) same below = ap (λ t. binding_array t size) (same base (below 0 0 (omega arith)))
 
--- ---- as many handles as there are types
+-- ---- the number of types as limit
 
--- a type at a handle has its tree along any greater number of handles
+-- the tree of the type at a handle is the same with any greater limit
 enough : (types : List PlainType) → TypesGoBack types → (n handle : ℕ) → handle < n → (i : Option PlainInner) → inner_at types handle ≡ i → tree_along types n handle ≡ type_tree types handle
 unfolding tree_along type_tree
 enough types back zero handle lt i at = absurd (omega (arith, lt))

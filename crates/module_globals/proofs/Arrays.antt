@@ -1,4 +1,4 @@
--- The elements of a binding array come before it.
+-- The element type of a binding array precedes it.
 use Rattle.std.proofs.Common.{◌≡◌, ◌<◌, ℕ, List, [], Option, Some, length, refl, subst, arith}
 use Rattle.std.proofs.lemmas.List.Elements.{All-head}
 use Rattle.ir_types.specs.judged.Plain.{PlainInner, plain, PlainType}

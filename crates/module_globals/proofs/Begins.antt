@@ -1,4 +1,4 @@
--- What a variable begins as.
+-- The initializer of a variable.
 use Rattle.std.proofs.Common.{not, ◌≡◌, ◌↔◌, ◌⊎◌, inl, inr, ◌<◌, ℕ, List, Bool, true, false, length, get_or, Some, IsTrue, refl, sym, subst, slice_get}
 use Rattle.std.proofs.lemmas.Option.{slice_get-get_or}
 use Rattle.ir_items.specs.judged.Plain.{PlainModule}
@@ -40,7 +40,7 @@ module _ (m : PlainModule) (kinds : List ExpressionKind) (are : AreKinds m.globa
   by_test other lt true is h = is
   by_test other lt false is h = absurd (unknown other lt is h)
 
-  -- the tracker's answer is whether the value is known once overrides are resolved
+  -- the tracker returns whether the initializer is a const- or override-expression
   pub known_by : (other : ExpressionKind) → init < length kinds → IsTrue b ↔ IsKnownByOverrides m init
   known_by other lt = (known, λ h. by_test other lt b refl h)
 

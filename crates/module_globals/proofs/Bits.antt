@@ -20,7 +20,7 @@ all_below bound k le lt = ((λ e. omega arith), (λ h. bit_at_ones 64 k lt))
 pub some_below : (bound k : ℕ) → IsIn (2 ^ bound - 1) k ↔ (k < bound)
 some_below bound k = ones bound k
 
--- ---- one and not the other
+-- ---- difference
 
 pub and_not : (a b n k : ℕ) → bit_at n k ≡ 1 - bit_at b k → IsIn (bit_and a n) k ↔ (IsIn a k × ¬ IsIn b k)
 and_not a b n k is =
@@ -31,7 +31,7 @@ and_not a b n k is =
       (λ h. let one = h.0 in elim (cases_lt (bit_at b k) 1) [ inl zero ↦ omega (arith, both, is, la, one, zero) | inr some ↦ absurd (h.1 (omega (arith, some, lb))) ]),
     )
 
--- the slots from that of the first byte on to that of the last
+-- the slots from that of the first byte to that of the last
 pub met : (offset size k : ℕ) → 0 < size → ((k < (offset + size + 3) / 4) × ¬ (k < offset / 4)) ↔ Meets offset size k
 met offset size k some = (
   (λ h. (some, (let lt = h.0 in omega (arith, lt)), elim (cases_lt k (offset / 4)) [ inl less ↦ absurd (h.1 less) | inr ge ↦ omega (arith, ge) ])),
@@ -60,7 +60,7 @@ union_by_slots a b k =
       (λ h. elim h [ inl x ↦ omega (arith, either, x, lb) | inr y ↦ omega (arith, either, y, la) ]),
     )
 
--- a slot of either of two unions is in one of the three sets
+-- a slot of the union of three sets is in one of them
 in_left : (a b c k : ℕ) → IsIn (bit_or (bit_or a b) c) k ↔ ((IsIn a k ⊎ IsIn b k) ⊎ IsIn c k)
 in_left a b c k = (
   (λ h. elim ((union_by_slots (bit_or a b) c k).0 h) [ inl x ↦ inl ((union_by_slots a b k).0 x) | inr y ↦ inr y ]),
@@ -114,7 +114,7 @@ in_range offset size behind ahead k some fits lt last first =
       (λ m. let h = range.1 m in both.1 (last.1 h.0, (λ has. h.1 (first.0 has)))),
     )
 
--- ---- what is left of a set without another
+-- ---- emptiness of a difference
 
 pub contains_by_difference : ContainsByDifference
 contains_by_difference a b rest fits rest_fits is = (

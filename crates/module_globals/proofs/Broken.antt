@@ -1,4 +1,4 @@
--- What breaks a layout inside a type refutes that of the whole.
+-- An invalid layout inside a type makes the layout of the whole invalid.
 use Rattle.std.proofs.Common.{◌≡◌, ◌∙◌, ◌≤◌, ◌⊎◌, ◌≢◌, inl, inr, ℕ, List, Some, IfSome, sym, ap, subst, arith}
 use Rattle.std.specs.Int.{◌∣◌}
 use Rattle.ir_types.specs.judged.Plain.{PlainType}
@@ -16,7 +16,7 @@ use Rattle.typing_layout.specs.declared.type_error.ImmediateError.{ImmediateErro
 use Rattle.typing_layout.specs.declared.type_error.ImmediateError.TheVariants as immediate
 use Rattle.ir_kinds.specs.declared.scalars.Scalar.{Scalar}
 
--- what holds everywhere keeps away what can stand beside it nowhere
+-- what holds everywhere excludes its opposite somewhere
 mutual
   apart : (P Q : Tree → Type 0) → ((t : Tree) → P t → Q t → ⊥) → (t : Tree) → Everywhere P t → Somewhere Q t → ⊥
   apart P Q clash (array base n stride) p (inl q) = clash (array base n stride) p.0 q
@@ -41,7 +41,7 @@ mutual
   apart_in P Q clash (member t b o ms) p (inl q) = apart P Q clash t p.0 q
   apart_in P Q clash (member t b o ms) p (inr q) = apart_in P Q clash ms p.1 q
 
--- what the host lays out has only parts that it lays out
+-- a type with a valid layout has only parts with valid layouts
 mutual
   host_inside : (t : Tree) → HasFlag HostShareable t → Everywhere (HasFlag HostShareable) t
   host_inside (array base n stride) h = (h, host_inside base h.0)
@@ -63,7 +63,7 @@ mutual
   host_in no_members h = tt
   host_in (member t b o ms) h = (host_inside t h.0, host_in ms h.1)
 
--- a fault at a type of a list
+-- an error at a type of a list
 abbrev At : List PlainType → ℕ → (Tree → Type 0) → Tree → Type 0
 At types type Q inside = (inside ≡ type_tree types type) × Q inside
 

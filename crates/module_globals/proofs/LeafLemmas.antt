@@ -1,4 +1,4 @@
--- The leaves of a value, and its parts.
+-- The leaves of a value and of its parts.
 use Rattle.std.proofs.Common.{◌≡◌, ◌↔◌, ◌<◌, ◌+◌, ◌*◌, ◌⊎◌, ◌++◌, inl, inr, ℕ, zero, suc, List, [], ◌∷◌, length, map, slice_index_or, refl, sym, subst, arith}
 use Rattle.std.specs.List.{Contains}
 use Rattle.module_globals.specs.Reached.{IsMet, IsReached, IsReachedIn}
@@ -50,7 +50,7 @@ any_through : (P Q : Leaf → Type 0) (f : Leaf → Leaf) → ((l : Leaf) → Q 
 any_through P Q f from [] h = absurd h
 any_through P Q f from (l ∷ ls) h = elim h [ inl here ↦ inl (from l here) | inr later ↦ inr (any_through P Q f from ls later) ]
 
--- ---- leaves that meet a slot, where what holds them begins at an offset
+-- ---- leaves that overlap a slot, by the offset of their parent
 
 abbrev MeetsAt : (slot offset : ℕ) → Leaf → Type 0
 MeetsAt slot offset l = Meets (offset + l.first) l.length slot
@@ -94,7 +94,7 @@ repeated_from slot offset stride ls (suc n) part (suc place) lt h =
     any_right (MeetsAt slot offset) (map (leaf_inside part (part * stride)) ls) (repeated n (suc part) stride ls)
     (repeated_from slot offset stride ls n (suc part) place (omega (arith, lt)) (begun slot (offset + (part + suc place) * stride) (offset + (suc part + place) * stride) ls (omega arith) h))
 
--- ---- from the leaves to the parts and back
+-- ---- from leaves to parts and back
 
 held_counted : (n : ArraySize) → held_in 1 n ≡ counted n
 held_counted (count.Constant n) = refl
@@ -173,7 +173,7 @@ mutual
     | inr later ↦ any_right (MeetsAt slot offset) (map (leaf_inside part begin) (leaves 1 t)) (member_leaves 1 (suc part) ms) (to_members slot ms offset (suc part) later)
   ]
 
--- a value meets a slot exactly where one of its leaves does
+-- a value overlaps a slot exactly if one of its leaves does
 pub reached_met : (slot : ℕ) (t : Tree) (offset : ℕ) → IsReached slot t offset ↔ IsMet slot t offset
 reached_met slot t offset = (
   (λ h. let f = any_found (MeetsAt slot offset) (leaves 1 t) (to_leaves slot t offset h) in record { leaf = f.0; among = f.1; meets = f.2 }),

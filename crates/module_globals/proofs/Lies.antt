@@ -1,4 +1,4 @@
--- What spaces require of layouts.
+-- Layout requirements of address spaces.
 use Rattle.std.proofs.Common.{◌≡◌, ◌≢◌, ◌∙◌, inl, inr, ℕ, Some, Result, Ok, Err, MatchResult, IsOk, IsTrue, refl, sym, subst}
 use Rattle.module_globals.specs.Faults.{counted_inner, counted_tree, IsLayoutFault, IsWrongBy}
 use Rattle.module_globals.specs.declared.error.GlobalVariableError.{GlobalVariableError}

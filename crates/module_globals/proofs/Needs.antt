@@ -1,4 +1,4 @@
--- What a space requires of types, flag by flag.
+-- Type flags that an address space requires, flag by flag.
 use Rattle.std.proofs.Common.{◌≡◌, ℕ, ◌==◌, IsTrue, Option, Some, None, IfSome, bit_and, refl, sym, subst, ◌∙◌}
 use Rattle.std.proofs.lemmas.Bool.Decides.{Decides-eqb}
 use Rattle.std.specs.Int.Bits.{and_zero_r}
@@ -25,7 +25,7 @@ by_flags P a b c d e g h i CreationResolved = g
 by_flags P a b c d e g h i Argument = h
 by_flags P a b c d e g h i Constructible = i
 
--- a flag is in the number where it is in the list
+-- a flag is in the bits if it is in the list
 abbrev Agrees : AddressSpace → TypeFlag → Type 0
 Agrees s f = (bit_and (required_bits s) (bit f) == bit f) ≡ among (space_row s).flags f
 
@@ -44,12 +44,12 @@ agrees IncomingRayPayload = by_flags (Agrees IncomingRayPayload) refl refl refl 
 has_asked : (s : AddressSpace) (f : TypeFlag) → IsTrue (among (space_row s).flags f) → Has (required_bits s) (bit f)
 has_asked s f h = (Decides-eqb (bit_and (required_bits s) (bit f)) (bit f)).0 (subst IsTrue (sym (agrees s f)) h)
 
--- a set with all these flags has all that is required
+-- a set with all these flags has all required flags
 pub all_asked : (s : AddressSpace) (set : ℕ) (asked : ℕ) (t : Tree) (flags : TypeFlags) → asked ≡ required_bits s → set ≡ flags.0 → AreFlags flags t → Has set asked → HasAll (space_row s).flags t
 all_asked s set asked t flags is same are has f h =
     (are f).0 (subst (λ k. Has k (bit f)) same (within-over (bit f) (required_bits s) set (has_asked s f h) (subst (Has set) is has)))
 
--- those that are required, taken together
+-- the union of the required flags
 together : (s : AddressSpace) (set : ℕ) → ((f : TypeFlag) → IsTrue (among (space_row s).flags f) → Has set (bit f)) → Has set (required_bits s)
 together Function set h = and_zero_r set
 together Handle set h = and_zero_r set
@@ -67,7 +67,7 @@ pub none_missing : (s : AddressSpace) (set asked : ℕ) (t : Tree) (flags : Type
 none_missing s set asked t flags is same are all =
     subst (Has set) (sym is) (together s set (λ f h. subst (λ k. Has k (bit f)) (sym same) ((are f).1 (all f h))))
 
--- a capability that is needed is there
+-- a required capability is enabled
 pub capability_met : (capabilities : Capabilities) (found needed : Option Capabilities) (c : Capabilities) → found ≡ needed → found ≡ Some c → Has capabilities.0 c.0 → IfSome needed (λ x. Has capabilities.0 x.0)
 capability_met capabilities found needed c is some has = subst (λ o. IfSome o (λ (x : Capabilities). Has capabilities.0 x.0)) (sym some ∙ is) has
 

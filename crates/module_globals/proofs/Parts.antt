@@ -1,4 +1,4 @@
--- The slots that the parts of a value meet.
+-- The slots that the parts of a value overlap.
 use Rattle.std.proofs.Common.{◌≡◌, ◌≢◌, ◌-◌, ◌↔◌, ◌<◌, ◌≤◌, ◌+◌, ◌*◌, ◌⊎◌, inl, inr, ℕ, zero, suc, List, ◌∷◌, get_or, drop, Some, None, map, min, length, refl, sym, subst, ap, ◌∙◌, arith}
 use Rattle.std.specs.Int.RustNames.{bit_or}
 use Rattle.std.proofs.lemmas.Bool.{cases_lt}
@@ -13,9 +13,9 @@ use Rattle.typing_layout.specs.judged.Tree.{Tree, scalar, vector, matrix, cooper
 use Rattle.typing_layout.specs.judged.View.{members_by, tree_by, tree_found, tree_along}
 use Rattle.typing_forms.specs.judged.Resolutions.{inner_at}
 
--- ---- numbers
+-- ---- arithmetic
 
--- past the last slot no byte counts
+-- bytes past the last slot are ignored
 pub met_capped : (offset size k : ℕ) → k < 64 → Meets offset (min size 256) k ↔ Meets offset size k
 met_capped offset size k lt = (
   (λ m. ((let a = m.0 in omega (arith, a)), (let b = m.1 in omega (arith, b)), m.2)),
@@ -25,7 +25,7 @@ met_capped offset size k lt = (
 pub none_in : (k : ℕ) → IsIn 0 k → ⊥
 none_in k e = omega (arith, e)
 
--- ---- what begins after a slot does not meet it
+-- ---- a value that begins after a slot does not overlap it
 
 past : (slot offset size : ℕ) → 4 * slot + 4 ≤ offset → Meets offset size slot → ⊥
 past slot offset size le m = let lt = m.2 in omega (arith, le, lt)
@@ -56,7 +56,7 @@ mutual
 
 -- ---- elements
 
--- the slots of one element more
+-- the slots with one more element
 pub element_more : (slot : ℕ) (element : Tree) (stride offset place a b both : ℕ) → both ≡ bit_or a b
     → IsIn a slot ↔ IsReachedAmong slot element stride offset place → IsIn b slot ↔ IsReached slot element (offset + place * stride)
     → IsIn both slot ↔ IsReachedAmong slot element stride offset (place + 1)
@@ -71,7 +71,7 @@ element_more slot element stride offset place a b both is before here = (
   ]))),
 )
 
--- all elements, where the first so many are those that stand apart
+-- all elements, if the first `n` are those at distinct offsets
 pub element_all : (slot : ℕ) (element : Tree) (stride offset place end count a : ℕ) → place ≡ end
     → IsIn a slot ↔ IsReachedAmong slot element stride offset place → IsReachedAmong slot element stride offset end ↔ IsReachedAmong slot element stride offset count
     → IsIn a slot ↔ IsReachedAmong slot element stride offset count
@@ -80,7 +80,7 @@ element_all slot element stride offset place end count a is some all = (
   (λ h. some.1 (subst (λ p. IsReachedAmong slot element stride offset p) (sym is) (all.1 h))),
 )
 
--- past an element that begins after all slots, no other meets one
+-- after an element that begins past all slots, no later one overlaps any
 pub element_rest : (slot : ℕ) (element : Tree) (stride offset place end count a : ℕ) → slot < 64 → place < end → 256 ≤ offset + place * stride
     → IsIn a slot ↔ IsReachedAmong slot element stride offset place → IsReachedAmong slot element stride offset end ↔ IsReachedAmong slot element stride offset count
     → IsIn a slot ↔ IsReachedAmong slot element stride offset count
@@ -123,7 +123,7 @@ member_more slot tree m rest rest-before all offset a b both is split here befor
 
 -- ---- types by their handles
 
--- of what meets nothing no slot is in
+-- a value without leaves overlaps no slot
 pub none_met : (slot : ℕ) (Met : Type 0) → (Met → ⊥) → IsIn 0 slot ↔ Met
 none_met slot Met not = ((λ e. absurd (none_in slot e)), (λ h. absurd (not h)))
 

@@ -1,4 +1,4 @@
--- A fault of a global variable refutes it.
+-- A global variable with an error is invalid.
 use Rattle.std.proofs.Common.{◌≡◌, ◌∙◌, inl, inr, ℕ, Option, Some, None, IfSome, IsTrue, refl, sym, subst}
 use Rattle.module_globals.proofs.Broken.{storage_refuted, uniform_refuted, unfit_refuted}
 use Rattle.module_globals.specs.Faults.{IsArrayOf, IsWrong, counted_inner, counted_tree}

@@ -39,7 +39,7 @@ many_variables (e ∷ es) = ap suc (many_variables es)
 one_there : {A : Type 0} (a b : A) (o : Option A) → o ≡ Some a → o ≡ Some b → a ≡ b
 one_there a b o x y = let h : Some a ≡ Some b = sym x ∙ y in cc
 
--- one variable more
+-- one more variable
 pub greatest_more : (m : PlainModule) (place bytes next : ℕ) (g : PlainGlobal) → slice_get m.globals place ≡ Some g → AreGreatest m place bytes
     → bytes ≤ next → (g.space ≡ Immediate → size (type_tree m.types g.ty) ≤ next)
     → (next ≡ bytes) ⊎ ((g.space ≡ Immediate) × (size (type_tree m.types g.ty) ≡ next)) → AreGreatest m (place + 1) next

@@ -1,4 +1,4 @@
--- A whole variable.
+-- The check of a global variable, from those of its parts.
 use Rattle.std.proofs.Common.{◌≡◌, ◌<◌, ℕ, List, map, length, Option, Some, None, option_map, unwrap_or, IfSome, Result, Ok, Err, MatchResult, refl, sym, ap, subst, ◌∙◌, slice_get}
 use Rattle.std.proofs.lemmas.Option.{slice_get-map}
 use Rattle.module_globals.proofs.Arrays.{base_there}
@@ -46,7 +46,7 @@ module _ (HasForm : (expression : ℕ) → Form → Type 0) (flags : ValidationF
   begun e is ok (Ok u) h = ok (subst (λ o. IfSome o (BeginsBy HasForm m v.space v.ty)) (sym is) h)
   begun e is ok (Err x) h = begin_wrong e is x h
 
--- an initializer that is given, where the variable has one
+-- the initializer, if the variable has one
 pub there_is : (m : PlainModule) (init : Option ℕ) (i : Initializer) → IsInitializer m init (Some i) → (e : ℕ) × (init ≡ Some e)
 there_is m (Some e) i given = (e, refl)
 there_is m None i given = absurd given
@@ -55,7 +55,7 @@ pub there_is_none : (m : PlainModule) (init : Option ℕ) → IsInitializer m in
 there_is_none m None given = refl
 there_is_none m (Some e) given = absurd given
 
--- ---- from the form that is given to a typing by which a global expression has one form
+-- ---- from the form of the initializer to a typing that gives it this form
 
 module _ (HasForm : (expression : ℕ) → Form → Type 0) (one : (e : ℕ) (s t : Form) → HasForm e s → HasForm e t → s ≡ t) (m : PlainModule) where
   begins_by : (space : AddressSpace) (type e : ℕ) (given : Option Initializer) → IsTypedBy HasForm (Some e) given → BeginsBy (HasFormOf given) m space type e → BeginsBy HasForm m space type e

@@ -1,4 +1,4 @@
--- What the rules of a global variable may look at.
+-- The context in which a global variable is checked.
 use Rattle.std.specs.Prelude.{◌≡◌, length}
 use Rattle.module_globals.specs.declared.context.VariableContext.{VariableContext}
 use Rattle.ir_items.specs.judged.Plain.{PlainModule}
@@ -8,7 +8,7 @@ use Rattle.module_type_checks.specs.Known.{AreInfos}
 abbrev pub module_of : VariableContext → PlainModule
 module_of c = module_view c.«module».now
 
--- the infos are those of all types of the module
+-- there is a `TypeInfo` for every type of the module
 pub record HasInfos (c : VariableContext) : Type 0 where
   pub many : length c.infos.now ≡ length (module_of c).types
   pub told : AreInfos (module_of c).types c.infos.now

@@ -1,4 +1,4 @@
--- What is wrong with a global variable.
+-- The errors of global variables.
 use Rattle.std.specs.Prelude.{◌≡◌, ◌≢◌, ◌↔◌, ◌⊎◌, ℕ, List, IsTrue, Option, Some, None, IsSome, Result, Err, slice_get}
 use Rattle.module_globals.specs.declared.error.GlobalVariableError.{GlobalVariableError}
 use Rattle.module_globals.specs.declared.error.GlobalVariableError.TheVariants as error
@@ -30,35 +30,35 @@ use Rattle.typing_forms.specs.judged.Forms.{form_of_type}
 use Rattle.typing_forms.specs.declared.form.Form.{Form}
 use Rattle.typing_forms.specs.judged.Resolutions.{inner_at}
 
--- it is a binding array of this type
+-- the type is a binding array of this element type
 abbrev pub IsArrayOf : List PlainType → (type base : ℕ) → Type 0
 IsArrayOf types type base = array_base (inner_at types type) ≡ Some base
 
--- what the type that counts is made of, and its tree
+-- the `TypeInner` of the type that the rules apply to, and its tree
 abbrev pub counted_inner : PlainModule → PlainGlobal → Option PlainInner
 counted_inner m v = inner_at m.types (effective_type m.types v.ty)
 
 abbrev pub counted_tree : PlainModule → PlainGlobal → Tree
 counted_tree m v = type_tree m.types (effective_type m.types v.ty)
 
--- the variable needs this capability
+-- the variable requires this capability
 abbrev pub Needs : PlainModule → PlainGlobal → Capabilities → Type 0
 Needs m v c =
     ((base : ℕ) × IsArrayOf m.types v.ty base × (array_capability v.space (inner_at m.types base) ≡ Some c))
     ⊎ (space_capability v.space (counted_inner m v) ≡ Some c)
 
--- it is a binding array in a space where there is none
+-- it is a binding array in an address space where none is allowed
 abbrev pub IsUnboundArray : PlainModule → PlainGlobal → Type 0
 IsUnboundArray m v = (base : ℕ) × IsArrayOf m.types v.ty base × (v.space ≢ Handle) × (array_capability v.space (inner_at m.types base) ≡ None)
 
--- why there is no binding array of a type, made of this, in a space
+-- the error of a binding array of this element type in an address space
 abbrev pub IsArrayRefusal : AddressSpace → (base : ℕ) → Option PlainInner → GlobalVariableError → Type 0
 IsArrayRefusal space base i (error.InvalidUsage s) = (s ≡ space) × (space ≢ Handle)
 IsArrayRefusal space base i (error.InvalidType s) = (s ≡ space) × (space ≡ Handle) × ¬ IsTrue (is_handle i)
 IsArrayRefusal space base i (error.InvalidBindingArray b) = (b ≡ base) × (space ≡ Handle)
 IsArrayRefusal space base i _ = ⊥
 
--- what a space requires of types, as the number of a set
+-- the type flags that an address space requires, as bits
 abbrev pub required_bits : AddressSpace → ℕ
 required_bits Function = 0
 required_bits Private = 160
@@ -71,9 +71,9 @@ required_bits TaskPayload = 3
 required_bits RayPayload = 3
 required_bits IncomingRayPayload = 3
 
--- ---- of a layout, of what is said of the memory, and of what a variable begins as
+-- ---- layouts, memory decorations and initializers
 
--- a host does not lay out a buffer so, where that is required
+-- the layout is invalid, and the address space requires one
 abbrev pub IsLayoutFault : ValidationFlags → AddressSpace → Result ℕ (ℕ × Disalignment) → GlobalVariableError → Type 0
 IsLayoutFault flags space layout (error.Alignment s type d) = (s ≡ space) × Has flags.0 STRUCT_LAYOUTS.0 × (layout ≡ Err (type, d))
 IsLayoutFault flags space layout _ = ⊥
@@ -84,7 +84,7 @@ IsDecorationFault capabilities space decorations error.CoherentNotSupported = Ha
 IsDecorationFault capabilities space decorations error.VolatileNotSupported = Has decorations.0 VOLATILE.0 × ¬ Has capabilities.0 MEMORY_DECORATION_VOLATILE.0
 IsDecorationFault capabilities space decorations _ = ⊥
 
--- by a typing of global expressions
+-- under a typing of global expressions
 abbrev pub IsBeginFault : (HasForm : (expression : ℕ) → Form → Type 0) → PlainModule → AddressSpace → (type init : ℕ) → GlobalVariableError → Type 0
 IsBeginFault HasForm m space type init error.InitializerExprType = ¬ IsKnownByOverrides m init
 IsBeginFault HasForm m space type init error.InitializerType = ¬ HasForm init (form_of_type m.types type)
@@ -93,7 +93,7 @@ IsBeginFault HasForm m space type init _ = ⊥
 
 -- ---- of a variable
 
--- by a typing of global expressions
+-- under a typing of global expressions
 abbrev pub IsWrongBy : (HasForm : (expression : ℕ) → Form → Type 0) → ValidationFlags → Capabilities → PlainModule → PlainGlobal → GlobalVariableError → Type 0
 IsWrongBy HasForm flags capabilities m v (error.InvalidUsage s) = (s ≡ v.space) × ((v.space ≡ Function) ⊎ IsUnboundArray m v)
 IsWrongBy HasForm flags capabilities m v (error.InvalidType s) = (s ≡ v.space) × (v.space ≡ Handle) × ¬ IsTrue (is_handle (counted_inner m v))
@@ -114,11 +114,11 @@ IsWrongBy HasForm flags capabilities m v error.InvalidMemoryDecorationsAddressSp
 IsWrongBy HasForm flags capabilities m v error.CoherentNotSupported = IsDecorationFault capabilities v.space v.decorations error.CoherentNotSupported
 IsWrongBy HasForm flags capabilities m v error.VolatileNotSupported = IsDecorationFault capabilities v.space v.decorations error.VolatileNotSupported
 
--- by the types of global expressions
+-- under the inferred types of global expressions
 abbrev pub IsWrong : ValidationFlags → Capabilities → PlainModule → PlainGlobal → GlobalVariableError → Type 0
 IsWrong flags capabilities m = IsWrongBy (HasGlobalType m) flags capabilities m
 
--- The global variable at a handle has the fault.
+-- The global variable at a handle has the error.
 pub record IsGlobalFault (flags : ValidationFlags) (capabilities : Capabilities) (m : PlainModule) (handle : ℕ) (e : GlobalVariableError) : Type 0 where
   pub variable : PlainGlobal
   pub at : slice_get m.globals handle ≡ Some variable

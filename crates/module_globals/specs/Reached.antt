@@ -1,4 +1,4 @@
--- The slots that a value meets.
+-- The slots that a value overlaps.
 use Rattle.std.specs.Prelude.{◌<◌, ◌+◌, ◌*◌, ◌⊎◌, ℕ}
 use Rattle.std.specs.List.{Contains}
 use Rattle.module_globals.specs.Slots.{Meets}
@@ -7,13 +7,13 @@ use Rattle.typing_layout.specs.judged.Layout.{size}
 use Rattle.typing_layout.specs.judged.Tree.{Tree, scalar, vector, matrix, cooperative_matrix, atomic, pointer, value_pointer, array, struct, image, sampler, acceleration_structure, ray_query, binding_array, Members, no_members, member}
 use Rattle.typing_forms.specs.judged.Sizes.{counted}
 
--- a leaf of the value, which begins at an offset, meets the slot
+-- a leaf of the value at an offset overlaps the slot
 pub record IsMet (slot : ℕ) (t : Tree) (offset : ℕ) : Type 0 where
   pub leaf : Leaf
   pub among : Contains (leaves 1 t) leaf
   pub meets : Meets (offset + leaf.first) leaf.length slot
 
--- ---- the same, part by part
+-- ---- the same for each part
 
 abbrev mutual
   pub IsReached : (slot : ℕ) → Tree → (offset : ℕ) → Type 0
@@ -36,6 +36,6 @@ abbrev mutual
   IsReachedIn slot no_members offset = ⊥
   IsReachedIn slot (member t binding begin ms) offset = IsReached slot t (offset + begin) ⊎ IsReachedIn slot ms offset
 
--- one of so many elements meets the slot
+-- one of `n` elements overlaps the slot
 abbrev pub IsReachedAmong : (slot : ℕ) → (element : Tree) → (stride offset count : ℕ) → Type 0
 IsReachedAmong slot element stride offset count = (place : ℕ) × (place < count) × IsReached slot element (offset + place * stride)

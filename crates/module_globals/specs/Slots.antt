@@ -7,11 +7,11 @@ use Rattle.std.specs.Int.RustNames.{bit_and, bit_or}
 abbrev pub IsIn : (set : ℕ) → (slot : ℕ) → Type 0
 IsIn set slot = bit_at set slot ≡ 1
 
--- some byte of a range is one of the slot's four
+-- some byte of a range is in the slot
 abbrev pub Meets : (offset size slot : ℕ) → Type 0
 Meets offset size slot = (0 < size) × (4 * slot < offset + size) × (offset < 4 * slot + 4)
 
--- ---- what is known of them
+-- ---- laws
 
 abbrev pub ContainsBySlots : Type 0
 ContainsBySlots = (a b : ℕ) → (bit_and a b ≡ b) ↔ ((slot : ℕ) → IsIn b slot → IsIn a slot)
@@ -19,13 +19,13 @@ ContainsBySlots = (a b : ℕ) → (bit_and a b ≡ b) ↔ ((slot : ℕ) → IsIn
 abbrev pub UnionBySlots : Type 0
 UnionBySlots = (a b slot : ℕ) → IsIn (bit_or a b) slot ↔ (IsIn a slot ⊎ IsIn b slot)
 
--- A union doesn't depend on the order in which it is put together, nor on how often a set is in it.
+-- Union is associative, commutative and idempotent.
 pub record UnionsAgree : Type 0 where
   pub associative : (a b c : ℕ) → bit_or (bit_or a b) c ≡ bit_or a (bit_or b c)
   pub commutative : (a b : ℕ) → bit_or a b ≡ bit_or b a
   pub idempotent : (a : ℕ) → bit_or a a ≡ a
 
--- where the slots of some number are those of b that are none of a, a contains b exactly where that number is 0
+-- if a number has the slots of `b` that are not in `a`, then `a` contains `b` exactly if that number is 0
 abbrev pub ContainsByDifference : Type 0
 ContainsByDifference =
     (a b rest : ℕ) → b < 2 ^ 64 → rest < 2 ^ 64 → ((slot : ℕ) → slot < 64 → IsIn rest slot ↔ (IsIn b slot × ¬ IsIn a slot)) → (bit_and a b ≡ b) ↔ (rest ≡ 0)

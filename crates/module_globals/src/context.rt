@@ -1,25 +1,25 @@
-//! What the rules of a global variable may look at.
+//! The context in which a global variable is checked.
 
 use ir_flags::Capabilities;
 use ir_items::Module;
 use typing_forms::Form;
 use typing_layout::TypeInfo;
 
-/// What the rules of a global variable may look at.
+/// The context in which a global variable is checked.
 #[derive(Clone, Copy)]
 pub struct VariableContext<'a> {
-    /// What shaders may use beyond the common part.
+    /// The enabled capabilities.
     pub capabilities: Capabilities,
     /// The module.
     pub module: &'a Module,
-    /// The infos of its types, by their indexes.
+    /// The `TypeInfo`s of its types, by index.
     pub infos: &'a [TypeInfo],
 }
 
-/// What is known of the global expression that a variable is initialized with.
+/// The kind and the form of a variable's initializer.
 #[derive(Clone, Copy)]
 pub struct Initializer {
-    /// Whether its value is known once overrides are resolved.
+    /// Whether it is a const-expression or an override-expression.
     pub is_known: bool,
     /// The form of its type.
     pub form: Form,

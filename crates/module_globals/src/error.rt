@@ -1,4 +1,4 @@
-//! Why a global variable is refused.
+//! The errors of global variables.
 
 use ir_arena::handle::Handle;
 use ir_flags::Capabilities;
@@ -7,54 +7,54 @@ use ir_types::key;
 use thiserror::Error;
 use typing_layout::{Disalignment, ImmediateError, TypeFlags};
 
-/// Why a global variable is refused (naga's `GlobalVariableError`).
+/// The error of an invalid global variable (naga's `GlobalVariableError`).
 #[derive(Clone, Copy, PartialEq, Debug, Error)]
 pub enum GlobalVariableError {
-    /// No such variable lies in the space.
+    /// The address space is not allowed for global variables.
     #[error("this use of a global variable is incompatible with address space {0:?}")]
     InvalidUsage(AddressSpace),
-    /// No variable of the type lies in the space.
+    /// The type is not allowed in the address space.
     #[error("the type is incompatible with address space {0:?}")]
     InvalidType(AddressSpace),
-    /// There are no binding arrays of this type.
+    /// A binding array of this element type is not allowed.
     #[error("type {0:?} is incompatible with binding arrays")]
     InvalidBindingArray(Handle<key::IrType>),
-    /// The type is not to be used for all that the space requires.
+    /// The type lacks type flags that the address space requires.
     #[error("type flags {seen:?} do not meet the required {required:?}")]
     MissingTypeFlags {
-        /// What the space requires.
+        /// The required flags.
         required: TypeFlags,
-        /// What the type may be used for.
+        /// The flags of the type.
         seen: TypeFlags,
     },
-    /// A capability is missing.
+    /// A required capability is missing.
     #[error("capability {0:?} is not supported")]
     UnsupportedCapability(Capabilities),
-    /// A binding is missing, or there is one that a host can't bind.
+    /// The binding is missing, or present in an address space without bindings.
     #[error("the binding is missing or not applicable")]
     InvalidBinding,
-    /// A host can't lay out a buffer of the type in the space, by this type inside.
+    /// The layout of the type, or of this type inside it, is invalid in the address space.
     #[error("the layout rules of address space {0:?} are not met by type {1:?}: {2}")]
     Alignment(AddressSpace, Handle<key::IrType>, Disalignment),
     /// The initializer must be a const-expression or an override-expression.
     #[error("the initializer must be a const-expression or an override-expression")]
     InitializerExprType,
-    /// The initializer has another type than the variable.
+    /// The initializer has a type other than the variable's.
     #[error("the initializer has another type than the variable")]
     InitializerType,
-    /// No variable in the space begins as something.
+    /// The address space does not allow an initializer.
     #[error("variables in address space {0:?} cannot have an initializer")]
     InitializerNotAllowed(AddressSpace),
     /// Storage buffers cannot be write-only.
     #[error("storage buffers cannot be write-only")]
     StorageAddressSpaceWriteOnlyNotSupported,
-    /// Immediate data can't be of the type.
+    /// The type is not allowed for immediate data.
     #[error("{0}")]
     InvalidImmediateType(ImmediateError),
     /// A task payload cannot have size zero.
     #[error("a task payload cannot have size zero")]
     ZeroSizedTaskPayload,
-    /// Memory decorations are only for variables in the address space Storage.
+    /// Memory decorations are only allowed in the `Storage` address space.
     #[error("memory decorations are only for variables in the address space Storage")]
     InvalidMemoryDecorationsAddressSpace,
     /// Coherent memory is not supported.

@@ -1,4 +1,4 @@
-//! Global variables.
+//! The checks of global variables.
 
 ghost use Rattle.std.specs.Prelude.{◌≡◌, ◌≢◌, ◌↔◌, ◌<◌, ℕ, IfSome, IsOk, IsSome, IsTrue, MatchResult, Option, Some, length};
 ghost use Rattle.module_globals.specs.Contexts.{HasInfos, module_of};
@@ -32,7 +32,7 @@ use typing_forms::laws::form_equality;
 use typing_forms::{TypeInnerExt, form_of_type};
 use typing_layout::LayoutCompatibility;
 
-// What a type is made of.
+// The `TypeInner` of a type.
 fn inner_of<'a>(context: &VariableContext<'a>, ty: Handle<key::IrType>) -> &'a TypeInner
     requires { ty < length (module_of context.now).types }
     ensures { inner_at (module_of context.now).types ty ≡ Some (inner_view result.now) }
@@ -40,7 +40,7 @@ fn inner_of<'a>(context: &VariableContext<'a>, ty: Handle<key::IrType>) -> &'a T
     &context.module.types[ty].inner
 }
 
-// Why there is no binding array of this type in a space.
+// The error of a binding array of this element type in an address space.
 fn no_array(
     space: AddressSpace,
     base: Handle<key::IrType>,
@@ -63,7 +63,7 @@ fn no_array(
     }
 }
 
-// The type whose rules count: of a binding array that of its elements, where there may be one.
+// The type that the rules apply to: for a binding array its element type, if the binding array is allowed.
 fn check_arrays(
     context: &VariableContext<'_>,
     variable: &GlobalVariable,
@@ -85,7 +85,7 @@ fn check_arrays(
     }
 }
 
-// Whether a host lays out a buffer so, where that is required.
+// Whether the layout of a type is valid, if the address space requires one.
 fn check_layout(
     flags: ValidationFlags,
     space: AddressSpace,
@@ -103,7 +103,7 @@ fn check_layout(
     }
 }
 
-// Whether the payload of a task takes some bytes.
+// Whether a task payload has a nonzero size.
 fn check_bytes(inner: &TypeInner) -> Result<(), GlobalVariableError>
     ensures { MatchResult result
         (λ _. type_size (inner_view inner.now) ≢ 0)
@@ -115,7 +115,7 @@ fn check_bytes(inner: &TypeInner) -> Result<(), GlobalVariableError>
     Ok(())
 }
 
-// Whether a variable of the type that counts lies in its space.
+// Whether a type is allowed in an address space.
 fn check_lies(
     flags: ValidationFlags,
     context: &VariableContext<'_>,
@@ -155,7 +155,7 @@ fn check_lies(
     }
 }
 
-// Whether the capability that a variable of the type needs is there, and the type may be used for what the space requires.
+// Whether the required capability is enabled, and the type has the flags that the address space requires.
 fn check_needs(
     context: &VariableContext<'_>,
     variable: &GlobalVariable,
@@ -184,7 +184,7 @@ fn check_needs(
     }
 }
 
-// Whether a variable is bound exactly where a host binds it, where that is required.
+// Whether a variable has a binding exactly if its address space requires one.
 fn check_binding(
     flags: ValidationFlags,
     variable: &GlobalVariable,
@@ -201,7 +201,7 @@ fn check_binding(
     Ok(())
 }
 
-// Whether what is said of the memory may be said there.
+// Whether the memory decorations of a variable are allowed.
 fn check_decorations(
     capabilities: Capabilities,
     space: AddressSpace,
@@ -227,7 +227,7 @@ fn check_decorations(
     Ok(())
 }
 
-// Whether a variable may be initialized so.
+// Whether a variable may have its initializer.
 fn check_begin(
     context: &VariableContext<'_>,
     space: AddressSpace,
@@ -251,16 +251,16 @@ fn check_begin(
     Ok(())
 }
 
-/// Whether a module may have a global variable, of whose initializer this is known (naga's `validate_global_var`, over any
+/// Whether a global variable is valid, given the kind and form of its initializer (naga's `validate_global_var`, over any
 /// typing of global expressions).
 ///
-/// Requires that the variable's type and its initializer are in the module, and that types are made of earlier ones, as in a
-/// module whose handles are in order; that the infos are those of the module's types; and that there is an `initializer` where
+/// Requires that the variable's type and its initializer are in the module, and that types reference only earlier types, as in a
+/// module with valid handles; that the `TypeInfo`s are those of the module's types; and that there is an `initializer` if
 /// the variable has one.
 ///
 /// # Errors
 ///
-/// A fault of the variable: each is reported only where it is there. Of several faults it is one.
+/// An error of the variable, returned only if its condition holds. If several hold, it is one of them.
 pub fn validate_variable(
     flags: ValidationFlags,
     context: &VariableContext<'_>,

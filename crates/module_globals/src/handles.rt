@@ -1,4 +1,4 @@
-//! What is bound by handles.
+//! Resources that are bound by handles.
 
 ghost use Rattle.std.specs.Prelude.{◌≡◌, Some};
 ghost use Rattle.ir_types.specs.judged.Plain.{inner_view};
@@ -11,7 +11,7 @@ use ir_flags::Capabilities;
 use ir_kinds::{ImageClass, StorageFormat};
 use ir_types::{TypeInner, key};
 
-/// Whether what is made of this is bound by a handle.
+/// Whether a type is bound by a handle.
 pub(crate) fn is_handle(inner: &TypeInner) -> bool
     ensures { result ≡ is_handle (Some (inner_view inner.now)) }
 {
@@ -33,7 +33,7 @@ pub(crate) fn is_handle(inner: &TypeInner) -> bool
     }
 }
 
-// Whether a format has 16 bits a channel that denote numbers from 0 to 1 or from -1 to 1.
+// Whether a storage format has 16-bit normalized channels.
 const fn is_norm_16(format: StorageFormat) -> bool
     ensures { result ≡ is_norm_16 format }
 {
@@ -48,7 +48,7 @@ const fn is_norm_16(format: StorageFormat) -> bool
     )
 }
 
-/// What a binding of this by a handle needs, if it needs any capability.
+/// The capability that a handle binding of this type requires, if any.
 pub(crate) fn handle_capability(inner: &TypeInner) -> Option<Capabilities>
     ensures { result ≡ handle_capability (Some (inner_view inner.now)) }
 {
@@ -83,7 +83,7 @@ pub(crate) fn handle_capability(inner: &TypeInner) -> Option<Capabilities>
     }
 }
 
-// What binding arrays of images of a class need; `None` where there are none.
+// The capability that binding arrays of images of this class require; `None` if they are not allowed.
 const fn class_array_capability(class: ImageClass) -> Option<Capabilities>
     ensures { result ≡ class_array_capability class }
 {
@@ -96,7 +96,7 @@ const fn class_array_capability(class: ImageClass) -> Option<Capabilities>
     }
 }
 
-/// What binding arrays of this by handles need; `None` where there are none.
+/// The capability that binding arrays of this handle type require; `None` if they are not allowed.
 pub(crate) fn handles_capability(inner: &TypeInner) -> Option<Capabilities>
     ensures { result ≡ handle_array_capability (Some (inner_view inner.now)) }
 {
@@ -120,7 +120,7 @@ pub(crate) fn handles_capability(inner: &TypeInner) -> Option<Capabilities>
     }
 }
 
-/// The type of the elements of a binding array; `None` of anything else.
+/// The element type of a binding array; `None` for any other type.
 pub(crate) fn array_base(inner: &TypeInner) -> Option<Handle<key::IrType>>
     ensures { result ≡ array_base (Some (inner_view inner.now)) }
 {

@@ -1,4 +1,4 @@
-//! Global variables of a module of which types and global expressions are known.
+//! The check of a global variable of a module whose types and global expressions are already checked.
 
 ghost use Rattle.std.specs.Prelude.{MatchResult};
 ghost use Rattle.module_globals.specs.Faults.{IsGlobalFault};
@@ -18,7 +18,7 @@ use ir_items::GlobalVariable;
 use ir_types::key;
 use module_constants::GlobalContext;
 
-// What is known of the initializer of a variable, if it has one.
+// The kind and form of a variable's initializer, if it has one.
 fn initializer_of(context: &GlobalContext<'_>, variable: &GlobalVariable) -> Option<Initializer>
     requires known { IsKnown context.now }
     requires placed { IsPlaced (module_in context.now) (global_view variable.now) }
@@ -34,14 +34,14 @@ fn initializer_of(context: &GlobalContext<'_>, variable: &GlobalVariable) -> Opt
     }
 }
 
-/// Whether a module may have a global variable, of which types and global expressions are known (naga's `validate_global_var`).
+/// Whether a global variable is valid, given the module's `TypeInfo`s and inferred types (naga's `validate_global_var`).
 ///
-/// Requires that the variable is there with its type and what it begins as, and that types are made of earlier ones, as in a module
-/// whose handles are in order.
+/// Requires that the variable, its type and its initializer exist, and that types reference only earlier types, as in a module
+/// with valid handles.
 ///
 /// # Errors
 ///
-/// A fault of the variable: each is answered only where it occurs. Where several stand, it is one of them.
+/// An error of the variable, returned only if its condition holds. If several hold, it is one of them.
 pub fn validate_global_var(
     flags: ValidationFlags,
     context: &GlobalContext<'_>,

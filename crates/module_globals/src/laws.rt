@@ -1,8 +1,8 @@
-//! What is known of the faults of global variables.
+//! Laws of the errors of global variables.
 
 ghost use Rattle.module_globals.specs.Laws.{FaultRefutes};
 
-/// A module may not have a variable that has a fault.
+/// A global variable that has an error is invalid.
 pub fn fault_refutes()
     ensures { FaultRefutes }
 {}

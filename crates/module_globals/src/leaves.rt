@@ -1,4 +1,4 @@
-//! The slots that the leaves of a value meet.
+//! The immediate-data slots that the leaves of a value overlap.
 
 ghost use Rattle.std.specs.Prelude.{◌≡◌, ◌↔◌, ◌<◌, ◌+◌, ◌*◌, ℕ, map, min};
 ghost use Rattle.module_globals.specs.Reached.{IsReached, IsReachedIn, IsReachedAmong, IsMet};
@@ -16,14 +16,14 @@ use ir_sets::unique_arena::UniqueArena;
 use ir_types::{ArraySize, IrType, StructMember, TypeInner, key};
 use typing_forms::{TypeInnerExt, inner_of};
 
-// A number of bytes, as far as it counts for slots.
+// A size in bytes, capped at the 256 bytes that the slots cover.
 fn capped(size: u64) -> u32
     ensures { result ≡ min size 256 }
 {
     if size < 256 { size as u32 } else { 256 }
 }
 
-// The slots that a leaf meets.
+// The slots that a leaf overlaps.
 #[tactic(auto, using(crate::proofs::Parts::met_capped))]
 fn slots_of_leaf(leaf: &TypeInner, offset: u32) -> ImmediateSlots
     ensures { (k : ℕ) → k < 64 → IsIn result.0 k ↔ Meets offset (type_size (inner_view leaf.now)) k }
@@ -31,7 +31,7 @@ fn slots_of_leaf(leaf: &TypeInner, offset: u32) -> ImmediateSlots
     ImmediateSlots::from_range(offset, capped(leaf.size()))
 }
 
-// How many elements count for the size of an array.
+// The number of elements used for the size of an array.
 fn counted(size: ArraySize) -> u32
     ensures { result ≡ counted size }
 {
@@ -41,21 +41,21 @@ fn counted(size: ArraySize) -> u32
     }
 }
 
-// How many elements stand at places of their own: without a stride all stand at one place.
+// The number of elements at distinct offsets: with stride 0 all elements share one offset.
 fn apart(count: u32, stride: u32) -> u32
     ensures { (k : ℕ) (element : Tree) (offset : ℕ) → IsReachedAmong k element stride offset result ↔ IsReachedAmong k element stride offset count }
 {
     if stride == 0 && count > 1 { 1 } else { count }
 }
 
-// Where an element begins.
+// The offset of an element.
 fn begin_of(place: u32, stride: u32, offset: u32) -> u64
     ensures { result ≡ offset + place * stride }
 {
     u64::from(offset) + u64::from(place) * u64::from(stride)
 }
 
-// The slots that the leaves of elements meet.
+// The slots that the leaves of array elements overlap.
 #[cycle(leaves)]
 fn slots_of_elements(
     types: &UniqueArena<IrType, key::IrType>,
@@ -78,7 +78,7 @@ fn slots_of_elements(
     slots
 }
 
-// The slots that the leaves of members meet.
+// The slots that the leaves of struct members overlap.
 #[cycle(leaves)]
 fn slots_of_members(
     types: &UniqueArena<IrType, key::IrType>,
@@ -96,7 +96,7 @@ fn slots_of_members(
     slots
 }
 
-// The slots that the leaves of what a type is made of meet.
+// The slots that the leaves of a `TypeInner` overlap.
 #[cycle(leaves)]
 fn slots_of(
     types: &UniqueArena<IrType, key::IrType>,
@@ -128,7 +128,7 @@ fn slots_of(
     }
 }
 
-// The slots that the leaves of the type at a handle meet, along so many handles at most.
+// The slots that the leaves of the type at a handle overlap, with this limit on the nesting depth.
 #[cycle(leaves)]
 fn slots_along(
     types: &UniqueArena<IrType, key::IrType>,
@@ -148,11 +148,11 @@ fn slots_along(
 }
 
 impl ImmediateSlots {
-    /// The slots that the leaves of a value meet, where the value begins at a byte. An array of which the number of elements
-    /// isn't known counts one. What lies between the leaves counts for nothing.
+    /// The slots that the leaves of a value at a byte offset overlap. An array whose length is not known counts as one
+    /// element. Padding between the leaves is not counted.
     ///
-    /// Requires that types go back. Each leaf that begins in the first 256 bytes is looked at, as often as it stands in the value:
-    /// these are many where elements or members overlap, one in the other. The call goes as deep as types nest.
+    /// Requires that types reference only earlier types. Each leaf that begins in the first 256 bytes is visited once for each
+    /// occurrence in the value, which may be often if elements or members overlap. The recursion is as deep as types nest.
     pub fn from_type(ty: &TypeInner, offset: u32, types: &UniqueArena<IrType, key::IrType>) -> Self
         requires { TypesGoBack (types_view types.now) }
         ensures { (k : ℕ) → k < 64 → IsIn result.0 k ↔ IsMet k (tree_by (type_tree (types_view types.now)) (inner_view ty.now)) offset }

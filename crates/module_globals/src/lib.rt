@@ -1,5 +1,5 @@
-//! Whether a module may have a global variable, by its address space; the slots of immediate data, and which of them a value
-//! meets.
+//! The checks of global variables by address space; the slots of immediate data, and which of them a value
+//! overlaps.
 #![tactic(auto)]
 
 mod context;

@@ -1,4 +1,4 @@
-//! How many bytes of immediate data a module takes.
+//! The size of a module's immediate data.
 
 ghost use Rattle.std.specs.Prelude.{◌≡◌, ◌↔◌, ◌≤◌, ◌⊎◌, IsTrue, length};
 ghost use Rattle.module_globals.specs.Sizes.{AreGreatest};
@@ -15,7 +15,7 @@ use ir_kinds::AddressSpace;
 use ir_sets::unique_arena::UniqueArena;
 use typing_forms::{TypeInnerExt, inner_of};
 
-// Whether variables are immediate data.
+// Whether an address space is `Immediate`.
 fn is_immediate(space: AddressSpace) -> bool
     ensures { IsTrue result ↔ (space ≡ Immediate) }
 {
@@ -33,7 +33,7 @@ fn is_immediate(space: AddressSpace) -> bool
     }
 }
 
-// How many bytes a value of a type takes.
+// The size of a type in bytes.
 #[tactic(auto, using(crate::proofs::SizeLemmas::size_found, crate::proofs::SizeLemmas::size_missing))]
 fn size_at(types: &UniqueArena<IrType, key::IrType>, ty: Handle<key::IrType>) -> u64
     ensures { result ≡ size (type_tree (types_view types.now) ty) }
@@ -44,7 +44,7 @@ fn size_at(types: &UniqueArena<IrType, key::IrType>, ty: Handle<key::IrType>) ->
     }
 }
 
-// The greater of a number of bytes and of those that a variable takes, where it is immediate data.
+// The maximum of a size and that of a variable, if it is immediate data.
 fn with_variable(module: &Module, variable: &GlobalVariable, greatest: u64) -> u64
     ensures not_below { greatest ≤ result }
     ensures own { variable.now.space ≡ Immediate → size (type_tree (module_view «module».now).types variable.now.ty) ≤ result }
@@ -58,7 +58,7 @@ fn with_variable(module: &Module, variable: &GlobalVariable, greatest: u64) -> u
 }
 
 impl ImmediateSlots {
-    /// How many bytes of immediate data a module takes: the size of the largest global variable that is such, and 0 where there
+    /// The size in bytes of a module's immediate data: that of its largest immediate-data variable, or 0 if there
     /// is none.
     pub fn size_for_module(module: &Module) -> u64
         ensures { AreGreatest (module_view «module».now) (length (module_view «module».now).globals) result }

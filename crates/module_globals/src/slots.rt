@@ -1,4 +1,4 @@
-//! Sets of slots.
+//! Sets of immediate-data slots.
 
 ghost use Rattle.std.specs.Prelude.{◌≡◌, ◌↔◌, ◌<◌, ◌⊎◌, ℕ, IsTrue};
 ghost use Rattle.std.specs.Int.RustNames.{bit_and, bit_or};
@@ -6,15 +6,15 @@ ghost use Rattle.module_globals.specs.Slots.{IsIn, Meets};
 
 use std::ops::BitOr;
 
-/// A set of numbers below 64 (naga's `ImmediateSlots`): number `k` denotes the four bytes of immediate data from byte
-/// `4 * k` on. A contract sees the number whose bits they are, as `set.0`.
+/// A set of numbers below 64 (naga's `ImmediateSlots`): number `k` denotes the four bytes of immediate data at byte
+/// offset `4 * k`. Contracts refer to the number with these bits as `set.0`.
 #[derive(Clone, Copy, PartialEq, Eq, Debug)]
 pub struct ImmediateSlots(
-    /// The bits as a number.
+    /// The bits as an integer.
     pub u64,
 );
 
-// The numbers below a bound.
+// The slots below a bound.
 #[tactic(auto, using(crate::proofs::Bits::all_below, crate::proofs::Bits::some_below))]
 fn below(bound: u64) -> u64
     ensures { (k : ℕ) → k < 64 → IsIn result k ↔ (k < bound) }
@@ -26,14 +26,14 @@ fn below(bound: u64) -> u64
 }
 
 impl ImmediateSlots {
-    /// The set of these bits.
+    /// The set with these bits.
     pub const fn from_raw(raw: u64) -> Self
         ensures { result.0 ≡ raw }
     {
         ImmediateSlots(raw)
     }
 
-    /// The slots that a range of bytes meets. Bytes after the last slot meet none.
+    /// The slots that a range of bytes overlaps. Bytes past the last slot are ignored.
     pub fn from_range(offset: u32, size_bytes: u32) -> Self
         ensures { (k : ℕ) → k < 64 → IsIn result.0 k ↔ Meets offset size_bytes k }
     {
@@ -46,14 +46,14 @@ impl ImmediateSlots {
         ImmediateSlots(behind & !before)
     }
 
-    /// Whether each slot of the other is one of these.
+    /// Whether every slot of the other is in this set.
     pub const fn contains(self, other: Self) -> bool
         ensures { IsTrue result ↔ (bit_and self.0 other.0 ≡ other.0) }
     {
         self.0 & other.0 == other.0
     }
 
-    /// The slots that are none of the other.
+    /// The slots that are not in the other.
     pub const fn difference(self, other: Self) -> Self
         ensures { (k : ℕ) → k < 64 → IsIn result.0 k ↔ (IsIn self.0 k × ¬ IsIn other.0 k) }
     {
@@ -69,7 +69,7 @@ impl BitOr for ImmediateSlots {
 
     ghost bitor_gives = { λ a b r. r.0 ≡ bit_or a.0 b.0 };
 
-    /// The slots of either.
+    /// The slots of either set.
     fn bitor(self, rhs: ImmediateSlots) -> ImmediateSlots {
         ImmediateSlots(self.0 | rhs.0)
     }

@@ -1,4 +1,4 @@
-//! What address spaces require.
+//! The requirements of address spaces.
 
 ghost use Rattle.std.specs.Prelude.{◌≡◌, Some};
 ghost use Rattle.module_globals.specs.Faults.{required_bits};
@@ -11,7 +11,7 @@ use ir_kinds::AddressSpace;
 use ir_types::TypeInner;
 use typing_layout::TypeFlags;
 
-/// What a binding array of this needs in a space; `None` where there is none.
+/// The capability that a binding array of this type requires in an address space; `None` if it is not allowed.
 pub(crate) fn array_capability(space: AddressSpace, base: &TypeInner) -> Option<Capabilities>
     ensures { result ≡ array_capability space (Some (inner_view base.now)) }
 {
@@ -29,7 +29,7 @@ pub(crate) fn array_capability(space: AddressSpace, base: &TypeInner) -> Option<
     }
 }
 
-/// What a variable of this needs in a space, if it needs any capability.
+/// The capability that a variable of this type requires in an address space, if any.
 pub(crate) fn space_capability(space: AddressSpace, inner: &TypeInner) -> Option<Capabilities>
     ensures { result ≡ space_capability space (Some (inner_view inner.now)) }
 {
@@ -60,7 +60,7 @@ const IMMEDIATE: TypeFlags = TypeFlags(STORED.0 | TypeFlags::COPY.0 | TypeFlags:
 
 const UNIFORM: TypeFlags = TypeFlags(IMMEDIATE.0 | TypeFlags::CREATION_RESOLVED.0);
 
-/// What the type of a variable in a space has to be used for.
+/// The type flags that an address space requires.
 pub(crate) const fn required(space: AddressSpace) -> TypeFlags
     ensures { result.0 ≡ required_bits space }
 {
@@ -77,7 +77,7 @@ pub(crate) const fn required(space: AddressSpace) -> TypeFlags
     }
 }
 
-/// Whether a host binds what lies in a space.
+/// Whether an address space requires a binding.
 pub(crate) const fn is_resource(space: AddressSpace) -> bool
     ensures { result ≡ (space_row space).bound }
 {
@@ -93,7 +93,7 @@ pub(crate) const fn is_resource(space: AddressSpace) -> bool
     }
 }
 
-/// Whether what lies in a space is a storage buffer.
+/// Whether an address space is `Storage`.
 pub(crate) const fn is_storage(space: AddressSpace) -> bool
     ensures { result ≡ is_storage space }
 {

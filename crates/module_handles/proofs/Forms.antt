@@ -1,4 +1,4 @@
--- Parts of what is made of a module's types are.
+-- Parts of a form built of a module's types are such forms too.
 use Rattle.std.proofs.Common.{◌≡◌, ◌<◌, ◌∙◌, ℕ, zero, suc, List, [], ◌∷◌, Bool, true, false, Option, Some, None, Result, Ok, Err, Contains, map, option_map, length, slice_get, if◌then◌else◌, refl, sym, ap, subst, arith}
 use Rattle.std.specs.Prelude.{nat_lt, ok_or}
 use Rattle.ir_kinds.specs.judged.Scalars.{component_count}
@@ -19,14 +19,14 @@ use Rattle.typing_forms.specs.judged.Resolutions.{inner_at}
 use Rattle.typing_forms.specs.declared.form.Form.{Form}
 use Rattle.typing_forms.specs.declared.form.Form.TheVariants as form
 
--- ---- lists and answers
+-- ---- lists and results
 
 pub at_place : {A : Type 0} (xs : List A) (k : ℕ) → k < length xs → (a : A) × (slice_get xs k ≡ Some a)
 at_place [] k lt = absurd (omega (arith, lt))
 at_place (a ∷ xs) zero lt = (a, refl)
 at_place (a ∷ xs) (suc k) lt = at_place xs k (omega (arith, lt))
 
--- what is answered is made of types
+-- the result is built of types
 abbrev pub Gives : List PlainType → Result Form TypingFault → Type 0
 Gives types r = (t : Form) → r ≡ Ok t → IsMadeOf types t
 
@@ -60,7 +60,7 @@ module _ (types : List PlainType) (back : TypesGoBack types) where
   pub pointer_made : (base : ℕ) (s : AddressSpace) → base < length types → IsMadeOf types (pointer_to types base s)
   pointer_made base s lt = pointing_made types base s lt (inner_at types base)
 
-  -- a type that another one names is there
+  -- a type that another one references exists
   named_there : (handle named : ℕ) (i : PlainInner) → handle < length types → inner_at types handle ≡ Some i → Contains (named_types i) named → named < length types
   named_there handle named i lt at c =
       let less : named < handle = subst (λ n. n < handle) c.2 (back.each handle i at c.0 named c.1) in
@@ -128,7 +128,7 @@ module _ (types : List PlainType) (back : TypesGoBack types) where
       found None at = no_form types
       found (Some mm) at = some_form types (given mm.ty) (all mm.ty (there index mm at))
 
-  -- the types of members come before that of their struct
+  -- member types precede their struct
   members_there : (handle : ℕ) (members : List PlainMember) (span : ℕ) → handle < length types → inner_at types handle ≡ Some (struct members span) → (k : ℕ) (mm : PlainMember) → slice_get members k ≡ Some mm → mm.ty < length types
   members_there handle members span lt at k mm stands = named_there handle mm.ty (struct members span) lt at (among members k stands)
     where

@@ -1,4 +1,4 @@
--- What the faults of functions say of their module.
+-- What the errors of a function say about its module.
 use Rattle.std.proofs.Common.{◌≡◌, inl, inr, ℕ, Some, refl, sym, slice_get}
 use Rattle.ir_items.specs.judged.Plain.{PlainFunction, PlainEntry, PlainModule}
 use Rattle.typing_references.specs.Faults.{IsMissingFault, IsForwardOperand, IsForwardCallee, IsForwardParent}

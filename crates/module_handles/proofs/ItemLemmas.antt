@@ -1,4 +1,4 @@
--- What is found of the items that name types and global expressions alone.
+-- The errors of items that reference only types and global expressions.
 use Rattle.std.proofs.Common.{◌≡◌, ℕ, Option, Some, None, sym, ◌∙◌, ap, subst, slice_get}
 use Rattle.std.specs.Option.{MatchOption}
 use Rattle.ir_items.specs.judged.GlobalPlain.{PlainConstant, PlainOverride, PlainGlobal}
@@ -15,7 +15,7 @@ use Rattle.module_handles.specs.Found.{special_missing, leaf_missing, constant_m
 use Rattle.module_handles.specs.InOrder.{IsFaultIn}
 use Rattle.module_handles.specs.Lists.{AllPass, SomeFails}
 
--- either there is nothing, or it is this
+-- either there is none, or it is this one
 found_or : {A P : Type 0} (Q : A → Type 0) (o q : Option A) → o ≡ q → (q ≡ None → P) → ((x : A) → q ≡ Some x → Q x) → MatchOption o P Q
 found_or Q None q same none some = none (sym same)
 found_or Q (Some x) q same none some = some x (sym same)

@@ -1,4 +1,4 @@
--- What is missing in lists that are put together.
+-- Handles out of bounds in concatenated lists.
 use Rattle.std.proofs.Common.{◌≡◌, ℕ, List, [], ◌∷◌, ◌++◌, true, false, if◌then◌else◌, Option, Some, None, option_map, option_to_list, nat_lt, refl, ap}
 use Rattle.std.specs.Option.{option_or}
 use Rattle.ir_items.specs.declared.entries.MeshStageInfo.{MeshStageInfo}
@@ -17,7 +17,7 @@ missing_among k there (x ∷ xs) ys =
       | false ↦ refl
     ]
 
--- the payload first, and then what a mesh shader gives
+-- the payload first, and then the mesh output variable
 pub payload_first : (payload output : Option ℕ) (mesh : Option MeshStageInfo) → given (output ∷ []) ≡ mesh_variables mesh → given (payload ∷ output ∷ []) ≡ option_to_list payload ++ mesh_variables mesh
 payload_first None output mesh e = e
 payload_first (Some p) output mesh e = ap (λ l. p ∷ l) e

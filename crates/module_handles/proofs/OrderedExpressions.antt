@@ -1,4 +1,4 @@
--- Where handles are in order, expressions name items that are there, and operands precede.
+-- If handles are valid, the items that expressions reference exist, and operands precede.
 use Rattle.std.proofs.Common.{◌≡◌, ℕ, ◌<◌, Some, refl, length, slice_get}
 use Rattle.ir_types.specs.judged.ExpressionPlain.{PlainExpression, compose, plain}
 use Rattle.ir_types.specs.declared.expressions.Expression.TheVariants as x
@@ -16,7 +16,7 @@ use Rattle.spec_expressions.specs.declared.target.Target.{Target}
 use Rattle.spec_expressions.specs.declared.target.Target.TheVariants as target
 use Rattle.typing_handles.proofs.SameLemmas.{same_order}
 
--- the item is there, of those that the typing of an expression looks up
+-- the item exists, among those that type inference looks up
 abbrev IsIn : Context → Target → Type 0
 IsIn c (target.Type handle) = Unit {0}
 IsIn c (target.Constant handle) = handle < length c.constants

@@ -1,4 +1,4 @@
--- The types of expressions are types of the module, or made of such.
+-- The types of expressions are types of the module, or built of such.
 use Rattle.std.proofs.Common.{◌≡◌, ◌<◌, inl, inr, ℕ, zero, suc, List, [], ◌∷◌, ◌++◌, Bool, true, false, Option, Some, None, Result, Ok, Err, Contains, map, option_map, option_and_then, length, slice_get, if◌then◌else◌, refl, sym, ap, subst, arith}
 use Rattle.std.specs.Prelude.{◌==◌, ok_or}
 use Rattle.ir_types.specs.judged.ExpressionPlain.{PlainExpression, compose, plain as simple}
@@ -90,7 +90,7 @@ module _ (m : PlainModule) (ok : HandlesOK m) (f : PlainFunction) (within : Hand
   back : TypesGoBack m.types
   back = (conditions m ok).types
 
-  -- a type that is there, if one is reported
+  -- a type that exists, if one is reported
   told_made : (o : Option ℕ) → ((type : ℕ) → o ≡ Some type → type < length m.types) → GivesIf m.types (option_map (form_of_type m.types) o)
   told_made None there = no_form m.types
   told_made (Some type) there = some_form m.types (form_of_type m.types type) (type_made m.types back type (there type refl))

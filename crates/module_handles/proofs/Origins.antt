@@ -1,4 +1,4 @@
--- Where handles are in order, expressions have their kinds from earlier ones.
+-- If handles are valid, the kinds of expressions follow from earlier ones.
 use Rattle.std.proofs.Common.{◌≡◌, ℕ, ◌<◌, List, [], ◌∷◌, ◌++◌, map, Option, Some, None, option_map, option_to_list, All, refl, sym, ap, ◌∙◌, subst, slice_get}
 use Rattle.std.proofs.lemmas.List.Elements.{All-nil}
 use Rattle.std.proofs.lemmas.Option.{slice_get-map}
@@ -17,7 +17,7 @@ use Rattle.spec_expressions.specs.judged.ExpressionNames.{expression_operands}
 use Rattle.std.specs.List.{cons_option}
 use Rattle.typing_layout.specs.judged.Constness.{OriginsPrecede, origin_of, operands_from}
 
--- arguments that may be left out, in the one form and in the other
+-- optional arguments, in both representations
 three_given : (a b c : Option ℕ) → cons_option a (cons_option b (cons_option c [])) ≡ option_to_list a ++ option_to_list b ++ option_to_list c
 three_given None None None = refl
 three_given None None (Some c) = refl
@@ -28,7 +28,7 @@ three_given (Some a) None (Some c) = refl
 three_given (Some a) (Some b) None = refl
 three_given (Some a) (Some b) (Some c) = refl
 
--- an expression has its kind from operands
+-- the kind of an expression follows from its operands
 kind_operands : (P : ℕ → Type 0) (e : Expression) → All P (expression_operands (expression_view e)) → All P (operands_from (origin_of (expression_view e)))
 kind_operands P (x.Literal value) all = All-nil P
 kind_operands P (x.Constant handle) all = All-nil P
@@ -65,7 +65,7 @@ kind_operands P (x.SubgroupOperationResult type) all = All-nil P
 kind_operands P (x.CooperativeLoad columns rows role place) all = All-nil P
 kind_operands P (x.CooperativeMultiplyAdd p q r) all = All-nil P
 
--- expressions whose operands precede have their kinds from earlier ones
+-- if operands precede, the kinds of expressions follow from earlier ones
 pub origins : (entries : List (Expression × Span)) → OperandsPrecede (map expression_view (values_of entries)) → OriginsPrecede (map expression_view (map value_of_entry entries))
 origins entries precede place e at =
     let r = map_some expression_view (slice_get (values_of entries) place) e (sym (slice_get-map expression_view (values_of entries) place) ∙ at) in

@@ -1,4 +1,4 @@
--- What the faults outside functions say, and what it says that there is none.
+-- What an error outside functions says, and what its absence says.
 use Rattle.std.proofs.Common.{◌≡◌, inl, inr, ℕ, ◌+◌, ◌<◌, ◌≤◌, List, true, false, if◌then◌else◌, Option, Some, None, option_map, option_and_then, nat_lt, refl, sym, ap, ◌∙◌, subst, slice_get, length, Contains, arith}
 use borrow.Author.Tests.{ltb-true, ltb-false}
 use Rattle.ir_types.specs.judged.ExpressionPlain.{PlainExpression}
@@ -26,7 +26,7 @@ use Rattle.spec_expressions.specs.declared.target.Target.{Target}
 use Rattle.spec_expressions.specs.declared.target.Target.TheVariants as target
 use Rattle.typing_forms.specs.judged.Order.{named_types}
 
--- ---- one thing that is named, and one that comes before
+-- ---- one handle, and one dependency
 
 pub forward_none : (k : ItemKind) (place depends_on : ℕ) → forward k place depends_on ≡ None → depends_on < place
 forward_none k place depends_on e = elim (nat_lt depends_on place) as (λ b. nat_lt depends_on place ≡ b → (if b then None else Some (fault.Forward k place depends_on)) ≡ None → depends_on < place) [
@@ -40,11 +40,11 @@ forward_some k place depends_on h e = elim (nat_lt depends_on place) as (λ b. n
   | false ↦ λ lt g. (sym (some_is _ h g), λ before. let past = ltb-false depends_on place lt in omega (arith, past, before))
 ] refl e
 
--- nothing is missing, so each is there
+-- no handle is out of bounds, so each item exists
 pub each_there : (k : ItemKind) (there : ℕ) (places : List ℕ) → first_missing k there places ≡ None → (p : ℕ) → Contains places p → p < there
 each_there k there places e = below_each there places (map_none (λ place. fault.Missing k place) _ e)
 
--- one is missing
+-- a handle is out of bounds
 pub one_missing : (k : ItemKind) (there : ℕ) (places : List ℕ) (h : HandleFault) → first_missing k there places ≡ Some h → (p : ℕ) × Contains places p × (h ≡ fault.Missing k p) × ¬ (p < there)
 one_missing k there places h e =
     let r = map_some (λ place. fault.Missing k place) _ h e in
@@ -52,7 +52,7 @@ one_missing k there places h e =
     (r.0, p.0, r.2, p.1)
 
 module _ (m : PlainModule) where
-  -- the fault is that of something named, which isn't there
+  -- the error is that of a handle which is out of bounds
   pub record Absent (named : Named) (h : HandleFault) : Type 0 where
     pub k : ItemKind
     pub place : ℕ
@@ -90,7 +90,7 @@ module _ (m : PlainModule) where
   pub value_absent : (e : ℕ) (h : HandleFault) → missing kind.Expression (length m.global_expressions) e ≡ Some h → Absent (operand e) h
   value_absent e h is = let r = missing_some _ _ _ h is in record { k = kind.Expression; place = e; is = r.0; at = refl; not = not_there _ _ r.1 }
 
-  -- what an item depends on, and doesn't come after
+  -- a forward dependency of an item
   pub forward_fault : (h : HandleFault) (k : ItemKind) (first second : Ordered) → DependsOn m first second → kind_of first ≡ k → kind_of second ≡ k → h ≡ fault.Forward k (place_of first) (place_of second)
       → ¬ (place_of second < place_of first) → IsFaultIn m h
   forward_fault h k first second related of both is not =
@@ -138,7 +138,7 @@ module _ (m : PlainModule) where
     ]
   ]
 
-  -- ---- the types of what is named, and what it begins as
+  -- ---- types and initializers of referenced items
 
   pub type_found : (x : PlainExpression) (t : ℕ) → NamesType m x t → option_and_then (type_of m) (expression_item x) ≡ Some t
   type_found x _ (by_itself is) = ap (option_and_then (type_of m)) is
@@ -186,7 +186,7 @@ module _ (m : PlainModule) where
 
   -- ---- types
 
-  -- the override that counts the elements of a type
+  -- the override that gives the length of a type
   counted_item : (i : PlainInner) (u : Target) → counted_by i ≡ Some u → (o : ℕ) × (pending_of i ≡ Some o) × (u ≡ target.Override o)
   counted_item i u e = map_some (λ (o : ℕ). target.Override o) (pending_of i) u e
 
@@ -210,7 +210,7 @@ module _ (m : PlainModule) where
       let t = forward_some kind.Type place o.0.ty h (subst (λ n. forward kind.Type place n ≡ Some h) o.2 r.2) in
       forward_fault h kind.Type (type_before place) (type_before o.0.ty) (type_on_override at c.1 o.1) refl refl t.0 t.1
 
-  -- what is looked through for a type: all up to what the override that counts its elements begins as
+  -- the global expressions checked for a type: all up to the initializer of the override that gives its length
   record Begins (i : PlainInner) (e : ℕ) : Type 0 where
     pub o : ℕ
     pub counts : pending_of i ≡ Some o

@@ -1,11 +1,11 @@
--- Items of a list that pass one after another.
+-- Items of a list that are checked in order.
 use Rattle.std.proofs.Common.{◌≡◌, ◌⊎◌, inl, inr, rules, ℕ, ◌+◌, ◌<◌, ◌≤◌, List, Option, Some, None, sym, subst, slice_get, length, arith}
 use Rattle.std.proofs.lemmas.Option.{slice_get_within}
 use Rattle.std.specs.Option.{MatchOption}
 use Rattle.typing_references.specs.declared.fault.HandleFault.{HandleFault}
 use Rattle.module_handles.specs.Lists.{AllPass, SomeFails}
 
--- each item before this place passes
+-- each item before this index is valid
 abbrev pub PassBelow : {T : Type 0} → (ℕ → T → Type 0) → List T → ℕ → Type 0
 PassBelow {T = T} passes items end = (i : ℕ) (x : T) → i < end → slice_get items i ≡ Some x → passes i x
 
@@ -28,7 +28,7 @@ module _ {T : Type 0} (passes : ℕ → T → Type 0) (fails : ℕ → T → Han
   pub fails_at : (items : List T) (i : ℕ) (x : T) (h : HandleFault) → slice_get items i ≡ Some x → fails i x h → SomeFails fails items h
   fails_at items i x h at failed = (i, x, at, failed)
 
--- what is answered says more
+-- from a result to a stronger one
 pub weaker : {A P R : Type 0} {Q S : A → Type 0} (o : Option A) → (P → R) → ((x : A) → Q x → S x) → MatchOption o P Q → MatchOption o R S
 weaker None p q told = p told
 weaker (Some x) p q told = q x told

@@ -1,4 +1,4 @@
--- Types that are looked at one after another, and global expressions that are looked through for them.
+-- Types that are checked in order, and the global expressions that are checked for them.
 use Rattle.std.proofs.Common.{◌≡◌, ◌⊎◌, inl, inr, rules, ℕ, ◌+◌, ◌<◌, ◌≤◌, max, min, List, [], ◌∷◌, map, true, false, if◌then◌else◌, Option, Some, None, option_and_then, nat_lt, refl, sym, ap, ◌∙◌, subst, slice_get, length, arith}
 use Rattle.std.proofs.lemmas.List.{length-map}
 use Rattle.std.proofs.lemmas.Option.{slice_get_within}
@@ -29,7 +29,7 @@ use Rattle.spec_expressions.specs.declared.item.ItemKind.TheVariants as kind
 use Rattle.typing_forms.specs.judged.Order.{named_types}
 use Rattle.typing_forms.specs.judged.Resolutions.{inner_at}
 
--- ---- what members are of
+-- ---- member types
 
 members_past : (end : ℕ) (ms : List StructMember) → first_past end (map (λ m. m.ty) ms) ≡ first_past end (map (λ m. m.ty) (map member_view ms))
 members_past end [] = refl
@@ -43,7 +43,7 @@ struct_past end i members span ms r is same e =
 
 -- ---- global expressions
 
--- what comes before a place comes before the next
+-- what precedes an index precedes the next
 forward_later : (place : ℕ) (o : Option ℕ) → option_and_then (forward kind.Type place) o ≡ None → option_and_then (forward kind.Type (place + 1)) o ≡ None
 forward_later place None e = refl
 forward_later place (Some t) e =
@@ -63,18 +63,18 @@ module _ (m : PlainModule) where
     | inr same ↦ (let is : x ≡ y = (let a = at in let b = there in let c = same in cc) in subst (λ z. named_forward m place z ≡ None) is none)
   ]
 
-  -- all that there are before the end were looked through
+  -- all expressions before the bound were checked
   pub between_all : (place from n end stop count : ℕ) → length m.global_expressions ≡ count → stop ≡ min end count → stop ≤ n → NamesBefore m place from n → NamesBefore m place from end
   between_all place from n end stop count long is le names e x behind lt at =
       names e x behind (let within = slice_get_within m.global_expressions e x at in omega (arith, within, long, is, le, lt)) at
 
   -- ---- types
 
-  -- the type at a place
+  -- the type at an index
   type_there : (place : ℕ) (i : PlainInner) → Some i ≡ inner_at m.types place → (x : PlainType) × (slice_get m.types place ≡ Some x) × (i ≡ x.inner)
   type_there place i at = map_some (λ (t : PlainType). t.inner) (slice_get m.types place) i (sym at)
 
-  -- what is wrong with a type by itself
+  -- the error of a type's own handles
   abbrev pub own_fault : ℕ → PlainInner → Option HandleFault
   own_fault place i = option_or (pending_missing (outside_functions m) i) (option_or (built_forward place i) (counted_forward m place i))
 
@@ -91,7 +91,7 @@ module _ (m : PlainModule) where
       let x = type_there place i there in
       looked_fault m place from x.0 h x.1 (subst (λ n. NamesForward m place from n h) (is ∙ ap (looked_through m) x.2) f)
 
-  -- The types before a place are in order, and so many global expressions name types before it.
+  -- The types before an index are valid, and the first global expressions reference types before it.
   abbrev pub KnownBelow : (place known : ℕ) → Type 0
   KnownBelow place known = TypesBelow m place × NamesBefore m place 0 known
 

@@ -1,4 +1,4 @@
--- What an expression gives that reads nothing of the types of its operands but their form.
+-- Types of expressions that depend only on the forms of their operands.
 use Rattle.std.proofs.Common.{◌≡◌, ℕ, List, Option, Some, None, option_map}
 use Rattle.ir_types.specs.declared.expressions.ImageQuery.{ImageQuery}
 use Rattle.ir_types.specs.declared.expressions.ImageQuery.TheVariants as query

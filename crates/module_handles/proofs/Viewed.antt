@@ -1,4 +1,4 @@
--- Items as plain data, and what is reported of them.
+-- Items as plain data, and the properties they keep.
 use Rattle.std.proofs.Common.{◌≡◌, ℕ, List, map, Option, Some, option_map, sym, ap, ◌∙◌, subst, slice_get}
 use Rattle.std.proofs.lemmas.Option.{slice_get-map}
 use Rattle.std.specs.Option.{MatchOption}
@@ -23,7 +23,7 @@ module _ {T A : Type 0} (view : T → A) where
         let r = map_some view (slice_get items i) y (sym (slice_get-map view items i) ∙ at) in
         subst (P i) (sym r.2) (all i r.0 r.1)
 
-    -- what is reported of the items is reported of them as plain data
+    -- a property of the items holds of them as plain data
     pub reported_viewed : ((i : ℕ) (y : A) (h : HandleFault) → slice_get (map view items) i ≡ Some y → Q i y h → F h) → (o : Option HandleFault)
         → MatchOption o (AllPass (λ i x. P i (view x)) items) (SomeFails (λ i x h. Q i (view x) h) items) → MatchOption o ((i : ℕ) (y : A) → slice_get (map view items) i ≡ Some y → P i y) F
     reported_viewed says o told =

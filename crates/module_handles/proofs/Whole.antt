@@ -1,4 +1,4 @@
--- All parts of a module in order make the whole in order.
+-- If all parts of a module are valid, the whole is valid.
 use Rattle.std.proofs.Common.{◌≡◌, ℕ, ◌+◌, ◌<◌, List, Some, option_map, option_and_then, sym, ap, ◌∙◌, subst, slice_get, length, All, Contains, arith}
 use Rattle.std.proofs.lemmas.List.Elements.{All-contains}
 use Rattle.std.proofs.lemmas.Option.{slice_get_within}
@@ -25,7 +25,7 @@ use Rattle.spec_expressions.specs.declared.item.ItemKind.TheVariants as kind
 use Rattle.spec_expressions.specs.declared.target.Target.TheVariants as target
 use Rattle.typing_forms.specs.judged.Order.{named_types}
 
--- one that comes before an item of the list is in the list
+-- an index that precedes an item of the list is in the list
 earlier : {A : Type 0} (xs : List A) (place named : ℕ) (x : A) → slice_get xs place ≡ Some x → named < place → named < length xs
 earlier xs place named x at before = let within = slice_get_within xs place x at in omega (arith, within, before)
 
@@ -34,7 +34,7 @@ operand_before xs e o x precede at c = All-contains (λ y. y < e) (expression_op
 
 module _ (m : PlainModule) (types : TypesOK m) (items : ItemsOK m) (globals : GlobalExpressionsOK m) (operands : OperandsPrecede m.global_expressions) (parents : ParentsPrecede m.filters)
     (functions : FunctionsOK m) (entries : EntriesOK m) where
-  -- ---- what is named is there
+  -- ---- every handle is in bounds
 
   type_before : (place t : ℕ) (x : PlainType) → slice_get m.types place ≡ Some x → Contains (named_types x.inner) t → t < place
   type_before place t x at c = below_each place (named_types x.inner) (map_none _ _ (types place x at).built) t c
@@ -59,9 +59,9 @@ module _ (m : PlainModule) (types : TypesOK m) (items : ItemsOK m) (globals : Gl
   names_there _ _ (entry_expression {k = k} {e = e} {x = x} at c) = each_there kind.Expression _ (mesh_expressions x.mesh) (or_none _ _ (or_none _ _ (entries k x at).itself).1).0 e c
   names_there _ _ (entry_variable {k = k} {v = v} {x = x} at c) = each_there kind.GlobalVariable _ (entry_variables x) (or_none _ _ (or_none _ _ (entries k x at).itself).1).1 v c
 
-  -- ---- each item comes after those that it depends on
+  -- ---- each item follows its dependencies
 
-  -- the override that counts the elements of a type, and what it begins as
+  -- the override that gives the length of a type, and its initializer
   counted : (i : PlainInner) (o : ℕ) → pending_of i ≡ Some o → counted_by i ≡ Some (target.Override o)
   counted i o is = ap (option_map (λ (handle : ℕ). target.Override handle)) is
 

@@ -1,4 +1,4 @@
--- What the errors of handles say.
+-- The meaning of the errors of handles.
 use Rattle.std.specs.Prelude.{◌≡◌, ℕ, List, codes}
 use Rattle.module_handles.specs.declared.error.InvalidHandleError.{InvalidHandleError}
 use Rattle.module_handles.specs.declared.error.InvalidHandleError.TheVariants as error
@@ -7,7 +7,7 @@ use Rattle.spec_expressions.specs.judged.ModuleHandles.{IsMissing, IsRangeOut, I
 use Rattle.spec_expressions.specs.declared.item.ItemKind.{ItemKind}
 use Rattle.spec_expressions.specs.declared.item.ItemKind.TheVariants as kind
 
--- the word for what an item is
+-- the word for an item's kind
 abbrev pub word_of : ItemKind → List ℕ
 word_of kind.Type = codes "type"
 word_of kind.Constant = codes "constant"
@@ -18,8 +18,8 @@ word_of kind.LocalVariable = codes "local"
 word_of kind.Function = codes "function"
 word_of kind.DiagnosticFilter = codes "filter"
 
--- The error is of something in the module: of an item that is named and isn't there, of two items of which the first depends
--- on the second and doesn't come after it, or of a range of expressions that is out.
+-- The error is of something in the module: a handle that is out of bounds, an item that depends on another which does not
+-- precede it, or a range of expressions that is out of bounds.
 abbrev pub IsHandleError : PlainModule → InvalidHandleError → Type 0
 IsHandleError m (error.BadHandle e) = (k : ItemKind) × (e.kind.now ≡ word_of k) × IsMissing m k e.index
 IsHandleError m (error.ForwardDependency e) = (k : ItemKind) × (e.subject_kind.now ≡ word_of k) × (e.depends_on_kind.now ≡ word_of k) × IsForward m k e.subject e.depends_on

@@ -1,5 +1,5 @@
--- What is wrong with the handles of a module outside its functions, found step by step; `spec_expressions` says what is required of
--- them.
+-- The errors of a module's handles outside its functions, as the checks find them; `spec_expressions` states the requirements of
+-- the handles.
 use Rattle.std.specs.Prelude.{ℕ, ◌+◌, List, nat_lt, if◌then◌else◌, Option, Some, None, option_map, option_and_then, slice_get}
 use Rattle.std.specs.Option.{option_or}
 use Rattle.ir_types.specs.judged.ExpressionPlain.{PlainExpression}
@@ -20,9 +20,9 @@ use Rattle.spec_expressions.specs.declared.target.Target.{Target}
 use Rattle.spec_expressions.specs.declared.target.Target.TheVariants as target
 use Rattle.typing_forms.specs.judged.Order.{named_types}
 
--- ---- what isn't there
+-- ---- out of bounds
 
--- the first of these places at which there is none of so many items
+-- the first of these indices that is out of bounds
 abbrev pub first_missing : ItemKind → (there : ℕ) → List ℕ → Option HandleFault
 first_missing k there places = option_map (λ place. fault.Missing k place) (first_past there places)
 
@@ -46,33 +46,33 @@ entry_missing b x =
     option_or (first_missing kind.Type b.types (mesh_types x.mesh)) (option_or (first_missing kind.Expression b.expressions (mesh_expressions x.mesh))
     (first_missing kind.GlobalVariable b.global_variables (entry_variables x)))
 
--- what a global expression names beside its operands
+-- the items that a global expression references, operands aside
 abbrev pub named_missing : Bounds → PlainExpression → Option HandleFault
 named_missing b x = option_and_then (item_missing b) (expression_item x)
 
--- the override that says how many elements a type has
+-- the override that gives the length of an array type
 abbrev pub pending_missing : Bounds → PlainInner → Option HandleFault
 pending_missing b i = option_and_then (missing kind.Override b.overrides) (pending_of i)
 
--- ---- what doesn't come before
+-- ---- forward dependencies
 
--- of what the constant or the override that a global expression names begins as
+-- of the initializer of the constant or override that a global expression references
 abbrev pub init_forward : PlainModule → ℕ → PlainExpression → Option HandleFault
 init_forward m e x = option_and_then (forward kind.Expression e) (option_and_then (init_of m) (expression_item x))
 
--- of the types that a type is built of
+-- of the types that a type references
 abbrev pub built_forward : ℕ → PlainInner → Option HandleFault
 built_forward place i = option_map (λ t. fault.Forward kind.Type place t) (first_past place (named_types i))
 
--- of the type that a global expression names
+-- of the type that a global expression references
 abbrev pub named_forward : PlainModule → ℕ → PlainExpression → Option HandleFault
 named_forward m place x = option_and_then (forward kind.Type place) (option_and_then (type_of m) (expression_item x))
 
--- how many global expressions there are up to this one
+-- the number of global expressions up to this one
 abbrev pub up_to : Option ℕ → ℕ
 up_to None = 0
 up_to (Some e) = e + 1
 
--- how many global expressions are looked through for a type
+-- the number of global expressions to check for a type
 abbrev pub looked_through : PlainModule → PlainInner → ℕ
 looked_through m i = up_to (option_and_then (init_of m) (counted_by i))

@@ -1,4 +1,4 @@
--- The handles of a module in order, part by part, and a fault that stands in it.
+-- The parts of a module with valid handles, and the errors of each part.
 use Rattle.std.specs.Prelude.{◌≡◌, ◌⊎◌, ℕ, ◌<◌, ◌≤◌, Some, None, slice_get}
 use Rattle.ir_types.specs.judged.ExpressionPlain.{PlainExpression}
 use Rattle.ir_items.specs.judged.GlobalPlain.{PlainConstant, PlainOverride, PlainGlobal}
@@ -13,7 +13,7 @@ use Rattle.typing_handles.specs.Conditions.{FunctionConditions}
 use Rattle.spec_expressions.specs.judged.FunctionHandles.{HandlesInRange, OperandsPrecede}
 use Rattle.spec_expressions.specs.judged.ModuleHandles.{IsMissing, IsRangeOut, IsForward}
 
--- the fault stands in the module
+-- the module has the error
 abbrev pub IsFaultIn : PlainModule → HandleFault → Type 0
 IsFaultIn m (fault.Missing k place) = IsMissing m k place
 IsFaultIn m (fault.Forward k place depends_on) = IsForward m k place depends_on
@@ -21,11 +21,11 @@ IsFaultIn m (fault.Range first end) = IsRangeOut m (record { first = first; end 
 
 -- ---- types
 
--- each global expression between these places names types before this place alone
+-- the global expressions in this range reference only types before this index
 abbrev pub NamesBefore : PlainModule → (place from end : ℕ) → Type 0
 NamesBefore m place from end = (e : ℕ) (x : PlainExpression) → from ≤ e → e < end → slice_get m.global_expressions e ≡ Some x → named_forward m place x ≡ None
 
--- one of them doesn't
+-- one of them does not
 pub record NamesForward (m : PlainModule) (place from end : ℕ) (h : HandleFault) : Type 0 where
   pub e : ℕ
   pub x : PlainExpression
@@ -34,7 +34,7 @@ pub record NamesForward (m : PlainModule) (place from end : ℕ) (h : HandleFaul
   pub at : slice_get m.global_expressions e ≡ Some x
   pub found : named_forward m place x ≡ Some h
 
--- The type at a place names what is there and comes before it.
+-- The type at an index references existing, earlier items.
 pub record TypeOK (m : PlainModule) (place : ℕ) (i : PlainInner) : Type 0 where
   pub there : pending_missing (outside_functions m) i ≡ None
   pub built : built_forward place i ≡ None
@@ -47,7 +47,7 @@ TypesBelow m end = (place : ℕ) (x : PlainType) → place < end → slice_get m
 abbrev pub TypesOK : PlainModule → Type 0
 TypesOK m = (place : ℕ) (x : PlainType) → slice_get m.types place ≡ Some x → TypeOK m place x.inner
 
--- ---- all else outside functions
+-- ---- all other items outside functions
 
 pub record ItemsOK (m : PlainModule) : Type 0 where
   pub special : special_missing (outside_functions m) m.special ≡ None
@@ -56,7 +56,7 @@ pub record ItemsOK (m : PlainModule) : Type 0 where
   pub overrides : (i : ℕ) (x : PlainOverride) → slice_get m.overrides i ≡ Some x → override_missing (outside_functions m) x ≡ None
   pub variables : (i : ℕ) (x : PlainGlobal) → slice_get m.globals i ≡ Some x → variable_missing (outside_functions m) x ≡ None
 
--- a global expression at its place, its operands aside
+-- the global expression at an index, operands aside
 pub record GlobalExpressionOK (m : PlainModule) (e : ℕ) (x : PlainExpression) : Type 0 where
   pub there : named_missing (outside_functions m) x ≡ None
   pub init : init_forward m e x ≡ None
@@ -72,7 +72,7 @@ IsGlobalExpressionFault m e x h = (named_missing (outside_functions m) x ≡ Som
 abbrev pub FunctionsOK : PlainModule → Type 0
 FunctionsOK m = (i : ℕ) (f : PlainFunction) → slice_get m.functions i ≡ Some f → FunctionConditions m i f
 
--- of the function at its place
+-- the function at an index
 abbrev pub IsFunctionFault : PlainModule → ℕ → PlainFunction → HandleFault → Type 0
 IsFunctionFault m i f h = IsMissingFault m f h ⊎ (IsForwardOperand f.expressions h ⊎ IsForwardCallee i f h)
 

@@ -1,4 +1,4 @@
--- What the items that are named are of and begin as, and what doesn't come before; `spec_expressions` says what is required of them.
+-- Types and initializers of referenced items, and forward dependencies; `spec_expressions` states the requirements of them.
 use Rattle.std.specs.Prelude.{ℕ, nat_lt, if◌then◌else◌, Option, Some, None, option_map, option_and_then, slice_get}
 use Rattle.ir_items.specs.judged.GlobalPlain.{PlainConstant, PlainOverride}
 use Rattle.ir_items.specs.judged.Plain.{PlainModule}
@@ -11,7 +11,7 @@ use Rattle.spec_expressions.specs.declared.item.ItemKind.TheVariants as kind
 use Rattle.spec_expressions.specs.declared.target.Target.{Target}
 use Rattle.spec_expressions.specs.declared.target.Target.TheVariants as target
 
--- the type that an item is, or has
+-- the type of an item
 abbrev pub type_of : PlainModule → Target → Option ℕ
 type_of m (target.Type handle) = Some handle
 type_of m (target.Constant handle) = option_map (λ (x : PlainConstant). x.ty) (slice_get m.constants handle)
@@ -21,7 +21,7 @@ type_of m (target.LocalVariable handle) = None
 type_of m (target.Function handle) = None
 type_of m (target.DiagnosticFilter handle) = None
 
--- the global expression that a constant or an override begins as
+-- the initializer of a constant or an override
 abbrev pub init_of : PlainModule → Target → Option ℕ
 init_of m (target.Type handle) = None
 init_of m (target.Constant handle) = option_map (λ (x : PlainConstant). x.init) (slice_get m.constants handle)
@@ -31,11 +31,11 @@ init_of m (target.LocalVariable handle) = None
 init_of m (target.Function handle) = None
 init_of m (target.DiagnosticFilter handle) = None
 
--- an item of this kind depends on one that doesn't come before it
+-- an item of this kind has a forward dependency
 abbrev pub forward : ItemKind → (place depends_on : ℕ) → Option HandleFault
 forward k place depends_on = if nat_lt depends_on place then None else Some (fault.Forward k place depends_on)
 
--- the override that says how many elements a type has, as an item
+-- the override that gives the length of a type, as an item
 abbrev pub counted_by : PlainInner → Option Target
 counted_by i = option_map (λ o. target.Override o) (pending_of i)
 

@@ -1,4 +1,4 @@
--- What the steps after require of expressions, in their own words.
+-- The requirements of later checks on expressions, as those checks state them.
 use Rattle.std.specs.Prelude.{◌≡◌, ℕ, List, Some, map, slice_get}
 use Rattle.ir_arena.specs.found.Arenas.{value_of_entry}
 use Rattle.ir_types.specs.judged.ExpressionPlain.{PlainExpression, expression_view}
@@ -13,7 +13,7 @@ use Rattle.spec_expressions.specs.judged.Context.{Context, inside, outside, Name
 use Rattle.spec_expressions.specs.judged.ModuleHandles.{HandlesOK}
 use Rattle.typing_layout.specs.judged.Constness.{OriginsPrecede}
 
--- the items that expressions name are there, and their operands precede
+-- the items that expressions reference exist, and their operands precede
 pub record ExpressionConditions (c : Context) (expressions : List PlainExpression) : Type 0 where
   pub items : (e : ℕ) (x : PlainExpression) → slice_get expressions e ≡ Some x → NamesItem c x
   pub operands : UsesPrecede expressions
@@ -26,7 +26,7 @@ pub record AllExpressions (m : PlainModule) : Type 0 where
 abbrev pub OrderGivesExpressions : Type 0
 OrderGivesExpressions = (m : PlainModule) → HandlesOK m → AllExpressions m
 
--- expressions have their kinds from earlier ones: those of a module, of its functions and of its entry points
+-- the kinds of expressions follow from earlier ones: in a module, its functions and its entry points
 pub record AllOrigins (m : Module) : Type 0 where
   pub globals : OriginsPrecede (map expression_view (map value_of_entry m.global_expressions))
   pub functions : (i : ℕ) (f : Function) → slice_get (values_of m.functions) i ≡ Some f → OriginsPrecede (map expression_view (map value_of_entry f.expressions))

@@ -1,4 +1,4 @@
--- The types of expressions are types of the module, or made of such.
+-- The types of expressions are types of the module, or built of such.
 use Rattle.std.specs.Prelude.{◌<◌, ℕ, List, length}
 use Rattle.ir_items.specs.judged.Plain.{PlainFunction, PlainModule}
 use Rattle.ir_types.specs.judged.Plain.{PlainType}
@@ -8,7 +8,7 @@ use Rattle.spec_expressions.specs.judged.ModuleHandles.{HandlesOK}
 use Rattle.typing_forms.specs.declared.form.Form.{Form}
 use Rattle.typing_forms.specs.declared.form.Form.TheVariants.{Scalar, Vector, Matrix, CooperativeMatrix, Atomic, Pointer, ValuePointer, Array, Struct, Image, Sampler, AccelerationStructure, RayQuery, BindingArray, Nothing}
 
--- it is a form, and each type that it names is one of these
+-- it is a form, and each type that it references is one of these
 abbrev pub IsMadeOf : List PlainType → Form → Type 0
 IsMadeOf types Nothing = ⊥
 IsMadeOf types (Struct handle) = handle < length types
@@ -26,6 +26,6 @@ IsMadeOf types (Sampler comparison) = Unit {0}
 IsMadeOf types (AccelerationStructure vertex_return) = Unit {0}
 IsMadeOf types (RayQuery vertex_return) = Unit {0}
 
--- of a function of a module whose handles are in order
+-- of a function of a module with valid handles
 abbrev pub OrderGivesTypes : Type 0
 OrderGivesTypes = (m : PlainModule) → HandlesOK m → (f : PlainFunction) → HandlesInRange m f → (e : ℕ) (t : Form) → HasType m f e t → IsMadeOf m.types t

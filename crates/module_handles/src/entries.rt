@@ -1,4 +1,4 @@
-//! What entry points name.
+//! Handles of entry points.
 
 ghost use Rattle.std.specs.Prelude.{◌≡◌, [], ◌∷◌};
 ghost use Rattle.std.specs.Option.{MatchOption, option_or};
@@ -46,7 +46,7 @@ fn mesh_expressions_missing(mesh: &Option<MeshStageInfo>, there: usize) -> Optio
     }
 }
 
-// The variable that holds what a mesh shader gives.
+// The output variable of a mesh shader.
 fn mesh_variable(mesh: &Option<MeshStageInfo>) -> Option<usize>
     ensures { given (result ∷ []) ≡ mesh_variables mesh.now }
 {
@@ -67,7 +67,7 @@ fn variables_missing(entry: &EntryPoint, there: usize) -> Option<HandleFault>
     first_missing(ItemKind::GlobalVariable, there, &variables)
 }
 
-// What is not there, the function of the entry point aside.
+// A handle out of bounds, the entry point's function aside.
 fn entry_missing(entry: &EntryPoint, bounds: &Bounds) -> Option<HandleFault>
     ensures { result ≡ entry_missing bounds.now (entry_view entry.now) }
 {
@@ -80,7 +80,7 @@ fn entry_missing(entry: &EntryPoint, bounds: &Bounds) -> Option<HandleFault>
     variables_missing(entry, bounds.global_variables)
 }
 
-// Entry points of a module.
+// The entry points of a module.
 #[derive(Drop)]
 struct Entries<'a> {
     module: &'a Module,
@@ -105,7 +105,7 @@ impl ItemCheck<EntryPoint> for Entries<'_> {
     }
 }
 
-/// The fault of what an entry point or its function names, if it is not there or, where it has to, does not come before.
+/// The error of a handle of an entry point or its function, if it is out of bounds or a required forward dependency.
 pub(crate) fn fault_of_entries(module: &Module) -> Option<HandleFault>
     ensures { MatchOption result (EntriesOK (module_view «module».now)) (IsFaultIn (module_view «module».now)) }
 {

@@ -1,34 +1,34 @@
-//! Why the handles of a module are refused.
+//! The errors of a module's handles.
 
 use ir_arena::handle::BadHandle;
 use ir_arena::range::BadRangeError;
 use thiserror::Error;
 
-/// The error of an item that depends on one which doesn't come before it (naga's `FwdDepError`). Both are reported by their
-/// places, as [`BadHandle`] tells its item.
+/// An item that depends on one at a later or equal index (naga's `FwdDepError`). Both are given by kind and
+/// index, as in [`BadHandle`].
 #[derive(Clone, Copy, PartialEq, Eq, Debug, Error)]
 #[error("[{subject}] of kind {subject_kind:?} depends on [{depends_on}] of kind {depends_on_kind}, which has not been processed yet")]
 pub struct FwdDepError {
-    /// The place of the item, counted from 0.
+    /// The index of the item.
     pub subject: usize,
-    /// What it is: the word of its [`ir_arena::handle::Kind`].
+    /// The word for its [`ir_arena::handle::Kind`].
     pub subject_kind: &'static str,
-    /// The place of what it depends on, counted from 0.
+    /// The index of its dependency.
     pub depends_on: usize,
-    /// What that is.
+    /// The word for the dependency's kind.
     pub depends_on_kind: &'static str,
 }
 
-/// Why a handle or a range of a module is refused (naga's `InvalidHandleError`).
+/// An invalid handle or range of a module (naga's `InvalidHandleError`).
 #[derive(Clone, Copy, PartialEq, Eq, Debug, Error)]
 pub enum InvalidHandleError {
-    /// What a handle names is not there.
+    /// A handle is out of bounds.
     #[error(transparent)]
     BadHandle(BadHandle),
-    /// An item depends on one that doesn't come before it.
+    /// An item depends on one that does not precede it.
     #[error(transparent)]
     ForwardDependency(FwdDepError),
-    /// A range is out of order, or not in its arena.
+    /// A range is reversed or out of bounds.
     #[error(transparent)]
     BadRange(BadRangeError),
 }

@@ -1,4 +1,4 @@
-//! What global expressions name.
+//! Handles of global expressions.
 
 ghost use Rattle.std.specs.Prelude.{◌≡◌, option_and_then};
 ghost use Rattle.std.specs.Option.{MatchOption};
@@ -19,15 +19,15 @@ fn named_missing(expression: &Expression, bounds: &Bounds) -> Option<HandleFault
     bounds.missing_if(item_of(expression))
 }
 
-// The fault of what the constant or the override that a global expression names begins as, if the expression does not come
-// after it.
+// The error of the initializer of the constant or the override that a global expression references, if it does not precede
+// the expression.
 fn init_forward(module: &Module, expression: &Expression, index: usize) -> Option<HandleFault>
     ensures { result ≡ init_forward (module_view «module».now) index (expression_view expression.now) }
 {
     forward(ItemKind::Expression, index, init_named(module, expression))
 }
 
-// Global expressions of a module.
+// The global expressions of a module.
 #[derive(Drop)]
 struct Globals<'a> {
     module: &'a Module,
@@ -50,8 +50,8 @@ impl ItemCheck<Expression> for Globals<'_> {
     }
 }
 
-/// The fault of what a global expression names beside its operands, if it is not there, or of what that begins as, if it
-/// does not come before the expression.
+/// The error of a handle of a global expression, operands aside, if it is out of bounds, or if the initializer of the item does
+/// not precede the expression.
 pub(crate) fn fault_of_expressions(module: &Module) -> Option<HandleFault>
     ensures { MatchOption result (GlobalExpressionsOK (module_view «module».now)) (IsFaultIn (module_view «module».now)) }
 {

@@ -1,4 +1,4 @@
-//! What functions name.
+//! Handles of functions.
 
 ghost use Rattle.std.specs.Option.{MatchOption};
 ghost use Rattle.ir_items.specs.found.View.{module_view};
@@ -8,7 +8,7 @@ use crate::lists::{ItemCheck, fault_of_values};
 use ir_items::{Function, Module};
 use typing_references::{HandleFault, forward_callee, forward_operand, missing_in_function};
 
-// Functions of a module.
+// The functions of a module.
 #[derive(Drop)]
 struct Functions<'a> {
     module: &'a Module,
@@ -34,7 +34,7 @@ impl ItemCheck<Function> for Functions<'_> {
     }
 }
 
-/// The fault of what a function names, if it is not there or, where it has to, does not come before.
+/// The error of a handle of a function, if it is out of bounds or a required forward dependency.
 pub(crate) fn fault_of_functions(module: &Module) -> Option<HandleFault>
     ensures { MatchOption result (FunctionsOK (module_view «module».now)) (IsFaultIn (module_view «module».now)) }
 {

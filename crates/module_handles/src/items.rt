@@ -1,4 +1,4 @@
-//! What constants, overrides, global variables, special types and the leaf of filters name.
+//! Handles of constants, overrides, global variables, special types and of the leaf of diagnostic filters.
 
 ghost use Rattle.std.specs.Prelude.{◌≡◌, map, option_and_then};
 ghost use Rattle.std.specs.Option.{MatchOption, option_or};
@@ -20,7 +20,7 @@ use ir_kinds::PredeclaredType;
 use spec_expressions::{ItemKind, Target};
 use typing_references::{Bounds, HandleFault};
 
-// The first of the types of what built-in functions answer that is not there.
+// The first result type of predeclared functions that is out of bounds.
 fn predeclared_missing(
     predeclared: &IndexMap<PredeclaredType, Handle<key::IrType>>,
     there: usize,
@@ -93,7 +93,7 @@ fn variable_missing(variable: &GlobalVariable, bounds: &Bounds) -> Option<Handle
     bounds.missing_expression_if(variable.init)
 }
 
-// What items that name types and global expressions alone may name.
+// Handles of items that reference only types and global expressions.
 #[derive(Drop)]
 struct Outside {
     bounds: Bounds,
@@ -141,8 +141,8 @@ impl ItemCheck<GlobalVariable> for Outside {
     }
 }
 
-/// The fault of what constants, overrides, global variables, the special types or the leaf of filters name, if it is not
-/// there.
+/// The error of a handle of constants, overrides, global variables, special types or the diagnostic filter leaf, if it is out of
+/// bounds.
 pub(crate) fn fault_of_items(module: &Module) -> Option<HandleFault>
     ensures { MatchOption result (ItemsOK (module_view «module».now)) (IsFaultIn (module_view «module».now)) }
 {

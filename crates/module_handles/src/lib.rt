@@ -1,9 +1,9 @@
-//! Whether the handles of a module are in order: the first of its checks, after which handles may be followed; what the items
-//! that types and global expressions name are of and begin as; and why handles are refused. The check takes no memory.
-//! `spec_expressions` says what is required.
+//! The check of a module's handles: the first check, after which every handle can be dereferenced. Also the types and initializers
+//! of the items that types and global expressions reference, and the errors of handles. The check allocates nothing.
+//! `spec_expressions` states the requirements.
 //!
-//! What a module whose handles are in order gives to the typing of expressions and to their kinds, as they require it
-//! ([`order_laws`]); what else it gives say the laws of `typing_handles`.
+//! [`order_laws`] states what valid handles imply for type inference and expression kinds, as these require it;
+//! further consequences are the laws of `typing_handles`.
 #![tactic(auto)]
 
 mod entries;

@@ -1,4 +1,4 @@
-//! What is found first in a list.
+//! Searches for the first error in a list.
 
 ghost use Rattle.std.specs.Prelude.{◌≡◌};
 ghost use Rattle.std.specs.Option.{MatchOption};
@@ -13,7 +13,7 @@ use ir_arena::handle::Handle;
 use spec_expressions::ItemKind;
 use typing_references::HandleFault;
 
-// What is required of the items of a list, each at its place.
+// The check of the items of a list, each at its index.
 pub(crate) trait ItemCheck<T> {
     ghost use Rattle.std.specs.Prelude.{ℕ};
     ghost use Rattle.typing_references.specs.declared.fault.HandleFault.{HandleFault};
@@ -22,12 +22,12 @@ pub(crate) trait ItemCheck<T> {
 
     ghost fails: { Self → ℕ → T → HandleFault → Type 0 };
 
-    // The fault of an item, if it has one.
+    // The error of an item, if it has one.
     fn check(&self, index: usize, item: &T) -> Option<HandleFault>
         ensures { MatchOption result (passes self.now index item.now) (fails self.now index item.now) };
 }
 
-// The first fault of the values of an arena.
+// The first error of the values of an arena.
 pub(crate) fn fault_of_values<T, K, C: ItemCheck<T>>(
     check: &C,
     values: &Arena<T, K>,
@@ -43,7 +43,7 @@ pub(crate) fn fault_of_values<T, K, C: ItemCheck<T>>(
     None
 }
 
-// The first fault of the items of a list.
+// The first error of the items of a list.
 pub(crate) fn fault_of_items<T, C: ItemCheck<T>>(check: &C, items: &[T]) -> Option<HandleFault>
     ensures { MatchOption result (AllPass (C.passes check.now) items.now) (SomeFails (C.fails check.now) items.now) }
 {
@@ -56,7 +56,7 @@ pub(crate) fn fault_of_items<T, C: ItemCheck<T>>(check: &C, items: &[T]) -> Opti
     None
 }
 
-// The first of the places that are given which does not come before the end.
+// The first of the given indices that is not below a bound.
 fn given_past(places: &[Option<usize>], end: usize) -> Option<usize>
     ensures { result ≡ first_past end (given places.now) }
 {
@@ -70,7 +70,7 @@ fn given_past(places: &[Option<usize>], end: usize) -> Option<usize>
     None
 }
 
-// The fault of the first of the places that are given at which there is none of so many items.
+// The error of the first of the given indices that is out of bounds.
 pub(crate) fn first_missing(
     kind: ItemKind,
     there: usize,

@@ -1,4 +1,4 @@
-//! Types and values of what is named, and what does not come before.
+//! Types and initializers of referenced items, and forward dependencies.
 
 ghost use Rattle.std.specs.Prelude.{◌≡◌, option_map, option_and_then, slice_get};
 ghost use Rattle.ir_types.specs.judged.ExpressionPlain.{expression_view};
@@ -12,7 +12,7 @@ use ir_items::{Constant, Expression, Module, Override, key};
 use spec_expressions::{ItemKind, Target};
 use typing_references::{HandleFault, item_of};
 
-// The constant at a handle, if it is there.
+// The constant at a handle, if it exists.
 #[tactic(auto, using(typing_references::proofs::Entries::entries))]
 fn constant_at(module: &Module, handle: Handle<key::Constant>) -> Option<&Constant>
     ensures { option_map (λ x. constant_view x.now) result ≡ slice_get (module_view «module».now).constants handle }
@@ -23,7 +23,7 @@ fn constant_at(module: &Module, handle: Handle<key::Constant>) -> Option<&Consta
     }
 }
 
-// The override at a handle, if it is there.
+// The override at a handle, if it exists.
 #[tactic(auto, using(typing_references::proofs::Entries::entries))]
 fn override_at(module: &Module, handle: Handle<key::Override>) -> Option<&Override>
     ensures { option_map (λ x. override_view x.now) result ≡ slice_get (module_view «module».now).overrides handle }
@@ -34,7 +34,7 @@ fn override_at(module: &Module, handle: Handle<key::Override>) -> Option<&Overri
     }
 }
 
-/// The place of what is named.
+/// The index of a handle.
 pub fn place_of<K>(handle: Option<Handle<K>>) -> Option<usize>
     ensures { result ≡ handle }
 {
@@ -44,7 +44,7 @@ pub fn place_of<K>(handle: Option<Handle<K>>) -> Option<usize>
     }
 }
 
-/// The type that an item is, or has.
+/// The type of an item.
 pub fn type_of(module: &Module, item: Target) -> Option<Handle<key::IrType>>
     ensures { result ≡ type_of (module_view «module».now) item }
 {
@@ -65,7 +65,7 @@ pub fn type_of(module: &Module, item: Target) -> Option<Handle<key::IrType>>
     }
 }
 
-/// The global expression that a constant or an override begins as.
+/// The initializer of a constant or an override.
 pub fn init_of(module: &Module, item: Target) -> Option<Handle<key::Expression>>
     ensures { result ≡ init_of (module_view «module».now) item }
 {
@@ -86,7 +86,7 @@ pub fn init_of(module: &Module, item: Target) -> Option<Handle<key::Expression>>
     }
 }
 
-/// The type that a global expression names, or that of the constant or the override which it names.
+/// The type that a global expression references, or that of the constant or override which it references.
 pub fn type_named(module: &Module, expression: &Expression) -> Option<usize>
     ensures { result ≡ option_and_then (type_of (module_view «module».now)) (expression_item (expression_view expression.now)) }
 {
@@ -96,7 +96,7 @@ pub fn type_named(module: &Module, expression: &Expression) -> Option<usize>
     }
 }
 
-/// What the constant or the override that a global expression names begins as.
+/// The initializer of the constant or override that a global expression references.
 pub fn init_named(module: &Module, expression: &Expression) -> Option<usize>
     ensures { result ≡ option_and_then (init_of (module_view «module».now)) (expression_item (expression_view expression.now)) }
 {
@@ -106,7 +106,7 @@ pub fn init_named(module: &Module, expression: &Expression) -> Option<usize>
     }
 }
 
-/// The fault of an item that depends on one, if that does not come before it.
+/// The error of an item whose dependency does not precede it.
 pub fn forward(kind: ItemKind, index: usize, depends_on: Option<usize>) -> Option<HandleFault>
     ensures { result ≡ option_and_then (forward kind index) depends_on }
 {

@@ -1,4 +1,4 @@
-//! What says how many elements a type has.
+//! Overrides that size arrays.
 
 ghost use Rattle.std.specs.Prelude.{◌≡◌};
 ghost use Rattle.ir_items.specs.found.View.{module_view};
@@ -12,7 +12,7 @@ use ir_items::{ArraySize, Module, TypeInner, key};
 use spec_expressions::{ItemKind, Target};
 use typing_references::HandleFault;
 
-// The override that says how many there are.
+// The override that an array size references.
 fn pending_in(size: ArraySize) -> Option<Handle<key::Override>>
     ensures { result ≡ pending_in size }
 {
@@ -22,7 +22,7 @@ fn pending_in(size: ArraySize) -> Option<Handle<key::Override>>
     }
 }
 
-/// The override that says how many elements a type has.
+/// The override that gives the length of an array type.
 pub fn pending_of(inner: &TypeInner) -> Option<Handle<key::Override>>
     ensures { result ≡ pending_of (inner_view inner.now) }
 {
@@ -43,7 +43,7 @@ pub fn pending_of(inner: &TypeInner) -> Option<Handle<key::Override>>
     }
 }
 
-/// The same as an item.
+/// The override that gives the length of an array type, as an item.
 pub fn counted_by(inner: &TypeInner) -> Option<Target>
     ensures { result ≡ counted_by (inner_view inner.now) }
 {
@@ -53,7 +53,7 @@ pub fn counted_by(inner: &TypeInner) -> Option<Target>
     }
 }
 
-/// The fault of the type of the override that says how many elements there are, if the type does not come after it.
+/// The error of the type of the override that gives an array's length, if it does not precede the array type.
 pub fn counted_forward(module: &Module, inner: &TypeInner, index: usize) -> Option<HandleFault>
     ensures { result ≡ counted_forward (module_view «module».now) index (inner_view inner.now) }
 {

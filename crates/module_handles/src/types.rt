@@ -1,4 +1,4 @@
-//! What types name.
+//! Handles of types.
 
 ghost use Rattle.std.specs.Prelude.{◌≡◌, ◌<◌, [], ◌∷◌, length, map};
 ghost use Rattle.std.specs.Option.{MatchOption, option_or};
@@ -19,7 +19,7 @@ use ir_items::{Expression, Module, StructMember, TypeInner, key};
 use spec_expressions::{ItemKind, Target};
 use typing_references::{Bounds, HandleFault};
 
-// The first of the types of members that does not come before the end.
+// The first member type that is not below a bound.
 fn member_past(members: &[StructMember], end: usize) -> Option<usize>
     ensures { result ≡ first_past end (map (λ m. m.ty) members.now) }
 {
@@ -31,7 +31,7 @@ fn member_past(members: &[StructMember], end: usize) -> Option<usize>
     None
 }
 
-// The same of a type that elements have.
+// An element type that is not below a bound.
 fn base_past(base: Handle<key::IrType>, end: usize) -> Option<usize>
     ensures { result ≡ first_past end (base ∷ []) }
 {
@@ -42,7 +42,7 @@ fn base_past(base: Handle<key::IrType>, end: usize) -> Option<usize>
     }
 }
 
-// The same of all types that a type is built of.
+// The first of the types a type references that is not below a bound.
 fn built_past(inner: &TypeInner, end: usize) -> Option<usize>
     ensures { result ≡ first_past end (named_types (inner_view inner.now)) }
 {
@@ -64,7 +64,7 @@ fn built_past(inner: &TypeInner, end: usize) -> Option<usize>
     }
 }
 
-// The fault of that override, if it is not there.
+// The error of the override that gives a type's length, if it is out of bounds.
 fn pending_missing(inner: &TypeInner, bounds: &Bounds) -> Option<HandleFault>
     ensures { result ≡ pending_missing bounds.now (inner_view inner.now) }
 {
@@ -74,7 +74,7 @@ fn pending_missing(inner: &TypeInner, bounds: &Bounds) -> Option<HandleFault>
     }
 }
 
-// The fault of a type that the one at a place is built of, and does not come after.
+// The error of a type that the one at an index references, if it does not precede it.
 fn built_forward(inner: &TypeInner, index: usize) -> Option<HandleFault>
     ensures { result ≡ built_forward index (inner_view inner.now) }
 {
@@ -88,7 +88,7 @@ fn built_forward(inner: &TypeInner, index: usize) -> Option<HandleFault>
     }
 }
 
-// What is wrong with a type by itself.
+// The error of a type's own handles.
 fn type_fault(module: &Module, inner: &TypeInner, index: usize) -> Option<HandleFault>
     ensures { result ≡ option_or (pending_missing (outside_functions (module_view «module».now)) (inner_view inner.now))
         (option_or (built_forward index (inner_view inner.now)) (counted_forward (module_view «module».now) index (inner_view inner.now))) }
@@ -102,8 +102,8 @@ fn type_fault(module: &Module, inner: &TypeInner, index: usize) -> Option<Handle
     counted_forward(module, inner, index)
 }
 
-// How many global expressions are looked through for a type: all up to the one that the override begins as which says how
-// many elements there are.
+// The number of global expressions to check for a type: all up to the initializer of the override that gives the type's
+// length.
 fn looked_through(module: &Module, inner: &TypeInner) -> usize
     ensures { result ≡ looked_through (module_view «module».now) (inner_view inner.now) }
 {
@@ -116,14 +116,14 @@ fn looked_through(module: &Module, inner: &TypeInner) -> usize
     }
 }
 
-// The fault of the type that a global expression names, if the one at a place does not come after it.
+// The error of the type that a global expression references, if it does not precede the type at an index.
 fn named_forward(module: &Module, expression: &Expression, index: usize) -> Option<HandleFault>
     ensures { result ≡ named_forward (module_view «module».now) index (expression_view expression.now) }
 {
     forward(ItemKind::Type, index, type_named(module, expression))
 }
 
-// The first fault of the types that the global expressions between two places name.
+// The first error of the types that the global expressions in a range reference.
 fn named_between(module: &Module, index: usize, from: usize, end: usize) -> Option<HandleFault>
     ensures { MatchOption result (NamesBefore (module_view «module».now) index from end) (NamesForward (module_view «module».now) index from end) }
 {
@@ -137,7 +137,7 @@ fn named_between(module: &Module, index: usize, from: usize, end: usize) -> Opti
     None
 }
 
-// What the type at a place is made of.
+// The `TypeInner` of the type at an index.
 fn type_at(module: &Module, index: usize) -> &TypeInner
     requires within { index < length (module_view «module».now).types }
     requires in_range { index < 4294967295 }
@@ -146,8 +146,8 @@ fn type_at(module: &Module, index: usize) -> &TypeInner
     &module.types[Handle::at(index)].inner
 }
 
-/// The fault of what a type names, if it is not there or does not come before it. Each global expression is looked through
-/// once: what one type was found to come after, those after it come after too.
+/// The error of a handle of a type, if it is out of bounds or a forward dependency. Each global expression is visited
+/// once: types that precede one type precede all later types too.
 pub(crate) fn fault_of_types(module: &Module) -> Option<HandleFault>
     ensures { MatchOption result (TypesOK (module_view «module».now)) (IsFaultIn (module_view «module».now)) }
 {

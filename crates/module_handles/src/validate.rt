@@ -1,4 +1,4 @@
-//! The handles of a whole module.
+//! The check of all handles of a module.
 
 ghost use Rattle.std.specs.Prelude.{◌≡◌, MatchResult};
 ghost use Rattle.std.specs.Option.{MatchOption};
@@ -22,7 +22,7 @@ use ir_items::{Module, key};
 use spec_expressions::ItemKind;
 use typing_references::{HandleFault, forward_operand, forward_parent};
 
-// The word for what an item is.
+// The word for an item's kind.
 fn word(kind: ItemKind) -> &'static str
     ensures { result.now ≡ word_of kind }
 {
@@ -38,7 +38,7 @@ fn word(kind: ItemKind) -> &'static str
     }
 }
 
-// The error that tells a fault.
+// The public error of an internal one.
 fn error_of(fault: HandleFault) -> InvalidHandleError
     ensures { (m : PlainModule) → IsFaultIn m fault → IsHandleError m result }
 {
@@ -64,21 +64,21 @@ fn error_of(fault: HandleFault) -> InvalidHandleError
     }
 }
 
-// The fault of a parent that does not come before its filter.
+// The error of a parent that does not precede its diagnostic filter.
 fn fault_of_filters(module: &Module) -> Option<HandleFault>
     ensures { MatchOption result (ParentsPrecede ((module_view «module».now).filters)) (IsFaultIn (module_view «module».now)) }
 {
     forward_parent(&module.diagnostic_filters)
 }
 
-// The fault of an operand that does not come before its global expression.
+// The error of an operand that does not precede its global expression.
 fn fault_of_operands(module: &Module) -> Option<HandleFault>
     ensures { MatchOption result (OperandsPrecede ((module_view «module».now).global_expressions)) (IsFaultIn (module_view «module».now)) }
 {
     forward_operand(&module.global_expressions)
 }
 
-// The first fault of the handles of a module.
+// The first error of a module's handles.
 #[tactic(auto, using(crate::proofs::Whole::whole))]
 fn fault_of_module(module: &Module) -> Option<HandleFault>
     ensures { MatchOption result (HandlesOK (module_view «module».now)) (IsFaultIn (module_view «module».now)) }
@@ -104,15 +104,15 @@ fn fault_of_module(module: &Module) -> Option<HandleFault>
     fault_of_entries(module)
 }
 
-/// Whether the handles of a module are in order (naga's `validate_module_handles`): all that is named is there, ranges lie
-/// in their lists, and each item comes after those that it depends on. No handle is followed that was not checked. It takes
-/// time as the module is long.
+/// Whether the handles of a module are valid (naga's `validate_module_handles`): every handle is in bounds, every range is in
+/// bounds, and each item follows its dependencies. No unchecked handle is dereferenced. The time is linear in
+/// the size of the module.
 ///
 /// # Errors
 ///
-/// [`InvalidHandleError::BadHandle`] where an item is named that isn't there, [`InvalidHandleError::ForwardDependency`]
-/// where an item doesn't come after one that it depends on, and [`InvalidHandleError::BadRange`] where a range of
-/// expressions is out of order or not in its function. Where several faults stand, it is one of them.
+/// [`InvalidHandleError::BadHandle`] if a handle is out of bounds, [`InvalidHandleError::ForwardDependency`]
+/// if an item does not follow one of its dependencies, and [`InvalidHandleError::BadRange`] if a range of
+/// expressions is reversed or out of bounds. If several conditions hold, it is one of them.
 pub fn validate_module_handles(module: &Module) -> Result<(), InvalidHandleError>
     ensures { MatchResult result (λ _. HandlesOK (module_view «module».now)) (IsHandleError (module_view «module».now)) }
 {

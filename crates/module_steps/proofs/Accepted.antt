@@ -1,4 +1,4 @@
--- What is reported of types, type by type.
+-- The `TypeInfo`s of types, one by one.
 use Rattle.std.proofs.Common.{◌≡◌, ◌<◌, ◌≤◌, ◌+◌, ◌++◌, inl, inr, ℕ, zero, suc, List, [], ◌∷◌, Some, Bool, length, slice_get, refl, sym, ap, subst, ◌∙◌, arith, length-append}
 use Rattle.ir_arena.specs.declared.span.Span.{Span}
 use Rattle.ir_flags.specs.declared.settings.Capabilities.{Capabilities}
@@ -49,7 +49,7 @@ pub accepted_all : (k : Capabilities) (resolved : Bool) (entries : List (IrType 
     → AreAccepted k resolved (types_view entries) infos
 accepted_all k resolved entries infos place accepted all = subst (AreAcceptedBelow k resolved (types_view entries) infos) (all ∙ sym (many_types entries)) accepted
 
--- what stands at a place of a list that reaches it
+-- the element at an index of a list that is long enough
 there : {A : Type 0} (xs : List A) (k : ℕ) → k < length xs → (x : A) × (slice_get xs k ≡ Some x)
 there [] k lt = absurd (omega arith)
 there (x ∷ xs) zero lt = (x, refl)

@@ -1,4 +1,4 @@
--- What handles in order give to the steps after, and what errors of handles refute.
+-- What valid handles imply for the later steps, and what errors of handles refute.
 use Rattle.std.proofs.Common.{inl, inr, ℕ, suc, List, [], ◌∷◌, Contains, arith}
 use Rattle.module_handles.specs.declared.error.InvalidHandleError.{InvalidHandleError}
 use Rattle.module_handles.specs.declared.error.InvalidHandleError.TheVariants as error

@@ -4,12 +4,12 @@ use Rattle.typing_layout.specs.judged.Parts.{TreeMember, member_list, Everywhere
 use Rattle.typing_layout.specs.judged.Tree.{Tree, scalar, vector, matrix, cooperative_matrix, atomic, pointer, value_pointer, array, struct, image, sampler, acceleration_structure, ray_query, binding_array, Members, no_members, member}
 use Rattle.module_type_checks.specs.Placed.{AtPlace}
 
--- each member has something everywhere
+-- each member has the property everywhere
 pub everywhere_in : (P : Tree → Type 0) (ms : Members) → ((k : ℕ) → AtPlace (λ k p. Everywhere P p.of_type) (member_list ms) k) → EverywhereIn P ms
 everywhere_in P no_members h = tt
 everywhere_in P (member t b o ms) h = (let here : TreeMember = record { of_type = t; binding = b; offset = o } in h 0 here refl, everywhere_in P ms (λ k. h (suc k)))
 
--- a member has something somewhere
+-- a member has the property somewhere
 pub somewhere_in : (P : Tree → Type 0) (ms : Members) (k : ℕ) (p : TreeMember) → slice_get (member_list ms) k ≡ Some p → Somewhere P p.of_type → SomewhereIn P ms
 somewhere_in P no_members k p e h = cc
 somewhere_in P (member t b o ms) zero p e h = let q : p ≡ record { of_type = t; binding = b; offset = o } = cc in inl (subst (λ (x : TreeMember). Somewhere P x.of_type) q h)

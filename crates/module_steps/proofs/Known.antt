@@ -1,4 +1,4 @@
--- What is known where global variables are judged.
+-- The preconditions of the check of global variables.
 use Rattle.std.proofs.Common.{◌≡◌, ◌<◌, ℕ, zero, suc, List, [], ◌∷◌, Option, Some, None, IfSome, length, slice_get, refl, arith}
 use Rattle.module_globals.specs.There.{IsThere}
 use Rattle.ir_items.specs.judged.GlobalPlain.{PlainGlobal}
@@ -9,7 +9,7 @@ use Rattle.spec_expressions.specs.judged.ModuleReferences as part
 use Rattle.spec_expressions.specs.judged.References.{item, operand}
 use Rattle.spec_expressions.specs.declared.target.Target.TheVariants as target
 
--- what stands at a place of a list
+-- the element at an index of a list
 at_place : {A : Type 0} (xs : List A) (k : ℕ) → k < length xs → (x : A) × (slice_get xs k ≡ Some x)
 at_place [] k lt = absurd (omega (arith, lt))
 at_place (x ∷ xs) zero lt = (x, refl)
@@ -20,7 +20,7 @@ module _ (m : PlainModule) (ok : HandlesOK m) (handle : ℕ) where
   value_there v at None is = tt
   value_there v at (Some e) is = ok.there (part.variable handle) (operand e) (part.variable_value at is)
 
-  -- the variable at a handle is there, with what it names
+  -- the variable at a handle exists, with its type and initializer
   pub is_there : handle < length m.globals → IsThere m handle
   is_there lt =
       let here = at_place m.globals handle lt in

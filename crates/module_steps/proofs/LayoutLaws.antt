@@ -29,7 +29,7 @@ struct_at c ms span handle own = record { span = span; is = own.is }
 
 -- ---- faults
 
--- what is broken inside a member is broken inside the struct
+-- an invalid layout inside a member is one inside the struct
 pub broken_part : (breaks : Disalignment → Tree → Type 0) (c : TypeContext) (ms : List PlainMember) (handle place : ℕ) (placed : Placed) (e : ℕ × Disalignment) (own : IsStructAt c ms handle) (at : IsPlaced c ms place placed)
     → IsBroken breaks (types_in c) (tree_in c at.m.ty) e → IsBroken breaks (types_in c) (tree_in c handle) e
 broken_part breaks c ms handle place placed e own at h =

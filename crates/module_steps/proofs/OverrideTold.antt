@@ -1,4 +1,4 @@
--- What is reported of the first override that is refused.
+-- The error of the first invalid override.
 use Rattle.std.proofs.Common.{◌≡◌, ◌<◌, ℕ, Bool, length, sym, subst, arith}
 use Rattle.module_constants.specs.Overrides.{IsOverrideFault}
 use Rattle.module_constants.specs.declared.override_error.OverrideError.{OverrideError}
@@ -11,7 +11,7 @@ use Rattle.module_steps.specs.OverrideRefusals.{IsReportedAt, IsRefusal}
 use Rattle.module_steps.specs.declared.listed_overrides.InvalidOverride.{InvalidOverride}
 use Rattle.spec_expressions.specs.judged.Overrides.{OverrideOK}
 
--- the refusal of the first override that is not accepted, as one of all
+-- the error of the first invalid override, as the error of the list
 pub refusal_reported : (resolved : Bool) (m : PlainModule) (place handle : ℕ) (r : Refusal OverrideError) (told : Refusal InvalidOverride) → handle ≡ place → place < length m.overrides
     → ((earlier : ℕ) → earlier < place → OverrideOK resolved m earlier) → IsOverrideRefusal resolved m handle r → IsReportedAt handle r told → IsRefusal resolved m told
 refusal_reported resolved m place handle (refusal.Memory e) (refusal.Memory d) here lt before wrong same = tt

@@ -1,4 +1,4 @@
--- Each refusal is of the step that is reached.
+-- Each error is that of the first failing step.
 use Rattle.std.proofs.Common.{◌≡◌, Bool, inl, inr, List, sym, subst}
 use Rattle.ir_flags.specs.declared.settings.Settings.{Settings}
 use Rattle.module_constants.specs.Constants.{IsConstantFault}

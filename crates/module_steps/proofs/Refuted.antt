@@ -1,4 +1,4 @@
--- A type with a fault is not accepted.
+-- A type with an error is invalid.
 use Rattle.std.proofs.Common.{◌≡◌, ◌≤◌, ◌⊎◌, inl, inr, ℕ, zero, suc, List, [], ◌∷◌, Some, None, IfSome, Bool, true, false, true≢false, slice_get, option_and_then, refl, sym, ap, subst, ◌∙◌, arith}
 use Rattle.ir_flags.specs.declared.settings.Capabilities.{Capabilities}
 use Rattle.ir_kinds.specs.declared.bindings.Binding.TheVariants as bound
@@ -59,7 +59,7 @@ struct_refuted : (c : TypeContext) (ms : List PlainMember) (span : ℕ) (e : Typ
 struct_refuted c ms span error.EmptyStruct f ok = ok.some (ap (λ xs. member_list (members_by (tree_in c) xs)) f)
 struct_refuted c ms span e f ok = member_refuted c ms span f.0 f.1 e f.3 (ok.each f.0 (part_of (tree_in c) f.1) (part_at (tree_in c) ms f.0 f.1 f.2))
 
--- ---- sources of a blend
+-- ---- blend sources
 
 some_is : {A : Type 0} (x y : A) → Some x ≡ Some y → x ≡ y
 some_is x y e = cc
@@ -80,7 +80,7 @@ member_there (m ∷ ms) (suc k) source e = member_there ms k source e
 source_there : (ms : List PlainMember) (k source : ℕ) (m : PlainMember) → slice_get ms k ≡ Some m → blend_source m.binding ≡ Some source → source_at ms k ≡ Some source
 source_there ms k source m at is = ap (option_and_then (λ (x : PlainMember). blend_source x.binding)) at ∙ is
 
--- a member that is a source is the only one that is
+-- a member with a blend source is the only one with that source
 only_there : (ms : List PlainMember) (source place ty : ℕ) (m : PlainMember) → IsOnlySource ms source place m → IsSource ms source ty → ty ≡ m.ty
 only_there ms source place ty m only at =
     let same : at.place ≡ place = only.only at.place (source_there ms at.place source at.m at.at at.is) in

@@ -1,4 +1,4 @@
--- What the answers of the parts of a check say of its steps.
+-- From the results of the parts of a check to its steps.
 use Rattle.std.proofs.Common.{◌≡◌, ◌<◌, ℕ, Bool, zero, suc, List, [], ◌∷◌, Option, Some, None, length, slice_get, refl, arith}
 use Rattle.ir_flags.specs.declared.settings.Settings.{Settings}
 use Rattle.ir_items.specs.judged.Plain.{PlainModule}
@@ -25,7 +25,7 @@ use Rattle.typing_layout.specs.declared.info.TypeInfo.{TypeInfo}
 use Rattle.typing_forms.specs.declared.form.Form.{Form}
 use Rattle.spec_expressions.specs.judged.Firsts.{FailsFirst}
 
--- what stands at a place of a list
+-- the element at an index of a list
 pub there : {A : Type 0} (xs : List A) (k : ℕ) → k < length xs → (x : A) × (slice_get xs k ≡ Some x)
 there [] k lt = absurd (omega (arith, lt))
 there (x ∷ xs) zero lt = (x, refl)

@@ -1,4 +1,4 @@
--- What the answers about values say of the steps.
+-- From the results of the checks of values to the steps.
 use Rattle.std.proofs.Common.{◌≡◌, ◌↔◌, ◌∙◌, ℕ, zero, suc, List, [], ◌∷◌, Some, Bool, false, IsTrue, length, map, slice_get, refl, sym, subst, true≢false, arith}
 use Rattle.module_constants.specs.Constants.{IsConstantFault}
 use Rattle.module_constants.specs.Expressions.{IsConstExpressionFault}
@@ -64,7 +64,7 @@ override_fails s resolved m Fault index asked first = record {
   fails = λ ok. first.not (ok asked);
 }
 
--- ---- where the settings are those of what is required
+-- ---- equal settings
 
 pub expressions_accepted : (s : Settings) (resolved : Bool) (c : GlobalContext) (m : PlainModule) → AreSettingsOf s resolved c → AreAccepted (GlobalExpressionOK c.capabilities c.overrides_resolved m) (length m.global_expressions) → StepPasses s resolved m expression
 expressions_accepted s resolved c m same all =
@@ -101,7 +101,7 @@ override_refused s resolved c m e same reached asked first =
     let own : OverrideFirst resolved m e = subst (λ (r : Bool). OverrideFirst r m e) same.overrides first in
     by_override s resolved m e reached (override_fails s resolved m (λ handle. IsOverrideFault resolved m handle e.error) e.id asked own) own.fault
 
--- ---- what is known where values are judged
+-- ---- preconditions of the checks of values
 
 many_forms : {A B : Type 0} (f : A → B) (xs : List A) → length (map f xs) ≡ length xs
 many_forms f [] = refl

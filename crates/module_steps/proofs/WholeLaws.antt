@@ -1,4 +1,4 @@
--- What is reported of types, from what is reported of their parts.
+-- The `TypeInfo` of a type, from those of its parts.
 use Rattle.std.proofs.Common.{◌≡◌, ℕ, Some, inr, Result, Ok, Err, MatchResult, map, refl, sym, ap, subst, ◌∙◌}
 use Rattle.ir_types.specs.judged.Plain.{PlainInner, struct as written_struct, plain, inner_view, member_view}
 use Rattle.ir_types.specs.declared.types.ArraySize.{ArraySize}

@@ -1,4 +1,4 @@
--- Why a module is refused.
+-- The errors of the check of a module.
 use Rattle.std.specs.Prelude.{◌≡◌, ◌⊎◌, ℕ, Bool, []}
 use Rattle.ir_flags.specs.declared.settings.Settings.{Settings}
 use Rattle.module_constants.specs.Constants.{IsConstantFault}
@@ -23,14 +23,14 @@ use Rattle.typing_infos.specs.declared.refusal.TypingRefusal.{TypingRefusal}
 use Rattle.typing_infos.specs.declared.refusal.TypingRefusal.TheVariants as typing
 use Rattle.typing_layout.specs.found.Held.{IsFaultOf}
 
--- a global expression has no type, or all have and it may not stand
+-- the type of a global expression can't be inferred, or all have types and this one is invalid
 abbrev pub IsExpressionRefused : Settings → (resolved : Bool) → PlainModule → (handle : ℕ) → ConstExpressionError → Type 0
 IsExpressionRefused s resolved m handle e =
     (IsFirstFailing s resolved m step.typing handle × IsUntyped m handle e)
     ⊎ (IsFirstFailing s resolved m step.expression handle × IsConstExpressionFault s.capabilities resolved m handle e)
 
--- Each error stands where its step is the first that fails, at the first item that fails it, which has the fault that the
--- error tells.
+-- Each error is that of the first failing step, at the first failing item, whose condition holds as the
+-- error says.
 abbrev pub IsModuleFault : Settings → (resolved : Bool) → PlainModule → ModuleError → Type 0
 IsModuleFault s resolved m (error.InvalidHandle e) = IsHandleError m e × ¬ HandlesOK m
 IsModuleFault s resolved m (error.Layouter e) = IsFirstFailing s resolved m step.layout e.ty × IsFaultOf (type_tree m.types e.ty) e.inner
@@ -39,17 +39,17 @@ IsModuleFault s resolved m (error.ConstExpression e) = IsExpressionRefused s res
 IsModuleFault s resolved m (error.Constant e) = IsFirstFailing s resolved m step.constant e.constant × IsConstantFault m e.constant e.error
 IsModuleFault s resolved m (error.Override e) = IsFirstFailing s resolved m step.override e.id × IsOverrideFault resolved m e.id e.error
 
--- a module is refused for a fault, with no span, or memory ran out
+-- the module has this error, with no span, or out of memory
 abbrev pub IsRefusal : Settings → (resolved : Bool) → PlainModule → Refusal ModuleError → Type 0
 IsRefusal s resolved m (refusal.Memory e) = Unit {0}
 IsRefusal s resolved m (refusal.Fault f) = IsModuleFault s resolved m (error_of f) × (spans_of f ≡ [])
 
--- what the typing refuses, as the error of the global expression
+-- the error of type inference, as the error of the global expression
 abbrev pub IsReportedAs : TypingRefusal → InvalidGlobalExpression → Type 0
 IsReportedAs (typing.Memory e) x = ⊥
 IsReportedAs (typing.Fault expression e) x = (x.expression ≡ expression) × (x.error ≡ constant.Typing e)
 
--- it ran out of memory
+-- out of memory
 abbrev pub IsOutOfMemory : TypingRefusal → Type 0
 IsOutOfMemory (typing.Memory e) = Unit {0}
 IsOutOfMemory (typing.Fault expression e) = ⊥

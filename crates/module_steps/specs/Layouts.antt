@@ -24,14 +24,14 @@ pub record IsStructAt (c : TypeContext) (members : List PlainMember) (handle : �
   pub span : ℕ
   pub is : tree_in c handle ≡ struct (members_by (tree_in c) members) span
 
--- the type at a handle is an array of elements of which this is known
+-- the type at a handle is an array of elements with these facts
 pub record IsArrayAt (c : TypeContext) (f : Facts) (stride handle : ℕ) : Type 0 where
   pub base : Tree
   pub count : ArraySize
   pub is : tree_in c handle ≡ array base count stride
   pub facts : AreFacts c base f
 
--- a member lies as its type requires
+-- a member's offset is valid for its type
 abbrev pub StoragePart : (place : ℕ) → TreeMember → Type 0
 StoragePart place p = FitsStorageBuffer p.of_type × (alignment p.of_type ∣ p.offset)
 
@@ -41,12 +41,12 @@ UniformPart ps place p = FitsUniformBuffer p.of_type × (uniform_alignment p.of_
 abbrev pub FitsAt : (place : ℕ) → TreeMember → Type 0
 FitsAt place p = FitsImmediates p.of_type
 
--- where the member before lets the next one begin
+-- the minimum offset of the next member
 abbrev pub free_before : Option TreeMember → ℕ
 free_before None = 0
 free_before (Some a) = free_after a a.of_type
 
--- an earlier type lies in uniform buffers, with this alignment
+-- an earlier type has a valid uniform layout, with this alignment
 pub record IsUniformAlignment (c : TypeContext) (ty a : ℕ) : Type 0 where
   pub laid : FitsUniformBuffer (tree_in c ty)
   pub aligned : a ≡ uniform_alignment (tree_in c ty)

@@ -1,4 +1,4 @@
--- What is reported of a module that is accepted.
+-- The results for a valid module.
 use Rattle.std.specs.Prelude.{◌≡◌, [], Bool, length}
 use Rattle.ir_flags.specs.declared.settings.Settings.{Settings}
 use Rattle.ir_items.specs.judged.Plain.{PlainModule}
@@ -8,7 +8,7 @@ use Rattle.spec_expressions.specs.judged.Context.{outside}
 use Rattle.typing_infos.specs.Types.{AreTypes}
 use Rattle.typing_layout.specs.found.Held.{AreLayouts}
 
--- The flags and the layout of each type, and the type of each global expression; nothing yet of functions and entry points.
+-- The flags and layout of each type and the type of each global expression; nothing yet for functions and entry points.
 pub record IsInfoOf (s : Settings) (resolved : Bool) (m : PlainModule) (info : ModuleInfo) : Type 0 where
   pub types : AreAccepted s.capabilities resolved m.types info.types.items
   pub layouts : AreLayouts m.types info.layouter

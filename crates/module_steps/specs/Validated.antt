@@ -1,4 +1,4 @@
--- Why the types of a module are refused.
+-- The errors of the check of a module's types.
 use Rattle.std.specs.Prelude.{◌≡◌, ◌<◌, ℕ, List, [], Some, Bool, length}
 use Rattle.ir_types.specs.found.Faults.{error_of, spans_of}
 use Rattle.ir_types.specs.declared.refusal.Refusal.{Refusal}
@@ -11,7 +11,7 @@ use Rattle.typing_layout.specs.found.Faults.{IsInnerFault}
 use Rattle.typing_layout.specs.declared.type_error.TypeError.{TypeError}
 use Rattle.typing_forms.specs.judged.Resolutions.{inner_at}
 
--- it has a fault, and is not accepted
+-- it has an error, and is invalid
 pub record IsRefusedFor (capabilities : Capabilities) (resolved : Bool) (types : List PlainType) (handle : ℕ) (e : TypeError) : Type 0 where
   pub i : PlainInner
   pub at : inner_at types handle ≡ Some i
@@ -21,13 +21,13 @@ pub record IsRefusedFor (capabilities : Capabilities) (resolved : Bool) (types :
 abbrev pub IsNextRefused : Capabilities → (resolved : Bool) → List PlainType → (handle : ℕ) → InvalidType → Type 0
 IsNextRefused capabilities resolved types handle e = (e.ty ≡ handle) × IsRefusedFor capabilities resolved types handle e.error
 
--- it is the first that is refused
+-- it is the first invalid type
 pub record IsFirstRefused (capabilities : Capabilities) (resolved : Bool) (types : List PlainType) (e : InvalidType) : Type 0 where
   pub within : e.ty < length types
   pub fault : IsRefusedFor capabilities resolved types e.ty e.error
   pub before : (handle : ℕ) → handle < e.ty → TypeOK capabilities resolved types handle
 
--- why not all types are accepted: one is refused, or there is no memory
+-- a type is invalid, or out of memory
 abbrev pub IsRefusal : Capabilities → (resolved : Bool) → List PlainType → Refusal InvalidType → Type 0
 IsRefusal capabilities resolved types (refusal.Memory e) = Unit {0}
 IsRefusal capabilities resolved types (refusal.Fault f) = IsFirstRefused capabilities resolved types (error_of f) × (spans_of f ≡ [])

@@ -1,4 +1,4 @@
--- Types that hold no other as a part.
+-- Types without elements or members.
 use Rattle.typing_layout.specs.judged.Tree.{Tree, scalar, vector, matrix, cooperative_matrix, atomic, pointer, value_pointer, array, struct, image, sampler, acceleration_structure, ray_query, binding_array}
 
 abbrev pub IsWhole : Tree → Type 0

@@ -1,4 +1,4 @@
-//! All global variables of a module.
+//! The check of all global variables of a module.
 
 ghost use Rattle.std.specs.Prelude.{IfErr, MatchResult, OnOk};
 ghost use Rattle.ir_items.specs.found.View.{module_view};
@@ -23,17 +23,17 @@ use thiserror::Error;
 use typing_forms::TypeResolution;
 use typing_layout::{ExpressionKindTracker, TypeInfo};
 
-/// A global variable that is refused (naga's `ValidationError::GlobalVariable`).
+/// An invalid global variable (naga's `ValidationError::GlobalVariable`).
 #[derive(Clone, Copy, PartialEq, Debug, Error)]
 #[error("global variable {global:?} is invalid: {error}")]
 pub struct InvalidGlobalVariable {
-    /// The variable.
+    /// The handle of the variable.
     pub global: Handle<key::GlobalVariable>,
-    /// What is wrong with it.
+    /// Its error.
     pub error: GlobalVariableError,
 }
 
-// Whether a module may have its global variables. Each is visited once.
+// Whether all global variables of a module are valid. Each is visited once.
 fn check_all(
     flags: ValidationFlags,
     context: &GlobalContext<'_>,
@@ -54,15 +54,15 @@ fn check_all(
     Ok(())
 }
 
-/// Whether a module may have its global variables (the part of naga's `Validator::validate` that speaks of them). Each is
+/// Whether all global variables of a module are valid (the part of naga's `Validator::validate` for global variables). Each is
 /// visited once, and so is each global expression.
 ///
-/// Requires that the handles of the module are in order, and that this is reported of its types and of its global expressions, as
-/// `ModuleValidator::validate` answers.
+/// Requires that the module's handles are valid, and that these are its `TypeInfo`s and the types of its global expressions, as
+/// `ModuleValidator::validate` returns them.
 ///
 /// # Errors
 ///
-/// The first variable that is refused, with a fault of its own and no span; or out of memory.
+/// The first invalid variable, with one of its errors and no span; or out of memory.
 pub fn validate_globals(
     alloc: Global,
     settings: Settings,

@@ -1,4 +1,4 @@
-//! Whether immediate data may have types.
+//! Whether types are allowed in immediate data.
 
 ghost use Rattle.std.specs.Prelude.{◌≡◌, ◌<◌, ℕ, All, length, map, MatchResult};
 ghost use Rattle.ir_types.specs.judged.Plain.{inner_view, member_view};
@@ -18,7 +18,7 @@ use ir_types::{StructMember, TypeInner, key};
 use module_type_checks::{TypeContext, member_at};
 use typing_layout::ImmediateError;
 
-// The scalars that a value is, without those of elements and members.
+// The scalar type of a scalar, vector, matrix or atomic.
 fn scalar_of(inner: &TypeInner) -> Option<Scalar>
     ensures { (tree : ℕ → Tree) → result ≡ tree_scalar (tree_by tree (inner_view inner.now)) }
 {
@@ -40,7 +40,7 @@ fn scalar_of(inner: &TypeInner) -> Option<Scalar>
     }
 }
 
-/// Of a type that holds no other.
+/// The check of a type without elements or members.
 pub(crate) fn immediates_of_whole(inner: &TypeInner) -> Result<(), ImmediateError>
     ensures { (tree : ℕ → Tree) → MatchResult result
         (λ _. IsScalarFit (tree_scalar (tree_by tree (inner_view inner.now))))
@@ -57,7 +57,7 @@ pub(crate) fn immediates_of_whole(inner: &TypeInner) -> Result<(), ImmediateErro
     }
 }
 
-// Of a member.
+// The check of a member.
 fn immediates_of_member(
     context: &TypeContext<'_>,
     handle: Handle<key::IrType>,
@@ -78,7 +78,7 @@ fn immediates_of_member(
         .immediates_compatibility
 }
 
-/// Of a struct.
+/// The check of a struct.
 pub(crate) fn immediates_of_struct(
     context: &TypeContext<'_>,
     handle: Handle<key::IrType>,

@@ -1,4 +1,4 @@
-//! What is reported of a type, from what is reported of the types before it.
+//! The `TypeInfo` of a type, given those of earlier types.
 
 ghost use Rattle.std.specs.Prelude.{◌≡◌, ◌<◌, ◌≤◌, ℕ, Some, All, length, map, MatchResult};
 ghost use Rattle.ir_types.specs.judged.Plain.{inner_view, member_view};
@@ -25,7 +25,7 @@ use module_type_checks::{
 };
 use typing_layout::{Alignment, Disalignment, LayoutCompatibility, TypeFlags, TypeInfo};
 
-// The layout in buffers of both kinds of a type that holds no other.
+// The layouts in uniform and storage buffers of a type without elements or members.
 fn layout_of_whole(
     context: &TypeContext<'_>,
     handle: Handle<key::IrType>,
@@ -49,7 +49,7 @@ fn layout_of_whole(
     }
 }
 
-// Of a type that holds no other.
+// The `TypeInfo` of a type without elements or members.
 fn info_of_whole(
     context: &TypeContext<'_>,
     handle: Handle<key::IrType>,
@@ -73,7 +73,7 @@ fn info_of_whole(
     }
 }
 
-// Of an array.
+// The `TypeInfo` of an array.
 fn info_of_array(
     context: &TypeContext<'_>,
     handle: Handle<key::IrType>,
@@ -95,7 +95,7 @@ fn info_of_array(
     }
 }
 
-// Of a struct.
+// The `TypeInfo` of a struct.
 fn info_of_struct(
     context: &TypeContext<'_>,
     handle: Handle<key::IrType>,
@@ -118,7 +118,7 @@ fn info_of_struct(
     }
 }
 
-// Of a type that is made of this.
+// The `TypeInfo` of a `TypeInner`.
 fn info_of_inner(
     context: &TypeContext<'_>,
     handle: Handle<key::IrType>,
@@ -154,8 +154,8 @@ fn info_of_inner(
     }
 }
 
-/// What is reported of the type at a handle, from what is reported of the types before it. It is reported of every type, also of one
-/// that is refused.
+/// The `TypeInfo` of the type at a handle, given those of earlier types. It is defined for every type, also for an invalid
+/// one.
 pub fn info_of(context: &TypeContext<'_>, handle: Handle<key::IrType>) -> TypeInfo
     requires known { IsKnown context.now }
     requires before { handle ≤ length context.now.infos.now }

@@ -1,6 +1,6 @@
-//! The checks of one item, of which the others are known.
+//! The checks of single items, given the results of the others.
 //!
-//! What a context says of capabilities does not count: they are the validator's.
+//! The capabilities of the context are ignored: the validator's own apply.
 
 ghost use Rattle.std.specs.Prelude.{◌<◌, ◌≤◌, length, MatchResult};
 ghost use Rattle.module_context.specs.OperandView.{IsKnown as IsKnownOfExpressions};
@@ -28,15 +28,15 @@ use typing_errors::{ConstExpressionError, ExpressionError};
 use typing_layout::{TypeError, TypeInfo};
 
 impl ModuleValidator {
-    /// What is reported of the type at a handle, if a module may have it, from what is reported of the types before it (naga's
+    /// The `TypeInfo` of the type at a handle if it is valid, given those of earlier types (naga's
     /// `Validator::validate_type`).
     ///
-    /// Requires that types go back, that what the context reports on types and layouts is theirs, and that it reports of each type
-    /// before this one.
+    /// Requires that types reference only earlier types, that the context's layouts and `TypeInfo`s are correct, and that it has a
+    /// `TypeInfo` for each type before this one.
     ///
     /// # Errors
     ///
-    /// A fault of the type: each is answered only where it occurs. Where several stand, it is one of them.
+    /// An error of the type, returned only if its condition holds. If several hold, it is one of them.
     pub fn validate_type(
         &self,
         context: &TypeContext<'_>,
@@ -60,15 +60,15 @@ impl ModuleValidator {
         validate_type(&own, handle)
     }
 
-    /// Whether a module may have the global expression at a handle (naga's `Validator::validate_const_expression`).
+    /// Whether the global expression at a handle is valid (naga's `Validator::validate_const_expression`).
     ///
-    /// Requires that what the module's constants, overrides and compositions name is there, and that what the context reports of
-    /// types and global expressions is reported of all of them.
+    /// Requires that the items referenced by the module's constants, overrides and `Compose` exist, and that the context
+    /// has all `TypeInfo`s and the kinds and forms of all global expressions.
     ///
     /// # Errors
     ///
-    /// Its value is known only when the shader runs, it was not worked out, it is a literal that may not be used, or a
-    /// composition that can't be made: each is answered only where it occurs.
+    /// It is a runtime expression, it was not evaluated, it is an invalid literal, or a `Compose` whose components do not
+    /// fit. An error is returned only if its condition holds.
     pub fn validate_const_expression(
         &self,
         context: &GlobalContext<'_>,
@@ -91,15 +91,15 @@ impl ModuleValidator {
         validate_const_expression(&own, handle)
     }
 
-    /// Whether the expression at a handle is accepted, and which stages may run it (naga's `Validator::validate_expression`).
+    /// Whether the expression at a handle is valid, and which stages may run it (naga's `Validator::validate_expression`).
     ///
-    /// Requires that what the context reports on types and of constants is reported of all of them.
+    /// Requires that the context has all `TypeInfo`s and all expression kinds.
     ///
     /// # Errors
     ///
-    /// [`ExpressionError::Literal`] and [`ExpressionError::Compose`] for a literal that may not be used and for a composition
-    /// that can't be made, [`ExpressionError::Other`] where what is required of an expression of another kind does not hold; each
-    /// is answered only where it occurs.
+    /// [`ExpressionError::Literal`] and [`ExpressionError::Compose`] for an invalid literal and for components that do not
+    /// compose the type, [`ExpressionError::Other`] for the failed requirement of any other expression. An error is
+    /// returned only if its condition holds.
     pub fn validate_expression(
         &self,
         context: &CheckContext<'_>,

@@ -1,6 +1,6 @@
-//! The checks of a module up to its global variables: its handles, its types, its global expressions, constants, overrides
-//! and variables, each step by itself, and why a module is refused; and what is reported of its types: what they may be used
-//! for, and whether a host can lay them out, in uniform and in storage buffers.
+//! The checks of a module up to its global variables: handles, types, global expressions, constants, overrides and
+//! global variables, each as a separate step, with the errors of each. Also the `TypeInfo`s of the module's types: type flags
+//! and layouts in uniform and storage buffers.
 #![tactic(auto)]
 
 mod error;

@@ -1,4 +1,4 @@
-//! All overrides of a module.
+//! The check of all overrides of a module.
 
 ghost use Rattle.std.specs.Prelude.{length, IfOk, IfErr};
 ghost use Rattle.module_constants.specs.Firsts.{AreAccepted};
@@ -14,17 +14,17 @@ use module_constants::{GlobalContext, OverrideError, OverrideIds, validate_overr
 use std::alloc::Global;
 use thiserror::Error;
 
-/// An override that is refused (naga's `ValidationError::Override`).
+/// An invalid override (naga's `ValidationError::Override`).
 #[derive(Clone, Copy, PartialEq, Debug, Error)]
 #[error("override {id:?} is invalid: {error}")]
 pub struct InvalidOverride {
-    /// The override.
+    /// The handle of the override.
     pub id: Handle<key::Override>,
-    /// What is wrong with it.
+    /// Its error.
     pub error: OverrideError,
 }
 
-// The refusal of an override, as one of all overrides.
+// The error of an override, as the error of the list.
 fn refusal_at(
     alloc: Global,
     id: Handle<key::Override>,
@@ -44,11 +44,11 @@ fn refusal_at(
     }
 }
 
-/// Whether a module may have its overrides. Each is visited once, with one bit for its id.
+/// Whether all overrides of a module are valid. Each is visited once; ids are kept in a bitset.
 ///
 /// # Errors
 ///
-/// The first that is refused, with a fault of its own and no span; or out of memory.
+/// The first invalid override, with one of its errors and no span; or out of memory.
 pub fn validate_overrides(
     alloc: Global,
     context: &GlobalContext<'_>,

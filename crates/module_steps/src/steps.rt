@@ -23,7 +23,7 @@ use typing_forms::TypeResolution;
 use typing_infos::{TypingRefusal, const_expression_types};
 use typing_layout::{Layouter, TypeInfo};
 
-/// The refusal of a module for a fault.
+/// The module error of an error.
 pub(crate) fn refused(
     alloc: Global,
     settings: Settings,
@@ -37,7 +37,7 @@ pub(crate) fn refused(
     Refusal::Fault(WithSpan::new(alloc, error))
 }
 
-/// Requires that the handles of a module are in order.
+/// Checks that the handles of a module are valid.
 pub fn check_handles(
     alloc: Global,
     settings: Settings,
@@ -59,7 +59,7 @@ pub fn check_handles(
     }
 }
 
-/// Lays out the types of a module.
+/// Computes the layouts of a module's types.
 pub fn lay_out(
     alloc: Global,
     settings: Settings,
@@ -87,7 +87,7 @@ pub fn lay_out(
     }
 }
 
-/// What is reported of the types of a module.
+/// Computes the `TypeInfo`s of a module's types.
 pub fn type_infos(
     alloc: Global,
     settings: Settings,
@@ -121,7 +121,7 @@ pub fn type_infos(
     }
 }
 
-// The refusal by the typing, as that of the global expression.
+// The error of type inference, as the error of the global expression.
 fn as_error(refusal: TypingRefusal) -> Result<InvalidGlobalExpression, AllocError>
     ensures told { IfOk result (IsReportedAs refusal) }
     ensures memory { OnErr result (IsOutOfMemory refusal) }
@@ -135,7 +135,7 @@ fn as_error(refusal: TypingRefusal) -> Result<InvalidGlobalExpression, AllocErro
     }
 }
 
-// The refusal of a module of which a global expression has no type.
+// The error of a module if the type of a global expression can't be inferred.
 fn untyped(
     alloc: Global,
     settings: Settings,
@@ -159,7 +159,7 @@ fn untyped(
     }
 }
 
-/// The types of the global expressions of a module.
+/// Infers the types of the global expressions of a module.
 pub fn expression_types(
     alloc: Global,
     settings: Settings,

@@ -1,4 +1,4 @@
-//! Whether a host can lay out types in storage buffers.
+//! Layouts of types in storage buffers.
 
 ghost use Rattle.std.specs.Prelude.{◌≡◌, ◌<◌, All, length, map, MatchResult};
 ghost use Rattle.ir_types.specs.judged.Plain.{member_view};
@@ -16,10 +16,10 @@ use ir_types::{StructMember, key};
 use module_type_checks::{Facts, TypeContext, member_at};
 use typing_layout::{Alignment, Disalignment, LayoutCompatibility, TypeFlags};
 
-/// What keeps a host from laying out a type, and the type.
+/// The reason why the layout of a type is invalid, with the handle of that type.
 pub type Broken = (Handle<key::IrType>, Disalignment);
 
-// Whether a member lies in storage buffers as its type requires.
+// Whether a member's offset is valid for its type in storage buffers.
 fn check_storage_member(
     context: &TypeContext<'_>,
     handle: Handle<key::IrType>,
@@ -54,7 +54,7 @@ fn check_storage_member(
     }
 }
 
-/// Of a struct with these members, whose own flags and alignment are these.
+/// The storage layout of a struct with these members, flags and alignment.
 pub fn storage_of_struct(
     context: &TypeContext<'_>,
     handle: Handle<key::IrType>,
@@ -91,7 +91,7 @@ pub fn storage_of_struct(
     }
 }
 
-/// Of an array of such elements.
+/// The storage layout of an array of such elements.
 pub fn storage_of_array(
     context: &TypeContext<'_>,
     handle: Handle<key::IrType>,

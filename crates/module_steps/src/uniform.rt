@@ -1,4 +1,4 @@
-//! Whether a host can lay out types in uniform buffers.
+//! Layouts of types in uniform buffers.
 
 ghost use Rattle.std.specs.Prelude.{◌≡◌, ◌<◌, All, length, map, MatchResult};
 ghost use Rattle.ir_types.specs.judged.Plain.{member_view};
@@ -18,7 +18,7 @@ use ir_types::{StructMember, key};
 use module_type_checks::{Facts, Placed, TypeContext, at_least_sixteen, member_at, member_before};
 use typing_layout::{Alignment, Disalignment, LayoutCompatibility, TypeFlags};
 
-// Where the member before a place lets the next one begin.
+// The minimum offset of the next member, given the member before an index.
 fn free_before(context: &TypeContext<'_>, members: &[StructMember], place: usize) -> u64
     requires known { IsKnown context.now }
     requires named { All (λ m. m.ty < length context.now.infos.now) members.now }
@@ -37,7 +37,7 @@ fn free_before(context: &TypeContext<'_>, members: &[StructMember], place: usize
     }
 }
 
-// Whether a member begins where one may, as its type requires, and not too near after a struct.
+// Whether a member's offset is aligned and leaves enough space after a preceding struct.
 fn check_uniform_offset(
     context: &TypeContext<'_>,
     handle: Handle<key::IrType>,
@@ -81,7 +81,7 @@ fn check_uniform_offset(
     Ok(())
 }
 
-// Whether a member lies in uniform buffers as its type requires.
+// Whether a member's offset is valid for its type in uniform buffers.
 fn check_uniform_member(
     context: &TypeContext<'_>,
     handle: Handle<key::IrType>,
@@ -105,7 +105,7 @@ fn check_uniform_member(
     }
 }
 
-/// Of a struct with these members, whose own flags and alignment are these.
+/// The uniform layout of a struct with these members, flags and alignment.
 pub(crate) fn uniform_of_struct(
     context: &TypeContext<'_>,
     handle: Handle<key::IrType>,
@@ -142,7 +142,7 @@ pub(crate) fn uniform_of_struct(
     }
 }
 
-/// Of an array of such elements.
+/// The uniform layout of an array of such elements.
 pub(crate) fn uniform_of_array(
     context: &TypeContext<'_>,
     handle: Handle<key::IrType>,

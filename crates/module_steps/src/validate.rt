@@ -1,4 +1,4 @@
-//! The types of a module, one after the other.
+//! The check of all types of a module.
 
 ghost use Rattle.std.specs.Prelude.{◌≡◌, ◌<◌, ◌≤◌, length, IfOk, IfErr, MatchResult};
 ghost use Rattle.module_context.specs.AcceptedTypes.{IsAccepted, AreAcceptedBelow, AreAccepted};
@@ -20,22 +20,22 @@ use std::alloc::Global;
 use thiserror::Error;
 use typing_layout::{Layouter, TypeError, TypeInfo};
 
-/// A type that is refused (naga's `ValidationError::Type`).
+/// An invalid type (naga's `ValidationError::Type`).
 #[derive(Clone, Copy, PartialEq, Debug, Error)]
 #[error("type {ty:?} is invalid: {error}")]
 pub struct InvalidType {
-    /// The type.
+    /// The handle of the type.
     pub ty: Handle<key::IrType>,
-    /// What is wrong with it.
+    /// Its error.
     pub error: TypeError,
 }
 
-/// What is reported of the type at a handle, if a module may have it, from what is reported of the types before it (naga's
+/// The `TypeInfo` of the type at a handle if it is valid, given those of earlier types (naga's
 /// `validate_type`).
 ///
 /// # Errors
 ///
-/// A fault of the type: each is answered only where it occurs, with what it speaks of. Where several stand, it is one of
+/// An error of the type, returned only if its condition holds, with its details. If several hold, it is one of
 /// them.
 pub fn validate_type(
     context: &TypeContext<'_>,
@@ -55,7 +55,7 @@ pub fn validate_type(
     }
 }
 
-// What is reported of the type after those of which it is reported already.
+// The `TypeInfo` of the next type.
 fn validate_next(
     capabilities: Capabilities,
     overrides_resolved: bool,
@@ -86,12 +86,12 @@ fn validate_next(
     }
 }
 
-/// What is reported of each type of a module, where shaders may use this, and each override has its value or not. Each is
+/// The `TypeInfo`s of a module's types, for these capabilities, with overrides resolved or not. Each type is
 /// visited once, with its members.
 ///
 /// # Errors
 ///
-/// The first type that is refused, with a fault of its own and no span; or out of memory.
+/// The first invalid type, with one of its errors and no span; or out of memory.
 pub fn validate_types(
     alloc: Global,
     capabilities: Capabilities,

@@ -1,4 +1,4 @@
-//! The checks of a module, one after the other.
+//! The validator of a module up to its overrides.
 
 ghost use Rattle.std.specs.Prelude.{◌≡◌, [], MatchResult, IfOk, IfErr, OnOk, false, true};
 ghost use Rattle.ir_items.specs.found.View.{module_view};
@@ -21,8 +21,8 @@ use std::mem;
 use typing_infos::ModuleInfo;
 use typing_layout::{Layouter, LiteralError, WidthError};
 
-/// What judges modules up to their overrides, one after the other (naga's `Validator`, as far as it speaks of what stands
-/// outside functions). It keeps memory from one module to the next, and nothing else.
+/// The validator of modules up to their overrides (naga's `Validator`, as far as it concerns items outside
+/// functions). It keeps allocated memory from one module to the next, and no other state.
 #[derive(Drop)]
 pub struct ModuleValidator {
     alloc: Global,
@@ -31,7 +31,7 @@ pub struct ModuleValidator {
 }
 
 impl ModuleValidator {
-    /// A validator that makes these checks, of shaders that may use this. It takes no memory.
+    /// A validator with these flags and capabilities. It allocates nothing.
     pub fn new(alloc: Global, flags: ValidationFlags, capabilities: Capabilities) -> Self
         ensures { result.settings ≡ record { flags = flags; capabilities = capabilities; subgroup_stages = record { 0 = 0 }; subgroup_operations = record { 0 = 0 } } }
     {
@@ -44,7 +44,7 @@ impl ModuleValidator {
         ModuleValidator::with_settings(alloc, settings)
     }
 
-    /// A validator that makes the checks of these settings. Of operations of subgroups it checks nothing. It takes no memory.
+    /// A validator with these settings. Subgroup settings are ignored. It allocates nothing.
     pub fn with_settings(alloc: Global, settings: Settings) -> Self
         ensures { result.settings ≡ settings }
     {
@@ -55,7 +55,7 @@ impl ModuleValidator {
         }
     }
 
-    /// Forgets the module that was judged last. Each judgement begins with it.
+    /// Clears the results of the previous module. Each validation calls it first.
     pub fn reset(&mut self)
         ensures forgotten { self.new.layouter ≡ [] }
         ensures settings { self.new.settings ≡ self.old.settings }
@@ -63,7 +63,7 @@ impl ModuleValidator {
         self.layouter.clear();
     }
 
-    // Judges a module, where each override has its value or not.
+    // Validates a module, with overrides resolved or not.
     fn judge(&mut self, module: &Module, resolved: bool) -> Result<ModuleInfo, Refusal<ModuleError>>
         ensures accepted { OnOk result (ModuleOK self.old.settings resolved (module_view «module».now)) }
         ensures told { IfOk result (IsInfoOf self.old.settings resolved (module_view «module».now)) }
@@ -82,15 +82,15 @@ impl ModuleValidator {
         Ok(ModuleInfo::of_parts(alloc, infos, layouter, types))
     }
 
-    /// Judges a module up to its overrides, and reports on its types and its global expressions (naga's `Validator::validate`,
-    /// without global variables, functions and entry points). The answer is that of a fresh validator, whatever was judged
-    /// before.
+    /// Validates a module up to its overrides, and returns its `TypeInfo`s and the types of its global expressions (naga's
+    /// `Validator::validate`, without global variables, functions and entry points). The result is that of a fresh validator,
+    /// whatever was validated before.
     ///
     /// # Errors
     ///
-    /// The first step that fails at the first item that fails it, by a fault of that item and with no span: handles out of
-    /// order, a type that has no layout, a type that is refused, a global expression that has no type, one that is refused, a
-    /// constant or an override that is. Of the last three nothing is required without [`ValidationFlags::CONSTANTS`]. Or out of
+    /// The first failing step, at the first failing item, with an error of that item and no span: invalid handles,
+    /// a type without a layout, an invalid type, a global expression whose type can't be inferred, an invalid global expression,
+    /// constant or override. The last three are not checked without [`ValidationFlags::CONSTANTS`]. Or out of
     /// memory.
     pub fn validate(&mut self, module: &Module) -> Result<ModuleInfo, Refusal<ModuleError>>
         ensures accepted { OnOk result (ModuleOK self.old.settings false (module_view «module».now)) }
@@ -101,12 +101,12 @@ impl ModuleValidator {
         self.judge(module, false)
     }
 
-    /// Judges a module in which each override has to have its value (naga's `Validator::validate_resolved_overrides`).
+    /// Validates a module whose overrides must be resolved (naga's `Validator::validate_resolved_overrides`).
     ///
     /// # Errors
     ///
-    /// As [`ModuleValidator::validate`]; also where a size depends on an override, an override has no value, or a global
-    /// expression still waits for one.
+    /// As [`ModuleValidator::validate`]; also if a size depends on an override, an override has no initializer, or a global
+    /// expression still depends on one.
     pub fn validate_resolved_overrides(
         &mut self,
         module: &Module,
@@ -119,22 +119,22 @@ impl ModuleValidator {
         self.judge(module, true)
     }
 
-    /// Whether scalars of this kind and width may be used.
+    /// Whether a scalar type of this kind and width is valid.
     ///
     /// # Errors
     ///
-    /// There is no such width, a capability is missing, or the kind is abstract: each only where it occurs.
+    /// The width is invalid, a capability is missing, or the kind is abstract. An error is returned only if its condition holds.
     pub fn check_width(&self, scalar: Scalar) -> Result<(), WidthError>
         ensures { MatchResult result (λ _. ScalarOK self.now.settings.capabilities scalar) (IsWidthFault self.now.settings.capabilities scalar) }
     {
         check_width(self.settings.capabilities, scalar)
     }
 
-    /// Whether a literal may be used.
+    /// Whether a literal is valid.
     ///
     /// # Errors
     ///
-    /// Its scalar may not be used.
+    /// Its scalar type is invalid.
     pub fn validate_literal(&self, literal: Literal) -> Result<(), LiteralError>
         ensures { MatchResult result (λ _. LiteralOK self.now.settings.capabilities literal) (IsLiteralFault self.now.settings.capabilities literal) }
     {

@@ -1,4 +1,4 @@
-//! The steps of the check of a module that concern its values: global expressions, constants and overrides.
+//! The steps that check a module's values: global expressions, constants and overrides.
 
 ghost use Rattle.std.specs.Prelude.{◌↔◌, IsTrue, IfErr, OnOk};
 ghost use Rattle.ir_flags.specs.Sets.{Has};
@@ -26,14 +26,14 @@ use std::alloc::Global;
 use typing_forms::TypeResolution;
 use typing_layout::{ExpressionKindTracker, TypeInfo};
 
-// Whether values are required of.
+// Whether the flags include `CONSTANTS`.
 fn requires_values(flags: ValidationFlags) -> bool
     ensures { IsTrue result ↔ Has flags.0 CONSTANTS.0 }
 {
     flags.contains(ValidationFlags::CONSTANTS)
 }
 
-// Requires that the module may have its global expressions.
+// Checks a module's global expressions.
 fn check_expressions(
     alloc: Global,
     settings: Settings,
@@ -59,7 +59,7 @@ fn check_expressions(
     }
 }
 
-// Requires that the module may have its constants.
+// Checks a module's constants.
 fn check_constants(
     alloc: Global,
     settings: Settings,
@@ -85,7 +85,7 @@ fn check_constants(
     }
 }
 
-// Requires that the module may have its overrides.
+// Checks a module's overrides.
 fn check_overrides(
     alloc: Global,
     settings: Settings,
@@ -112,7 +112,7 @@ fn check_overrides(
     }
 }
 
-// Checks the values of a module, where that is wanted.
+// Checks a module's global expressions, constants and overrides.
 fn check_each(
     alloc: Global,
     settings: Settings,
@@ -131,7 +131,7 @@ fn check_each(
     check_overrides(alloc, settings, overrides_resolved, context)
 }
 
-/// Checks the values of a module, where that is wanted.
+/// Checks a module's global expressions, constants and overrides, if the flags include `CONSTANTS`.
 pub fn check_values(
     alloc: Global,
     settings: Settings,

@@ -1,4 +1,4 @@
--- The answer for a type, from that for what it is made of.
+-- From the check of a `TypeInner` to that of a type.
 use Rattle.std.proofs.Common.{◌≡◌, ◌<◌, ◌≤◌, ℕ, zero, suc, List, [], ◌∷◌, Some, All, Result, Ok, Err, MatchResult, map, length, get_or, sym, subst, arith}
 use Rattle.ir_types.specs.judged.Plain.{PlainInner, inner_view, member_view}
 use Rattle.ir_types.specs.declared.types.StructMember.{StructMember}

@@ -42,7 +42,7 @@ all_flags = by_flags (λ f. Has 255 (bit f)) refl refl refl refl refl refl refl 
 pub common_none : (c : TypeContext) (ms : List PlainMember) (set : TypeFlags) (place : ℕ) → set.0 ≡ 255 → place ≡ 0 → CommonBelow c ms set place
 common_none c ms set place is first = record { each = λ f. ((λ _. below_none (λ k p. HasFlag f p.of_type) (parts_in c ms) place first), (λ _. subst (λ s. Has s (bit f)) (sym is) (all_flags f))) }
 
--- what stood before a place, where it occurs before the next
+-- the element before an index, if it is the one before the next
 earlier : (P : ℕ → TreeMember → Type 0) (ps : List TreeMember) (place : ℕ) → Below P ps (place + 1) → Below P ps place
 earlier P ps place b = record { each = λ k lt. b.each k (omega arith) }
 
@@ -84,7 +84,7 @@ follows_some c ms place end here last r at behind is tells =
       (λ h. tells.1 (subst (λ n. end ≤ n) (sym at.told.begins) (subst (λ n. n ≤ q.offset) (sym ends) (subst (λ o. IfSome o (λ a. end_of a ≤ q.offset)) behind.part (h q at.part))))),
     )
 
--- ---- sources
+-- ---- blend sources
 
 to_blend : (tree : ℕ → Tree) (ms : List PlainMember) → HasSource ms → HasBlendSource (member_list (members_by tree ms))
 to_blend tree ms has = let m = found ms has.0 has.1 has.2 in (has.0, part_of tree m.0, part_at tree ms has.0 m.0 m.1, subst IsSome (sym m.2) refl)
@@ -126,7 +126,7 @@ struct_are c ms common kept new in_order blended has order keeps blends shares s
     same f to from host =
         ((λ h. (has.each f).0 ((keeps.each f).0 (to ((shares.each f).0 h))).0), (λ h. (shares.each f).1 (from ((keeps.each f).1 ((has.each f).1 h, host)))))
 
--- what a comparison says
+-- the result of a comparison
 pub le_tells : (a b n : ℕ) → b ≡ n → IsTrue (nat_le a b) ↔ (a ≤ n)
 le_tells a b n same =
     subst (λ m. IsTrue (nat_le a b) ↔ (a ≤ m)) same

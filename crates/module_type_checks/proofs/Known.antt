@@ -1,4 +1,4 @@
--- What is known of an earlier type, from what it is made of.
+-- The facts about an earlier type, from its `TypeInner`.
 use Rattle.std.proofs.Common.{◌≡◌, ◌<◌, ◌↔◌, ℕ, Some, Bool, IsTrue, length, slice_get, get_or, sym, ap, subst, ◌∙◌, if◌then◌else◌}
 use Rattle.std.proofs.lemmas.Option.{slice_get-get_or}
 use Rattle.ir_types.specs.judged.Plain.{PlainInner}

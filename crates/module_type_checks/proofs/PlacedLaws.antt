@@ -1,4 +1,4 @@
--- What is found of a member at its place.
+-- The errors of a member at its index.
 use Rattle.std.proofs.Common.{◌≡◌, ◌≢◌, ◌<◌, ◌≤◌, ◌+◌, ◌-◌, ◌⊎◌, inl, inr, ℕ, suc, List, [], ◌∷◌, Option, Some, None, IfSome, map, length, slice_get, get_or, refl, sym, ap, subst, ◌∙◌, arith}
 use Rattle.ir_types.specs.judged.Plain.{PlainMember, member_view}
 use Rattle.ir_types.specs.declared.types.StructMember.{StructMember}
@@ -22,7 +22,7 @@ placed_at c ms k m placed lt is of begins facts =
 pub placed_before : (c : TypeContext) (ms : List PlainMember) (k : ℕ) (placed : Placed) → (k ≢ 0) → IsPlaced c ms (k - 1) placed → IsBefore c ms k placed
 placed_before c ms k placed some at = record { m = at.m; at = before_is ms k some ∙ at.at; part = before_is (parts_in c ms) k some ∙ at.part; told = at.told }
 
--- nothing is before the first, and what is before another ends where it is reported
+-- there is no member before the first, and the facts about any other have its end offset
 pub free_none : (c : TypeContext) (ms : List PlainMember) (k n : ℕ) → k ≡ 0 → end_after (item_before (parts_in c ms) k) ≤ n
 free_none c ms k n none = subst (λ j. end_after (item_before (parts_in c ms) j) ≤ n) (sym none) (omega arith)
 
@@ -37,7 +37,7 @@ pub overlaps : (c : TypeContext) (ms : List PlainMember) (k n end : ℕ) (placed
 overlaps c ms k n end placed at is lt =
     (at.m, at.at, record { past = subst (λ e. n < e) (is ∙ (λ i. at.told.begins i + at.told.facts.bytes i)) lt })
 
--- the end is not past a number
+-- the end offset is not past a bound
 behind_ends : (o : Option TreeMember) (n : ℕ) → end_after o ≤ n → IfSome o (λ a. end_of a ≤ n)
 behind_ends None n le = tt
 behind_ends (Some a) n le = le

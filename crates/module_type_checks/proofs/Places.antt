@@ -1,4 +1,4 @@
--- Lists of members by their places.
+-- Lists of members by index.
 use Rattle.std.proofs.Common.{◌≡◌, ◌≢◌, ◌<◌, ◌≤◌, ◌+◌, ◌-◌, ◌⊎◌, inl, inr, ℕ, zero, suc, List, [], ◌∷◌, Some, map, length, slice_get, get_or, refl, sym, ap, subst, arith, rules}
 use Rattle.ir_types.specs.judged.Plain.{PlainMember, member_view}
 use Rattle.ir_types.specs.declared.types.StructMember.{StructMember}
@@ -7,7 +7,7 @@ use Rattle.typing_layout.specs.judged.Tree.{Tree}
 use Rattle.typing_layout.specs.judged.View.{members_by}
 use Rattle.module_type_checks.specs.Placed.{part_of, AtPlace, Below}
 
--- the member at a place, as plain data and as a part
+-- the member at an index, as plain data and as a part
 pub plain_at : (ms : List StructMember) (k : ℕ) (d : StructMember) → k < length ms → slice_get (map member_view ms) k ≡ Some (member_view (get_or ms k d))
 plain_at [] k d lt = absurd (omega arith)
 plain_at (m ∷ ms) zero d lt = refl
@@ -26,7 +26,7 @@ pub many_plain : (ms : List StructMember) → length (map member_view ms) ≡ le
 many_plain [] = refl
 many_plain (x ∷ xs) = ap suc (many_plain xs)
 
--- what stands before a place but the first
+-- the member before any index but the first
 pub before_is : {A : Type 0} (xs : List A) (k : ℕ) → (k ≢ 0) → item_before xs k ≡ slice_get xs (k - 1)
 before_is xs zero some = absurd (some refl)
 before_is xs (suc k) some = let e : suc k - 1 ≡ k = omega arith in ap (slice_get xs) (sym e)

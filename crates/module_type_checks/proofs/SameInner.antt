@@ -1,4 +1,4 @@
--- Two types are made of the same exactly where they compare equal.
+-- Two types have the same `TypeInner` exactly if they compare equal.
 use Rattle.std.proofs.Common.{◌≡◌, ◌↔◌, IsTrue, None, ap}
 use Rattle.ir_types.proofs.TypeEquality.{type_eq}
 use Rattle.ir_types.specs.judged.Plain.{PlainType, inner_view}

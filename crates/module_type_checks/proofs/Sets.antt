@@ -1,4 +1,4 @@
--- Sets of flags, flag by flag.
+-- Sets of type flags, flag by flag.
 use Rattle.std.proofs.Common.{◌≡◌, true, false, true≢false, ◌∙◌, bit_or, ◌↔◌, ℕ, List, [], ◌∷◌, Bool, ◌==◌, IsTrue, refl, sym, subst, bit_and}
 use Rattle.std.proofs.lemmas.Nat.{and_or_apart}
 use Rattle.std.proofs.lemmas.Bool.Decides.{Decides-eqb}
@@ -19,7 +19,7 @@ by_flags P a b c d e g h i CreationResolved = g
 by_flags P a b c d e g h i Argument = h
 by_flags P a b c d e g h i Constructible = i
 
--- a flag is in the number exactly where it is in the list
+-- a flag is in the bits exactly if it is in the list
 abbrev Agree : ℕ → List TypeFlag → TypeFlag → Type 0
 Agree set flags f = (bit_and set (bit f) == bit f) ≡ among flags f
 
@@ -72,7 +72,7 @@ pending_set override = are_of 87 (array_flags (count.Pending override)) (by_flag
 pub dynamic_set : AreOf 53 (array_flags count.Dynamic)
 dynamic_set = are_of 53 (array_flags count.Dynamic) (by_flags (Agree 53 (array_flags count.Dynamic)) refl refl refl refl refl refl refl refl)
 
--- ---- what two sets have
+-- ---- intersections
 
 pub both_have : (a b x : ℕ) → Has (bit_and a b) x ↔ (Has a x × Has b x)
 both_have a b x = (
@@ -80,7 +80,7 @@ both_have a b x = (
   (λ h. within-intersection a b x h.0 h.1),
 )
 
--- ---- all but one
+-- ---- all flags but one
 
 abbrev but_host : List TypeFlag
 but_host = IoShareable ∷ value_flags

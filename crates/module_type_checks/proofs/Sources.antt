@@ -1,4 +1,4 @@
--- Sources of a blend, place by place.
+-- Blend sources, member by member.
 use Rattle.std.proofs.Common.{◌≡◌, ◌≢◌, ◌<◌, ◌≤◌, ◌+◌, ◌⊎◌, inl, inr, ℕ, zero, suc, List, [], ◌∷◌, Option, Some, None, All, Result, Ok, Err, MatchOption, MatchResult, map, length, slice_get, get_or, option_and_then, refl, sym, ap, subst, ◌∙◌, arith, rules}
 use Rattle.ir_types.specs.judged.Plain.{PlainMember, member_view}
 use Rattle.ir_types.specs.declared.types.StructMember.{StructMember}
@@ -19,14 +19,14 @@ use Rattle.ir_types.specs.judged.Plain.{PlainType}
 use Rattle.typing_forms.specs.judged.Resolutions.{inner_at}
 use Rattle.module_type_checks.proofs.Places.{plain_at, many_plain}
 
--- the source at a place
+-- the blend source of the member at an index
 pub source_here : (ms : List StructMember) (k : ℕ) (m : StructMember) → k < length ms → m ≡ get_or ms k m → source_at (map member_view ms) k ≡ blend_source m.binding
 source_here ms k m lt is = ap (option_and_then (λ (x : PlainMember). blend_source x.binding)) (plain_at ms k m lt ∙ ap (λ x. Some (member_view x)) (sym is))
 
 pub source_got : (ms : List StructMember) (k : ℕ) (d : StructMember) → k < length ms → source_at (map member_view ms) k ≡ blend_source (get_or ms k d).binding
 source_got ms k d lt = ap (option_and_then (λ (x : PlainMember). blend_source x.binding)) (plain_at ms k d lt)
 
--- no source stands past the members
+-- there is no blend source past the members
 pub source_within : (ms : List PlainMember) (k source : ℕ) → source_at ms k ≡ Some source → k < length ms
 source_within [] k source e = cc
 source_within (m ∷ ms) zero source e = omega arith
@@ -79,7 +79,7 @@ pub sole_all : (ms : List StructMember) (source : ℕ) (found : Option ℕ) (pla
 sole_all ms source None place before all = λ k e. before k (let lt = source_within (map member_view ms) k source e in omega (arith, lt, many_plain ms)) e
 sole_all ms source (Some j) place before all = (source_within (map member_view ms) j source before.1, before.1, (λ k e. before.2 k (let lt = source_within (map member_view ms) k source e in omega (arith, lt, many_plain ms)) e))
 
--- ---- locations
+-- ---- the only one
 
 pub record LocatedBelow (ms : List PlainMember) (place : ℕ) : Type 0 where
   pub each : (k : ℕ) (m : PlainMember) → k < place → slice_get ms k ≡ Some m → BlendLocationOK m
@@ -103,7 +103,7 @@ plain_here ms k m lt is = plain_at ms k m lt ∙ ap (λ x. Some (member_view x))
 
 -- ---- the whole
 
--- a source has a location
+-- a member with a blend source has a location
 located_source : (b : Option Binding) (source : ℕ) → blend_source b ≡ Some source → (location : ℕ) × (binding_location b ≡ Some location)
 located_source None source e = cc
 located_source (Some (bound.BuiltIn built_in)) source e = cc
@@ -117,13 +117,13 @@ one_of_two m source ok is =
     let at = located_source m.binding source is in
     elim ((ok at.0 at.1).1) [ inl e ↦ inl (some_is source 0 (sym is ∙ e)) | inr e ↦ inr (some_is source 1 (sym is ∙ e)) ]
 
--- the member at which a source stands
+-- the member with a blend source
 member_of : (ms : List PlainMember) (k source : ℕ) → source_at ms k ≡ Some source → (m : PlainMember) × (slice_get ms k ≡ Some m) × (blend_source m.binding ≡ Some source)
 member_of [] k source e = cc
 member_of (m ∷ ms) zero source e = (m, refl, e)
 member_of (m ∷ ms) (suc k) source e = member_of ms k source e
 
--- where the first source is absent, the second stands
+-- if the first blend source is absent, the second is present
 pub other_present : (ms : List PlainMember) → AreLocated ms → HasSource ms → IsAbsent ms 0 → IsAlone ms 1
 other_present ms located has absent =
     let at = member_of ms has.0 has.1 has.2 in
@@ -176,11 +176,11 @@ sources_ok c ms a b located first second pair = record {
   pair = subst (λ y. PairOK c first.m.ty y) second.of (subst (λ x. PairOK c x b) first.of pair);
 }
 
--- where one source stands alone
+-- if only one blend source is present
 pub alone : (ms : List PlainMember) (a : ℕ) → IsOnlyType ms 0 a → IsAbsent ms 1 → IsAlone ms 0
 alone ms a first absent = ((first.place, ap (option_and_then (λ (x : PlainMember). blend_source x.binding)) first.is.at ∙ first.is.is), inl (refl, absent))
 
--- whatever the two types come to
+-- whatever the check of the two types returns
 pub sources_answer : (c : TypeContext) (ms : List PlainMember) (a b : ℕ) (r : Result (Unit {0}) VaryingError) → AreLocated ms → IsOnlyType ms 0 a → IsOnlyType ms 1 b
     → MatchResult r (λ _. PairOK c a b) (IsPairFault c a b) → MatchResult r (λ _. SourcesOK c ms) (IsVaryingFault (types_in c) ms)
 sources_answer c ms a b (Ok u) located first second h = sources_ok c ms a b located first second h

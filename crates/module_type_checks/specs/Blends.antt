@@ -1,4 +1,4 @@
--- Sources of a blend, step by step.
+-- Blend sources, step by step.
 use Rattle.std.specs.Prelude.{◌≡◌, ◌≢◌, ◌⊎◌, ◌<◌, ℕ, List, Option, Some, None, length, slice_get}
 use Rattle.ir_types.specs.judged.Plain.{PlainMember}
 use Rattle.typing_layout.specs.judged.Blends.{binding_location, source_at, BlendLocationOK, IsOnlySource}
@@ -25,17 +25,17 @@ pub record IsLocationFaultIn (members : List PlainMember) (e : VaryingError) : T
   pub at : slice_get members place ≡ Some m
   pub fault : IsLocationFault m e
 
--- the only place below a bound at which a source stands, if there is one
+-- the only index below a bound of a member with this blend source, if there is one
 abbrev pub IsSoleBelow : List PlainMember → (source : ℕ) → Option ℕ → (bound : ℕ) → Type 0
 IsSoleBelow members source None bound = (k : ℕ) → k < bound → source_at members k ≢ Some source
 IsSoleBelow members source (Some place) bound = (place < bound) × (source_at members place ≡ Some source) × ((k : ℕ) → k < bound → source_at members k ≡ Some source → k ≡ place)
 
--- the only place at which a source stands, if there is one
+-- the only index of a member with this blend source, if there is one
 abbrev pub IsSole : List PlainMember → (source : ℕ) → Option ℕ → Type 0
 IsSole members source None = IsAbsent members source
 IsSole members source (Some place) = (place < length members) × (source_at members place ≡ Some source) × ((k : ℕ) → source_at members k ≡ Some source → k ≡ place)
 
--- the type of the only member that is a source
+-- the type of the only member with this blend source
 pub record IsOnlyType (members : List PlainMember) (source ty : ℕ) : Type 0 where
   pub place : ℕ
   pub m : PlainMember
@@ -45,7 +45,7 @@ pub record IsOnlyType (members : List PlainMember) (source ty : ℕ) : Type 0 wh
 abbrev pub IsCollision : List PlainMember → (source : ℕ) → VaryingError → Type 0
 IsCollision members source e = (e ≡ varying.BindingCollisionBlendSrc source) × IsTwice members source
 
--- two types are made of the same, and go between stages
+-- two types have equal `TypeInner`s, and are IO-shareable
 pub record PairOK (c : TypeContext) (first second : ℕ) : Type 0 where
   pub equal : inner_at (types_in c) first ≡ inner_at (types_in c) second
   pub first_shared : HasFlag IoShareable (tree_in c first)
@@ -56,7 +56,7 @@ IsPairFault c first second (varying.NotIOShareableType ty) = ((ty ≡ first) ⊎
 IsPairFault c first second (varying.BlendSrcOutputTypeMismatch a b) = (a ≡ first) × (b ≡ second) × (inner_at (types_in c) first ≢ inner_at (types_in c) second)
 IsPairFault c first second _ = ⊥
 
--- both sources stand once, their types fit, and nothing else has a location
+-- each blend source occurs once, their types match, and no other member has a location
 pub record SourcesOK (c : TypeContext) (members : List PlainMember) : Type 0 where
   pub located : AreLocated members
   pub first_place : ℕ

@@ -1,4 +1,4 @@
--- What is required of a type, from what it is made of.
+-- The requirements of a type, by its `TypeInner`.
 use Rattle.std.specs.Prelude.{◌≡◌, ◌⊎◌, ℕ, List, Some}
 use Rattle.ir_types.specs.judged.Plain.{PlainInner, PlainMember}
 use Rattle.typing_layout.specs.judged.Blends.{HasSource, BlendOK, BlendsOK}
@@ -23,7 +23,7 @@ AreMembersOK c members span = StructOK (parts_in c members) span × (HasSource m
 abbrev pub AreMembersRefused : TypeContext → List PlainMember → (span : ℕ) → TypeError → Type 0
 AreMembersRefused c members span e = IsStructFault (types_in c) members span e ⊎ IsBlendFault c.capabilities (types_in c) members e
 
--- the type at a handle is refused for a fault of its own
+-- the type at a handle has this error
 pub record IsTypeFault (c : TypeContext) (handle : ℕ) (e : TypeError) : Type 0 where
   pub i : PlainInner
   pub at : inner_at (types_in c) handle ≡ Some i

@@ -1,4 +1,4 @@
--- Why the vertices of what rays hit are not returned.
+-- The error of vertex return.
 use Rattle.std.specs.Prelude.{Bool}
 use Rattle.ir_flags.specs.declared.settings.Capabilities.{Capabilities}
 use Rattle.typing_layout.specs.found.Faults.{LacksVertices}

@@ -1,4 +1,4 @@
--- Kinds of types that hold no other.
+-- Types without elements or members.
 use Rattle.std.specs.Prelude.{List, [], ◌∷◌}
 use Rattle.ir_types.specs.judged.Plain.{PlainInner, struct, plain}
 use Rattle.ir_types.specs.declared.types.TypeInner.TheVariants as inner
@@ -13,7 +13,7 @@ query_flags = Data ∷ Sized ∷ Constructible ∷ CreationResolved ∷ []
 abbrev pub binding_array_flags : List TypeFlag
 binding_array_flags = CreationResolved ∷ []
 
--- the flags of a type that has them from nothing else, and those that an array may have from its elements; a struct is never
+-- the flags of a type that references no other, and the mask for an array's element type; a struct is never
 -- `plain`
 abbrev pub whole_flags : PlainInner → List TypeFlag
 whole_flags (struct members span) = []

@@ -1,4 +1,4 @@
--- What is known of the types before one.
+-- The known facts about the types before one.
 use Rattle.std.specs.Prelude.{◌≡◌, ◌≤◌, ℕ, List, Some, length, slice_get, if◌then◌else◌}
 use Rattle.ir_types.specs.judged.Plain.{PlainType}
 use Rattle.typing_layout.specs.judged.Buffers.{uniform_alignment, free_after}
@@ -21,18 +21,18 @@ types_in c = types_view c.types.now
 abbrev pub tree_in : TypeContext → (handle : ℕ) → Tree
 tree_in c handle = type_tree (types_in c) handle
 
--- each is the info of the module's type at its index
+-- there is a `TypeInfo` for each type of the module
 pub record AreInfos (types : List PlainType) (infos : List TypeInfo) : Type 0 where
   pub each : (handle : ℕ) (i : TypeInfo) → slice_get infos handle ≡ Some i → HasInfo types (type_tree types handle) i
 
--- types go back, and the layouts and the infos of the first ones are known
+-- types reference only earlier types, and the layouts and the `TypeInfo`s of the first ones are known
 pub record IsKnown (c : TypeContext) : Type 0 where
   pub back : TypesGoBack (types_in c)
   pub held : AreLayouts (types_in c) c.layouter.now
   pub told : AreInfos (types_in c) c.infos.now
   pub laid : length c.infos.now ≤ length c.layouter.now
 
--- what is known of a type with this tree
+-- the facts about a type with this tree
 pub record AreFacts (c : TypeContext) (t : Tree) (f : Facts) : Type 0 where
   pub bytes : f.size ≡ size t
   pub aligned : f.alignment ≡ alignment t

@@ -1,4 +1,4 @@
--- Members at their places.
+-- Members with their offsets.
 use Rattle.std.specs.Prelude.{◌≡◌, ◌<◌, ℕ, List, Option, Some, None, slice_get}
 use Rattle.ir_types.specs.judged.Plain.{PlainMember}
 use Rattle.typing_layout.specs.judged.Parts.{TreeMember, member_list, item_before, end_of}
@@ -16,39 +16,39 @@ parts_in c members = member_list (members_by (tree_in c) members)
 abbrev pub part_of : (tree : ℕ → Tree) → PlainMember → TreeMember
 part_of tree m = record { of_type = tree m.ty; binding = m.binding; offset = m.offset }
 
--- what is reported of a member
+-- the facts about a member
 pub record IsReported (c : TypeContext) (m : PlainMember) (placed : Placed) : Type 0 where
   pub of : placed.ty ≡ m.ty
   pub begins : placed.offset ≡ m.offset
   pub facts : AreFacts c (tree_in c m.ty) placed.facts
 
--- what is reported of the member at a place
+-- the facts about the member at an index
 pub record IsPlaced (c : TypeContext) (members : List PlainMember) (place : ℕ) (placed : Placed) : Type 0 where
   pub m : PlainMember
   pub at : slice_get members place ≡ Some m
   pub part : slice_get (parts_in c members) place ≡ Some (part_of (tree_in c) m)
   pub told : IsReported c m placed
 
--- what is reported of the member before a place
+-- the facts about the member before an index
 pub record IsBefore (c : TypeContext) (members : List PlainMember) (place : ℕ) (placed : Placed) : Type 0 where
   pub m : PlainMember
   pub at : item_before members place ≡ Some m
   pub part : item_before (parts_in c members) place ≡ Some (part_of (tree_in c) m)
   pub told : IsReported c m placed
 
--- where it ends, and 0 where there is none
+-- its end offset, and 0 if there is none
 abbrev pub end_after : Option TreeMember → ℕ
 end_after None = 0
 end_after (Some p) = end_of p
 
--- P holds of whatever stands at a place
+-- P holds of the element at an index, if any
 abbrev pub AtPlace : (P : ℕ → TreeMember → Type 0) → List TreeMember → (place : ℕ) → Type 0
 AtPlace P ps place = (p : TreeMember) → slice_get ps place ≡ Some p → P place p
 
--- P holds of whatever stands before a place
+-- P holds of the element before an index, if any
 pub record Below (P : ℕ → TreeMember → Type 0) (ps : List TreeMember) (place : ℕ) : Type 0 where
   pub each : (k : ℕ) → k < place → AtPlace P ps k
 
--- the member may stand at its place
+-- the member is valid at its index
 abbrev pub PlacedOK : TypeContext → List PlainMember → (span place : ℕ) → Type 0
 PlacedOK c members span place = AtPlace (MemberOK (parts_in c members) span) (parts_in c members) place

@@ -1,4 +1,4 @@
--- Sets of flags as numbers, and what all members have.
+-- Sets of type flags as bits, and the flags that all members have.
 use Rattle.std.specs.Prelude.{◌↔◌, ◌≤◌, ℕ, List, Bool, IsTrue, IfSome}
 use Rattle.ir_flags.specs.Sets.{Has}
 use Rattle.ir_types.specs.judged.Plain.{PlainMember}
@@ -14,7 +14,7 @@ use Rattle.typing_layout.specs.declared.type_flags.TypeFlags.{TypeFlags}
 pub record AreOf (set : ℕ) (flags : List TypeFlag) : Type 0 where
   pub each : (f : TypeFlag) → Has set (bit f) ↔ IsTrue (among flags f)
 
--- the flag for the host has a condition
+-- `HOST_SHAREABLE` under a condition
 abbrev pub HostIf : TypeFlag → Bool → Type 0
 HostIf HostShareable b = IsTrue b
 HostIf Data b = Unit {0}
@@ -28,7 +28,7 @@ HostIf Constructible b = Unit {0}
 pub record AreKept (set : ℕ) (in_order : Bool) (new : ℕ) : Type 0 where
   pub each : (f : TypeFlag) → Has new (bit f) ↔ (Has set (bit f) × HostIf f in_order)
 
--- the flag for other stages is had exactly where something holds
+-- `IO_SHAREABLE` exactly if a condition holds
 abbrev pub IoIs : TypeFlag → (kept : Type 0) → Bool → Type 0
 IoIs IoShareable kept b = IsTrue b
 IoIs Data kept b = kept
@@ -46,10 +46,10 @@ pub record AreShared (set : ℕ) (blended : Bool) (new : ℕ) : Type 0 where
 pub record AreCommon (c : TypeContext) (members : List PlainMember) (set : TypeFlags) : Type 0 where
   pub each : (f : TypeFlag) → Has set.0 (bit f) ↔ AllHave f (members_by (tree_in c) members)
 
--- those that all members before a place have
+-- the flags that all members before an index have
 pub record CommonBelow (c : TypeContext) (members : List PlainMember) (set : TypeFlags) (place : ℕ) : Type 0 where
   pub each : (f : TypeFlag) → Has set.0 (bit f) ↔ Below (λ k p. HasFlag f p.of_type) (parts_in c members) place
 
--- a member begins where the one before ends, or later
+-- a member's offset is at or after the end of the previous member
 abbrev pub Follows : List TreeMember → (place : ℕ) → TreeMember → Type 0
 Follows ps place p = IfSome (item_before ps place) (λ a. end_of a ≤ p.offset)

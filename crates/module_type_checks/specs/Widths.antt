@@ -1,4 +1,4 @@
--- Parts of the rules of scalars.
+-- Parts of the checks of scalar types.
 use Rattle.std.specs.Prelude.{◌≡◌, ◌≢◌}
 use Rattle.ir_flags.specs.declared.settings.Capabilities.{Capabilities}
 use Rattle.ir_kinds.specs.judged.Values.{literal_scalar}
@@ -12,7 +12,7 @@ use Rattle.typing_layout.specs.declared.type_error.TypeError.TheVariants as erro
 use Rattle.typing_layout.specs.declared.type_error.WidthError.{WidthError}
 use Rattle.typing_layout.specs.declared.type_error.WidthError.TheVariants as width
 
--- a number of no width that there is, or without the capability of its width
+-- a number of an invalid width, or without the capability for its width
 abbrev pub IsWideFault : Capabilities → (two eight : Capabilities) → Scalar → WidthError → Type 0
 IsWideFault capabilities two eight s (width.Invalid k bytes) = (k ≡ s.kind) × (bytes ≡ s.width) × IsNoWidth s.width
 IsWideFault capabilities two eight s (width.MissingCapability c) = RequiresFor two eight s.width c × Lacks capabilities c

@@ -1,4 +1,4 @@
-//! Structs whose members are sources of a blend.
+//! Structs with blend sources (dual-source blending).
 
 ghost use Rattle.std.specs.Prelude.{◌≡◌, ◌<◌, ◌+◌, ◌↔◌, Some, None, IsTrue, All, length, map, MatchOption, MatchResult};
 ghost use Rattle.ir_types.specs.judged.Plain.{inner_view, member_view};
@@ -26,7 +26,7 @@ const fn location_of(binding: Option<Binding>) -> Option<u32>
     }
 }
 
-// The source of a blend that a member is, if it is one.
+// The blend source of a member, if it has one.
 const fn source_of(binding: Option<Binding>) -> Option<u32>
     ensures { result ≡ blend_source binding }
 {
@@ -36,7 +36,7 @@ const fn source_of(binding: Option<Binding>) -> Option<u32>
     }
 }
 
-/// Whether a member is a source of a blend.
+/// Whether a member has a blend source.
 pub fn has_source(members: &[StructMember]) -> bool
     ensures { IsTrue result ↔ HasSource (map member_view members.now) }
 {
@@ -48,7 +48,7 @@ pub fn has_source(members: &[StructMember]) -> bool
     false
 }
 
-// Whether a member has no location, or is a source of a blend at location 0.
+// Whether a member has no location, or has a blend source at location 0.
 fn check_location(member: &StructMember) -> Result<(), VaryingError>
     ensures { MatchResult result (λ _. BlendLocationOK (member_view member.now)) (IsLocationFault (member_view member.now)) }
 {
@@ -69,7 +69,7 @@ fn check_location(member: &StructMember) -> Result<(), VaryingError>
     }
 }
 
-// Whether each member has no location, or is a source of a blend at location 0.
+// Whether each member has no location, or has a blend source at location 0.
 fn check_locations(members: &[StructMember]) -> Result<(), VaryingError>
     ensures { MatchResult result (λ _. AreLocated (map member_view members.now)) (IsLocationFaultIn (map member_view members.now)) }
 {
@@ -79,7 +79,7 @@ fn check_locations(members: &[StructMember]) -> Result<(), VaryingError>
     Ok(())
 }
 
-// Whether a member is this source of a blend.
+// Whether a member has this blend source.
 const fn is_source(binding: Option<Binding>, blend_src: u32) -> bool
     ensures { IsTrue result ↔ (blend_source binding ≡ Some blend_src) }
 {
@@ -89,7 +89,7 @@ const fn is_source(binding: Option<Binding>, blend_src: u32) -> bool
     }
 }
 
-// The only place at which a source stands, one member more seen.
+// The index of the only member with a blend source, with one more member considered.
 fn sole_with(
     members: &[StructMember],
     blend_src: u32,
@@ -111,7 +111,7 @@ fn sole_with(
     Ok(Some(place))
 }
 
-// The place of the only member that is this source, if there is one.
+// The index of the only member with this blend source, if there is one.
 fn sole_source(members: &[StructMember], blend_src: u32) -> Result<Option<usize>, VaryingError>
     ensures { MatchResult result (IsSole (map member_view members.now) blend_src) (IsCollision (map member_view members.now) blend_src) }
 {
@@ -122,7 +122,7 @@ fn sole_source(members: &[StructMember], blend_src: u32) -> Result<Option<usize>
     Ok(found)
 }
 
-// The type of the only member that is this source, if there is one.
+// The type of the only member with this blend source, if there is one.
 fn sole_type(
     members: &[StructMember],
     blend_src: u32,
@@ -137,14 +137,14 @@ fn sole_type(
     }
 }
 
-// Whether two types are made of the same.
+// Whether two types have equal `TypeInner`s.
 fn is_same(left: &TypeInner, right: &TypeInner) -> bool
     ensures { IsTrue result ↔ (inner_view left.now ≡ inner_view right.now) }
 {
     *left == *right
 }
 
-// Whether values of an earlier type go from one stage to the next.
+// Whether an earlier type has the `IO_SHAREABLE` flag.
 fn is_shared(context: &TypeContext<'_>, ty: Handle<key::IrType>) -> bool
     requires known { IsKnown context.now }
     requires before { ty < length context.now.infos.now }
@@ -156,7 +156,7 @@ fn is_shared(context: &TypeContext<'_>, ty: Handle<key::IrType>) -> bool
         .contains(TypeFlags::IO_SHAREABLE)
 }
 
-// Whether two types can be those of the two sources of a blend.
+// Whether two types are allowed for the two blend sources.
 fn check_pair(
     context: &TypeContext<'_>,
     first: Handle<key::IrType>,
@@ -185,7 +185,7 @@ fn check_pair(
     Ok(())
 }
 
-// Whether both sources stand once, and nothing else has a location.
+// Whether each blend source occurs once, and no other member has a location.
 fn check_sources(context: &TypeContext<'_>, members: &[StructMember]) -> Result<(), VaryingError>
     requires known { IsKnown context.now }
     requires named { All (λ m. m.ty < length context.now.infos.now) members.now }
@@ -208,7 +208,7 @@ fn check_sources(context: &TypeContext<'_>, members: &[StructMember]) -> Result<
     check_pair(context, first, second)
 }
 
-/// Whether members that are sources of a blend can be these, if there are such members.
+/// Whether the blend sources of a struct's members are valid, if there are any.
 pub(crate) fn check_blend(
     context: &TypeContext<'_>,
     members: &[StructMember],

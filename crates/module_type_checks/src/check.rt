@@ -1,4 +1,4 @@
-//! The rules of a type of any kind.
+//! The checks of a type of any kind.
 
 ghost use Rattle.std.specs.Prelude.{◌<◌, ◌≤◌, All, length, map, MatchResult};
 ghost use Rattle.ir_types.specs.judged.Plain.{inner_view, member_view};
@@ -19,7 +19,7 @@ use ir_arena::handle::Handle;
 use ir_types::{StructMember, TypeInner, key};
 use typing_layout::TypeError;
 
-// Whether there is a struct of these members and this span.
+// Whether a struct with these members and this span is valid.
 fn check_struct(
     context: &TypeContext<'_>,
     members: &[StructMember],
@@ -37,7 +37,7 @@ fn check_struct(
     }
 }
 
-// Whether there is a type that is made of this.
+// Whether a `TypeInner` is valid.
 fn check_inner(
     context: &TypeContext<'_>,
     handle: Handle<key::IrType>,
@@ -78,11 +78,11 @@ fn check_inner(
     }
 }
 
-/// Whether a module may have the type at a handle, from what is reported of the types before it.
+/// Whether the type at a handle is valid, given the `TypeInfo`s of earlier types.
 ///
 /// # Errors
 ///
-/// A fault of the type: each is answered only where it occurs.
+/// An error of the type, returned only if its condition holds.
 pub fn check_type(context: &TypeContext<'_>, handle: Handle<key::IrType>) -> Result<(), TypeError>
     requires known { IsKnown context.now }
     requires before { handle ≤ length context.now.infos.now }

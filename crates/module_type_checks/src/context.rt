@@ -1,21 +1,21 @@
-//! What the rules of a type may look at.
+//! The context in which a type is checked.
 
 use ir_flags::Capabilities;
 use ir_sets::unique_arena::UniqueArena;
 use ir_types::{IrType, key};
 use typing_layout::{Layouter, TypeInfo};
 
-/// What the rules of a type may look at.
+/// The context in which a type is checked.
 #[derive(Clone, Copy)]
 pub struct TypeContext<'a> {
-    /// What shaders may use beyond the common part.
+    /// The enabled capabilities.
     pub capabilities: Capabilities,
-    /// Whether each override has its value, so that no size depends on one.
+    /// Whether overrides are resolved, so that no size may depend on one.
     pub overrides_resolved: bool,
     /// The module's types.
     pub types: &'a UniqueArena<IrType, key::IrType>,
-    /// Their layouts.
+    /// The layouts of the types.
     pub layouter: &'a Layouter,
-    /// The infos of the first types.
+    /// The `TypeInfo`s of the first types.
     pub infos: &'a [TypeInfo],
 }

@@ -1,4 +1,4 @@
-//! What is known of a type that another one names.
+//! Facts about a type that another one references.
 
 ghost use Rattle.std.specs.Prelude.{◌≡◌, ◌<◌, ℕ, Some, length, max, if◌then◌else◌};
 ghost use Rattle.ir_types.specs.judged.Plain.{inner_view};
@@ -17,22 +17,22 @@ use ir_sets::unique_arena::UniqueArena;
 use ir_types::{IrType, TypeInner, key};
 use typing_layout::{Alignment, TypeInfo};
 
-/// What is known of a type that another one names.
+/// Facts about a type that another one references.
 #[derive(Clone, Copy)]
 pub struct Facts {
-    /// How many bytes a value takes.
+    /// Its size in bytes.
     pub size: u32,
-    /// The alignment of its address.
+    /// Its alignment.
     pub alignment: Alignment,
-    /// The alignment of a part of a uniform buffer.
+    /// Its alignment in a uniform buffer.
     pub uniform_alignment: Alignment,
     /// Whether it is a struct.
     pub is_struct: bool,
-    /// What it may be used for.
+    /// Its type flags.
     pub info: TypeInfo,
 }
 
-/// What the type at a handle is made of.
+/// The `TypeInner` of the type at a handle.
 pub fn type_at(types: &UniqueArena<IrType, key::IrType>, ty: Handle<key::IrType>) -> &TypeInner
     requires { ty < length types.now }
     ensures { Some (inner_view result.now) ≡ inner_at (types_view types.now) ty }
@@ -40,7 +40,7 @@ pub fn type_at(types: &UniqueArena<IrType, key::IrType>, ty: Handle<key::IrType>
     &types[ty].inner
 }
 
-// Whether a type is a struct, so that what follows keeps away.
+// Whether a type is a struct, after which uniform buffers need padding.
 fn is_struct(inner: &TypeInner) -> bool
     ensures { (tree : ℕ → Tree) (p : TreeMember)
         → free_after p (tree_by tree (inner_view inner.now)) ≡ (if result then rounded_up 16 (end_of p) else 0) }
@@ -63,7 +63,7 @@ fn is_struct(inner: &TypeInner) -> bool
     }
 }
 
-/// The alignment, or 16 bytes where it is less.
+/// The alignment, rounded up to at least 16 bytes.
 pub fn at_least_sixteen(own: Alignment) -> Alignment
     ensures { result ≡ max 16 own }
 {
@@ -74,7 +74,7 @@ pub fn at_least_sixteen(own: Alignment) -> Alignment
     }
 }
 
-// The alignment of a type as a part of a uniform buffer, from its own.
+// The alignment of a type in a uniform buffer, from its own.
 fn uniform_alignment(inner: &TypeInner, own: Alignment) -> Alignment
     ensures { (tree : ℕ → Tree) → own ≡ alignment (tree_by tree (inner_view inner.now))
         → result ≡ uniform_alignment (tree_by tree (inner_view inner.now)) }
@@ -96,7 +96,7 @@ fn uniform_alignment(inner: &TypeInner, own: Alignment) -> Alignment
     }
 }
 
-/// What is known of an earlier type.
+/// The facts about an earlier type.
 pub fn facts_of(context: &TypeContext<'_>, ty: Handle<key::IrType>) -> Facts
     requires known { IsKnown context.now }
     requires before { ty < length context.now.infos.now }

@@ -1,4 +1,4 @@
-//! What types may be used for.
+//! The type flags of types.
 
 ghost use Rattle.std.specs.Prelude.{◌<◌, ◌≤◌, ◌↔◌, ℕ, IsTrue, All, length, map};
 ghost use Rattle.ir_types.specs.judged.Plain.{inner_view, member_view};
@@ -16,7 +16,7 @@ use ir_kinds::{AddressSpace, ScalarKind};
 use ir_types::{ArraySize, StructMember, TypeInner};
 use typing_layout::TypeFlags;
 
-// Values that can be composed.
+// Flags of constructible values.
 const VALUE: TypeFlags = TypeFlags(
     TypeFlags::DATA.0
         | TypeFlags::SIZED.0
@@ -25,9 +25,9 @@ const VALUE: TypeFlags = TypeFlags(
         | TypeFlags::ARGUMENT.0
         | TypeFlags::CONSTRUCTIBLE.0,
 );
-// Values that the host lays out as well.
+// Flags of host-shareable values.
 const SHAREABLE: TypeFlags = TypeFlags(VALUE.0 | TypeFlags::HOST_SHAREABLE.0);
-// Numbers, which go between stages too.
+// Flags of numeric values, which are also IO-shareable.
 const NUMBER: TypeFlags = TypeFlags(SHAREABLE.0 | TypeFlags::IO_SHAREABLE.0);
 
 const ATOMIC: TypeFlags = TypeFlags(
@@ -51,7 +51,7 @@ const QUERY: TypeFlags = TypeFlags(
         | TypeFlags::CONSTRUCTIBLE.0
         | TypeFlags::CREATION_RESOLVED.0,
 );
-// What an array by an override may have from its elements.
+// Flags that an override-sized array may take from its element type.
 const PENDING: TypeFlags = TypeFlags(
     TypeFlags::DATA.0
         | TypeFlags::SIZED.0
@@ -59,7 +59,7 @@ const PENDING: TypeFlags = TypeFlags(
         | TypeFlags::HOST_SHAREABLE.0
         | TypeFlags::ARGUMENT.0,
 );
-// What an array at the end of a buffer may have from its elements.
+// Flags that a runtime-sized array may take from its element type.
 const DYNAMIC: TypeFlags = TypeFlags(
     TypeFlags::DATA.0
         | TypeFlags::COPY.0
@@ -73,7 +73,7 @@ const ALL_BUT_HOST: TypeFlags = TypeFlags(239);
 
 const ALL_BUT_IO: TypeFlags = TypeFlags(247);
 
-// Of a scalar or a vector.
+// The flags of a scalar or a vector.
 #[tactic(auto, using(crate::proofs::Sets::value_set, crate::proofs::Sets::number_set))]
 const fn scalar_flags(kind: ScalarKind) -> TypeFlags
     ensures { AreOf result.0 (scalar_flags kind) }
@@ -88,7 +88,7 @@ const fn scalar_flags(kind: ScalarKind) -> TypeFlags
     }
 }
 
-// Of a pointer.
+// The flags of a pointer.
 #[tactic(auto, using(crate::proofs::Sets::own_set, crate::proofs::Sets::far_set))]
 const fn pointer_flags(space: AddressSpace) -> TypeFlags
     ensures { AreOf result.0 (pointer_flags space) }
@@ -106,7 +106,7 @@ const fn pointer_flags(space: AddressSpace) -> TypeFlags
     }
 }
 
-// What an array may have from its elements.
+// Flags that an array may take from its element type.
 #[tactic(auto, using(crate::proofs::Sets::shareable_set, crate::proofs::Sets::pending_set, crate::proofs::Sets::dynamic_set))]
 const fn array_flags(size: ArraySize) -> TypeFlags
     ensures { AreOf result.0 (array_flags size) }
@@ -118,7 +118,7 @@ const fn array_flags(size: ArraySize) -> TypeFlags
     }
 }
 
-/// Of a type that has its flags from nothing else; those of an array as its elements leave them, and none of a struct.
+/// The flags of a type that references no other; for an array, the mask for the element type's flags; none for a struct.
 #[tactic(auto, using(crate::proofs::Sets::shareable_set, crate::proofs::Sets::atomic_set, crate::proofs::Sets::resource_set, crate::proofs::Sets::query_set, crate::proofs::Sets::binding_array_set, crate::proofs::Sets::empty_set))]
 pub fn whole_flags(inner: &TypeInner) -> TypeFlags
     ensures { AreOf result.0 (whole_flags (inner_view inner.now)) }
@@ -140,7 +140,7 @@ pub fn whole_flags(inner: &TypeInner) -> TypeFlags
     }
 }
 
-/// Of an array, from those of its elements.
+/// The flags of an array, from those of its element type.
 pub fn flags_of_array(base: TypeFlags, size: ArraySize) -> TypeFlags
     ensures { (t : Tree) (stride : ℕ) → AreFlags base t → AreFlags result (array t size stride) }
 {
@@ -161,7 +161,7 @@ fn common_flags(context: &TypeContext<'_>, members: &[StructMember]) -> TypeFlag
     common
 }
 
-// Whether a member begins where the one before ends, or later.
+// Whether a member's offset is at or after the end of the previous member.
 fn follows(context: &TypeContext<'_>, members: &[StructMember], place: usize) -> bool
     requires known { IsKnown context.now }
     requires named { All (λ m. m.ty < length context.now.infos.now) members.now }
@@ -175,7 +175,7 @@ fn follows(context: &TypeContext<'_>, members: &[StructMember], place: usize) ->
     }
 }
 
-// Whether each member begins where the one before ends, or later.
+// Whether each member's offset is at or after the end of the previous member.
 fn is_in_order(context: &TypeContext<'_>, members: &[StructMember]) -> bool
     requires known { IsKnown context.now }
     requires named { All (λ m. m.ty < length context.now.infos.now) members.now }
@@ -189,7 +189,7 @@ fn is_in_order(context: &TypeContext<'_>, members: &[StructMember]) -> bool
     true
 }
 
-// The flags, without that for the host where members are not in order.
+// The flags, without `HOST_SHAREABLE` if members are not in order.
 #[tactic(auto, using(crate::proofs::Sets::kept_in, crate::proofs::Sets::kept_out))]
 fn ordered_flags(flags: TypeFlags, in_order: bool) -> TypeFlags
     ensures { AreKept flags.0 in_order result.0 }
@@ -201,7 +201,7 @@ fn ordered_flags(flags: TypeFlags, in_order: bool) -> TypeFlags
     }
 }
 
-// The flags, with that for other stages exactly where members are sources of a blend.
+// The flags, with `IO_SHAREABLE` exactly if members have blend sources.
 #[tactic(auto, using(crate::proofs::Sets::shared_in, crate::proofs::Sets::shared_out))]
 fn shared_flags(flags: TypeFlags, blended: bool) -> TypeFlags
     ensures { AreShared flags.0 blended result.0 }
@@ -213,7 +213,7 @@ fn shared_flags(flags: TypeFlags, blended: bool) -> TypeFlags
     }
 }
 
-/// Of a struct, from those of its members.
+/// The flags of a struct, from those of its members.
 pub fn flags_of_struct(context: &TypeContext<'_>, members: &[StructMember]) -> TypeFlags
     requires known { IsKnown context.now }
     requires named { All (λ m. m.ty < length context.now.infos.now) members.now }

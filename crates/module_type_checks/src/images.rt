@@ -1,4 +1,4 @@
-//! Which images, and what traces rays, there are.
+//! The checks of image types, acceleration structures and ray queries.
 
 ghost use Rattle.std.specs.Prelude.{MatchResult};
 ghost use Rattle.typing_layout.specs.judged.Images.{ImageOK, VertexReturnOK, AccelerationStructureOK, RayQueryTypeOK};
@@ -10,7 +10,7 @@ use ir_flags::Capabilities;
 use ir_kinds::{ImageClass, ImageDimension};
 use typing_layout::TypeError;
 
-// Whether there is an external image.
+// Whether an external image is allowed.
 fn check_external(
     capabilities: Capabilities,
     dim: ImageDimension,
@@ -31,7 +31,7 @@ fn check_external(
     Ok(())
 }
 
-/// Whether there is an image.
+/// Whether an image type is valid.
 pub(crate) fn check_image(
     capabilities: Capabilities,
     dim: ImageDimension,
@@ -64,7 +64,7 @@ pub(crate) fn check_image(
     }
 }
 
-// Whether the vertices of a hit can be had, where they are required.
+// Whether vertex return is allowed, if a type requires it.
 fn check_vertices(capabilities: Capabilities, vertex_return: bool) -> Result<(), TypeError>
     ensures { MatchResult result (λ _. VertexReturnOK capabilities vertex_return) (IsVerticesFault capabilities vertex_return) }
 {
@@ -74,7 +74,7 @@ fn check_vertices(capabilities: Capabilities, vertex_return: bool) -> Result<(),
     Ok(())
 }
 
-/// Whether there is what rays are traced in.
+/// Whether an acceleration structure is allowed.
 pub(crate) fn check_structure(
     capabilities: Capabilities,
     vertex_return: bool,
@@ -89,7 +89,7 @@ pub(crate) fn check_structure(
     check_vertices(capabilities, vertex_return)
 }
 
-/// Whether there is a ray query.
+/// Whether a ray query is allowed.
 pub(crate) fn check_query(capabilities: Capabilities, vertex_return: bool) -> Result<(), TypeError>
     ensures { MatchResult result (λ _. RayQueryTypeOK capabilities vertex_return) (IsQueryFault capabilities vertex_return) }
 {

@@ -1,5 +1,5 @@
-//! The rules of a type of any kind, from what is reported of the types that it names: which scalars types and literals may have,
-//! the members of a struct at their places, whether a module may have it, and what it may be used for.
+//! The checks of types of any kind, given the `TypeInfo`s of the types they reference: valid scalars of types and literals,
+//! struct members and their offsets, the validity of a type, and its type flags.
 #![tactic(auto)]
 
 mod blends;

@@ -1,4 +1,4 @@
-//! Members of a struct at their places.
+//! Struct members with their offsets.
 
 ghost use Rattle.std.specs.Prelude.{◌≡◌, ◌<◌, ◌≤◌, ◌+◌, ◌⊎◌, ℕ, suc, All, length, map, MatchOption, MatchResult};
 ghost use Rattle.typing_layout.specs.judged.Flags.{HasFlag, Sized};
@@ -16,19 +16,19 @@ use ir_arena::handle::Handle;
 use ir_types::{StructMember, key};
 use typing_layout::{TypeError, TypeFlags};
 
-/// A member, and what is known of its type.
+/// A member, with the facts about its type.
 #[derive(Clone, Copy)]
 pub struct Placed {
     /// Its type.
     pub ty: Handle<key::IrType>,
-    /// Where it begins, in bytes.
+    /// Its offset in bytes.
     pub offset: u32,
-    /// What is known of its type.
+    /// The facts about its type.
     pub facts: Facts,
 }
 
 impl Placed {
-    /// The first byte after the member.
+    /// The end offset of the member.
     pub fn end(&self) -> u64
         ensures { result ≡ self.now.offset + self.now.facts.size }
     {
@@ -36,7 +36,7 @@ impl Placed {
     }
 }
 
-/// The member at a place.
+/// The member at an index.
 pub fn member_at(context: &TypeContext<'_>, members: &[StructMember], place: usize) -> Placed
     requires known { IsKnown context.now }
     requires named { All (λ m. m.ty < length context.now.infos.now) members.now }
@@ -51,7 +51,7 @@ pub fn member_at(context: &TypeContext<'_>, members: &[StructMember], place: usi
     }
 }
 
-/// The member before a place, if there is one.
+/// The member before an index, if there is one.
 pub fn member_before(
     context: &TypeContext<'_>,
     members: &[StructMember],
@@ -68,7 +68,7 @@ pub fn member_before(
     Some(member_at(context, members, place - 1))
 }
 
-// Whether a member is the last one or of a known size.
+// Whether a member is the last one or has a fixed size.
 fn check_sized(
     context: &TypeContext<'_>,
     members: &[StructMember],
@@ -90,7 +90,7 @@ fn check_sized(
     })
 }
 
-// Whether a member begins where the one before ends or later, or at 0.
+// Whether a member's offset is 0, or at or after the end of the previous member.
 fn check_ordered(
     context: &TypeContext<'_>,
     members: &[StructMember],
@@ -122,7 +122,7 @@ fn check_ordered(
     }
 }
 
-// Whether a member may stand at its place.
+// Whether a member is valid at its index.
 fn check_member(
     context: &TypeContext<'_>,
     members: &[StructMember],
@@ -156,7 +156,7 @@ fn check_member(
     Ok(())
 }
 
-/// Whether a struct may have these members and this span. The error is that of one of its members, or that it has none.
+/// Whether a struct may have these members and this span. The error is that of one of its members, or that it is empty.
 pub fn check_members(
     context: &TypeContext<'_>,
     members: &[StructMember],

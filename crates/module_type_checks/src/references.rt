@@ -1,4 +1,4 @@
-//! Types that name one other type.
+//! The checks of types that reference one other type.
 
 ghost use Rattle.std.specs.Prelude.{◌≡◌, ◌<◌, ◌↔◌, ℕ, IsTrue, length, MatchResult};
 ghost use Rattle.ir_flags.specs.Sets.{Has};
@@ -17,7 +17,7 @@ use ir_kinds::{AddressSpace, ImageClass};
 use ir_types::{ArraySize, TypeInner, key};
 use typing_layout::{TypeError, TypeFlags};
 
-// Whether values of an earlier type can be stored.
+// Whether an earlier type has the `DATA` flag.
 fn is_data(context: &TypeContext<'_>, ty: Handle<key::IrType>) -> bool
     requires known { IsKnown context.now }
     requires before { ty < length context.now.infos.now }
@@ -26,7 +26,7 @@ fn is_data(context: &TypeContext<'_>, ty: Handle<key::IrType>) -> bool
     facts_of(context, ty).info.flags.contains(TypeFlags::DATA)
 }
 
-// Whether the size of values of an earlier type is known.
+// Whether an earlier type has the `SIZED` flag.
 fn is_sized(context: &TypeContext<'_>, ty: Handle<key::IrType>) -> bool
     requires known { IsKnown context.now }
     requires before { ty < length context.now.infos.now }
@@ -35,7 +35,7 @@ fn is_sized(context: &TypeContext<'_>, ty: Handle<key::IrType>) -> bool
     facts_of(context, ty).info.flags.contains(TypeFlags::SIZED)
 }
 
-// Whether a space is that of storage buffers.
+// Whether an address space is `Storage`.
 const fn is_storage(space: AddressSpace) -> bool
     ensures { IsTrue result ↔ IsStorageSpace space }
 {
@@ -53,7 +53,7 @@ const fn is_storage(space: AddressSpace) -> bool
     }
 }
 
-/// Whether there are pointers to a type.
+/// Whether pointers to a type are valid.
 pub(crate) fn check_pointer(
     context: &TypeContext<'_>,
     base: Handle<key::IrType>,
@@ -72,7 +72,7 @@ pub(crate) fn check_pointer(
     Ok(())
 }
 
-// Whether how many elements there are is known once overrides are resolved, if they are.
+// Whether an array size is not `Pending`, if overrides are resolved.
 const fn is_known_count(resolved: bool, size: ArraySize) -> bool
     ensures { IsTrue result ↔ CountIsResolved resolved size }
 {
@@ -82,7 +82,7 @@ const fn is_known_count(resolved: bool, size: ArraySize) -> bool
     }
 }
 
-/// Whether there are arrays of elements of a type.
+/// Whether arrays of this element type are valid.
 pub(crate) fn check_array(
     context: &TypeContext<'_>,
     handle: Handle<key::IrType>,
@@ -104,7 +104,7 @@ pub(crate) fn check_array(
     Ok(())
 }
 
-// Whether a type stands in binding arrays.
+// Whether a type is allowed as the element type of a binding array.
 fn is_bound(inner: &TypeInner) -> bool
     ensures { (tree : ℕ → Tree) → IsTrue result ↔ IsBindingArrayBase (tree_by tree (inner_view inner.now)) }
 {
@@ -126,7 +126,7 @@ fn is_bound(inner: &TypeInner) -> bool
     }
 }
 
-// Whether an earlier type stands in binding arrays.
+// Whether an earlier type is allowed as the element type of a binding array.
 fn is_in_array(context: &TypeContext<'_>, base: Handle<key::IrType>) -> bool
     requires known { IsKnown context.now }
     requires before { base < length context.now.infos.now }
@@ -135,7 +135,7 @@ fn is_in_array(context: &TypeContext<'_>, base: Handle<key::IrType>) -> bool
     is_bound(type_at(context.types, base))
 }
 
-/// Whether there are binding arrays of elements of a type.
+/// Whether binding arrays of this element type are valid.
 pub(crate) fn check_binding_array(
     context: &TypeContext<'_>,
     base: Handle<key::IrType>,

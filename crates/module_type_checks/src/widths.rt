@@ -1,4 +1,4 @@
-//! Which scalars there are.
+//! The validity of scalar types.
 
 ghost use Rattle.std.specs.Prelude.{◌≡◌, IsOk, MatchResult};
 ghost use Rattle.ir_flags.specs.Sets.{Has};
@@ -13,7 +13,7 @@ use ir_flags::Capabilities;
 use ir_kinds::{Literal, Scalar, ScalarKind};
 use typing_layout::{LiteralError, TypeError, WidthError};
 
-// Refuses where a capability is missing.
+// Returns an error if a capability is missing.
 fn needs_for_width(capabilities: Capabilities, needed: Capabilities) -> Result<(), WidthError>
     ensures { MatchResult result (λ _. Has capabilities.0 needed.0) (λ e. (e ≡ WidthError.MissingCapability needed) × ¬ Has capabilities.0 needed.0) }
 {
@@ -24,7 +24,7 @@ fn needs_for_width(capabilities: Capabilities, needed: Capabilities) -> Result<(
     }
 }
 
-// Refuses a number of a width other than four bytes, or two or eight with a capability.
+// Returns an error unless the width is four bytes, or two or eight with the capability for it.
 fn check_wide(
     capabilities: Capabilities,
     scalar: Scalar,
@@ -41,11 +41,11 @@ fn check_wide(
     }
 }
 
-/// Whether types and literals may have a scalar (naga's `check_width`).
+/// Whether a scalar type is valid for types and literals (naga's `check_width`).
 ///
 /// # Errors
 ///
-/// The scalar is abstract, no scalar of its kind has this width, or a capability that it requires is missing.
+/// The scalar type is abstract, the width is invalid for its kind, or a required capability is missing.
 pub fn check_width(capabilities: Capabilities, scalar: Scalar) -> Result<(), WidthError>
     ensures { MatchResult result (λ _. ScalarOK capabilities scalar) (IsWidthFault capabilities scalar) }
 {
@@ -73,19 +73,19 @@ pub fn check_width(capabilities: Capabilities, scalar: Scalar) -> Result<(), Wid
     }
 }
 
-/// Whether the value of a literal is one that there is (naga's `check_literal_value`): all are, since floats are reported by
-/// their bits, whatever these denote.
+/// Whether a literal's value is valid (naga's `check_literal_value`): always, because floats are represented by
+/// their bits, of which all are allowed.
 pub const fn check_literal_value(_literal: Literal) -> Result<(), LiteralError>
     ensures { IsOk result }
 {
     Ok(())
 }
 
-/// Whether expressions may have a literal (naga's `validate_literal`).
+/// Whether a literal is valid (naga's `validate_literal`).
 ///
 /// # Errors
 ///
-/// That of [`check_width`] for its scalar.
+/// The error of [`check_width`] for its scalar type.
 pub fn validate_literal(capabilities: Capabilities, literal: Literal) -> Result<(), LiteralError>
     ensures { MatchResult result (λ _. ScalarOK capabilities (literal_scalar literal)) (IsLiteralFault capabilities literal) }
 {
@@ -95,7 +95,7 @@ pub fn validate_literal(capabilities: Capabilities, literal: Literal) -> Result<
     }
 }
 
-/// Whether a scalar, a vector or a pointer to one may be of a scalar. The error is that of [`check_width`].
+/// Whether a scalar type is valid for a scalar, a vector or a pointer to one. The error is that of [`check_width`].
 pub fn check_scalar(capabilities: Capabilities, scalar: Scalar) -> Result<(), TypeError>
     ensures { MatchResult result (λ _. ScalarOK capabilities scalar) (IsScalarFault capabilities scalar) }
 {
@@ -105,7 +105,7 @@ pub fn check_scalar(capabilities: Capabilities, scalar: Scalar) -> Result<(), Ty
     }
 }
 
-/// Whether a matrix may be of a scalar.
+/// Whether a scalar type is valid for a matrix.
 pub fn check_matrix(capabilities: Capabilities, scalar: Scalar) -> Result<(), TypeError>
     ensures { MatchResult result (λ _. (scalar.kind ≡ ScalarKind.Float) × ScalarOK capabilities scalar) (IsMatrixFault capabilities scalar) }
 {
@@ -118,7 +118,7 @@ pub fn check_matrix(capabilities: Capabilities, scalar: Scalar) -> Result<(), Ty
     }
 }
 
-/// Whether a cooperative matrix may be of a scalar.
+/// Whether a scalar type is valid for a cooperative matrix.
 pub fn check_cooperative(capabilities: Capabilities, scalar: Scalar) -> Result<(), TypeError>
     ensures { MatchResult result (λ _. CooperativeOK capabilities scalar) (IsCooperativeFault capabilities scalar) }
 {
@@ -131,7 +131,7 @@ pub fn check_cooperative(capabilities: Capabilities, scalar: Scalar) -> Result<(
     Ok(())
 }
 
-// Whether an atomic may be an integer of a width.
+// Whether an integer atomic may have this width.
 fn check_atomic_integer(capabilities: Capabilities, scalar: Scalar) -> Result<(), TypeError>
     ensures { MatchResult result (λ _. IsAtomicInteger capabilities scalar.width) (IsAtomicIntegerFault capabilities scalar) }
 {
@@ -150,11 +150,11 @@ fn check_atomic_integer(capabilities: Capabilities, scalar: Scalar) -> Result<()
     }
 }
 
-/// Whether an atomic may be of a scalar.
+/// Whether a scalar type is valid for an atomic.
 ///
 /// # Errors
 ///
-/// No atomic is of a scalar of this kind and width, or a capability that it requires is missing.
+/// No atomic has this scalar kind and width, or a required capability is missing.
 pub fn check_atomic(capabilities: Capabilities, scalar: Scalar) -> Result<(), TypeError>
     ensures { MatchResult result (λ _. AtomicOK capabilities scalar) (IsAtomicFault capabilities scalar) }
 {

@@ -1,4 +1,4 @@
-//! What holds of modules whose handles are in order, of what is refused, and of sets of slots.
+//! Laws of modules with valid handles, of errors, and of sets of slots.
 
 pub use judgement::module_laws::{more_capabilities, none_fails, one_failure};
 pub use module_constants::laws::{

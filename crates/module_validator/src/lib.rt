@@ -1,13 +1,13 @@
-//! The checks of what stands outside functions from one place: the step of handles with its errors of `module_handles`, what
-//! judges a module up to its overrides of `module_steps` (`ModuleValidator`), with the rules of literals of
-//! `module_type_checks`, of composed values, constants and overrides of `module_constants`, and of slots of immediate data and
-//! global variables of `module_globals`; what is kept of a module of `typing_infos` and of its types of `typing_layout`; and
-//! the errors of each.
+//! The validation of everything outside functions, re-exported: the check of handles and its errors from `module_handles`, the
+//! validator of modules up to their overrides (`ModuleValidator`) from `module_steps`, the checks of literals from
+//! `module_type_checks`, of `Compose`, constants and overrides from `module_constants`, and of immediate-data slots and
+//! global variables from `module_globals`; the resulting info of a module from `typing_infos` and of its types from
+//! `typing_layout`; and the errors of each.
 //!
-//! The error of a varying here, `VaryingError`, is the part of it that a type may have: what is wrong with sources of a blend.
-//! The whole, of an entry point's varyings, is that of `function_validator`, under the same name.
+//! The `VaryingError` here is only the part that concerns types: invalid blend sources. The full error, for the varyings of
+//! entry points, is the one of the same name in `function_validator`.
 //!
-//! Nothing is defined here. A crate that judges modules up to their overrides names this crate, and `shader_ir` for the modules.
+//! This crate defines nothing. To validate modules up to their overrides, depend on this crate, and on `shader_ir` for modules.
 #![tactic(auto)]
 
 pub mod laws;

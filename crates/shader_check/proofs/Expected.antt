@@ -1,4 +1,4 @@
--- What is expected for the bytes that were taken is expected for all of them.
+-- The expected text for the bytes that were read is that for all of them.
 use Rattle.std.proofs.Common.{◌≡◌, ◌↔◌, ◌⊎◌, inl, inr, ℕ, Bool, true, false, List, ◌++◌, length, length-append, append-nil, Option, Some, None, IfSome, IsTrue, codes, nat_eq, string_bytes, refl, sym, ap, subst, ◌∙◌, arith}
 use Rattle.std.specs.List.{starts_with}
 use Rattle.std.specs.Io.KnownBytes.{Consumes, IsAtEnd}
@@ -18,7 +18,7 @@ use Rattle.shader_check.specs.declared.check.TheConstants.{MAX_TAKEN}
 use Rattle.shader_check.specs.declared.check.Verdict.TheVariants as verdict
 use Rattle.shader_check.specs.declared.reported.Judgement.{Judgement}
 
--- too many bytes spell no document, however they go on
+-- a document that is too long is invalid, whatever follows
 judged_longer : (f : Finding) (given rest : List ℕ) → length given ≡ MAX_TAKEN → Judged given f → Judged (given ++ rest) f
 judged_longer (Accepted strict) given rest long h = absurd (let s = h.reads.short in omega arith)
 judged_longer RefusedDocument given rest long h = λ d r. let s = r.short in omega (arith, length-append given rest)
@@ -31,7 +31,7 @@ told_longer RefusedDocument behind given rest long h = h
 told_longer RefusedHandles behind given rest long h = h
 told_longer (Refused step index) behind given rest long h = h
 
--- the module that is found accepted is the one that is reported on
+-- the module that is valid is the one of the report
 expected_accepted : (bytes : List ℕ) (strict : Bool) (behind : List ℕ) → Finds bytes (Accepted strict) → IsReportFor bytes behind → IsExpected bytes (text_of (Accepted strict) ++ behind)
 expected_accepted bytes strict behind h t =
     let d = h.document in
@@ -40,7 +40,7 @@ expected_accepted bytes strict behind h t =
     let reports : IsReport m behind = subst (λ x. IsReport x behind) (prepared_once d.returns d.content on.judged m on.prepared h.found.prepared) on.is in
     of_document d h.reads (record { judged = m; prepared = h.found.prepared; finding = Accepted strict; found = h.found.finding; behind = behind; reported = reports; text_is = refl })
 
--- the text of a finding, with what is reported after its line
+-- the text of a finding, with what follows its line
 pub expected : (f : Finding) (behind bytes : List ℕ) → Judged bytes f → IsReported bytes f behind → IsExpected bytes (text_of f ++ behind)
 expected (Accepted strict) behind bytes h t = expected_accepted bytes strict behind h t
 expected RefusedDocument behind bytes h t = no_document h (ap (λ z. text_of RefusedDocument ++ z) t ∙ append-nil (text_of RefusedDocument))
@@ -60,7 +60,7 @@ module _ (f : Finding) (behind : List ℕ) where
   expected_for_all (Some input) (Some rest) given c (inr e) h t =
       expected f behind input (subst (λ z. Judged z f) (sym c) (judged_longer f given rest e h)) (subst (λ z. IsReported z f behind) (sym c) (told_longer f behind given rest e t))
 
--- of a document without results the text is the same with missing returns put in and without
+-- for a document without results the text is the same with and without missing returns inserted
 pub without_results : (given : List ℕ) (j : Judgement) → IsJudgementOn given j → IsTextWithoutResults given (text_of j.finding ++ string_bytes j.report)
 without_results given j h = returns_dont_show_lem given (text_of j.finding ++ string_bytes j.report) (expected j.finding (string_bytes j.report) given h.finding h.told)
 
@@ -80,7 +80,7 @@ verdict_is RefusedDocument behind = (λ e. cc, λ e. cc)
 verdict_is RefusedHandles behind = (λ e. cc, λ e. cc)
 verdict_is (Refused step index) behind = (λ e. cc, λ e. cc)
 
--- an answer that the document is accepted comes with all that is promised
+-- the result that the document is valid comes with all guarantees
 pub sound_answer : (old new : Option (List ℕ)) (given : List ℕ) (j : Judgement) (t : TakesAll old new MAX_TAKEN given) (h : IsJudgementOn given j) → verdict_of j.finding ≡ verdict.Accepted
     → SoundText (expected_for old new given j t h).given (text_of j.finding ++ string_bytes j.report)
 unfolding expected_for

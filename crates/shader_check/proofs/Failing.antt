@@ -1,4 +1,4 @@
--- The first step that fails is one, and so is the item.
+-- The first failing step is unique, and so is the item.
 use Rattle.std.proofs.Common.{◌≡◌, inl, inr, ℕ, Bool, ◌<◌, length, refl, ap, arith}
 use Rattle.std.proofs.lemmas.Bool.{cases_lt}
 use Rattle.ir_flags.specs.declared.settings.Settings.{Settings}
@@ -11,7 +11,7 @@ use Rattle.judgement.proofs.Failures.{one_failure, none_fails}
 use Rattle.judgement.specs.judged.ModuleSteps.{ModuleStep, IsFirstFailing, ModuleOK}
 use Rattle.spec_expressions.specs.judged.Firsts.{FailsFirst}
 
--- the first that is not such is one
+-- the first index without a property is unique
 first_once : (OK : ℕ → Type 0) (i j : ℕ) → ((k : ℕ) → k < i → OK k) → ¬ OK i → ((k : ℕ) → k < j → OK k) → ¬ OK j → i ≡ j
 first_once OK i j before fails before' fails' =
     elim (cases_lt i j) [
@@ -22,7 +22,7 @@ first_once OK i j before fails before' fails' =
       ]
     ]
 
--- ---- the steps that are refused: those up to overrides, and those after
+-- ---- the failing steps: those up to overrides, and those after
 
 pub data Family : Type 0 where
   up_to_overrides : ModuleStep → Family
@@ -43,7 +43,7 @@ module _ (s : Settings) (resolved : Bool) (m : PlainModule) where
   in_order at_functions i x = x.0.handles
   in_order at_entries i x = x.0.handles
 
-  -- no global variable fails where all are accepted
+  -- no global variable fails if all are valid
   no_variable : (i : ℕ) → GlobalsOK s.flags s.capabilities m → FailsFirst (length m.globals) (GlobalOK s.flags s.capabilities m) i → ⊥
   no_variable i all first = first.fails (all i first.within)
 
@@ -53,7 +53,7 @@ module _ (s : Settings) (resolved : Bool) (m : PlainModule) where
   no_entry : (i : ℕ) → EntriesOK s m → FailsFirst (length m.entries) (EntryAtOK s m) i → ⊥
   no_entry i all first = first.fails (all i first.within)
 
-  -- where all steps accept, none fails
+  -- if all steps pass, none fails
   pub none_failing : (o : Family) (i : ℕ) → ModuleOK s resolved m → GlobalsOK s.flags s.capabilities m → FunctionsOK s m → EntriesOK s m → IsFailing o i → ⊥
   none_failing (up_to_overrides step) i items variables functions entries y = none_fails s resolved m step i y items
   none_failing at_variables i items variables functions entries y = no_variable i variables y.1

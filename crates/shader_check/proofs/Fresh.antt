@@ -1,4 +1,4 @@
--- A module has one verdict by the same settings, at one step and one item.
+-- A module has one verdict with the same settings, at one step and one item.
 use Rattle.std.proofs.Common.{◌≡◌, inl, inr, ℕ, Bool, Option, Some, None, refl, sym, ap, ◌∙◌}
 use Rattle.ir_flags.specs.declared.settings.Settings.{Settings}
 use Rattle.typing_errors.specs.declared.const_expressions.ConstExpressionError.{ConstExpressionError}
@@ -21,7 +21,7 @@ use Rattle.spec_expressions.specs.judged.ModuleHandles.{HandlesOK}
 use Rattle.judgement.specs.judged.ModuleSteps as step
 use Rattle.judgement.specs.judged.ModuleSteps.{ModuleStep, IsFirstFailing}
 
--- the step and the item of a refusal; none of one for a handle
+-- the step and the item of an error; no item for an error of handles
 pub record Spot : Type 0 where
   pub family : Family
   pub item : ℕ

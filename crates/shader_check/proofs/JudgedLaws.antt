@@ -1,4 +1,4 @@
--- What is found of a document is found of the bytes that spell it.
+-- The result for a document is that for its bytes.
 use Rattle.std.proofs.Common.{◌≡◌, ℕ, List, [], Result, Ok, Err, IfOk, false, string_bytes, sym, subst}
 use Rattle.std.specs.declared.alloc.AllocError.{AllocError}
 use Rattle.document_reader.specs.judged.Plain.{PlainDocument}
@@ -29,7 +29,7 @@ use Rattle.shader_check.specs.declared.reported.Judgement.{Judgement}
 pub found_in : (d : PlainDocument) (m : PlainModule) (f : Finding) → IsPrepared d.returns d.content m → IsFinding d.settings m f → FindsIn d f
 found_in d m f p h = record { judged = m; prepared = p; finding = h }
 
--- what a validator with these settings refuses is found of the module
+-- the error of a validator with these settings is the result for the module
 pub examined_by : (s own : Settings) (m : PlainModule) (given : Module) (r : Refusal ValidationError) (t : Result Examined AllocError) → own ≡ s → IsRefusedAt (IsValidationFault own false m) given r → IfOk t (IsRefusedSo r) → IfOk t (IsExamined s m)
 examined_by s own m given r (Err a) same wrong told = tt
 examined_by s own m given (refusal.Memory e) (Ok x) same wrong told = absurd told
@@ -37,7 +37,7 @@ examined_by s own m given (refusal.Fault f) (Ok (examined.Accepted strict info))
 examined_by s own m given (refusal.Fault f) (Ok (examined.Refused e)) same wrong told =
     subst (λ (z : Settings). IsValidationFault z false m e) same (subst (λ (x : ValidationError). IsValidationFault own false m x) (sym told) wrong.0)
 
--- what is found of its module with the error is found of the document
+-- the result for its module, with the error, is that for the document
 pub examined_if : (d : PlainDocument) (m : PlainModule) (r : Result Examined AllocError) → IsPrepared d.returns d.content m → IfOk r (IsExamined d.settings m) → IfOk r (IsExaminedDocument d m)
 examined_if d m (Ok x) p h = record { prepared = p; examined = h }
 examined_if d m (Err a) p h = tt
@@ -46,7 +46,7 @@ examined_if d m (Err a) p h = tt
 pub judged_document : (d : PlainDocument) (m : PlainModule) (x : Examined) → IsExaminedDocument d m x → FindsIn d (finding_in x)
 judged_document d m x h = found_in d m (finding_in x) h.prepared (found_of d.settings m x h.examined)
 
--- ---- what is reported
+-- ---- reports
 
 pub kept_in : (d : PlainDocument) (m : PlainModule) (x : Examined) → IsExaminedDocument d m x → IsKeptIn m x
 kept_in d m (examined.Accepted strict info) h = reported d.settings false m info h.examined.0
@@ -66,7 +66,7 @@ refused_reported d m (error.GlobalVariable e) behind t = t
 refused_reported d m (error.Function e) behind t = t
 refused_reported d m (error.EntryPoint e) behind t = t
 
--- what is reported of its module is reported of the document
+-- the report of its module is that of the document
 reported_of : (d : PlainDocument) (m : PlainModule) (x : Examined) (behind : List ℕ) → IsExaminedDocument d m x → IsReportedIn m (finding_in x) behind → IsReportedOf d (finding_in x) behind
 reported_of d m (examined.Accepted strict info) behind h t = record { judged = m; prepared = h.prepared; is = t }
 reported_of d m (examined.Refused e) behind h t = refused_reported d m e behind t
@@ -97,7 +97,7 @@ pub judgement_if : (bytes : List ℕ) (d : PlainDocument) (r : Result Judgement 
 judgement_if bytes d (Ok j) reads h = record { finding = judged bytes d j.finding reads h.finding; told = told_on bytes d j.finding (string_bytes j.report) reads h.told }
 judgement_if bytes d (Err a) reads h = tt
 
--- what is reported where no document is spelled
+-- the report for bytes that are not a document
 pub nothing_on : (bytes : List ℕ) (j : Judgement) → j.finding ≡ RefusedDocument → string_bytes j.report ≡ [] → ((d : PlainDocument) → ¬ Reads bytes d) → IsJudgementOn bytes j
 nothing_on bytes j is empty none = record {
   finding = subst (Judged bytes) (sym is) none;

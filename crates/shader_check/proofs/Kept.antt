@@ -1,4 +1,4 @@
--- What is kept of a module that is accepted is enough for the report on it.
+-- The `ModuleInfo` of a valid module is what the report requires.
 use Rattle.std.proofs.Common.{◌≡◌, ◌∙◌, ℕ, Bool, Some, option_map, slice_get, sym, ap}
 use Rattle.std.proofs.lemmas.List.{length-map}
 use Rattle.std.proofs.lemmas.Option.{slice_get-map}

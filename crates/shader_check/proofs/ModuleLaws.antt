@@ -1,4 +1,4 @@
--- What a module is refused for is what the judgement finds of it.
+-- The error of a module is its validation result.
 use Rattle.std.proofs.Common.{inl, inr, ℕ, false}
 use Rattle.ir_flags.specs.declared.settings.Settings.{Settings}
 use Rattle.typing_errors.specs.declared.const_expressions.ConstExpressionError.{ConstExpressionError}
@@ -44,7 +44,7 @@ refused_is s m (validation.GlobalVariable e) x = (x.0, x.1.first)
 refused_is s m (validation.Function e) x = (x.0, x.1, x.2.first)
 refused_is s m (validation.EntryPoint e) x = (x.0, x.1, x.2, x.3.first)
 
--- what is found of a module with its error is found without it
+-- the result for a module with its error is that without it
 pub found_of : (s : Settings) (m : PlainModule) (x : Examined) → IsExamined s m x → IsFinding s m (finding_in x)
 found_of s m (examined.Accepted strict info) h = (h.0.ok, h.0.globals, h.0.functions.accepted, h.0.entries.accepted, h.1)
 found_of s m (examined.Refused e) h = refused_is s m e h

@@ -1,4 +1,4 @@
--- One text is expected for some bytes.
+-- At most one text is expected for given bytes.
 use Rattle.std.proofs.Common.{◌≡◌, ◌↔◌, IsTrue, ℕ, Bool, true, false, List, ◌++◌, refl, sym, ap, subst, ◌∙◌}
 use Rattle.ir_flags.specs.declared.settings.Settings.{Settings}
 use Rattle.ir_items.specs.judged.Plain.{PlainModule}
@@ -17,14 +17,14 @@ use Rattle.judgement.proofs.OneReport.{one_report}
 use Rattle.shader_check.proofs.Failing.{Family, up_to_overrides, at_variables, at_functions, at_entries, IsFailing, in_order, none_failing, failing_once}
 use Rattle.shader_check.specs.judged.Theorem.{IsReportedIn, IsTextOn, of_document, no_document, OneText}
 
--- two truths that say the same are one
+-- two decidable propositions with the same truth value are equal
 same_truth : (a b : Bool) (P : Type 0) → IsTrue a ↔ P → IsTrue b ↔ P → a ≡ b
 same_truth true true P x y = refl
 same_truth true false P x y = absurd (let z = y.1 (x.0 refl) in cc)
 same_truth false true P x y = absurd (let z = x.1 (y.0 refl) in cc)
 same_truth false false P x y = refl
 
--- ---- the step of a family
+-- the step of an error's kind
 
 abbrev pub step_in : Step → Family
 step_in Layout = up_to_overrides step.layout
@@ -99,12 +99,12 @@ module _ (s : Settings) (m : PlainModule) where
   finding_once (Refused t i) RefusedHandles x y = absurd (y (handles_in_order (step_in t) i (as_failing t i x)))
   finding_once (Refused t i) (Refused u j) x y = refused_once t u i j x y
 
--- one module is judged for a document
+-- one module is validated for a document
 pub prepared_once : (returns : Bool) (m n k : PlainModule) → IsPrepared returns m n → IsPrepared returns m k → n ≡ k
 prepared_once true m n k x y = one_returned m n x ∙ sym (one_returned m k y)
 prepared_once false m n k x y = x ∙ sym y
 
--- ---- the text on a document
+-- ---- the text for a document
 
 reported_once : (m : PlainModule) (f : Finding) (a b : List ℕ) → IsReportedIn m f a → IsReportedIn m f b → a ≡ b
 reported_once m (Accepted strict) a b x y = one_report m a b x y

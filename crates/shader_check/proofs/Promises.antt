@@ -1,4 +1,4 @@
--- What is promised of a document that is accepted holds of the text that is expected for its bytes.
+-- The guarantees for a valid document hold of the expected text for its bytes.
 use Rattle.std.proofs.Common.{◌≡◌, ℕ, Bool, List, ◌++◌, IsTrue, codes, nat_eq, subst}
 use Rattle.std.specs.List.{starts_with}
 use Rattle.document_reader.specs.judged.Plain.{PlainDocument}
@@ -30,7 +30,7 @@ module _ (bytes text : List ℕ) (d : PlainDocument) (reads : Reads bytes d) (t 
     without_results = λ none returns. returns_dont_show_lem bytes text (of_document d reads t) d reads none returns;
   }
 
-  -- only the text of an accepted document begins so
+  -- only the text of a valid document begins so
   by_finding : (f : Finding) → IsFinding d.settings t.judged f → IsReportedIn t.judged f t.behind → text ≡ text_of f ++ t.behind → IsTrue (starts_with nat_eq (text_of f ++ t.behind) (codes "accepted")) → SoundText bytes text
   by_finding (Accepted strict) found told is begins = accepted_text strict found told is
   by_finding RefusedDocument found told is begins = absurd found

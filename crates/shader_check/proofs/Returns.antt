@@ -1,4 +1,4 @@
--- The text on a document without results is the same with missing returns put in and without.
+-- The text for a document without results is the same with and without missing returns inserted.
 use Rattle.std.proofs.Common.{ℕ, Bool, true, false, List, refl, subst}
 use Rattle.ir_items.specs.judged.Plain.{PlainModule}
 use Rattle.ir_items.specs.judged.Returned.{returned_module}
@@ -13,7 +13,7 @@ use Rattle.judgement_laws.specs.found.ReturnLaws.{AreJudgedAlike}
 use Rattle.judgement_laws.proofs.Finding.{returns_dont_matter}
 use Rattle.shader_check.specs.judged.Theorem.{IsReportedIn, IsTextOn, of_document, no_document, with_returns, ReturnsDontShow}
 
--- there is a module that is judged, whether returns are put in first or not
+-- there is a module that is validated, whether returns are inserted first or not
 some_prepared : (returns : Bool) (m : PlainModule) → (n : PlainModule) × IsPrepared returns m n
 some_prepared true m = (returned_module m, returned_by_bodies m)
 some_prepared false m = (m, refl)

@@ -1,4 +1,4 @@
--- There are no bytes for which no text is expected.
+-- Some text is expected for any bytes (as a double negation).
 use Rattle.std.proofs.Common.{◌↔◌, ◌⊎◌, IsTrue, nat_eq, inl, inr, ℕ, List, [], ◌++◌, Bool, true, false, length, refl, subst}
 use Rattle.std.specs.Int.RustNames.{bit_and}
 use Rattle.std.proofs.lemmas.Bool.{eqb-true, eq-eqb}
@@ -32,9 +32,9 @@ use Rattle.judgement.proofs.Classical.{Holds, surely, then, either, Sought, all_
 use Rattle.shader_check.proofs.Expected.{expected}
 use Rattle.shader_check.proofs.JudgedLaws.{found_in, judged}
 
--- ---- of a module
+-- ---- for a module
 
--- whether a set has some bits can be reported
+-- whether a set has some flags is decidable
 has_told : (set flags : ℕ) → (b : Bool) × (IsTrue b ↔ Has set flags)
 has_told set flags = (nat_eq (bit_and set flags) flags, (λ h. eqb-true (bit_and set flags) flags h, λ h. eq-eqb (bit_and set flags) flags h))
 
@@ -96,7 +96,7 @@ module _ (s : Settings) (m : PlainModule) where
   asked k reached =
       then (all_or_first (StepOK s false m k) (item_count m k)) (λ o. surely (told k reached o))
 
-  -- the step fails, so this is found; or what follows finds something
+  -- the step fails, which is the finding; or a later one does or none
   step_by_step : (k : ModuleStep) → IsReached s false m k → ((i : ℕ) → IsFirstFailing s false m k i → SomeFinding s m)
       → (StepPasses s false m k → Holds (SomeFinding s m)) → Holds (SomeFinding s m)
   step_by_step k reached refused passed =
@@ -143,12 +143,12 @@ some_prepared : (returns : Bool) (m : PlainModule) → (n : PlainModule) × IsPr
 some_prepared true m = (returned_module m, returned_by_bodies m)
 some_prepared false m = (m, refl)
 
--- ---- of bytes
+-- ---- for bytes
 
 abbrev SomeJudged : List ℕ → Type 0
 SomeJudged bytes = (f : Finding) × Judged bytes f
 
--- where they spell no document
+-- bytes that are not a document
 spell_none : (bytes : List ℕ) → ((d : PlainDocument) → ¬ Reads bytes d) → SomeJudged bytes
 spell_none bytes none = (RefusedDocument, none)
 
@@ -157,7 +157,7 @@ by_document bytes d r =
     let prepared = some_prepared d.returns d.content in
     then (some_finding d.settings prepared.0) (λ found. surely (found.0, judged bytes d found.0 r (found_in d prepared.0 found.0 prepared.1 found.1)))
 
--- where there is one document that they may spell
+-- bytes that may be a document
 by_candidate : (bytes : List ℕ) (d : PlainDocument) → IsCandidate bytes d → Holds (SomeJudged bytes)
 by_candidate bytes d c =
     then (either (AreDistinct d.content.types)) (λ o.
@@ -173,7 +173,7 @@ some_judged bytes =
       | inr found ↦ by_candidate bytes found.0 found.1
     ]
 
--- ---- what is reported
+-- ---- reports
 
 abbrev SomeTold : List ℕ → Finding → Type 0
 SomeTold bytes f = (behind : List ℕ) × IsReported bytes f behind

@@ -1,4 +1,4 @@
-// From a reader to a writer: the judgement over what the one gives, as the text that the other takes.
+// Validation from a reader to a writer: reads a document and writes the text of the result.
 ghost use Rattle.std.specs.Prelude.{◌≡◌, false, true, List, IfErr, IfOk, OnErr, OnOk, Err};
 ghost use Rattle.std.specs.Io.KnownBytes.{Appends};
 ghost use Rattle.check_ports.specs.Calls.{Call};
@@ -16,28 +16,28 @@ use judgement::Finding;
 use std::alloc::{AllocError, Global};
 use thiserror::Error;
 
-/// One byte more than a document may have.
+/// The maximum size of a document, plus one byte.
 pub const MAX_TAKEN: usize = MAX_LEN + 1;
 
-/// What the document was found to be.
+/// The verdict on a document.
 #[derive(Clone, Copy, Debug, PartialEq, Eq)]
 pub enum Verdict {
-    /// No step of the judgement fails.
+    /// The document is valid.
     Accepted,
-    /// Some step fails.
+    /// The document is invalid.
     Refused,
 }
 
-/// Why no verdict was reached or reported.
+/// The error if there is no verdict, or it was not written.
 #[derive(Clone, Copy, Debug, PartialEq, Eq, Error)]
 pub enum Fault {
-    /// There was no memory. Nothing was written.
+    /// Out of memory. Nothing was written.
     #[error("out of memory")]
     Memory,
     /// The reader failed, or was interrupted too often. Nothing was written.
     #[error("the reader failed, or was interrupted too often")]
     Read,
-    /// The writer failed, was interrupted or took nothing. It may have taken a prefix of the text.
+    /// The writer failed, was interrupted or accepted zero bytes. It may have accepted a prefix of the text.
     #[error("the writer failed, was interrupted or took nothing")]
     Write,
 }
@@ -86,7 +86,7 @@ fn verdict_of(finding: Finding) -> Verdict
     }
 }
 
-// Writes a whole text. The fault is that the writer failed, was interrupted or took nothing.
+// Writes a whole text. The error is that the writer failed, was interrupted or accepted zero bytes.
 fn write_text<W: WriteCall>(sink: &mut Sink<W>, text: &[u8]) -> Result<(), Fault>
     ensures ok { OnOk result (Appends (W.contents (writer_of sink.old)) (W.contents (writer_of sink.new)) text.now) }
     ensures front { OnErr result (AppendsFront (W.contents (writer_of sink.old)) (W.contents (writer_of sink.new)) text.now) }
@@ -99,13 +99,13 @@ fn write_text<W: WriteCall>(sink: &mut Sink<W>, text: &[u8]) -> Result<(), Fault
     Ok(())
 }
 
-/// Reads a document to its end, or 16777217 bytes of it, and writes the text of the judgement over it.
+/// Reads a document to its end, or 16777217 bytes of it, validates it and writes the text of the result.
 ///
 /// Every [`std::io::Read`] is a [`ReadCall`], and every [`std::io::Write`] a [`WriteCall`].
 ///
-/// It requires that no call of the reader or of the writer has failed before. [`Fault::Memory`] comes only where memory was refused, which
-/// no clause says; `memory_calls` says what was read till then. [`Fault::Read`] comes where a call of the reader failed or 33554434 calls
-/// brought no end, and [`Fault::Write`] where a call of the writer failed, was interrupted or took nothing.
+/// Requires that no call of the reader or of the writer has failed before. [`Fault::Memory`] is returned only out of memory, which
+/// no clause says; `memory_calls` says what was read. [`Fault::Read`] is returned if a reader call failed or 33554434 calls
+/// did not reach the end, and [`Fault::Write`] if a call of the writer failed, was interrupted or accepted zero bytes.
 pub fn check_document<R: ReadCall, W: WriteCall>(
     alloc: Global,
     source: &mut Source<R>,
@@ -114,12 +114,12 @@ pub fn check_document<R: ReadCall, W: WriteCall>(
     requires source_unmarked { source_failed source.old ≡ false }
     requires sink_unmarked { sink_failed sink.old ≡ false }
 
-    // The text of the judgement is written whole, and nothing else is.
+    // The text of the result is written whole, and nothing else is.
     ensures ok { IfOk result (Answers (R.remaining (reader_of source.old))
         (R.remaining (reader_of source.new)) (W.contents (writer_of sink.old))
         (W.contents (writer_of sink.new))) }
 
-    // A fault comes only from where it says, and before the first write nothing was written.
+    // An error is returned only for its own reason, and before the first write nothing was written.
     ensures memory { result ≡ Err Fault.Memory → sink.new ≡ sink.old }
     ensures read { result ≡ Err Fault.Read → source_failed source.new ≡ true }
     ensures read_unwritten { result ≡ Err Fault.Read → sink.new ≡ sink.old }
@@ -128,7 +128,7 @@ pub fn check_document<R: ReadCall, W: WriteCall>(
         (R.remaining (reader_of source.new)) (W.contents (writer_of sink.old))
         (W.contents (writer_of sink.new)) }
 
-    // The same of the calls that were made, whatever the reader and the writer are.
+    // The same for the calls that were made, for any reader and writer.
     ensures ok_calls { IfOk result (AnswersInCalls R.reads (reader_of source.old)
         (reader_of source.new) W.writes (writer_of sink.old) (writer_of sink.new)) }
     ensures memory_calls { result ≡ Err Fault.Memory → ReadsSome R.reads (reader_of source.old)
@@ -147,8 +147,8 @@ pub fn check_document<R: ReadCall, W: WriteCall>(
     Ok(verdict_of(judgement.finding))
 }
 
-/// The exit status of an answer, 0 for accepted, 1 for refused and 2 for a fault, and what is said of it on standard
-/// error: nothing, or the fault in one line.
+/// The exit status of a result, 0 for valid, 1 for invalid and 2 for a `Fault`, and the message on standard
+/// error: empty, or the `Fault` in one line.
 pub fn outcome(answer: &Result<Verdict, Fault>) -> (u8, &'static str)
     ensures status { result.0 ≡ status_of answer.now }
     ensures message { result.1.now ≡ message_of answer.now }

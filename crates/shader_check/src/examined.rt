@@ -1,4 +1,4 @@
-// What is found of a document, with the error where its module is refused.
+// The validation result of a document, with the error if its module is invalid.
 ghost use Rattle.std.specs.Prelude.{◌≡◌};
 ghost use Rattle.shader_check.specs.found.Examined.{step_of, refused_early, refused_by, finding_in};
 
@@ -8,21 +8,21 @@ use module_steps::ModuleError;
 use typing_errors::ConstExpressionError;
 use typing_infos::ModuleInfo;
 
-/// What is found of a document, with the error where its module is refused.
+/// The validation result of a document, with the error if its module is invalid.
 #[derive(Drop)]
 pub enum Examined {
-    /// No step fails.
+    /// The module is valid.
     Accepted {
-        /// Scope was checked strictly.
+        /// Whether strict scope was checked.
         strict: bool,
-        /// What is kept of the module.
+        /// The module's `ModuleInfo`.
         info: ModuleInfo,
     },
-    /// A step fails: this is wrong with its module.
+    /// The module is invalid, with this error.
     Refused(ValidationError),
 }
 
-// The step that refuses a global expression so.
+// The step of an error of a global expression.
 fn step_of(error: &ConstExpressionError) -> Step
     ensures { result ≡ step_of error.now }
 {
@@ -36,7 +36,7 @@ fn step_of(error: &ConstExpressionError) -> Step
     }
 }
 
-// What is found where a step up to overrides refuses a module so.
+// The finding for an error of a step up to overrides.
 fn refused_early(error: &ModuleError) -> Finding
     ensures { result ≡ refused_early error.now }
 {
@@ -52,7 +52,7 @@ fn refused_early(error: &ModuleError) -> Finding
     }
 }
 
-/// What is found where a module is refused so: its step, and the item.
+/// The finding for a module error: its step, and the item.
 pub fn refused_by(error: &ValidationError) -> Finding
     ensures { result ≡ refused_by error.now }
 {
@@ -69,7 +69,7 @@ pub fn refused_by(error: &ValidationError) -> Finding
 }
 
 impl Examined {
-    /// What is found, without the error: the step that fails, and the least index of an item that fails it.
+    /// The finding, without the error: the failing step, and the least index of an item that fails it.
     pub fn finding(&self) -> Finding
         ensures { result ≡ finding_in self.now }
     {

@@ -1,4 +1,4 @@
-// The judgement over bytes.
+// Validation of bytes.
 ghost use Rattle.std.specs.Prelude.{◌≡◌, ◌↔◌, [], IfOk, IsTrue, OnErr, OnOk, string_bytes};
 ghost use Rattle.ir_items.specs.found.Copies.{spanned_module};
 ghost use Rattle.ir_items.specs.found.View.{module_view};
@@ -24,21 +24,21 @@ use judgement_report::report;
 use std::alloc::{AllocError, Global};
 use typing_infos::ModuleInfo;
 
-// What judges modules by these settings.
+// The validator with these settings.
 fn validator_for(alloc: Global, settings: Settings) -> Validator<RealLower>
     ensures { result.settings ≡ settings }
 {
     Validator::with_settings(alloc, RealLower::new(ModuleInfo::new(alloc)), settings)
 }
 
-// Whether scope is checked strictly.
+// Whether strict scope is checked.
 fn is_strict(flags: ValidationFlags) -> bool
     ensures { IsTrue result ↔ IsScopeStrict flags }
 {
     flags.contains(ValidationFlags::BLOCKS) && flags.contains(ValidationFlags::STRICT_SCOPE)
 }
 
-// What is found of a module that is refused so.
+// The result for a module with this error.
 fn examined_as(refusal: Refusal<ValidationError>) -> Result<Examined, AllocError>
     ensures { IfOk result (IsRefusedSo refusal) }
 {
@@ -48,7 +48,7 @@ fn examined_as(refusal: Refusal<ValidationError>) -> Result<Examined, AllocError
     }
 }
 
-// What is found of a module.
+// The validation result of a module.
 fn examine_module(
     alloc: Global,
     settings: Settings,
@@ -66,7 +66,7 @@ fn examine_module(
     }
 }
 
-// Puts returns in where they are required.
+// Inserts missing returns if requested.
 fn prepare(alloc: Global, returns: bool, module: &mut Module) -> Result<(), AllocError>
     ensures ok { OnOk result (IsPrepared returns (module_view «module».old) (module_view «module».new)) }
     ensures err { OnErr result (spanned_module «module».new ≡ spanned_module «module».old) }
@@ -78,9 +78,9 @@ fn prepare(alloc: Global, returns: bool, module: &mut Module) -> Result<(), Allo
     }
 }
 
-/// What is found of the document, with the error where its module is refused: each error only where what it tells is wrong.
-/// Returns are put into its module where it requires them, and the module is left so. The error is out of memory, and
-/// leaves the module so, or as it was.
+/// The validation result of the document, with the error if its module is invalid, which it is only if its condition holds.
+/// Missing returns are inserted into its module if requested, and the module keeps them. The error is out of memory; the module may
+/// then have the returns or not.
 pub fn examine_document(alloc: Global, document: &mut Document) -> Result<Examined, AllocError>
     ensures left { IsLeft document.old.returns document.old.«module» document.new.«module» }
     ensures settings { document.new ≡ record document.old { «module» = document.new.«module» } }
@@ -90,7 +90,7 @@ pub fn examine_document(alloc: Global, document: &mut Document) -> Result<Examin
     examine_module(alloc, document.settings, &document.module)
 }
 
-// The report on a module that is accepted, and nothing on another.
+// The report of a valid module, and an empty text for an invalid one.
 fn report_on(alloc: Global, module: &Module, examined: &Examined) -> Result<String, AllocError>
     requires kept { IsKeptIn (module_view «module».now) examined.now }
     ensures { IfOk result (λ report. IsReportedIn (module_view «module».now) (finding_in examined.now) (string_bytes report)) }
@@ -101,8 +101,8 @@ fn report_on(alloc: Global, module: &Module, examined: &Examined) -> Result<Stri
     }
 }
 
-/// What is found of the document, and the report on it. Returns are put into its module where it requires them, and the
-/// module is left so. The error is out of memory, and leaves the module so, or as it was.
+/// The validation result of the document, with its report. Missing returns are inserted into its module if requested, and the
+/// module keeps them. The error is out of memory; the module may then have the returns or not.
 pub fn judge_document(alloc: Global, document: &mut Document) -> Result<Judgement, AllocError>
     ensures left { IsLeft document.old.returns document.old.«module» document.new.«module» }
     ensures settings { document.new ≡ record document.old { «module» = document.new.«module» } }
@@ -118,7 +118,7 @@ pub fn judge_document(alloc: Global, document: &mut Document) -> Result<Judgemen
     }
 }
 
-// What is reported of bytes that spell no document.
+// The result for bytes that are not a document.
 fn no_document(alloc: Global) -> Judgement
     ensures finding { result.finding ≡ RefusedDocument }
     ensures report { string_bytes result.report ≡ [] }
@@ -129,9 +129,9 @@ fn no_document(alloc: Global) -> Judgement
     }
 }
 
-/// What is found of the document that the bytes spell, the first step that fails and in it the least index, and the report on
-/// it. Where they spell none, the document is refused. The bytes are freed once they are read. The error says that there
-/// is no memory.
+/// The validation result of the document in the bytes, by the first failing step and in it the least index, with its
+/// report. Bytes that are not a document are invalid. The bytes are freed after they are read. The error is out
+/// of memory.
 pub fn judge(alloc: Global, bytes: Vec<u8>) -> Result<Judgement, AllocError>
     ensures { IfOk result (IsJudgementOn bytes.items) }
 {

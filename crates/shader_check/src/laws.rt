@@ -1,4 +1,4 @@
-// Laws of the judgement over bytes, and what is required of an accepted module.
+// Laws of the validation of bytes, and the guarantees for a valid module.
 ghost use Rattle.std.specs.Prelude.{false, true};
 ghost use Rattle.shader_check.specs.found.Fresh.{AnswersAreAlike};
 ghost use Rattle.shader_check.specs.found.Reported.{ValidatedIsReported};
@@ -14,42 +14,42 @@ pub use judgement_laws::accepted_laws::{
 pub use judgement_report::laws::{accepted_is_laid, rows_are_leaves};
 pub use judgement_report::{Leaf, buffer_leaves};
 
-/// One text is expected for some bytes: every answer to the same bytes is the same.
+/// At most one text is expected for given bytes: every result for the same bytes is the same.
 pub fn one_text()
     ensures { OneText }
 {}
 
-/// There are no bytes for which no text is expected. With [`one_text`] and read classically, for any bytes exactly one is.
+/// Some text is expected for any bytes (as a double negation). With [`one_text`] and classical logic, it is exactly one.
 #[tactic(auto, using(crate::proofs::SomeText::some_text_lem))]
 pub fn some_text()
     ensures { SomeText }
 {}
 
-/// The text that is expected for bytes which spell a document without results is the text on that document, whether
-/// it requires missing returns or not.
+/// The expected text for the bytes of a document without results is the text of that document, whether
+/// it requests missing returns or not.
 pub fn returns_dont_show()
     ensures { ReturnsDontShow }
 {}
 
-/// Where the text that is expected for some bytes begins with `accepted`, all holds that is promised of an accepted document.
+/// If the expected text for some bytes begins with `accepted`, all guarantees for a valid document hold.
 pub fn accepted_texts_are_sound()
     ensures { AcceptedTextsAreSound }
 {}
 
-/// Whatever a validator judged before, and where memory ran out too, it answers as a fresh one with the same settings: the
-/// contract of [`crate::Validator::validate`] speaks of the settings alone, and by these no module is both accepted and refused,
-/// nor refused at two steps or two items.
+/// Whatever a validator validated before, even after out of memory, it answers as a fresh one with the same settings: the
+/// contract of [`crate::Validator::validate`] depends on the settings alone, and for these no module is both valid and invalid,
+/// nor invalid at two steps or two items.
 pub fn validate_answers_as_fresh()
     ensures { AnswersAreAlike false }
 {}
 
-/// So it does by [`crate::Validator::validate_resolved_overrides`].
+/// The same for [`crate::Validator::validate_resolved_overrides`].
 pub fn validate_resolved_overrides_answers_as_fresh()
     ensures { AnswersAreAlike true }
 {}
 
-/// What is kept of a module that [`crate::Validator::validate`] accepts, or
-/// [`crate::Validator::validate_resolved_overrides`], is what [`crate::report`] requires of it.
+/// The `ModuleInfo` that [`crate::Validator::validate`] or [`crate::Validator::validate_resolved_overrides`] returns for
+/// a valid module is what [`crate::report`] requires.
 pub fn validated_is_reported()
     ensures { ValidatedIsReported }
 {}

@@ -1,5 +1,5 @@
-//! From bytes to a verdict: `check_document`; the document, the report on its module, and, handed on, what judges a module
-//! (`Validator`).
+//! From bytes to a verdict: `check_document`; the document, the report of its module, and, re-exported, the
+//! `Validator`.
 #![tactic(auto)]
 
 mod check;

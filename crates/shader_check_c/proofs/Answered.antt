@@ -1,4 +1,4 @@
--- What is known of a check over a list of bytes and an empty list.
+-- Laws of a check of a list of bytes with an empty output.
 use Rattle.std.proofs.Common.{◌≡◌, ◌↔◌, ℕ, List, [], Option, Some, IsTrue, codes, nat_eq, sym, subst}
 use Rattle.std.specs.List.{starts_with}
 use Rattle.shader_check.specs.judged.Theorem.{Answers, IsExpected}

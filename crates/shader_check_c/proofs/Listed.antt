@@ -1,4 +1,4 @@
--- What is listed of a document, and of a module of SPIR-V.
+-- The listing for a document, and for a SPIR-V module.
 use Rattle.std.proofs.Common.{◌≡◌, ℕ, List, ◌++◌, Option, Some, None, Result, Ok, IfOk, IfSome, String, Global, string_bytes, sym, subst, ◌∙◌}
 use Rattle.std.specs.declared.alloc.AllocError.{AllocError}
 use Rattle.judgement.specs.judged.Text.{text_of}
@@ -33,7 +33,7 @@ verdict_as Accepted h = h
 verdict_as Refused h = h
 verdict_as Unread h = tt
 
--- the answer that has the listing of what is found
+-- the result with the listing of the finding
 pub listing_of_spirv : (e : Explanation) → IsExplained Leaves e → (verdict : SpirvVerdict) (listed : Result (String Global) AllocError) (answer : Option SpirvAnswer) → verdict ≡ verdict_of (finding_of e) → IfOk listed (λ t. string_bytes t ≡ text_of (finding_of e) ++ lines_of e) → IfSome answer (λ a. (a.verdict ≡ verdict) × (listed ≡ Ok a.text)) → IfSome answer (λ a. IsListingOfSpirv a.verdict (string_bytes a.text))
 listing_of_spirv e explained verdict listed None is of has = tt
 listing_of_spirv e explained verdict listed (Some a) is of has =
@@ -44,7 +44,7 @@ listing_of_spirv e explained verdict listed (Some a) is of has =
       text_is = subst (λ r. IfOk r (λ t. string_bytes t ≡ text_of (finding_of e) ++ lines_of e)) has.1 of;
     })
 
--- the answer that has the verdict of what is found
+-- the result with the verdict of the finding
 pub verdict_of_spirv : (e : Explanation) → IsExplained Report e → (answer : Option SpirvAnswer) → IfSome answer (λ a. a.verdict ≡ verdict_of (finding_of e)) → IfSome answer (λ a. IsVerdictOfSpirv a.verdict)
 verdict_of_spirv e explained None has = tt
 verdict_of_spirv e explained (Some a) has = verdict_as a.verdict (record { explanation = e; explained = explained; verdict_is = has })

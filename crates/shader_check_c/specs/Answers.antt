@@ -1,4 +1,4 @@
--- What a host is given.
+-- The results for a host.
 use Rattle.std.specs.Prelude.{◌≡◌, ◌≢◌, ◌↔◌, ◌++◌, ℕ, List, IsTrue, codes, drop, length, min, nat_eq, take}
 use Rattle.std.specs.List.{starts_with}
 use Rattle.judgement.specs.judged.Text.{text_of}
@@ -18,14 +18,14 @@ use Rattle.check_explanation.specs.declared.explanation.Requested.TheVariants.{L
 use Rattle.check_explanation.specs.declared.spirv.SpirvVerdict.{SpirvVerdict}
 use Rattle.check_explanation.specs.declared.spirv.SpirvVerdict.TheVariants as spirv
 
--- The text is the one that is expected for the bytes, the verdict is what it begins with, and where it is that the document is
--- accepted all holds that is promised of it.
+-- The text is the expected one for the bytes, the verdict is what it begins with, and if the document is
+-- valid all guarantees hold.
 pub record IsAnswerOn (bytes : List ℕ) (verdict : Verdict) (text : List ℕ) : Type 0 where
   pub expected : IsExpected bytes text
   pub verdict_is : (verdict ≡ Accepted) ↔ IsTrue (starts_with nat_eq text (codes "accepted"))
   pub sound : verdict ≡ Accepted → SoundText bytes text
 
--- the first bytes are those of a text, as many as there is room for, and the others are as they were
+-- the first bytes are those of a text, as many as fit, and the others are unchanged
 abbrev pub front_of : (text old : List ℕ) → List ℕ
 front_of text old = take (min (length text) (length old)) text ++ drop (min (length text) (length old)) old
 
@@ -33,7 +33,7 @@ abbrev pub status_of : Verdict → ℕ
 status_of Accepted = 0
 status_of Refused = 1
 
--- The host is given the front of the expected text and its length, and the status is that of its verdict.
+-- The host receives a prefix of the expected text and its length, and the status is that of its verdict.
 pub record IsGiven (document : List ℕ) (status : ℕ) (old new : List ℕ) (needed : ℕ) : Type 0 where
   pub verdict : Verdict
   pub text : List ℕ
@@ -48,7 +48,7 @@ status_in findings.RefusedDocument = 1
 status_in findings.RefusedHandles = 1
 status_in (findings.Refused step index) = 1
 
--- The host is given the front of the text of an object and its length; its verdict and the status are those of what is found of the
+-- The host receives a prefix of the text of an object and its length; its verdict and the status are those of the finding for the
 -- document.
 pub record IsExplained (document : List ℕ) (status : ℕ) (old new : List ℕ) (needed : ℕ) : Type 0 where
   pub finding : Finding
@@ -64,7 +64,7 @@ status_of_spirv spirv.Accepted = 0
 status_of_spirv spirv.Refused = 1
 status_of_spirv spirv.Unread = 3
 
--- The host is given the front of a text and its length, and the status is that of a verdict which the text tells.
+-- The host receives a prefix of a text and its length, and the status is that of a verdict to which the text belongs.
 pub record IsGivenOfSpirv (status : ℕ) (old new : List ℕ) (needed : ℕ) : Type 0 where
   pub verdict : SpirvVerdict
   pub text : List ℕ
@@ -73,7 +73,7 @@ pub record IsGivenOfSpirv (status : ℕ) (old new : List ℕ) (needed : ℕ) : T
   pub written : new ≡ front_of text old
   pub whole : needed ≡ length text
 
--- The text is the line of what is found of the document, and after it, where that is accepted, the lines of its buffers, each with those
+-- The text is the line of the finding for the document, followed, if that is valid, by the lines of its buffers, each with those
 -- of its leaves.
 pub record IsListing (document : List ℕ) (finding : Finding) (text : List ℕ) : Type 0 where
   pub explanation : Explanation
@@ -82,7 +82,7 @@ pub record IsListing (document : List ℕ) (finding : Finding) (text : List ℕ)
   pub explains : ExplainsBytes Leaves document explanation
   pub text_is : text ≡ text_of finding ++ lines_of explanation
 
--- The host is given the front of such a text and its length, and the status is that of what is found.
+-- The host receives a prefix of such a text and its length, and the status is that of the finding.
 pub record IsGivenListing (document : List ℕ) (status : ℕ) (old new : List ℕ) (needed : ℕ) : Type 0 where
   pub finding : Finding
   pub text : List ℕ
@@ -91,20 +91,20 @@ pub record IsGivenListing (document : List ℕ) (status : ℕ) (old new : List �
   pub written : new ≡ front_of text old
   pub whole : needed ≡ length text
 
--- The verdict is that of what is found of some document with all checks.
+-- The verdict is that of the finding for some document with all checks.
 pub record IsVerdictOfSome (verdict : SpirvVerdict) : Type 0 where
   pub explanation : Explanation
   pub explained : IsExplainedAs Report explanation
   pub verdict_is : verdict ≡ verdict_of (finding_of explanation)
 
--- The text is the listing of what is found of some document with all checks, and the verdict is that of it.
+-- The text is the listing of the finding for some document with all checks, and the verdict is that of it.
 pub record IsListingOfSome (verdict : SpirvVerdict) (text : List ℕ) : Type 0 where
   pub explanation : Explanation
   pub explained : IsExplainedAs Leaves explanation
   pub verdict_is : verdict ≡ verdict_of (finding_of explanation)
   pub text_is : text ≡ text_of (finding_of explanation) ++ lines_of explanation
 
--- of a module that was not read nothing is said
+-- nothing is stated for a module that was not read
 abbrev pub IsVerdictOfSpirv : SpirvVerdict → Type 0
 IsVerdictOfSpirv spirv.Accepted = IsVerdictOfSome spirv.Accepted
 IsVerdictOfSpirv spirv.Refused = IsVerdictOfSome spirv.Refused
@@ -115,7 +115,7 @@ IsListingOfSpirv spirv.Accepted text = IsListingOfSome spirv.Accepted text
 IsListingOfSpirv spirv.Refused text = IsListingOfSome spirv.Refused text
 IsListingOfSpirv spirv.Unread text = Unit {0}
 
--- The host is given the front of a text and its length, and the status is that of a verdict of which `Of` holds with the text.
+-- The host receives a prefix of a text and its length, and the status is that of a verdict such that `Of` holds with the text.
 pub record IsGivenWith (Of : SpirvVerdict → List ℕ → Type 0) (status : ℕ) (old new : List ℕ) (needed : ℕ) : Type 0 where
   pub verdict : SpirvVerdict
   pub text : List ℕ

@@ -1,4 +1,4 @@
-//! The text on a document, in memory.
+//! The text for a document, in memory.
 
 ghost use Rattle.std.specs.Prelude.{◌≡◌, ◌<◌, ◌≢◌, ◌≤◌, IfSome, string_bytes};
 ghost use Rattle.shader_check.specs.found.Judgements.{Judged};
@@ -16,14 +16,14 @@ use check_explanation::{
 use shader_check::{Finding, Sink, Source, Verdict, check_document};
 use std::alloc::{AllocError, Global};
 
-/// What the check answers of a document, with the text that it writes.
+/// The result of the check for a document, with the text that it writes.
 #[derive(Drop)]
 pub(crate) struct Answer {
     pub(crate) verdict: Verdict,
     pub(crate) text: Vec<u8>,
 }
 
-/// What the check answers of these bytes; nothing where memory was refused.
+/// The result of the check for these bytes; nothing if out of memory.
 pub(crate) fn answer_on(alloc: Global, document: &[u8]) -> Option<Answer>
     ensures { IfSome result (λ answer. IsAnswerOn document.now answer.verdict answer.text.items) }
 {
@@ -38,14 +38,14 @@ pub(crate) fn answer_on(alloc: Global, document: &[u8]) -> Option<Answer>
     }
 }
 
-/// What is found of a document, with the object that has all of it.
+/// The finding for a document, with its JSON object.
 #[derive(Drop)]
 pub(crate) struct Explained {
     pub(crate) finding: Finding,
     pub(crate) text: String,
 }
 
-/// What is explained of these bytes; nothing where memory was refused.
+/// The explanation of these bytes; nothing if out of memory.
 pub(crate) fn explained_on(alloc: Global, document: &[u8]) -> Option<Explained>
     ensures judged { IfSome result (λ found. Judged document.now found.finding) }
     ensures object { IfSome result (λ found. IsObjectText found.finding (string_bytes found.text)) }
@@ -64,7 +64,7 @@ pub(crate) fn explained_on(alloc: Global, document: &[u8]) -> Option<Explained>
     }
 }
 
-/// What is listed of these bytes, with the leaves of the buffers; nothing where memory was refused.
+/// The listing for these bytes, with the leaves of the buffers; nothing if out of memory.
 pub(crate) fn listed_on(alloc: Global, document: &[u8]) -> Option<Explained>
     ensures { IfSome result (λ found. IsListing document.now found.finding (string_bytes found.text)) }
 {
@@ -82,7 +82,7 @@ pub(crate) fn listed_on(alloc: Global, document: &[u8]) -> Option<Explained>
     }
 }
 
-/// What is answered of these bytes of SPIR-V; nothing where memory was refused.
+/// The result for this SPIR-V binary; nothing if out of memory.
 pub(crate) fn spirv_answer_on(alloc: Global, spirv: &[u8]) -> Option<SpirvAnswer>
     ensures { IfSome result (λ answer. IsAnswered answer.verdict (string_bytes answer.text)) }
 {
@@ -102,7 +102,7 @@ fn verdict_of(finding: Finding) -> SpirvVerdict
     }
 }
 
-// The text with its verdict, where there was memory for it.
+// The text with its verdict, unless out of memory.
 fn with_verdict(verdict: SpirvVerdict, text: Result<String, AllocError>) -> Option<SpirvAnswer>
     ensures { IfSome result (λ answer. (answer.verdict ≡ verdict) × (text ≡ Ok answer.text)) }
 {
@@ -112,7 +112,7 @@ fn with_verdict(verdict: SpirvVerdict, text: Result<String, AllocError>) -> Opti
     }
 }
 
-// Why no module was read of these bytes, in a line.
+// Why no module was read from these bytes, in a line.
 fn unread_line(alloc: Global, spirv: &[u8], error: SpirvError) -> Option<SpirvAnswer>
     ensures { IfSome result (λ answer. answer.verdict ≡ SpirvVerdict.Unread) }
 {
@@ -125,14 +125,14 @@ fn unread_line(alloc: Global, spirv: &[u8], error: SpirvError) -> Option<SpirvAn
     }
 }
 
-// Why no module was read of these bytes, as an object.
+// Why no module was read from these bytes, as an object.
 fn unread_object(alloc: Global, spirv: &[u8], error: SpirvError) -> Option<SpirvAnswer>
     ensures { IfSome result (λ answer. answer.verdict ≡ SpirvVerdict.Unread) }
 {
     with_verdict(SpirvVerdict::Unread, unread_json(alloc, spirv, &error))
 }
 
-// The object of what is explained of a module.
+// The JSON object of a module's explanation.
 fn object_of(alloc: Global, traced: Traced) -> Option<SpirvAnswer>
     ensures { IfSome result (λ answer. answer.verdict ≡ verdict_of (finding_of traced.explanation)) }
 {
@@ -142,7 +142,7 @@ fn object_of(alloc: Global, traced: Traced) -> Option<SpirvAnswer>
     with_verdict(verdict, object)
 }
 
-// The listing of what is explained of a module.
+// The listing of a module's explanation.
 fn listing_of(alloc: Global, traced: Traced) -> Option<SpirvAnswer>
     requires { IsExplained leaves traced.explanation }
     ensures { IfSome result (λ answer. IsListingOfSpirv answer.verdict (string_bytes answer.text)) }
@@ -153,7 +153,7 @@ fn listing_of(alloc: Global, traced: Traced) -> Option<SpirvAnswer>
     with_verdict(verdict, listing)
 }
 
-/// What is explained of these bytes of SPIR-V, as an object; nothing where memory was refused.
+/// The explanation of this SPIR-V binary, as an object; nothing if out of memory.
 pub(crate) fn spirv_object_on(alloc: Global, spirv: &[u8]) -> Option<SpirvAnswer>
     ensures { IfSome result (λ answer. IsVerdictOfSpirv answer.verdict) }
 {
@@ -163,7 +163,7 @@ pub(crate) fn spirv_object_on(alloc: Global, spirv: &[u8]) -> Option<SpirvAnswer
     }
 }
 
-/// What is listed of these bytes of SPIR-V, with the leaves of the buffers; nothing where memory was refused.
+/// The listing for this SPIR-V binary, with the leaves of the buffers; nothing if out of memory.
 pub(crate) fn spirv_listing_on(alloc: Global, spirv: &[u8]) -> Option<SpirvAnswer>
     ensures { IfSome result (λ answer. IsListingOfSpirv answer.verdict (string_bytes answer.text)) }
 {
@@ -173,8 +173,8 @@ pub(crate) fn spirv_listing_on(alloc: Global, spirv: &[u8]) -> Option<SpirvAnswe
     }
 }
 
-/// The document that these bytes of SPIR-V say, as accepted though it is not judged, or why no module was read; nothing where memory
-/// was refused.
+/// The document that this SPIR-V binary is translated to, with the valid status though not validated, or why no module was
+/// read; nothing if out of memory.
 pub(crate) fn spirv_document_on(alloc: Global, spirv: &[u8]) -> Option<SpirvAnswer>
     ensures { IfSome result (λ answer. answer.verdict ≢ SpirvVerdict.Refused) }
 {
@@ -184,7 +184,7 @@ pub(crate) fn spirv_document_on(alloc: Global, spirv: &[u8]) -> Option<SpirvAnsw
     }
 }
 
-/// Writes the first bytes of a text to the front of `room`, as many as there is room for.
+/// Copies as many of the first bytes of a text into `room` as fit.
 pub(crate) fn put_front(room: &mut [u8], text: &[u8])
     ensures { room.new ≡ front_of text.now room.old }
 {
@@ -192,7 +192,7 @@ pub(crate) fn put_front(room: &mut [u8], text: &[u8])
     room[..count].copy_from_slice(&text[..count]);
 }
 
-/// 0 for accepted, 1 for refused.
+/// 0 for valid, 1 for invalid.
 pub(crate) fn status_of(verdict: Verdict) -> u32
     ensures is { result ≡ status_of verdict }
     ensures known { result < 2 }
@@ -203,7 +203,7 @@ pub(crate) fn status_of(verdict: Verdict) -> u32
     }
 }
 
-/// The same of what is found.
+/// The status of a finding.
 pub(crate) fn status_in(finding: Finding) -> u32
     ensures is { result ≡ status_in finding }
     ensures known { result < 2 }
@@ -214,7 +214,7 @@ pub(crate) fn status_in(finding: Finding) -> u32
     }
 }
 
-/// 0 for accepted, 1 for refused, 3 for a module that was not read.
+/// 0 for valid, 1 for invalid, 3 for a module that was not read.
 pub(crate) fn status_of_spirv(verdict: SpirvVerdict) -> u32
     ensures is { result ≡ status_of_spirv verdict }
     ensures known { result ≤ 3 }

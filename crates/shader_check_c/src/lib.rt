@@ -1,5 +1,5 @@
-//! The check of a document or of SPIR-V for hosts in C, or in any language that can call C. `include/shader_check.h` has what hosts call:
-//! the same functions without `_c`, which `include/shader_check_calls.c` defines, where null pointers are allowed besides.
+//! Validation of a document or of SPIR-V for hosts that can call C. `include/shader_check.h` declares the host API:
+//! the same functions without `_c`, defined by `include/shader_check_calls.c`, which also allow null pointers.
 #![tactic(auto)]
 
 mod answer;
@@ -20,11 +20,11 @@ const MINOR: u32 = 1;
 
 const PATCH: u32 = 0;
 
-/// Judges the document that `document` holds, and writes the text of the verdict and the report to the front of `text`: as many
-/// of its bytes as there is room for. `needed` is then the length of the whole text in bytes, so that a host that had too little
-/// room can call again with as much.
+/// Validates the document in `document`, and writes the text of the verdict and the report to the front of `text`: as many
+/// of its bytes as fit. `needed` is then the length of the whole text in bytes, so that a host with too small a
+/// buffer can call again with a larger one.
 ///
-/// Answers 0 for an accepted document, 1 for a refused one, and 2 where memory was refused; then `text` is as it was, and
+/// Returns 0 for a valid document, 1 for an invalid one, and 2 if out of memory; then `text` is unchanged, and
 /// `needed` is 0.
 #[unsafe(no_mangle)]
 pub extern "C" fn shader_check_c_text(
@@ -49,9 +49,9 @@ pub extern "C" fn shader_check_c_text(
     }
 }
 
-/// Judges the document that `document` holds, and writes one JSON object with all of it, as `docs/answer.schema.json` says,
-/// to the front of `text`: the verdict, of a refused document the step, the item, the path, the error and the reason, of an accepted
-/// one the report. `needed`, the answer and a refusal of memory are as those of [`shader_check_c_text`].
+/// Validates the document in `document`, and writes one JSON object with all details, as in `docs/answer.schema.json`,
+/// to the front of `text`: the verdict, for an invalid document the step, the item, the path, the error and the reason, for a valid
+/// one the report. `needed`, the status and out of memory are as for [`shader_check_c_text`].
 #[unsafe(no_mangle)]
 pub extern "C" fn shader_check_c_json(
     alloc: Global,
@@ -75,12 +75,12 @@ pub extern "C" fn shader_check_c_json(
     }
 }
 
-/// Judges the module of SPIR-V that `spirv` holds, and writes the text of the verdict and the report to the front of `text`, or why
-/// no module was read, as `./shader-check --spirv` does: as many of its bytes as there is room for. `needed` is then the length of
+/// Validates the SPIR-V module in `spirv`, and writes the text of the verdict and the report to the front of `text`, or why
+/// no module was read, as `./shader-check --spirv` does: as many of its bytes as fit. `needed` is then the length of
 /// the whole text in bytes.
 ///
-/// Answers 0 for an accepted module, 1 for a refused one, 2 where memory was refused, then `text` is as it was and `needed` is 0,
-/// and 3 where the words are no SPIR-V or say what is not translated.
+/// Returns 0 for a valid module, 1 for an invalid one, 2 if out of memory, then `text` is unchanged and `needed` is 0,
+/// and 3 if the words are not SPIR-V or not supported by the translation.
 #[unsafe(no_mangle)]
 pub extern "C" fn shader_check_c_spirv_text(
     alloc: Global,
@@ -104,9 +104,9 @@ pub extern "C" fn shader_check_c_spirv_text(
     }
 }
 
-/// Judges the document that `document` holds, and writes the line of the verdict to the front of `text` and, where the document is
-/// accepted, a line for each buffer and for each number, vector and matrix in it, as `./shader-check --leaves` does. `needed`, the answer
-/// and a refusal of memory are as those of [`shader_check_c_text`].
+/// Validates the document in `document`, and writes the line of the verdict to the front of `text` and, if the document is
+/// valid, a line for each buffer and each scalar, vector and matrix in it, as `./shader-check --leaves` does. `needed`, the status
+/// and out of memory are as for [`shader_check_c_text`].
 #[unsafe(no_mangle)]
 pub extern "C" fn shader_check_c_leaves(
     alloc: Global,
@@ -130,8 +130,8 @@ pub extern "C" fn shader_check_c_leaves(
     }
 }
 
-/// Judges the module of SPIR-V that `spirv` holds, and writes one JSON object with all of it to the front of `text`, as
-/// `./shader-check --spirv --json` does. `needed` and the answer are as those of [`shader_check_c_spirv_text`].
+/// Validates the SPIR-V module in `spirv`, and writes one JSON object with all details to the front of `text`, as
+/// `./shader-check --spirv --json` does. `needed` and the status are as for [`shader_check_c_spirv_text`].
 #[unsafe(no_mangle)]
 pub extern "C" fn shader_check_c_spirv_json(
     alloc: Global,
@@ -155,8 +155,8 @@ pub extern "C" fn shader_check_c_spirv_json(
     }
 }
 
-/// Judges the module of SPIR-V that `spirv` holds, and writes the line of the verdict to the front of `text` and, where it is
-/// accepted, the lines of its buffers with their leaves, as `./shader-check --spirv --leaves` does. `needed` and the answer are as those of
+/// Validates the SPIR-V module in `spirv`, and writes the line of the verdict to the front of `text` and, if it is
+/// valid, the lines of its buffers with their leaves, as `./shader-check --spirv --leaves` does. `needed` and the status are as for
 /// [`shader_check_c_spirv_text`].
 #[unsafe(no_mangle)]
 pub extern "C" fn shader_check_c_spirv_leaves(
@@ -181,8 +181,8 @@ pub extern "C" fn shader_check_c_spirv_leaves(
     }
 }
 
-/// Writes the document that the module of SPIR-V in `spirv` says to the front of `text`, as `./shader-check --document` does but for the
-/// end of its line. It is not judged. Answers 0 where there is one, and else as [`shader_check_c_spirv_text`]; `needed` is as there.
+/// Translates the SPIR-V module in `spirv`, and writes its document to the front of `text`, as `./shader-check --document` does
+/// without the line feed. It is not validated. Returns 0, or a failure as [`shader_check_c_spirv_text`]; `needed` is as there.
 #[unsafe(no_mangle)]
 pub extern "C" fn shader_check_c_spirv_document(
     alloc: Global,
@@ -206,7 +206,7 @@ pub extern "C" fn shader_check_c_spirv_document(
     }
 }
 
-/// The version of this library: major, minor and patch number, of which the last two have 8 bits each.
+/// The version of this library: major, minor and patch number, the last two in 8 bits each.
 #[unsafe(no_mangle)]
 pub extern "C" fn shader_check_c_version() -> u32
     ensures { result ≡ MAJOR * 65536 + MINOR * 256 + PATCH }

@@ -1,4 +1,4 @@
--- The words of the contracts of arenas, handles and spans, from one place.
+-- The definitions for the contracts of arenas, handles and spans, re-exported.
 pub use Rattle.ir_arena.specs.found.Arenas.{value_of_entry, span_of_entry, value_at, span_at}
 pub use Rattle.ir_arena.specs.found.Arenas.{has_value, has_equal, IsDistinctBy, found_at, place_of, with_entry}
 pub use Rattle.ir_arena.specs.judged.Handles.{handle_with_value, handles_from}

@@ -1,4 +1,4 @@
--- The spans of bodies, of copies, and of what is emitted, and what it is to be completed with returns.
+-- The spans of bodies, of copies and of `Emit` statements, and the completion with returns, re-exported.
 pub use Rattle.ir_blocks.specs.found.Spans.{BlockSpans, spans, InnerSpans, no_statement, in_next, StatementSpans, no_block, in_block, in_sides, in_loop, CaseSpans, no_more, in_case, span_at, InStep}
 pub use Rattle.ir_blocks.specs.found.Padded.{padded, KeptEquality}
 pub use Rattle.ir_blocks.specs.found.View.{AlwaysInStep}

@@ -1,4 +1,4 @@
--- The plain data that the items of a module hold.
+-- The views of a module's items as plain data, re-exported.
 pub use Rattle.ir_types.specs.judged.Plain.{member_view, inner_view, type_view}
 pub use Rattle.ir_types.specs.judged.ExpressionPlain.{expression_view, implicit_derivatives, always_in_scope, is_dynamic}
 pub use Rattle.ir_blocks.specs.found.View.{block_of, PlainCase, cases_of, statement_view, block_view, case_view, statements_view}

@@ -1,4 +1,4 @@
-//! What holds of handles, spans, types and completed bodies for all values.
+//! Laws of handles, spans, types and completed bodies.
 
 pub use ir_arena::laws::{handle_laws, subsume_laws};
 pub use ir_flags::laws::{all_words, compute_like, within};

@@ -1,9 +1,9 @@
-//! The intermediate representation of a shader from one place: sets of words (`ir_flags`), plain enums and structs (`ir_kinds`),
+//! The intermediate representation of a shader, re-exported from its parts: bit flag sets (`ir_flags`), plain types (`ir_kinds`),
 //! arenas (`ir_arena`), sets of handles (`ir_sets`), types, expressions and errors with spans (`ir_types`), statements
-//! (`ir_blocks`), items, the emitter and calls that follow handles (`ir_items`), and in `specs/` the words of their
+//! (`ir_blocks`), items, the emitter and walks along handles (`ir_items`), and in `specs/` the definitions of their
 //! contracts.
 //!
-//! Nothing is defined here. A crate that uses the representation as a whole names this crate alone.
+//! Nothing is defined here. A crate that uses the whole representation depends on this crate alone.
 #![tactic(auto)]
 
 pub mod laws;

@@ -1,4 +1,4 @@
-//! What holds of types, forms, layouts, kinds of expressions and overload sets for all values.
+//! Laws of types, forms, layouts, expression kinds and overload sets, for all values.
 
 pub use spec_expressions::call_laws::{by_calls, joined_by_callees, joined_is_summary};
 pub use spec_expressions::laws::{

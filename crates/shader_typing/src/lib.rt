@@ -1,11 +1,11 @@
-//! The typing of a shader's expressions from one place: the types that expressions are given as and their canonical
-//! forms of `typing_forms`, which says too what types are built of and which of them are equivalent, layouts of types and
-//! kinds of expressions of `typing_layout`, the rules of math functions and sets of scalars and of shapes of
+//! The typing of a shader's expressions, re-exported: type resolutions and canonical
+//! forms of `typing_forms`, with properties and equivalence of types, layouts of types and
+//! expression kinds of `typing_layout`, the rules of math functions and sets of scalars and of constructors of
 //! `typing_rules`, overload sets of `typing_overloads`, the types of expressions of `typing_resolve`, which are those that
 //! `spec_expressions` defines, those of all expressions of a list and comparing types of `typing_infos`, what the
-//! analysis of a function requires of `typing_handles`, and what is kept of a function of `typing_analysis`, with its errors.
+//! analysis of a function requires of `typing_handles`, and the function infos of `typing_analysis`, with its errors.
 //!
-//! Nothing is defined here. A crate that uses the typing as a whole names this crate alone.
+//! Nothing is defined here. A crate that uses the typing as a whole depends on this crate only.
 #![tactic(auto)]
 
 pub mod laws;

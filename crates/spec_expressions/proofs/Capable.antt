@@ -1,4 +1,4 @@
--- More capabilities refuse nothing more.
+-- A larger set of capabilities accepts at least as much.
 use Rattle.std.proofs.Common.{inl, inr, ℕ, Bool}
 use Rattle.ir_flags.proofs.SetLaws.{within-over}
 use Rattle.ir_flags.specs.Sets.{Has, IsWithin}

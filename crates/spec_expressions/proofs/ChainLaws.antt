@@ -1,4 +1,4 @@
--- A chain by its first step: what a function has over its chains is its own, joined with what each function that it calls has.
+-- A call chain by its first step: a function's summary is its own effects, joined with the summaries of its callees.
 use Rattle.std.proofs.Common.{◌≡◌, ◌⊎◌, ℕ, Option, Some, None, List, [], ◌∷◌, ◌++◌, refl, ap, sym, subst, ◌∙◌, inl, inr, slice_get}
 use Rattle.ir_items.specs.judged.Plain.{PlainFunction, PlainModule}
 use Rattle.spec_expressions.specs.declared.sampling.GlobalOrArgument.{GlobalOrArgument}
@@ -35,7 +35,7 @@ pub bound-append : (f : PlainFunction) (s : Step) (rest : List Step) (e : ℕ) �
 bound-append f s [] e = refl
 bound-append f s (t ∷ rest) e = through_through (meaning_at_start f (rest ++ s ∷ [])) (meaning_at_start s.function rest) (global_or_argument f.expressions) t.arguments s.arguments (bound-append f s rest) (global_or_argument t.function.expressions e)
 
--- a chain with a step has a first one
+-- a call chain with a step has a first one
 record HasFirst (chain : List Step) : Type 0 where
   first : Step
   rest : List Step
@@ -45,7 +45,7 @@ first_of : (s : Step) (chain : List Step) → HasFirst (s ∷ chain)
 first_of s [] = record { first = s; rest = []; is = refl }
 first_of s (t ∷ chain) = let r = first_of t chain in record { first = r.first; rest = s ∷ r.rest; is = ap (λ xs. s ∷ xs) r.is }
 
--- what a callee reaches, the caller does
+-- what a callee reaches, the caller reaches
 pub reaches-from_call : (m : PlainModule) (f : PlainFunction) (P : PlainFunction → Type 0) (s : Step) → Calls m f s → Reaches m s.function P → Reaches m f P
 reaches-from_call m f P s c r = record {
   chain = r.chain ++ s ∷ [];
@@ -74,25 +74,25 @@ reaches_by m f P (s ∷ chain) c h =
       reaches = record { chain = v.rest; is_chain = parts.1; holds = subst P (end_of-append f v.first v.rest) h' };
     })
 
--- what f reaches, it is itself, or one that it calls reaches it
+-- a function that f reaches is f, or is reached by a callee of f
 pub reaches-cases : (m : PlainModule) (f : PlainFunction) (P : PlainFunction → Type 0) → Reaches m f P → P f ⊎ CalleeReaches m f P
 reaches-cases m f P r = reaches_by m f P r.chain r.is_chain r.holds
 
 -- ---- uses
 
--- a callee's use is the caller's
+-- a callee's use is also the caller's
 pub use-from_call : (m : PlainModule) (f : PlainFunction) (s : Step) (g k : ℕ) → Calls m f s → HasUse m s.function g k → HasUse m f g k
 use-from_call m f s g k c (inl r) = inl (reaches-from_call m f (UsesDirectly g k) s c r)
 use-from_call m f s g k c (inr r) = inr (r.0, reaches-from_call m f (λ h. NamesGlobal g h × IsUnusedFrom m g h) s c r.1)
 
--- ---- pairs
+-- ---- sampling pairs
 
--- where a callee's expression denotes something in the caller, it denotes something in the callee
+-- if a callee's expression denotes something in the caller, it denotes something in the callee
 seen : (meaning : ℕ → Option GlobalOrArgument) (arguments : List ℕ) (below : Option GlobalOrArgument) (above : GlobalOrArgument) → seen_through meaning arguments below ≡ Some above → (a : GlobalOrArgument) × (below ≡ Some a)
 seen meaning arguments None above e = cc (e)
 seen meaning arguments (Some a) above e = (a, refl)
 
--- a pair of a callee, its arguments substituted, is the caller's
+-- a callee's pair, with the arguments substituted, is also the caller's
 pub pair-from_call : (m : PlainModule) (f : PlainFunction) (s : Step) (q p : SamplingPair) → Calls m f s → HasPair m s.function q → ComesUp f.expressions s.arguments q p → HasPair m f p
 pair-from_call m f s q p c r u =
     let means : (e : ℕ) (a b : GlobalOrArgument) → meaning_at_start s.function r.chain e ≡ Some a → seen_through (global_or_argument f.expressions) s.arguments (Some a) ≡ Some b → meaning_at_start f (r.chain ++ s ∷ []) e ≡ Some b =
@@ -121,7 +121,7 @@ pub record CalleePair (m : PlainModule) (f : PlainFunction) (p : SamplingPair) :
   pub below : HasPair m step.function pair
   pub gives : ComesUp f.expressions step.arguments pair p
 
--- a pair that is sampled after a call comes up from the callee
+-- a pair that is sampled after a call is the callee's
 comes : (m : PlainModule) (f : PlainFunction) (s : Step) (rest : List Step) (p : SamplingPair) → Calls m f s → IsChain m s.function rest → Samples (meaning_at_start f (rest ++ s ∷ [])) (chain_end s.function rest) p → CalleePair m f p
 comes m f s rest p c r h =
     let image : seen_through (global_or_argument f.expressions) s.arguments (meaning_at_start s.function rest h.image) ≡ Some p.0 = sym (bound-append f s rest h.image) ∙ h.image_means in
@@ -153,6 +153,6 @@ pair_over m f p (s ∷ chain) c h =
     let parts = chain_first m f v.first v.rest c' in
     inr (comes m f v.first v.rest p parts.0 parts.1 h'')
 
--- a pair is the function's own, or comes up from a callee
+-- a pair is the function's own, or a callee's
 pub pair-cases : (m : PlainModule) (f : PlainFunction) (p : SamplingPair) → HasPair m f p → Samples (global_or_argument f.expressions) f p ⊎ CalleePair m f p
 pair-cases m f p r = pair_over m f p r.chain r.is_chain r.sampled

@@ -1,4 +1,4 @@
--- What is found step by step is disruption.
+-- The computed disruption agrees with the definition.
 use Rattle.std.proofs.Common.{◌≡◌, ℕ, zero, suc, Bool, true, false, ◌||◌, IsTrue, Option, Some, None, ⊎_elim, inl, inr, ◌⊎◌, refl, sym, subst}
 use Rattle.std.proofs.lemmas.Bool.{or_cases, or_left, or_right}
 use Rattle.ir_blocks.specs.judged.Plain.{PlainStatement, emit, block, if_, switch, loop, break, continue, return, kill, operation, call, PlainBlock, stop, next, PlainCases, no_case, case}
@@ -8,7 +8,7 @@ use Rattle.spec_expressions.specs.judged.Positions.{Holds, itself, in_part, hold
 use Rattle.spec_expressions.specs.judged.Disruption.{chosen_by, is_end, Disrupted, already, chosen, after, ends_in, ends_at, ends_in_cases, enter, at_condition, disrupted_at}
 use Rattle.spec_expressions.proofs.EverywhereLaws.{none_in_stop}
 
--- by a test
+-- for a decidable test
 abbrev pub DisruptedBy : (ℕ → Bool) → Bool → PlainBlock → Place → Type 0
 DisruptedBy varies d body p = Disrupted (λ h. IsTrue (varies h)) d body p
 
@@ -29,7 +29,7 @@ no_handle : {A : Type 0} (h : ℕ) → None ≡ Some h → A
 no_handle h e = absurd (cc)
 
 module _ (varies : ℕ → Bool) where
-  -- ---- disruption around stays
+  -- ---- nested places of a disrupted place are disrupted
 
   stays_in : (d : Bool) (s : PlainStatement) (part : Part) → IsTrue d → IsTrue (enter varies d s part)
   stays_in d (if_ x a r) part h = or_left d _ h
@@ -50,7 +50,7 @@ module _ (varies : ℕ → Bool) where
   stays condition d stop h = h
   stays condition d (next s rest) h = stays_at d s h
 
-  -- ---- from places to what is found
+  -- ---- from places to the computation
 
   own_end : (d : Bool) (s : PlainStatement) → IsTrue (is_end s) → IsTrue d → IsTrue (ends_at varies d s)
   own_end d (return value) e h = h
@@ -95,7 +95,7 @@ module _ (varies : ℕ → Bool) where
   continuing_before (loop b r o) d h = or_right d _ (or_right (ends_in varies d b) _ h)
   continuing_before _ d h = false_is_not h
 
-  -- after a statement that holds a disrupted end
+  -- after a statement that contains a disrupted return or discard
   end_before : {q p r : Place} → Before q p → Holds q r → (d : Bool) (body : PlainBlock) (s : PlainStatement) → OccursAt body r s → IsTrue (is_end s)
       → IsTrue (disrupted_at varies d r body) → IsTrue (disrupted_at varies d p body)
   end_before b o d stop s at e h = absurd (none_in_stop _ s at)
@@ -127,9 +127,9 @@ module _ (varies : ℕ → Bool) where
   found d body (chosen s x o at is v) = chosen_around o d body s x at is v
   found d body (after i u) = end_before i.before i.holds d body i.end i.stands i.ends (found d body u)
 
-  -- ---- from what is found to places
+  -- ---- from the computation to places
 
-  -- a disrupted end in the body
+  -- a disrupted return or discard in the body
   abbrev EndPlace : Bool → PlainBlock → Type 0
   EndPlace d body = (r : Place) × (s : PlainStatement) × OccursAt body r s × IsTrue (is_end s) × DisruptedBy varies d body r
 
@@ -152,11 +152,11 @@ module _ (varies : ℕ → Bool) where
   lift_inside d u rest part outer p (chosen s x o at is v) = chosen s x (around_inside part o) at is v
   lift_inside d u rest part outer p (after {r = r} i w) = after_end i.end (both_inside part i.before) (holds_inside part i.holds) i.stands i.ends (lift_inside d u rest part outer r w)
 
-  -- a disrupted end in a body's first statement
+  -- a disrupted return or discard in a body's first statement
   abbrev FirstEnd : Bool → PlainStatement → PlainBlock → Type 0
   FirstEnd d u rest = (r : Place) × (s : PlainStatement) × Holds here r × OccursAt (next u rest) r s × IsTrue (is_end s) × DisruptedBy varies d (next u rest) r
 
-  -- an end in a part of the statement, and that the statement is an end itself
+  -- one in a part of the statement, and one that is the statement itself
   abbrev Inside : Bool → PlainStatement → Type 0
   Inside d u = (part : Part) × EndPlace (enter varies d u part) (part_of (shape_of u) part)
 
@@ -204,7 +204,7 @@ module _ (varies : ℕ → Bool) where
     case_end (case value body falls rest) d h =
         ⊎_elim (λ l. (zero, end_in body d l)) (λ l. let k = case_end rest d l in (suc k.0, k.1)) (or_cases _ _ h)
 
-    -- where a part begins disrupted, so is each place in it
+    -- if a part begins disrupted, so is each place in it
     entered : (u : PlainStatement) (d : Bool) (part : Part) (p : Place) (rest : PlainBlock) → IsTrue (enter varies d u part) → DisruptedBy varies d (next u rest) (inside part p)
     entered (if_ x a r) d part p rest h = ⊎_elim (λ l. already l) (λ v. chosen (if_ x a r) x (around part) refl refl v) (or_cases d _ h)
     entered (switch x cases) d part p rest h = ⊎_elim (λ l. already l) (λ v. chosen (switch x cases) x (around part) refl refl v) (or_cases d _ h)
@@ -248,7 +248,7 @@ module _ (varies : ℕ → Bool) where
   from_found condition d stop h = already h
   from_found condition d (next u rest) h = before_condition u d rest h
 
--- by another word for the same values
+-- disruption for an equivalent predicate of non-uniform values
 pub disrupted_as : {V W : ℕ → Type 0} {d : Bool} {body : PlainBlock} → ((h : ℕ) → V h → W h) → (p : Place) → Disrupted V d body p → Disrupted W d body p
 disrupted_as same p (already h) = already h
 disrupted_as same p (chosen s x o at is v) = chosen s x o at is (same x v)

@@ -1,4 +1,4 @@
--- A test that is made everywhere passes at every place.
+-- A test made everywhere passes at every place.
 use Rattle.std.proofs.Common.{◌≡◌, ℕ, zero, suc, Bool, true, false, ◌&&◌, refl, subst}
 use Rattle.ir_blocks.specs.judged.Plain.{PlainStatement, emit, block, if_, switch, loop, break, continue, return, kill, operation, call, PlainBlock, stop, next, PlainCases, no_case, case}
 use Rattle.ir_blocks.specs.judged.Shapes.{shape_of, Part, inner, accepting, rejecting, case_at, loop_body, loop_continuing, case_body, part_of}
@@ -20,7 +20,7 @@ none_in_stop (inside part p) s e = let x = e in cc
 none_in_stop condition s e = let x = e in cc
 
 module _ (ok : PlainStatement → Bool) where
-  -- ---- made everywhere, it passes at each place
+  -- ---- from everywhere to each place
 
   own_passes : (s : PlainStatement) → in_statement ok s ≡ true → ok s ≡ true
   own_passes (emit first end) e = e
@@ -69,7 +69,7 @@ module _ (ok : PlainStatement → Bool) where
       passes_at p (part_of (shape_of u) part) (part_passes u part (both_true _ _ e).0) s at
   passes_at condition (next u rest) e s at = let x = at in cc
 
-  -- ---- where it passes at each place, it passes everywhere
+  -- ---- from each place to everywhere
 
   abbrev PassesAt : PlainBlock → Type 0
   PassesAt b = (p : Place) (s : PlainStatement) → OccursAt b p s → ok s ≡ true

@@ -1,4 +1,4 @@
--- What is found step by step is required at a disrupted place, and where nothing is found, nothing is.
+-- The computed requirement is one at a disrupted place, and if none is computed there is none.
 use Rattle.std.proofs.Common.{◌≡◌, ◌⊎◌, inl, inr, ℕ, zero, suc, Bool, true, false, ◌||◌, IsTrue, Option, Some, None, refl, sym, ap, ◌∙◌, subst, ⊎_elim}
 use Rattle.ir_flags.specs.declared.settings.ValidationFlags.{ValidationFlags}
 use Rattle.ir_kinds.specs.declared.diagnostics.Severity.{Severity}
@@ -34,7 +34,7 @@ not_some x e = cc
 same_required : (x y : Required) → Some x ≡ Some y → x ≡ y
 same_required x y e = cc
 
--- what an operation requires
+-- the requirement of an operation
 abbrev OperationRequires : PlainOperation → Required → Type 0
 OperationRequires a x = WaitRequires (operation_row a).waits x
 
@@ -63,11 +63,11 @@ operation_none (cooperative_store target place) x e h = h
 operation_none (ray_pipeline fun) x e h = h
 
 module _ (severity : Severity) (required : ℕ → ℕ) (varies : ℕ → Bool) (look : ℕ → ℕ → Option Required) (is : IsLook severity required look) where
-  -- required at a place that is found to be disrupted
+  -- a requirement at a place that is computed to be disrupted
   abbrev RequiredAt : Bool → PlainBlock → Required → Type 0
   RequiredAt d b x = (p : Place) × (s : PlainStatement) × OccursAt b p s × Requires severity required s x × IsTrue (disrupted_at varies d p b)
 
-  -- by a statement itself, or in one of its parts
+  -- the requirement of a statement itself, or in one of its parts
   abbrev RequiredBy : Bool → PlainStatement → Required → Type 0
   RequiredBy d s x = (Requires severity required s x × IsTrue d) ⊎ ((part : Part) × RequiredAt (enter varies d s part) (part_of (shape_of s) part) x)
 
@@ -75,7 +75,7 @@ module _ (severity : Severity) (required : ℕ → ℕ) (varies : ℕ → Bool) 
   by_first d s rest x (inl own) = (here, s, refl, own.0, own.1)
   by_first d s rest x (inr i) = let a = i.1 in (inside i.0 a.0, a.1, a.2, a.3, a.4)
 
-  -- ---- what is found is required
+  -- ---- a computed requirement exists
 
   mutual
     found_in : (b : PlainBlock) (d : Bool) (x : Required) → required_in varies look d b ≡ Some x → RequiredAt d b x
@@ -105,7 +105,7 @@ module _ (severity : Severity) (required : ℕ → ℕ) (varies : ℕ → Bool) 
     found_case (case value body falls rest) d x e =
         ⊎_elim (λ l. (zero, found_in body d x l)) (λ l. let k = found_case rest d x l in (suc k.0, k.1)) (first_cases _ _ x e)
 
-  -- ---- where nothing is found, nothing is required
+  -- ---- if none is computed, none exists
 
   own_none : (s : PlainStatement) (d : Bool) (x : Required) → required_at varies look d s ≡ None → IsTrue d → Requires severity required s x → ⊥
   own_none (emit first end) d x e t h = is.none first end x (where_none d (look first end) e t) h
@@ -154,7 +154,7 @@ module _ (severity : Severity) (required : ℕ → ℕ) (varies : ℕ → Bool) 
   pub asked_complete : (b : PlainBlock) → required_in varies look false b ≡ None → (x : Required) → DisruptedRequirement severity required (λ h. IsTrue (varies h)) b x → ⊥
   asked_complete b e x ask = none_at ask.place b false ask.statement x e ask.stands ask.asks (found varies false b ask.disrupted)
 
--- ---- by other words for the same values and what they require
+-- ---- for equivalent predicates of non-uniform values and requirements
 
 asks_as : (severity : Severity) {required others : ℕ → ℕ} → ((h : ℕ) → required h ≡ others h) → (s : PlainStatement) (x : Required) → Requires severity required s x → Requires severity others s x
 asks_as severity same (emit first end) x h = record { from_first = h.from_first; below_end = h.below_end; requirement = h.requirement ∙ same x.expression; counts = h.counts }

@@ -1,4 +1,4 @@
--- A look-up by `==` of keys finds the type for the key.
+-- Looking up keys by `==` finds the type for the key.
 use Rattle.std.proofs.Common.{◌≡◌, ◌∙◌, ℕ, Some, List, [], ◌∷◌, refl, ap, rules, cond}
 use Rattle.std.specs.Map.{lookup}
 use Rattle.ir_kinds.specs.declared.predeclared.PredeclaredType.{PredeclaredType}

@@ -1,4 +1,4 @@
--- Members of lists.
+-- Membership in lists.
 use Rattle.std.proofs.Common.{◌≡◌, ◌⊎◌, ℕ, suc, zero, ◌<◌, Some, None, Bool, true, false, List, [], ◌∷◌, ◌++◌, length, refl, ap, sym, subst, inl, inr, ⊎_elim, arith, map, slice_get}
 use Rattle.typing_rules.specs.judged.Laws.{IsAmong}
 

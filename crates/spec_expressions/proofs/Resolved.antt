@@ -1,4 +1,4 @@
--- What is accepted where overrides are resolved is accepted where they are not.
+-- What is valid with overrides resolved is valid without.
 use Rattle.std.proofs.Common.{ℕ, Option, Some, None, true, false, refl}
 use Rattle.ir_flags.specs.declared.settings.Capabilities.{Capabilities}
 use Rattle.ir_items.specs.judged.Plain.{PlainModule}

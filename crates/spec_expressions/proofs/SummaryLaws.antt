@@ -1,4 +1,4 @@
--- What is joined of a function and of its callees' summaries is its summary over all chains.
+-- A function's own effects joined with its callees' summaries are its summary over all call chains.
 use Rattle.std.proofs.Common.{◌≡◌, ◌≢◌, ◌⊎◌, ℕ, suc, zero, ◌<◌, ◌^◌, Option, Some, None, Bool, true, false, List, [], ◌∷◌, length, refl, ap, sym, subst, ◌∙◌, inl, inr, ⊎_elim, arith, slice_get}
 use Rattle.std.specs.Prelude.{◌↔◌, slice_index_or}
 use Rattle.std.specs.Int.{bit_at}
@@ -17,7 +17,7 @@ use Rattle.spec_expressions.proofs.ChainLaws.{reaches-from_call, reaches-here, r
 some_is : {X : Type 0} {x y : X} → Some x ≡ Some y → x ≡ y
 some_is e = cc (e)
 
--- QUERY has one bit
+-- QUERY has exactly one bit
 one_bit : (k : ℕ) → bit_at QUERY.0 k ≡ 1 → k ≡ 2
 one_bit k e = ⊎_elim (λ same. same) (λ (not : k ≢ 2). absurd (let z : 0 ≡ 1 = sym (bit_at-pow_other 2 k not) ∙ e in omega (arith, z))) (cases_eq k 2)
 
@@ -67,9 +67,9 @@ find_call summaries g k (runs c args ∷ rest) = at_call summaries g k c args re
     | inr n ↦ either summaries g k (runs c args) rest (λ callee arguments s e found bit. let q : c ≡ callee = callee_of c callee args arguments e in let same : t ≡ s = some_is (sym is ∙ (ap (slice_get summaries) q ∙ found)) in n (subst (λ u. HasBit u g k) (sym same) bit)) after
   ]
 
--- ---- from the summaries of callees to what they have, and back
+-- ---- between the summaries of callees and their effects
 
--- the summary that denotes the function of a step
+-- the summary of the callee of a step
 record Stepped (m : PlainModule) (f : PlainFunction) (summaries : List Summary) (s : Step) : Type 0 where
   summary : Summary
   calls : CallsOne f summaries s.arguments summary
@@ -85,7 +85,7 @@ stepped m f summaries known s c =
       is = subst (λ h. IsSummary m h k.summary) (some_is (sym k.found ∙ c.found)) k.is;
     }
 
--- the step that a call is, and what its summary says
+-- the step of a call, and its summary
 record Called (m : PlainModule) (f : PlainFunction) (arguments : List ℕ) (t : Summary) : Type 0 where
   at : ℕ
   function : PlainFunction
@@ -104,21 +104,21 @@ called m f summaries known arguments t c =
     }
 
 module _ (m : PlainModule) (f : PlainFunction) (summaries : List Summary) (known : CalleesKnown m f summaries) where
-  -- a joined use is one over chains
+  -- a joined use is one over call chains
   use_up : (g k : ℕ) → g < length m.globals → JoinsUse f summaries g k → HasUse m f g k
   use_up g k lt (inl own) = inl (reaches-here m f (UsesDirectly g k) own)
   use_up g k lt (inr (arguments, t, calls, bit)) =
       let c = called m f summaries known arguments t calls in
       use-from_call m f (record { at = c.at; arguments = arguments; function = c.function }) g k c.calls ((c.is.uses g k lt).0 bit)
 
-  -- what is used directly over chains is joined
+  -- a direct use over call chains is joined
   direct_down : (g k : ℕ) → g < length m.globals → Reaches m f (UsesDirectly g k) → JoinsUse f summaries g k
   direct_down g k lt r = elim (reaches-cases m f (UsesDirectly g k) r) [
     | inl own ↦ inl own
     | inr c ↦ (let s = stepped m f summaries known c.step c.calls in inr (c.step.arguments, s.summary, s.calls, (s.is.uses g k lt).1 (inl c.reaches)))
   ]
 
-  -- where nothing reached uses it directly, what is joined has the bit of QUERY alone
+  -- if no function reachable uses it directly, the joined use has only the bit of QUERY
   joined_bit : (g k : ℕ) → g < length m.globals → IsUnusedFrom m g f → JoinsUse f summaries g k → bit_at QUERY.0 k ≡ 1
   joined_bit g k lt unused j = elim (use_up g k lt j) [ inl r ↦ absurd (unused k r) | inr r ↦ r.0 ]
 
@@ -176,7 +176,7 @@ module _ (m : PlainModule) (f : PlainFunction) (summaries : List Summary) (known
     );
   }
 
--- ---- only the summaries of callees count
+-- ---- only the summaries of callees matter
 
 module _ (f : PlainFunction) (summaries others : List Summary) (agree : AgreeOnCallees f summaries others) where
   one_there : (arguments : List ℕ) (t : Summary) → CallsOne f summaries arguments t → CallsOne f others arguments t

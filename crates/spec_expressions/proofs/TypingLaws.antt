@@ -1,4 +1,4 @@
--- One type at most, and none where there is a fault: both from one lemma, that a rule reads its operands alone.
+-- At most one type, and none if there is a fault: both by one lemma, that a rule depends on its operands only.
 use Rattle.std.proofs.Common.{◌≡◌, ◌∙◌, sym, refl, ap, subst, ℕ, List, [], ◌∷◌, Ok, inl, inr, zero, suc}
 use Rattle.ir_types.specs.judged.ExpressionPlain.{PlainExpression}
 use Rattle.typing_forms.specs.declared.form.Form.{Form}

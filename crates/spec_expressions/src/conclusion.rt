@@ -1,4 +1,4 @@
-//! What a rule gives, as the type of an expression.
+//! The result of a rule, as the type of an expression.
 
 ghost use Rattle.std.specs.Prelude.{◌≡◌, ℕ, List, Option, None, Some, IfOk, IfErr};
 ghost use Rattle.ir_kinds.specs.declared.predeclared.PredeclaredType.{PredeclaredType};
@@ -10,18 +10,18 @@ use thiserror::Error;
 use typing_forms::TypeResolution;
 use typing_rules::Conclusion;
 
-/// The module has no type for what a function answers (naga's `MissingSpecialType`).
+/// The module lacks the special type of a function's result (naga's `MissingSpecialType`).
 #[derive(Clone, Copy, PartialEq, Eq, Debug, Error)]
 #[error("the module has no predeclared type for the result of the function")]
 pub struct MissingSpecialType;
 
-/// What a conclusion has that needs a module (a call of naga's `Conclusion`).
+/// Conclusions that depend on a module (a method of naga's `Conclusion`).
 pub trait ConclusionExt: Sized {
-    // The type that is given, where these keys have types of these handles.
+    // The type of the conclusion, given the handles of these predeclared types.
     ghost given: { Self → List (PredeclaredType × ℕ) → Option PlainResolution };
 
-    /// The type that the rule gives: one by what it is made of, or the module's own for a predeclared struct (naga's
-    /// `Conclusion::into_resolution`). The error says that the module has none for it.
+    /// The type of the conclusion: an inner type, or the module's handle for a predeclared struct (naga's
+    /// `Conclusion::into_resolution`). The error is that the module lacks it.
     fn into_resolution(
         self,
         special_types: &SpecialTypes,

@@ -1,18 +1,18 @@
-//! What is known of an expression.
+//! The info of an expression.
 
 use crate::uniformity::Uniformity;
 use ir_arena::handle::Handle;
 use ir_types::key;
 use typing_forms::TypeResolution;
 
-/// What is known of an expression of a function (naga's `ExpressionInfo`).
+/// The info of an expression of a function (naga's `ExpressionInfo`).
 #[derive(Debug, Drop)]
 pub struct ExpressionInfo {
-    /// Whether its value is the same in all invocations, and what it requires.
+    /// Its uniformity: the source of non-uniformity, and its requirements.
     pub uniformity: Uniformity,
-    /// At how many places it is an operand of an expression or of a statement. Past `usize::MAX` it stays there.
+    /// Its reference count: at how many places it is an operand of an expression or statement. It saturates at `usize::MAX`.
     pub ref_count: usize,
-    /// The global variable that it is, or that its chain of accesses begins at, if any.
+    /// The global variable that it is, or at the root of its access chain, if any.
     pub assignable_global: Option<Handle<key::GlobalVariable>>,
     /// Its type.
     pub ty: TypeResolution,

@@ -1,41 +1,41 @@
-//! Why an expression has no type.
+//! Type errors of expressions.
 
 use ir_arena::handle::Handle;
 use ir_types::key;
 
-/// Why an expression has no type, as plain data without a text.
+/// Why an expression has no type, as plain data without a message.
 #[derive(Clone, Copy, Debug)]
 pub enum TypingFault {
-    /// What is accessed has no part of this number.
+    /// The index is out of bounds.
     OutOfBoundsIndex {
-        /// What is accessed.
+        /// The base expression.
         expr: Handle<key::Expression>,
-        /// The number, from 0.
+        /// The index, from 0.
         index: u32,
     },
-    /// What is accessed has no parts.
+    /// The base can't be indexed.
     InvalidAccess {
-        /// What is accessed.
+        /// The base expression.
         expr: Handle<key::Expression>,
-        /// Whether the index is an expression, and no number.
+        /// Whether the access is dynamic (`Access`, not `AccessIndex`).
         indexed: bool,
     },
-    /// What is spread over a vector is no scalar.
+    /// The operand of a splat is no scalar.
     InvalidScalar(Handle<key::Expression>),
-    /// What components are taken of is no vector.
+    /// The operand of a swizzle is no vector.
     InvalidVector(Handle<key::Expression>),
-    /// What is loaded from is no pointer to what can be loaded.
+    /// The pointer of a load does not point to a loadable type.
     InvalidPointer(Handle<key::Expression>),
-    /// What is sampled, loaded from or queried for its size is no image that allows it.
+    /// The operand of a sample, load or query is no image that allows it.
     InvalidImage(Handle<key::Expression>),
-    /// The function that was called answers nothing.
+    /// The called function has no result.
     FunctionReturnsVoid,
-    /// The operands are of types that the operation does not take.
+    /// The operation does not take these operand types.
     IncompatibleOperands,
-    /// The function has no argument of this number.
+    /// The function has no argument of this index.
     FunctionArgumentNotFound(u32),
-    /// The module has no type for what the expression gives.
+    /// The module lacks the special type of the expression's result.
     MissingSpecialType,
-    /// No rule of the built-in function takes these arguments, or they are too many or too few.
+    /// No overload of the built-in function accepts these arguments, or there are too many or too few.
     BuiltinArgumentsInvalid,
 }

@@ -1,26 +1,26 @@
-//! How a global variable is used.
+//! Uses of global variables.
 
 use bitflags::{Flag, Flags, bitflag_items};
 use ir_flags::write_set;
 use std::fmt;
 
-/// How a function uses a global variable (naga's `GlobalUse`). A contract sees the number of its bits, as
+/// How a function uses a global variable (naga's `GlobalUse`). A contract sees its bits, as
 /// `set.0`.
 #[derive(Clone, Copy, PartialEq, Eq)]
 pub struct GlobalUse(
-    /// The bits as a number.
+    /// The bits.
     pub u8,
 );
 
 bitflag_items! {
     impl GlobalUse: u8 {
-        /// What it holds is read.
+        /// Its data is read.
         const READ = 1;
-        /// What it holds is written.
+        /// Its data is written.
         const WRITE = 2;
-        /// Its size is queried, or it is only named.
+        /// Its metadata (size) is queried, or it is only referred to.
         const QUERY = 4;
-        /// A texel of it is changed atomically.
+        /// An image atomic is done on it.
         const ATOMIC = 8;
     }
 }

@@ -1,6 +1,6 @@
-//! Items that are named by their places in lists.
+//! Items by their indices in arenas.
 
-/// What an item is that a handle names.
+/// The kind of item that a handle refers to.
 #[derive(Clone, Copy, PartialEq, Eq, Debug)]
 pub enum ItemKind {
     /// A type of the module.
@@ -13,10 +13,10 @@ pub enum ItemKind {
     Expression,
     /// A global variable of the module.
     GlobalVariable,
-    /// A variable of a function.
+    /// A local variable of a function.
     LocalVariable,
-    /// A function of the module that is no entry point.
+    /// A function of the module, not an entry point's.
     Function,
-    /// A diagnostic filter of the module.
+    /// A diagnostic filter node of the module.
     DiagnosticFilter,
 }

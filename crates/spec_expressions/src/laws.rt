@@ -1,24 +1,24 @@
-//! Laws of the types of expressions.
+//! Laws of expression types.
 ghost use Rattle.spec_expressions.specs.found.Laws.{OneType, FaultyHasNone, OperandsDecide, EquivalentOperandsDecide};
 
-/// An expression has one type at most.
+/// An expression has at most one type.
 #[tactic(auto, using(crate::proofs::TypingLaws::one_type))]
 pub fn one_type()
     ensures { OneType }
 {}
 
-/// An expression with a fault has no type.
+/// An expression with a type error has no type.
 pub fn faulty_has_none()
     ensures { FaultyHasNone }
 {}
 
-/// Operands of the same forms give one form or one fault, in every kind of expression.
+/// For every kind of expression, operands of the same forms give the same form or the same fault.
 #[tactic(auto, using(crate::proofs::TypingLaws::operands_decide))]
 pub fn operands_decide()
     ensures { OperandsDecide }
 {}
 
-/// Operands of equivalent types give equivalent types, or are refused alike, in every kind of expression.
+/// For every kind of expression, operands of equivalent types give equivalent types, or the same fault.
 #[tactic(auto, using(crate::proofs::TypingLaws::equivalent_operands_decide))]
 pub fn equivalent_operands_decide()
     ensures { EquivalentOperandsDecide }

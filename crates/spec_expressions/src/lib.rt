@@ -1,11 +1,11 @@
-//! What stands on the expressions of a shader: the definitions, over plain data, with their laws.
+//! The specification of a shader's expressions: definitions on mathematical values, with their laws.
 //!
-//! What the items of a module name by handles, a row a kind, and when what is named is in order. What the types of
-//! expressions are, a file a family, with the laws of typing ([`laws`]); which global expressions, constants and overrides a
-//! module may have, and which values make a composed one ([`constant_laws`]); and the types that the rules of math functions
-//! give in a module ([`ConclusionExt`]). The analysis of functions: what is known of a function's expressions and of what it
-//! does to global variables; what a function uses, pairs and needs, by itself and over its chains of calls ([`call_laws`]);
-//! where control flow may differ between invocations, and what needs that it does not.
+//! What the items of a module refer to by handles, one row for each kind, and when handles are valid. The types of
+//! expressions, a file for each family, with the laws of typing ([`laws`]); which global expressions, constants and overrides
+//! are valid, and which components make a composition ([`constant_laws`]); and the types that the rules of math functions
+//! give in a module ([`ConclusionExt`]). The analysis of functions: the info of a function's expressions and its uses
+//! of global variables; a function's uses, sampled pairs and requirements, by itself and over its call chains ([`call_laws`]);
+//! non-uniform control flow, and what requires uniform control flow.
 #![tactic(auto)]
 
 pub mod call_laws;

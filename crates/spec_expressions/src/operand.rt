@@ -1,43 +1,43 @@
-//! An operand, how it is used, and when it has to be in scope.
+//! Operands: how they are used, and when they must be in scope.
 
 use ir_arena::handle::Handle;
 use ir_types::key;
 
-/// How an operand is used.
+/// How an operand uses the global variable that it refers to.
 #[derive(Clone, Copy, Debug)]
 pub enum Usage {
-    /// It is the base of an access: what is accessed says how it is used.
+    /// As the base of an access: the uses of the access count.
     Base,
-    /// It is read.
+    /// A load or another read.
     Read,
-    /// It is written through.
+    /// It is written.
     Write,
-    /// It is read and written through, as one atomic operation.
+    /// It is read and written, as one atomic operation.
     ReadWrite,
-    /// Its size is queried.
+    /// A size query.
     Query,
-    /// A texel of it is changed, as one atomic operation.
+    /// It is the image of an image atomic.
     Atomic,
 }
 
-/// When an operand has to be in scope where it is used.
+/// When an operand must be in scope where it is used.
 #[derive(Clone, Copy, Debug)]
 pub enum Scoping {
     /// Always.
     Always,
-    /// Where scope is strict.
+    /// Under strict scope only.
     Strictly,
-    /// At a place of its own: a loop's condition, after the continuing part.
+    /// At its own place: a loop's condition, after the continuing block.
     Apart,
 }
 
-/// An operand of an expression or of a statement, if it is given.
+/// An optional operand of an expression or of a statement.
 #[derive(Clone, Copy, Debug)]
 pub struct Slot {
     /// The expression.
     pub handle: Option<Handle<key::Expression>>,
-    /// How it is used.
+    /// The use.
     pub usage: Usage,
-    /// When it has to be in scope.
+    /// When it must be in scope.
     pub scoping: Scoping,
 }

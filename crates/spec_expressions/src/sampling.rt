@@ -1,23 +1,23 @@
-//! Which images are sampled by which samplers.
+//! Sampled pairs of images and samplers.
 
 use ir_arena::handle::Handle;
 use ir_types::key;
 
-/// What an image or a sampler is in a function: a global variable of the module, or an argument, for which each call
-/// passes one (naga's `GlobalOrArgument`).
+/// What an image or sampler operand denotes in a function: a global variable of the module, or an argument, for which each
+/// call passes one (naga's `GlobalOrArgument`).
 #[derive(Clone, Copy, PartialEq, Eq, Hash, Debug)]
 pub enum GlobalOrArgument {
-    /// A global variable, or an element of one that is an array of bindings.
+    /// A global variable, or an element of one that is a binding array.
     Global(Handle<key::GlobalVariable>),
     /// The function's argument at this index.
     Argument(u32),
 }
 
-/// An image and the sampler that it is sampled by, in this order, as a function knows them (naga's `Sampling` of its
+/// An image and the sampler it is sampled with, in this order, in a function (naga's `Sampling` of its
 /// analyzer).
 pub type SamplingPair = (GlobalOrArgument, GlobalOrArgument);
 
-/// Two global variables, the one an image and the other the sampler that it is sampled by (naga's `SamplingKey`).
+/// Two global variables, an image and the sampler it is sampled with (naga's `SamplingKey`).
 #[derive(Clone, Copy, PartialEq, Eq, Hash, Debug)]
 pub struct SamplingKey {
     /// The image.

@@ -1,9 +1,9 @@
-//! What handles and ranges name.
+//! What handles and ranges refer to.
 
 use ir_arena::handle::Handle;
 use ir_types::key;
 
-/// What a handle names, apart from expressions of the list that it stands in.
+/// The item that a handle refers to, other than an expression of the list that contains it.
 #[derive(Clone, Copy, Debug)]
 pub enum Target {
     /// A type of the module.
@@ -14,10 +14,10 @@ pub enum Target {
     Override(Handle<key::Override>),
     /// A global variable of the module.
     GlobalVariable(Handle<key::GlobalVariable>),
-    /// A variable of the function that it stands in.
+    /// A local variable of the function that contains it.
     LocalVariable(Handle<key::LocalVariable>),
-    /// A function of the module that is no entry point.
+    /// A function of the module, not an entry point's.
     Function(Handle<key::Function>),
-    /// A diagnostic filter of the module.
+    /// A diagnostic filter node of the module.
     DiagnosticFilter(Handle<key::DiagnosticFilterNode>),
 }

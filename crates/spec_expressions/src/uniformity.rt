@@ -1,4 +1,4 @@
-//! Whether a value is the same in all invocations, and what requires that.
+//! Uniformity of expressions: sources of non-uniformity, and requirements of uniform control flow.
 
 use bitflags::{Flag, Flags, bitflag_items};
 use ir_arena::handle::Handle;
@@ -6,23 +6,23 @@ use ir_flags::write_set;
 use ir_types::key;
 use std::fmt;
 
-/// What requires that all invocations arrive at it together (naga's `UniformityRequirements`). A contract sees the
-/// number of its bits, as `set.0`.
+/// Why uniform control flow is required (naga's `UniformityRequirements`). A contract sees the
+/// bits, as `set.0`.
 #[derive(Clone, Copy, PartialEq, Eq)]
 pub struct UniformityRequirements(
-    /// The bits as a number.
+    /// The bits.
     pub u8,
 );
 
 bitflag_items! {
     impl UniformityRequirements: u8 {
-        /// The invocations of a workgroup wait for each other.
+        /// A workgroup barrier.
         const WORK_GROUP_BARRIER = 1;
-        /// A derivative is taken.
+        /// A derivative.
         const DERIVATIVE = 2;
-        /// The level of detail is found from neighbouring fragments.
+        /// An implicit level of detail.
         const IMPLICIT_LEVEL = 4;
-        /// A cooperative matrix is loaded or multiplied.
+        /// A cooperative load or multiply-add.
         const COOP_OPS = 8;
     }
 }
@@ -58,11 +58,11 @@ impl Flags for UniformityRequirements {
     }
 }
 
-/// Whether the value of an expression is the same in all invocations, and what it requires (naga's `Uniformity`).
+/// The uniformity of an expression (naga's `Uniformity`).
 #[derive(Clone, Copy, PartialEq, Debug)]
 pub struct Uniformity {
-    /// An expression that the value comes from and that isn't the same in all invocations, if there is one.
+    /// The source of its non-uniformity, if any: an expression that its value depends on.
     pub non_uniform_result: Option<Handle<key::Expression>>,
-    /// What the expression itself requires.
+    /// The expression's own requirements.
     pub requirements: UniformityRequirements,
 }

@@ -1,4 +1,4 @@
--- `==` of built-in values is equality.
+-- `==` of built-ins is equality.
 use Rattle.std.proofs.Common.{◌≡◌, ◌↔◌, IsTrue, subst}
 use Rattle.ir_kinds.specs.contracts.bindings.BuiltInEq.TheImpl.Laws as equal_laws
 use Rattle.ir_kinds.specs.contracts.bindings.BuiltInPartialEq.TheImpl as of_built_in

@@ -1,4 +1,4 @@
--- What is found of a kind of thing, one by one.
+-- The result of a search, one element after another.
 use Rattle.std.proofs.Common.{◌≡◌, ◌≤◌, ◌<◌, ℕ, ◌+◌, List, [], ◌∷◌, ◌++◌, length, map, take, get_or, Option, Some, None, refl, sym, ap, subst, ◌∙◌, arith}
 use Rattle.std.specs.List.{filter_map, cons_option}
 use Rattle.std.proofs.lemmas.List.{map_more}
@@ -30,7 +30,7 @@ module _ {X V T : Type 0} (view : X → V) (h : V → Option T) (xs : List X) wh
   one_more : (k : ℕ) (other : X) → k < length xs → filter_map h (map view (take (k + 1) xs)) ≡ filter_map h (map view (take k xs)) ++ cons_option (h (view (get_or xs k other))) []
   one_more k other lt = ap (filter_map h) (map_more view xs k other lt) ∙ filter_map-append h (map view (take k xs)) (view (get_or xs k other) ∷ [])
 
-  -- what is found among the first ones, and among one more
+  -- the result for the first elements, and after one more
   pub found_more : (k : ℕ) (other : X) (o : Option T) (found : Found T) → k < length xs → o ≡ h (view (get_or xs k other))
       → Stands found (filter_map h (map view (take k xs))) → Stands (next found o) (filter_map h (map view (take (k + 1) xs)))
   found_more k other o found lt is stands =
@@ -38,7 +38,7 @@ module _ {X V T : Type 0} (view : X → V) (h : V → Option T) (xs : List X) wh
       (subst (λ (p : Option T). Stands (next found o) (filter_map h (map view (take k xs)) ++ cons_option p [])) is (with_next found o (filter_map h (map view (take k xs))) stands))
 
 module _ {T : Type 0} where
-  -- there is one alone, or none is
+  -- exactly one, or none
   pub not_one_of_none : (xs : List T) → xs ≡ [] → (t : T) → xs ≡ t ∷ [] → ⊥
   not_one_of_none xs none t one = cc
 

@@ -1,4 +1,4 @@
--- Which stages may run the functions of a module is reported in one way.
+-- The definition of the stages that may run the functions of a module has a unique solution.
 use Rattle.std.proofs.Common.{◌≡◌, inl, inr, ℕ, zero, suc, ◌<◌, ◌≤◌, List, length, Some, None, refl, sym, ap, subst, arith, slice_get}
 use Rattle.std.specs.Prelude.{◌↔◌, unwrap_or}
 use Rattle.std.proofs.lemmas.Bool.{cases_eq, cases_lt}
@@ -21,7 +21,7 @@ use Rattle.spec_statements.specs.judged.Functions.{AllowsStage}
 use Rattle.spec_statements.specs.judged.ModuleFunctions.{reading_over}
 use Rattle.spec_statements.specs.judged.Stages.{statement_stages}
 
--- ---- stages by those of callees
+-- ---- a function's stages, given those of its callees
 
 -- the sets have the same members
 abbrev pub SameStages : ShaderStages → ShaderStages → Type 0
@@ -30,7 +30,7 @@ SameStages a b = (stage : ℕ) → Has a.0 stage ↔ Has b.0 stage
 same : (a : ShaderStages) → SameStages a a
 same a stage = (λ h. h, λ h. h)
 
--- the lists have the same stages of the first so many functions
+-- the lists have the same stages of this many functions
 abbrev pub Agree : (index : ℕ) → (a b : List ShaderStages) → Type 0
 Agree index a b = (earlier : ℕ) → earlier < index → SameStages (callee_stages a earlier) (callee_stages b earlier)
 
@@ -68,7 +68,7 @@ module _ (index : ℕ) (f : PlainFunction) (a b : List ShaderStages) (precede : 
         ((expression_same e run.expression run.at stage).0 (h.expressions asked e (stages_of a run.expression) lt (record { expression = run.expression; at = run.at; run_by = refl })));
   }
 
--- ---- by strong induction along the functions
+-- ---- by strong induction on the functions
 
 turned : (index : ℕ) (a b : List ShaderStages) → Agree index a b → Agree index b a
 turned index a b agree earlier lt stage = let h = agree earlier lt stage in (h.1, h.0)

@@ -1,20 +1,20 @@
-//! Whether there is one of something, none, or more.
+//! Search results: none, exactly one, or several.
 
 ghost use Rattle.std.specs.Prelude.{◌≡◌};
 ghost use Rattle.spec_interface.specs.found.Found.{next};
 
-/// What is found of a kind of thing.
+/// The result of a search.
 #[derive(Clone, Copy)]
 pub(crate) enum Found<T> {
-    /// There is none.
+    /// None.
     Nothing,
-    /// There is this one alone.
+    /// Exactly this one.
     One(T),
-    /// There are several.
+    /// Several.
     More,
 }
 
-/// What is found with what comes next, if that is of the kind.
+/// The result after the next element, if it is a match.
 pub(crate) fn next<T: Copy>(found: Found<T>, more: Option<T>) -> Found<T>
     ensures { result ≡ next found more }
 {

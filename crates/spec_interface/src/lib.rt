@@ -1,18 +1,18 @@
-//! What a module's entry points exchange with their surroundings: global variables, varyings, payloads and mesh outputs.
+//! The interface of a module's entry points: global variables, varyings, payloads and mesh shader outputs.
 //!
-//! The definitions stand in `specs/`. Which global variables a module may have: what each address space requires of a type
-//! (`Spaces.antt`), and what a variable has to meet (`Globals.antt`). Which varyings an entry point may have: the built-in
-//! values as a table (`BuiltInRows.antt`), what one built-in value requires (`BuiltIns.antt`) and one value at a location
-//! (`Locations.antt`), which varyings an entry point has and what all of them together have to meet (`Varyings.antt`). Which
-//! entry points a module may have: what a stage requires beside the function (`Stages.antt`), the payload of tasks
-//! (`Payloads.antt`), what may be done with which global variables (`Uses.antt`, `UsedVariables.antt`), what a mesh shader gives
-//! (`Members.antt`, `Meshes.antt`), what is given to its function and returned by it (`Results.antt`), and all of an entry point
+//! The definitions are in `specs/`. Which global variables are valid: what each address space requires of a type
+//! (`Spaces.antt`), and what a variable requires (`Globals.antt`). Which varyings are valid: the built-in
+//! values as a table (`BuiltInRows.antt`), the rules of one built-in value (`BuiltIns.antt`) and of one value at a location
+//! (`Locations.antt`), which varyings an entry point has and the rules of all of them together (`Varyings.antt`). Which
+//! entry points are valid: what a stage requires besides the function (`Stages.antt`), task payloads
+//! (`Payloads.antt`), the allowed uses of global variables (`Uses.antt`, `UsedVariables.antt`), mesh shader outputs
+//! (`Members.antt`, `Meshes.antt`), results of entry point functions (`Results.antt`), and entry points as a whole
 //! (`Entries.antt`).
 //!
-//! The code finds in a module what they speak of: what stands at handles (`lookups.rt`), members by their built-in values
-//! (`members.rt`), what may be done with a variable (`uses.rt`); and the table of built-in values is code as well
-//! ([`built_in_row`]). The functions of [`worked`] and [`varyings_worked`] do nothing: their contracts say what the definitions
-//! say of small entry points and interfaces.
+//! The code computes what the definitions refer to: look-ups by handle (`lookups.rt`), members by their built-in values
+//! (`members.rt`), allowed uses of a variable (`uses.rt`); and the table of built-in values is code as well
+//! ([`built_in_row`]). The functions of [`worked`] and [`varyings_worked`] have no effect: their contracts are examples of the
+//! definitions on small entry points and interfaces.
 #![tactic(auto)]
 
 mod found;

@@ -1,4 +1,4 @@
-//! What stands at the handles of a module.
+//! Look-ups by the handles of a module.
 
 ghost use Rattle.std.specs.Prelude.{◌≡◌, ◌<◌, ◌↔◌, IsTrue, MatchOption, None, Some, length, map, slice_get, unwrap_or};
 ghost use Rattle.ir_items.specs.found.View.{module_view};
@@ -15,7 +15,7 @@ use ir_kinds::{AddressSpace, ResourceBinding};
 use ir_types::{StructMember, TypeInner, key};
 use spec_expressions::GlobalUse;
 
-/// What the type at a handle is made of, if there is one.
+/// The inner type at a handle, if there is one.
 pub fn inner_at(module: &Module, ty: Handle<key::IrType>) -> Option<&TypeInner>
     ensures { MatchOption result
         (inner_at (module_view «module».now).types ty ≡ None)
@@ -27,7 +27,7 @@ pub fn inner_at(module: &Module, ty: Handle<key::IrType>) -> Option<&TypeInner>
     }
 }
 
-// The members of what is a struct.
+// The members of a struct.
 fn members_in(inner: &TypeInner) -> Option<&[StructMember]>
     ensures { MatchOption result
         (members_in (Some (inner_view inner.now)) ≡ None)
@@ -51,7 +51,7 @@ fn members_in(inner: &TypeInner) -> Option<&[StructMember]>
     }
 }
 
-/// The members of the struct that the type at a handle is.
+/// The members of the struct type at a handle.
 pub fn members_at(module: &Module, ty: Handle<key::IrType>) -> Option<&[StructMember]>
     ensures { MatchOption result
         (members_at (module_view «module».now).types ty ≡ None)
@@ -63,7 +63,7 @@ pub fn members_at(module: &Module, ty: Handle<key::IrType>) -> Option<&[StructMe
     }
 }
 
-/// Where a global variable lies.
+/// The address space of a global variable.
 pub fn space_at(module: &Module, global: Handle<key::GlobalVariable>) -> AddressSpace
     requires { global < length (module_view «module».now).globals }
     ensures { space_at (module_view «module».now) global ≡ Some result }
@@ -71,7 +71,7 @@ pub fn space_at(module: &Module, global: Handle<key::GlobalVariable>) -> Address
     module.global_variables[global].space
 }
 
-/// What a host binds a global variable to, if it binds it.
+/// The resource binding of a global variable, if it has one.
 pub fn binding_at(module: &Module, global: Handle<key::GlobalVariable>) -> Option<ResourceBinding>
     requires { global < length (module_view «module».now).globals }
     ensures { result ≡ binding_at (module_view «module».now) global }
@@ -79,7 +79,7 @@ pub fn binding_at(module: &Module, global: Handle<key::GlobalVariable>) -> Optio
     module.global_variables[global].binding
 }
 
-/// How a global variable is used, where this is reported of each.
+/// The use of a global variable, given the uses of all.
 pub fn use_at(uses: &[GlobalUse], global: Handle<key::GlobalVariable>) -> GlobalUse
     ensures { result ≡ unwrap_or (slice_get uses.now global) no_use }
 {
@@ -89,21 +89,21 @@ pub fn use_at(uses: &[GlobalUse], global: Handle<key::GlobalVariable>) -> Global
     }
 }
 
-/// Whether immediates lie there.
+/// Whether the space is `Immediate`.
 pub const fn is_immediate(space: AddressSpace) -> bool
     ensures { IsTrue result ↔ (space ≡ Immediate) }
 {
     matches!(space, AddressSpace::Immediate)
 }
 
-/// Whether payloads of tasks lie there.
+/// Whether the space is `TaskPayload`.
 pub const fn is_task_payload(space: AddressSpace) -> bool
     ensures { IsTrue result ↔ (space ≡ TaskPayload) }
 {
     matches!(space, AddressSpace::TaskPayload)
 }
 
-/// Whether it is memory of a workgroup.
+/// Whether the space is `WorkGroup`.
 pub const fn is_workgroup(space: AddressSpace) -> bool
     ensures { IsTrue result ↔ (space ≡ WorkGroup) }
 {

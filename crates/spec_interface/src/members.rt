@@ -1,4 +1,4 @@
-//! Members of structs by the built-in values that they are bound to.
+//! Members of structs by their built-in values.
 
 ghost use Rattle.std.specs.Prelude.{◌≡◌, ◌∷◌, ◌↔◌, [], ℕ, IsSome, IsTrue, MatchOption, Some, map};
 ghost use Rattle.ir_items.specs.found.View.{module_view};
@@ -17,7 +17,7 @@ use ir_items::Module;
 use ir_kinds::{Binding, BuiltIn, MeshOutputTopology};
 use ir_types::{StructMember, key};
 
-// Whether a part of what a mesh shader gives is bound.
+// Whether a member is bound to a mesh output part.
 fn is_part(part: MeshPart, binding: &Option<Binding>) -> bool
     ensures { result ≡ is_part part binding.now }
 {
@@ -31,7 +31,7 @@ fn is_part(part: MeshPart, binding: &Option<Binding>) -> bool
     }
 }
 
-// The type of a member that is bound to a part; `None` of any other.
+// The type of a member that is bound to a part; `None` for any other.
 fn type_bound(part: MeshPart, member: &StructMember) -> Option<Handle<key::IrType>>
     ensures { result ≡ type_bound part (member_view member.now) }
 {
@@ -42,7 +42,7 @@ fn type_bound(part: MeshPart, member: &StructMember) -> Option<Handle<key::IrTyp
     }
 }
 
-// The type of the one member that is bound to a part; `None` where there is no such member, or several.
+// The type of the only member that is bound to a part; `None` if there is no such member, or several.
 fn only_type(part: MeshPart, members: &[StructMember]) -> Option<Handle<key::IrType>>
     ensures { MatchOption result
         ((t : ℕ) → types_bound part (map member_view members.now) ≡ t ∷ [] → ⊥)
@@ -58,7 +58,7 @@ fn only_type(part: MeshPart, members: &[StructMember]) -> Option<Handle<key::IrT
     }
 }
 
-/// The types of the four parts among members; `None` where one is not bound once.
+/// The types of the four parts among members; `None` if one is not bound exactly once.
 pub fn parts_of(members: &[StructMember]) -> Option<MeshParts>
     ensures { MatchOption result
         ((t : MeshParts) → AreParts (map member_view members.now) t → ⊥)
@@ -88,7 +88,7 @@ pub fn parts_of(members: &[StructMember]) -> Option<MeshParts>
     })
 }
 
-// The primitives whose vertices are named so, if any are.
+// The topology of an indices built-in value, if it is one.
 fn topology_of(binding: &Option<Binding>) -> Option<MeshOutputTopology>
     ensures { result ≡ topology_of binding.now }
 {
@@ -100,7 +100,7 @@ fn topology_of(binding: &Option<Binding>) -> Option<MeshOutputTopology>
     }
 }
 
-// What the one member names that names vertices; `None` where there is no such member, or several.
+// The topology of the only indices member; `None` if there is no such member, or several.
 fn only_topology(members: &[StructMember]) -> Option<MeshOutputTopology>
     ensures { MatchOption result
         ((t : MeshOutputTopology) → member_topologies (map member_view members.now) ≡ t ∷ [] → ⊥)
@@ -116,7 +116,7 @@ fn only_topology(members: &[StructMember]) -> Option<MeshOutputTopology>
     }
 }
 
-/// What primitives of a type are; `None` where they don't name their vertices once.
+/// The topology of a primitive type; `None` unless it has exactly one indices member.
 pub fn topology_at(module: &Module, ty: Handle<key::IrType>) -> Option<MeshOutputTopology>
     ensures { MatchOption result
         ((t : MeshOutputTopology) → topologies_at (module_view «module».now).types ty ≡ t ∷ [] → ⊥)

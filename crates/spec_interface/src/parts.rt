@@ -1,30 +1,30 @@
-//! The parts of what a mesh shader gives.
+//! The parts of a mesh shader output.
 
 use ir_arena::handle::Handle;
 use ir_types::key;
 
-/// A part of what a mesh shader gives.
+/// A part of a mesh shader output.
 #[derive(Clone, Copy, PartialEq, Eq, Debug)]
 pub enum MeshPart {
-    /// How many vertices it gives.
+    /// The vertex count.
     VertexCount,
-    /// The vertices.
+    /// The vertex array.
     Vertices,
-    /// How many primitives it gives.
+    /// The primitive count.
     PrimitiveCount,
-    /// The primitives.
+    /// The primitive array.
     Primitives,
 }
 
-/// The types of the parts.
+/// The types of the four parts.
 #[derive(Clone, Copy, PartialEq, Eq, Debug)]
 pub struct MeshParts {
-    /// Of the number of vertices.
+    /// The type of the vertex count.
     pub vertex_count: Handle<key::IrType>,
-    /// Of the vertices.
+    /// The type of the vertex array.
     pub vertices: Handle<key::IrType>,
-    /// Of the number of primitives.
+    /// The type of the primitive count.
     pub primitive_count: Handle<key::IrType>,
-    /// Of the primitives.
+    /// The type of the primitive array.
     pub primitives: Handle<key::IrType>,
 }

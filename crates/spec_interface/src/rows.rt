@@ -1,82 +1,82 @@
-//! The rows of the table of built-in values.
+//! The rows of the table of built-ins.
 
 use ir_flags::{Capabilities, ShaderStages};
 use typing_forms::Form;
 
-/// Of which type a built-in value is.
+/// The type of a built-in value.
 #[derive(Clone, Copy)]
 pub enum BuiltInType {
-    /// Of the type with this form.
+    /// The type with this form.
     Value(Form),
-    /// Floats of four bytes in a row, eight at most.
+    /// An array of at most eight 32-bit floats.
     Distances,
 }
 
-/// What a row says besides.
+/// An exception of a row.
 #[derive(Clone, Copy)]
 pub enum Exception {
-    /// Nothing.
+    /// No exception.
     None,
-    /// Where a ray hits it needs no capability.
+    /// The hit stages need no capability.
     FreeAtHits,
-    /// A mesh shader that a task hands a payload is not given it.
+    /// Not an input of a mesh shader with a task payload.
     NotAfterTasks,
-    /// The workgroup is a row.
+    /// The workgroup must be one-dimensional.
     RowsOnly,
 }
 
-/// Where a built-in value stands, of which type it is, and what it needs.
+/// The row of a built-in value: its stages, its type, and its capability.
 #[derive(Clone, Copy)]
 pub struct BuiltInRow {
-    /// The stages that are given it.
+    /// The stages that take it as an input.
     pub inputs: ShaderStages,
-    /// The stages that give it; a mesh shader gives it with a vertex and with a primitive.
+    /// The stages that have it as an output; a mesh shader has it as a vertex and as a primitive output.
     pub outputs: ShaderStages,
-    /// Whether a mesh shader gives it with a primitive alone.
+    /// Whether a mesh shader has it as a primitive output only.
     pub primitive: bool,
-    /// Of which type it is.
+    /// Its type.
     pub ty: BuiltInType,
-    /// What it needs, if it needs any capability.
+    /// The required capability, if any.
     pub capability: Option<Capabilities>,
-    /// What is said besides.
+    /// The exception.
     pub exception: Exception,
 }
 
 impl BuiltInRow {
-    /// No stage.
+    /// No stages.
     pub const NONE: ShaderStages = ShaderStages(0);
 
-    /// The stages that give vertices.
+    /// The stages that output vertices.
     pub const RASTER: ShaderStages = ShaderStages(ShaderStages::VERTEX.0 | ShaderStages::MESH.0);
 
-    /// Where a ray hits.
+    /// The any-hit and closest-hit stages.
     pub const HITS: ShaderStages = ShaderStages(
         ShaderStages::ANY_HIT.0 | ShaderStages::CLOSEST_HIT.0,
     );
 
-    /// Where a ray ends.
+    /// The hit and miss stages.
     pub const HIT_OR_MISS: ShaderStages = ShaderStages(BuiltInRow::HITS.0 | ShaderStages::MISS.0);
 
-    /// The stages of rays.
+    /// The ray tracing pipeline stages.
     pub const RAYS: ShaderStages = ShaderStages(
         BuiltInRow::HIT_OR_MISS.0 | ShaderStages::RAY_GENERATION.0,
     );
 
-    /// The stages of instances.
+    /// The stages with instance indices.
     pub const INSTANCES: ShaderStages = ShaderStages(ShaderStages::VERTEX.0 | BuiltInRow::HITS.0);
 
-    /// The stages at which draws are reported apart.
+    /// The stages with draw indices.
     pub const DRAWS: ShaderStages = ShaderStages(BuiltInRow::RASTER.0 | ShaderStages::TASK.0);
 
-    /// The stages at which views are reported apart.
+    /// The stages with view indices.
     pub const VIEWS: ShaderStages = ShaderStages(BuiltInRow::DRAWS.0 | ShaderStages::FRAGMENT.0);
 
-    /// The stages at which primitives are reported apart.
+    /// The stages with primitive indices as inputs.
     pub const PRIMITIVES: ShaderStages = ShaderStages(
         ShaderStages::FRAGMENT.0 | BuiltInRow::HITS.0,
     );
 
-    /// The stages that run in subgroups.
+    /// The stages with subgroup built-in values.
     pub const SUBGROUPS: ShaderStages = ShaderStages(
         ShaderStages::COMPUTE_LIKE.0 | ShaderStages::FRAGMENT.0 | BuiltInRow::RAYS.0,
     );

@@ -1,4 +1,4 @@
-//! Sizes of workgroups.
+//! The limit of workgroup sizes.
 
-/// How many invocations a workgroup has each way at most (naga's `MAX_WORKGROUP_SIZE`).
+/// The maximum workgroup size in one dimension (naga's `MAX_WORKGROUP_SIZE`).
 pub const MAX_WORKGROUP_SIZE: u32 = 0x4000;

@@ -1,4 +1,4 @@
-//! The table of built-in values.
+//! The table of built-ins.
 
 ghost use Rattle.std.specs.Prelude.{◌≡◌, false};
 ghost use Rattle.ir_kinds.specs.declared.bindings.BuiltIn.TheVariants.{PrimitiveIndex};
@@ -64,7 +64,7 @@ const FOUR_BY_THREE: BuiltInType = BuiltInType::Value(Form::Matrix {
     scalar: Scalar::F32,
 });
 
-// What is given by the stages before.
+// An input of these stages.
 const fn given(inputs: ShaderStages, ty: BuiltInType) -> BuiltInRow
     ensures { result ≡ taken inputs ty }
 {
@@ -78,7 +78,7 @@ const fn given(inputs: ShaderStages, ty: BuiltInType) -> BuiltInRow
     }
 }
 
-// What is given by the stages before, where a capability is there, but for an exception.
+// An input of these stages that requires a capability, with an exception.
 const fn given_by(
     capability: C,
     inputs: ShaderStages,
@@ -97,7 +97,7 @@ const fn given_by(
     }
 }
 
-// What is given to the stages after.
+// An output of these stages.
 const fn gives(outputs: ShaderStages, ty: BuiltInType) -> BuiltInRow
     ensures { result ≡ gives outputs ty }
 {
@@ -111,7 +111,7 @@ const fn gives(outputs: ShaderStages, ty: BuiltInType) -> BuiltInRow
     }
 }
 
-// What is given to the stages after, where a capability is there.
+// An output of these stages that requires a capability.
 const fn gives_by(capability: C, outputs: ShaderStages, ty: BuiltInType) -> BuiltInRow
     ensures { result ≡ by capability (gives outputs ty) }
 {
@@ -125,7 +125,7 @@ const fn gives_by(capability: C, outputs: ShaderStages, ty: BuiltInType) -> Buil
     }
 }
 
-// What is both given and given on.
+// Both an input and an output of these stages.
 const fn both(inputs: ShaderStages, outputs: ShaderStages, ty: BuiltInType) -> BuiltInRow
     ensures { result ≡ row_with inputs outputs false ty }
 {
@@ -139,7 +139,7 @@ const fn both(inputs: ShaderStages, outputs: ShaderStages, ty: BuiltInType) -> B
     }
 }
 
-// What a mesh shader gives with a primitive alone.
+// A primitive output of a mesh shader only.
 const fn with_primitive(ty: BuiltInType) -> BuiltInRow
     ensures { result ≡ with_primitive ty }
 {
@@ -153,7 +153,7 @@ const fn with_primitive(ty: BuiltInType) -> BuiltInRow
     }
 }
 
-// The index of a primitive, which a mesh shader gives with it.
+// The indices of a primitive: a primitive output of a mesh shader.
 const fn primitive_index() -> BuiltInRow
     ensures { result ≡ built_in_row PrimitiveIndex }
 {
@@ -167,7 +167,7 @@ const fn primitive_index() -> BuiltInRow
     }
 }
 
-/// Where a built-in value stands, of which type it is, and what it needs.
+/// The row of a built-in value: its stages, its type, and its capability.
 pub const fn built_in_row(built_in: BuiltIn) -> BuiltInRow
     ensures { result ≡ built_in_row built_in }
 {

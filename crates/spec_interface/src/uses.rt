@@ -1,4 +1,4 @@
-//! What entry points may do with global variables, by the memory in which these lie.
+//! Allowed uses of global variables, by address space.
 
 ghost use Rattle.std.specs.Prelude.{◌≡◌, ℕ, List, Some};
 ghost use Rattle.ir_items.specs.found.View.{module_view};
@@ -21,7 +21,7 @@ const READ: GlobalUse = GlobalUse(GlobalUse::READ.0 | GlobalUse::QUERY.0);
 
 const ALL_BUT_ATOMIC: GlobalUse = GlobalUse(READ.0 | GlobalUse::WRITE.0);
 
-// A kind of use where some access allows it.
+// A use that requires one of these accesses.
 fn use_if(access: StorageAccess, needed: StorageAccess, kind: GlobalUse) -> GlobalUse
     ensures { result.0 ≡ use_if access needed kind }
 {
@@ -32,7 +32,7 @@ fn use_if(access: StorageAccess, needed: StorageAccess, kind: GlobalUse) -> Glob
     }
 }
 
-// What memory of some access may be used for.
+// The allowed uses of storage with some access.
 fn access_uses(access: StorageAccess) -> GlobalUse
     ensures { result ≡ access_uses access }
 {
@@ -42,7 +42,7 @@ fn access_uses(access: StorageAccess) -> GlobalUse
     GlobalUse(GlobalUse::QUERY.0 | read.0 | written.0 | changed.0)
 }
 
-// What images of a class may be used for.
+// The allowed uses of images of a class.
 fn class_uses(class: ImageClass) -> GlobalUse
     ensures { result ≡ class_uses class }
 {
@@ -52,7 +52,7 @@ fn class_uses(class: ImageClass) -> GlobalUse
     }
 }
 
-// What may be done with what is bound by a handle and made of this.
+// The allowed uses of a variable of this inner type in the handle space.
 fn handle_uses(inner: &TypeInner) -> GlobalUse
     ensures { result ≡ handle_uses (Some (inner_view inner.now)) }
 {
@@ -62,7 +62,7 @@ fn handle_uses(inner: &TypeInner) -> GlobalUse
     }
 }
 
-// The same of the type at a handle.
+// The allowed uses of a variable of the type at a handle, in the handle space.
 fn uses_at(module: &Module, ty: Handle<key::IrType>) -> GlobalUse
     ensures { result ≡ handle_uses (inner_at (module_view «module».now).types ty) }
 {
@@ -72,7 +72,7 @@ fn uses_at(module: &Module, ty: Handle<key::IrType>) -> GlobalUse
     }
 }
 
-// The type of the elements of what is a binding array.
+// The element type of a binding array.
 fn array_base(inner: &TypeInner) -> Option<Handle<key::IrType>>
     ensures { result ≡ array_base (Some (inner_view inner.now)) }
 {
@@ -82,7 +82,7 @@ fn array_base(inner: &TypeInner) -> Option<Handle<key::IrType>>
     }
 }
 
-// The same of the type at a handle.
+// The element type of the binding array type at a handle.
 fn base_at(module: &Module, ty: Handle<key::IrType>) -> Option<Handle<key::IrType>>
     ensures { result ≡ array_base (inner_at (module_view «module».now).types ty) }
 {
@@ -92,7 +92,7 @@ fn base_at(module: &Module, ty: Handle<key::IrType>) -> Option<Handle<key::IrTyp
     }
 }
 
-// The type whose rules count: of a binding array that of its elements.
+// The effective type: the element type of a binding array, and otherwise the type itself.
 fn counted(module: &Module, ty: Handle<key::IrType>) -> Handle<key::IrType>
     ensures { result ≡ effective_type (module_view «module».now).types ty }
 {
@@ -102,7 +102,7 @@ fn counted(module: &Module, ty: Handle<key::IrType>) -> Handle<key::IrType>
     }
 }
 
-// What a stage may do with the payload of a task.
+// The allowed uses of a task payload in a stage.
 const fn payload_uses(stage: ShaderStage) -> GlobalUse
     ensures { result ≡ payload_uses stage }
 {
@@ -119,7 +119,7 @@ const fn payload_uses(stage: ShaderStage) -> GlobalUse
     }
 }
 
-/// What a stage may do with a variable of a type in a space.
+/// The allowed uses of a variable of a type in a space, in a stage.
 pub fn allowed_uses(
     stage: ShaderStage,
     space: AddressSpace,
@@ -142,7 +142,7 @@ pub fn allowed_uses(
     }
 }
 
-/// Whether a stage traces rays with payloads.
+/// Whether a stage has ray payloads (`RayPayload`).
 pub const fn traces_rays(stage: ShaderStage) -> bool
     ensures { result ≡ (stage_row stage).traces }
 {
@@ -157,7 +157,7 @@ pub const fn traces_rays(stage: ShaderStage) -> bool
     }
 }
 
-/// Whether a stage runs for rays that have a payload.
+/// Whether a stage has incoming ray payloads (`IncomingRayPayload`).
 pub const fn is_run_for_rays(stage: ShaderStage) -> bool
     ensures { result ≡ (stage_row stage).incoming }
 {

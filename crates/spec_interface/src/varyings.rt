@@ -1,70 +1,70 @@
-//! Varyings as plain data.
+//! Varyings as mathematical values.
 
 use ir_arena::handle::Handle;
 use ir_kinds::{BuiltIn, Interpolation, Sampling};
 use ir_types::key;
 
-/// Which way varyings go (naga's `VaryingContext::output`, with its `MeshOutputType`).
+/// The direction of a varying (naga's `VaryingContext::output`, with its `MeshOutputType`).
 #[derive(Clone, Copy)]
 pub enum Direction {
-    /// The entry point is given them.
+    /// Inputs of the entry point.
     Input,
-    /// The entry point answers them.
+    /// Outputs of the entry point.
     Output,
-    /// A mesh shader gives them with each vertex.
+    /// Vertex outputs of a mesh shader.
     VertexOutput,
-    /// A mesh shader gives them with each primitive.
+    /// Primitive outputs of a mesh shader.
     PrimitiveOutput,
 }
 
-/// Where a value goes, and how a value between vertices is found (naga's `Binding::Location`).
+/// A location binding, with its interpolation (naga's `Binding::Location`).
 #[derive(Clone, Copy)]
 pub struct Location {
     /// The location.
     pub location: u32,
-    /// How a value between vertices is found.
+    /// The interpolation.
     pub interpolation: Option<Interpolation>,
-    /// Where in a fragment.
+    /// The sampling.
     pub sampling: Option<Sampling>,
-    /// Which source of a blend it is.
+    /// The blend source, if any.
     pub blend_src: Option<u32>,
-    /// Whether it belongs to a primitive.
+    /// Whether it is per-primitive.
     pub per_primitive: bool,
 }
 
-/// What is bound, and to what.
+/// A binding, and the type bound.
 #[derive(Clone, Copy)]
 pub enum Bound {
-    /// A value of this type is a built-in one.
+    /// A value of this type is a built-in value.
     BuiltIn {
         /// The type.
         ty: Handle<key::IrType>,
-        /// The built-in value.
+        /// The built-in.
         built_in: BuiltIn,
     },
-    /// A value of this type goes to a location.
+    /// A value of this type is at a location.
     Location {
         /// The type.
         ty: Handle<key::IrType>,
-        /// Where it goes.
+        /// The location binding.
         at: Location,
     },
-    /// The members of a struct are the sources of a blend.
+    /// The members of a struct are the blend sources.
     BlendSources,
-    /// The value is not bound, and is no struct.
+    /// The value has no binding, and is no struct.
     Nothing,
-    /// The member at this place of a struct is not bound.
+    /// The struct member at this index has no binding.
     NoMember {
-        /// The place, counted from 0.
+        /// The index, counted from 0.
         place: usize,
     },
 }
 
-/// What goes between stages by itself: an argument, a result, or a member of one that is not bound.
+/// A varying: an argument, a result, or a member of one without a binding.
 #[derive(Clone, Copy)]
 pub struct Varying {
-    /// The argument that it is or belongs to, counted from 0; of a result it is 0.
+    /// The argument that it is or belongs to, counted from 0; for a result it is 0.
     pub index: usize,
-    /// What is bound, and to what.
+    /// The binding, and the type bound.
     pub bound: Bound,
 }

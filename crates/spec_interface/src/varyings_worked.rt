@@ -1,6 +1,6 @@
-//! What the definitions say of small interfaces, worked out by hand.
+//! Examples of the definitions on small interfaces, worked out by hand.
 //!
-//! The functions do nothing: their contracts are the examples.
+//! The functions have no effect: their contracts are the examples.
 
 ghost use Rattle.std.specs.Prelude.{◌≡◌, [], ◌∷◌, None, Some, false, true};
 ghost use Rattle.ir_kinds.specs.declared.bindings.BuiltIn.TheVariants.{Barycentric, CullPrimitive, FragDepth, MeshTaskSize, Position, PrimitiveIndex, SampleMask, SubgroupSize, VertexCount, VertexIndex};
@@ -16,7 +16,7 @@ ghost use Rattle.spec_interface.specs.found.Worked.{bound_at, linear_at, small_t
 ghost use Rattle.spec_interface.specs.declared.varyings.Bound.TheVariants.{BlendSources, BuiltIn, Location, NoMember, Nothing};
 ghost use Rattle.spec_interface.specs.declared.varyings.Direction.TheVariants.{Input, Output, PrimitiveOutput, VertexOutput};
 
-/// Where built-in values stand.
+/// Stages of built-in values.
 pub fn built_ins()
     ensures vertex_is_given_its_index { RowOccursAt Input Vertex (built_in_row VertexIndex) }
     ensures and_does_not_give_it { ¬ RowOccursAt Output Vertex (built_in_row VertexIndex) }
@@ -36,7 +36,7 @@ pub fn built_ins()
     ensures fragment_has_not { ¬ IsFree Fragment (built_in_row PrimitiveIndex).exception }
 {}
 
-/// How values between vertices are found.
+/// Interpolation.
 pub fn between_vertices()
     ensures at_each_sample { sampling_fits Linear Sample ≡ true }
     ensures flat_at_a_vertex { sampling_fits Flat First ≡ true }
@@ -54,7 +54,7 @@ pub fn between_vertices()
     ensures fragment_may { PerPrimitiveOK Input Fragment true }
 {}
 
-/// Which varyings there are: of an argument by its index, of a result, and of structs that are not bound themselves.
+/// Which varyings there are: of an argument by its index, of a result, and of structs without bindings.
 pub fn varyings()
     ensures bound_argument { varyings_of small_types 2 0 (Some (bound_at 7 None)) ≡ varying 2 (Location 0 (linear_at 7 None)) ∷ [] }
     ensures nothing_bound { varyings_of small_types 0 0 None ≡ varying 0 Nothing ∷ [] }

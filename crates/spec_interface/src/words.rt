@@ -1,11 +1,11 @@
-//! Built-in values by their words.
+//! Built-in values by their variants.
 
 ghost use Rattle.std.specs.Prelude.{◌≡◌, ◌↔◌, IsTrue};
 ghost use Rattle.spec_interface.specs.judged.Varyings.{canonical};
 
 use ir_kinds::BuiltIn;
 
-/// The built-in value without what it says besides.
+/// The variant of the built-in value, without its fields.
 pub const fn canonical(built_in: BuiltIn) -> BuiltIn
     ensures { result ≡ canonical built_in }
 {
@@ -62,7 +62,7 @@ pub const fn canonical(built_in: BuiltIn) -> BuiltIn
     }
 }
 
-// Whether two built-in values are one, with what they say besides.
+// Whether two built-in values are equal, fields included.
 #[tactic(auto, using(crate::proofs::Equal::one_built_in))]
 fn is_one(left: BuiltIn, right: BuiltIn) -> bool
     ensures { IsTrue result ↔ (left ≡ right) }
@@ -70,7 +70,7 @@ fn is_one(left: BuiltIn, right: BuiltIn) -> bool
     left == right
 }
 
-/// Whether two built-in values are one, whatever they say besides.
+/// Whether two built-in values have the same variant, whatever their fields.
 pub fn are_same(left: BuiltIn, right: BuiltIn) -> bool
     ensures { IsTrue result ↔ (canonical left ≡ canonical right) }
 {

@@ -1,6 +1,6 @@
-//! Small rules of entry points, worked out by hand and computed by the prover.
+//! Rules of small entry points, worked out by hand and computed by the prover.
 //!
-//! The functions do nothing: their contracts are the examples.
+//! The functions have no effect: their contracts are the examples.
 
 ghost use Rattle.std.specs.Prelude.{◌≡◌, [], ◌∷◌, true, false};
 ghost use Rattle.ir_flags.specs.declared.memory.TheConstants.StorageAccess.{LOAD, STORE};
@@ -15,14 +15,14 @@ ghost use Rattle.spec_interface.specs.declared.parts.MeshPart.TheVariants as par
 ghost use Rattle.spec_interface.specs.judged.Stages.{SizeOK, stage_row};
 ghost use Rattle.spec_interface.specs.judged.Uses.{allowed_uses, is_reached};
 
-/// What stages need.
+/// Requirements of stages.
 pub fn needed()
     ensures vertex { (stage_row Vertex).needs ≡ None }
     ensures mesh { (stage_row Mesh).needs ≡ Some MESH_SHADER }
     ensures rays { (stage_row AnyHit).needs ≡ Some RAY_TRACING_PIPELINE }
 {}
 
-/// How many invocations a workgroup has one way: up to 16384, and none is said where there are no workgroups.
+/// Workgroup sizes in one dimension: up to 16384, and 0 for stages without workgroups.
 pub fn sizes()
     ensures one { SizeOK true 1 }
     ensures most { SizeOK true 16384 }
@@ -32,7 +32,7 @@ pub fn sizes()
     ensures said { ¬ SizeOK false 1 }
 {}
 
-/// What may be done with variables, as the numbers of the sets.
+/// Allowed uses of variables, as the bits of the sets.
 pub fn uses()
     ensures of_a_function { (allowed_uses Compute Function None).0 ≡ 0 }
     ensures own { (allowed_uses Fragment Private None).0 ≡ 7 }
@@ -44,7 +44,7 @@ pub fn uses()
     ensures given { (allowed_uses Mesh TaskPayload None).0 ≡ 5 }
 {}
 
-/// Which stages have payloads of rays.
+/// Stages with ray payloads.
 pub fn payloads()
     ensures generated { is_reached RayGeneration RayPayload ≡ true }
     ensures not_yet { is_reached RayGeneration IncomingRayPayload ≡ false }
@@ -53,7 +53,7 @@ pub fn payloads()
     ensures nowhere_else { is_reached Compute RayPayload ≡ false }
 {}
 
-/// The built-in values that the members of structs are bound to, their types being 5 and 6.
+/// The built-in values of struct members, whose types are 5 and 6.
 pub fn members()
     ensures lines { member_topologies (member 5 LineIndices ∷ member 6 PrimitiveIndex ∷ []) ≡ Lines ∷ [] }
     ensures two { member_topologies (member 5 LineIndices ∷ member 6 PointIndex ∷ []) ≡ Lines ∷ Points ∷ [] }

@@ -1,4 +1,4 @@
--- A function without open ends falls off only by a break out of a final switch.
+-- Control reaches the end of a function without open ends only after a break out of a final switch.
 use Rattle.std.proofs.Common.{◌≡◌, ◌∙◌, ℕ, zero, suc, ℤ, pos, Bool, true, false, IsTrue, List, [], ◌∷◌, ◌++◌, ◌⊎◌, inl, inr, ⊎_elim, map, Option, Some, None, Contains, slice_get, refl, sym, subst, length, slice_index_or, ◌<◌, ◌+◌, true≢false, arith}
 use Rattle.std.specs.Prelude.{IsSomeAnd}
 use Rattle.std.specs.List.{AllByRecursion, flat_map}
@@ -70,9 +70,9 @@ module _ (u : UsedOperands) (frame : Frame) where
   introduces_last [] now = refl
   introduces_last (e ∷ es) now = introduces_last es (introduces_one u frame e now)
 
--- ---- the cases that are chosen
+-- ---- the selected cases
 
--- the other cases are the last of these
+-- the remaining cases are the last of these
 data From : (ℕ → Place → Place) → PlainCases → (ℕ → Place → Place) → PlainCases → Type 0 where
   from_here : {at : ℕ → Place → Place} {cases : PlainCases} → From at cases at cases
   from_later : {at other : ℕ → Place → Place} {value : SwitchValue} {body : PlainBlock} {falls : Bool} {rest cases : PlainCases} → From (λ n. at (suc n)) rest other cases → From at (case value body falls rest) other cases
@@ -125,9 +125,9 @@ chosen_found a at cases default ends = by_one (from_first (λ v. is_value v a) a
     by_one (case value body falls rest) e =
         ⊎_elim (λ none. absurd (subst holds_case (sym e ∙ none) tt)) (λ found. found) (first_found (λ v. is_value v a) at cases false ends)
 
--- ---- how blocks end
+-- ---- completions of blocks
 
--- the last statement that was executed stands at a place of the block that is such
+-- the last executed statement is at such a place of the block
 record LastIs (at : Place → Place) (Q : Place → Type 0) (now : Configuration) : Type 0 where
   pub place : Place
   pub last : now.last ≡ Some (at place)
@@ -148,7 +148,7 @@ EndsBlock at b start (by_continue left_out) now = Unit {0}
 EndsBlock at b start (by_return value) now = Unit {0}
 EndsBlock at b start halted now = Unit {0}
 
--- no break leaves a loop
+-- no `Break` leaves a loop
 abbrev EndsLoop : Completion → Type 0
 EndsLoop normal = Unit {0}
 EndsLoop by_break = ⊥
@@ -160,7 +160,7 @@ abbrev EndsTask : Task → Configuration → Completion → Configuration → Ty
 EndsTask (in_block at b) start completion now = EndsBlock at b start completion now
 EndsTask (in_loop l) start completion now = EndsLoop completion
 
--- a statement, where it is the last of its block and where it isn't
+-- a statement that is the last of its block, and one that isn't
 abbrev EndsOne : (Place → Place) → PlainStatement → Completion → Configuration → Type 0
 EndsOne at s normal now = HasNoOpenEnd (next s stop) → LastIs at (LeavesFinalSwitch (next s stop)) now
 EndsOne at s by_break now = (rest : PlainBlock) → LastIs at (BreaksFrom (next s rest)) now
@@ -186,7 +186,7 @@ TaskOK (in_loop l) = SwitchesEnd l.body × SwitchesEnd l.continuing
 record Sound (go : Evaluation) : Type 0 where
   pub at : (task : Task) (now : Configuration) → TaskOK task → Good now → Met (go task now) (EndsTask task now)
 
--- the cases from one on among all
+-- the cases from one on, among all
 break_among : {at other : ℕ → Place → Place} {cases some : PlainCases} → From at cases other some → (now : Configuration) → (k : ℕ) × LastIs (other k) (BreaksFrom (case_body some k)) now → (k : ℕ) × LastIs (at k) (BreaksFrom (case_body cases k)) now
 break_among from_here now h = h
 break_among (from_later f) now h = let x = break_among f now h in (suc x.0, x.1)
@@ -203,7 +203,7 @@ switches_among : {at other : ℕ → Place → Place} {cases some : PlainCases} 
 switches_among from_here h = h
 switches_among (from_later f) h = switches_among f (λ k. h (suc k))
 
--- a part ends, a switch ends, an answer is taken
+-- the completion of a part, of a switch, and with an answer
 within_met : (now : Configuration) (r : Outcome) (Q : Completion → Configuration → Type 0) → ((completion : Completion) (s : Configuration) → Q completion s → Q completion (record s { live = now.live; skipped = now.skipped })) → Met r Q → Met (leave_scope now r) Q
 within_met now r Q moves met = record { good = met.good; ends = moves r.completion r.after met.ends }
 
@@ -214,7 +214,7 @@ answered_met : (answers : List ℤ) (now : Configuration) (go : ℤ → Configur
 answered_met [] now go Q cut g met = record { good = g; ends = cut now }
 answered_met (a ∷ more) now go Q cut g met = met a more
 
--- what a block in a part gives the statement
+-- the statement's result from that of a nested block
 part_ends : (at : Place → Place) (s : PlainStatement) (part : Part) (b : PlainBlock) (outside start : Configuration) → (HasNoOpenEnd (next s stop) → HasNoOpenEnd b) → ((p : Place) → LeavesFinalSwitch b p → LeavesFinalSwitch (next s stop) (inside part p)) → ((rest : PlainBlock) (p : Place) → BreaksFrom b p → BreaksFrom (next s rest) (inside part p))
     → (completion : Completion) (now : Configuration) → EndsBlock (λ p. at (inside part p)) b start completion now → EndsOne at s completion (record now { live = outside.live; skipped = outside.skipped })
 part_ends at s part b outside start closed leaves breaks normal now e = λ c. (let l = e.1 (closed c) in record { place = inside part l.place; last = l.last; is = leaves l.place l.is })
@@ -257,7 +257,7 @@ cases_met go sound at no_case now ok g = record { good = g; ends = λ ends close
 cases_met go sound at (case value body falls rest) now ok g =
     case_ends at value body rest falls now _ _ (sound.at (in_block (at 0) body) now (ok 0) g) (λ s h. cases_met go sound (λ n. at (suc n)) rest s (λ k. ok (suc k)) h)
 
--- each function is without open ends, and its switches are in order
+-- each function is without open ends, and its switches are valid
 pub record Closed (f : PlainFunction) : Type 0 where
   pub no_open : HasNoOpenEnd f.body
   pub switches : SwitchesEnd f.body
@@ -355,7 +355,7 @@ module _ (u : UsedOperands) (m : PlainModule) (closed : (function : ℕ) (f : Pl
   statement_met (call function arguments result) at rest now ok last g =
       called_met (slice_get m.functions function) (λ f found. closed function f found) at (call function arguments result) arguments now refl g
 
-  -- a block that has a statement: where it is the last, and where it isn't
+  -- a block with a statement that is the last, and one that isn't
   rest_ends : (s : PlainStatement) (at : Place → Place) (rest : PlainBlock) (start middle : Configuration) → EndsOne at s normal middle → (completion : Completion) (now : Configuration) → EndsBlock (λ p. at (later p)) rest (introduces u frame (introduced s) middle) completion now → EndsBlock at (next s rest) start completion now
   rest_ends s at stop start middle one normal now e = (λ h. absurd (next_stop h), λ c. moves_last middle now (e.0 refl ∙ introduces_last u frame (introduced s) middle) (one c))
     where
@@ -386,7 +386,7 @@ module _ (u : UsedOperands) (m : PlainModule) (closed : (function : ℕ) (f : Pl
       ends_so (by_return value) end h e = record { good = h; ends = tt }
       ends_so halted end h e = record { good = h; ends = tt }
 
-  -- a turn
+  -- an iteration
   module _ (l : Loop) (start : Configuration) (ok : SwitchesEnd l.body × SwitchesEnd l.continuing) where
     abbrev Leaves : Outcome → Type 0
     Leaves r = Met r (λ completion now. EndsLoop completion)

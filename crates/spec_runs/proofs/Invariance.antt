@@ -1,4 +1,4 @@
--- What holds where events arise holds of all events of a run.
+-- An invariant that holds where events arise holds of all events of a run.
 use Rattle.std.proofs.Common.{◌≡◌, ℕ, zero, suc, ℤ, pos, Bool, true, false, ◌||◌, IsTrue, List, [], ◌∷◌, ◌++◌, inl, inr, ⊎_elim, map, Option, Some, None, Contains, slice_get, refl, sym, ap, subst, append_assoc, ◌∙◌, true≢false}
 use Rattle.std.specs.List.{AllByRecursion, flat_map}
 use Rattle.std.specs.Ordering.{int_eq}
@@ -41,9 +41,9 @@ append_nothing : (xs : List ℕ) → xs ++ [] ≡ xs
 append_nothing [] = refl
 append_nothing (x ∷ xs) = ap (λ ys. x ∷ ys) (append_nothing xs)
 
--- ---- what is known at the places of a block
+-- ---- the places of a block
 
--- At the place q of f's body this stands, this is in scope, and a statement may leave its block as it does.
+-- This statement is at the place q of f's body, this is in scope, and it may leave its block so.
 record Safe (g : Scoping) (f : PlainFunction) (q : Place) (spot : Spot) (scope : List ℕ) (c : Control) : Type 0 where
   pub stands : spot_at q f.body ≡ spot
   pub scoped : visible_by g.level [] q f.body ≡ scope
@@ -55,14 +55,14 @@ IsSafe g f at outer c b = (p : Place) → Safe g f (at p) (spot_at p b) (visible
 record AreSafe (g : Scoping) (f : PlainFunction) (at : ℕ → Place → Place) (outer : List ℕ) (c : Control) (cases : PlainCases) : Type 0 where
   pub each : (n : ℕ) → IsSafe g f (at n) outer c (case_body cases n)
 
--- a loop: its body, its continuing part and its condition
+-- a loop: its body, its continuing block and its condition
 record LoopSafe (g : Scoping) (f : PlainFunction) (outer : List ℕ) (c : Control) (l : Loop) : Type 0 where
   pub turn : IsSafe g f (λ p. l.at (inside loop_body p)) outer (enter loop_body c) l.body
   pub again : IsSafe g f (λ p. l.at (inside loop_continuing p)) (outer ++ g.level l.body) (enter loop_continuing c) l.continuing
   pub asked : Safe g f (l.at condition) (loop_condition l.break_if) ((outer ++ g.level l.body) ++ top_level l.continuing) c
 
 module _ (g : Scoping) (f : PlainFunction) (outer : List ℕ) (c : Control) where
-  -- the chosen cases are cases of the switch, of which one may go on with the loop only if one of all may
+  -- the selected cases are cases of the switch, and one of them may continue the loop only if one of all may
   record FromCases (all : PlainCases) (x : Cases) : Type 0 where
     pub safe : AreSafe g f x.at outer c x.cases
     pub goes : IsTrue (holds_continue_in_cases x.cases) → IsTrue (holds_continue_in_cases all)
@@ -86,7 +86,7 @@ module _ (g : Scoping) (f : PlainFunction) (outer : List ℕ) (c : Control) wher
       let one = from_first (λ v. is_value v a) at cases in
       safe_unless cases one.cases one (from_first is_default at cases) (safe_first cases (λ v. is_value v a) at cases safe (λ goes. goes)) (safe_first cases is_default at cases safe (λ goes. goes))
 
--- What a task introduces and leaves, and whether it may go on with the loop around it.
+-- What a task introduces and keeps, and whether it may continue the enclosing loop.
 record Leaving : Type 0 where
   made : List ℕ
   left : List ℕ
@@ -110,11 +110,11 @@ module _ (u : UsedOperands) (g : Scoping) (lawful : IsLawful g) (m : PlainModule
     abbrev f : PlainFunction
     f = frame.function
 
-    -- all of these may be used
+    -- all of these are usable
     abbrev Covers : List ℕ → Configuration → Type 0
     Covers scope now = AreUsable g f now.live now.skipped scope
 
-    -- how a statement may complete, where this is in scope before it
+    -- how a statement may complete, if this is in scope before it
     abbrev EndsOne : (outer : List ℕ) → (goes : Bool) → Control → Completion → Configuration → Type 0
     EndsOne outer goes c normal now = Covers outer now
     EndsOne outer goes c by_break now = IsTrue c.may_break
@@ -122,7 +122,7 @@ module _ (u : UsedOperands) (g : Scoping) (lawful : IsLawful g) (m : PlainModule
     EndsOne outer goes c (by_return value) now = IsTrue c.may_return × P (returned f value)
     EndsOne outer goes c halted now = Unit {0}
 
-    -- how a task may complete: there what a continue left out counts as skipped
+    -- how a task may complete: what a continue left out is then skipped
     abbrev Ends : (outer : List ℕ) → Leaving → Control → Completion → Configuration → Type 0
     Ends outer x c normal now = Covers (outer ++ x.made) now
     Ends outer x c by_break now = IsTrue c.may_break
@@ -153,13 +153,13 @@ module _ (u : UsedOperands) (g : Scoping) (lawful : IsLawful g) (m : PlainModule
     cover_nothing : (outer : List ℕ) (now : Configuration) → Covers outer now → Covers (outer ++ []) now
     cover_nothing outer now v = record { each = λ e held. ⊎_elim (λ o. v.each e o) (λ n. none_held e n) (Contains-append_cases outer [] e held) }
 
-    -- what is there is there too where more is skipped
+    -- usable stays usable if more is skipped
     cover_skipped : (outer more : List ℕ) (now : Configuration) → Covers outer now → Covers outer (record now { skipped = now.skipped ++ more })
     cover_skipped outer more now v = record {
       each = λ e held. ⊎_elim (λ a. inl a) (λ k. inr (⊎_elim (λ l. inl l) (λ s. inr (s.0, Contains-append_left now.skipped more e s.1)) k)) (v.each e held);
     }
 
-    -- a statement goes on with the loop: what the block leaves after it is excused
+    -- a statement continues the loop: what the block keeps after it may be skipped
     cover_left_out : (s : PlainStatement) (rest : PlainBlock) (outer : List ℕ) (now : Configuration) → IsTrue (holds_continue s) → Covers outer now → Covers (outer ++ g.level (next s rest)) (record now { skipped = now.skipped ++ (introduced s ++ top_level rest) })
     cover_left_out s rest outer now goes v = record {
       each = λ e held. ⊎_elim ((cover_skipped outer (introduced s ++ top_level rest) now v).each e)
@@ -167,20 +167,20 @@ module _ (u : UsedOperands) (g : Scoping) (lawful : IsLawful g) (m : PlainModule
           (Contains-append_cases outer (g.level (next s rest)) e held);
     }
 
-    -- what a block leaves its first statement introduces, or the others leave
+    -- what a block keeps is introduced by its first statement, or kept by the others
     cover_first : (s : PlainStatement) (rest : PlainBlock) (outer : List ℕ) (now : Configuration) → Covers ((outer ++ introduced s) ++ g.level rest) now → Covers (outer ++ g.level (next s rest)) now
     cover_first s rest outer now v = record {
       each = λ e held. (let w = subst (λ xs. Covers xs now) (append_assoc outer (introduced s) (g.level rest)) v in
           ⊎_elim (λ o. w.each e (Contains-append_left outer _ e o)) (λ n. w.each e (Contains-append_right outer _ e (lawful.first s rest e n))) (Contains-append_cases outer (g.level (next s rest)) e held));
     }
 
-    -- it leaves no more than it introduces
+    -- it keeps no more than it introduces
     cover_level : (b : PlainBlock) (outer : List ℕ) (now : Configuration) → Covers (outer ++ top_level b) now → Covers (outer ++ g.level b) now
     cover_level b outer now v = record {
       each = λ e held. ⊎_elim (λ o. v.each e (Contains-append_left outer _ e o)) (λ n. v.each e (Contains-append_right outer _ e (lawful.leaves b e n))) (Contains-append_cases outer (g.level b) e held);
     }
 
-    -- what is introduced is live
+    -- introduced expressions are live
     cover_live : (scope : List ℕ) (e : ℕ) (now : Configuration) → Covers scope now → Covers (scope ++ (e ∷ [])) (introduces_one u frame e now)
     cover_live scope e now v = record {
       each = λ x held. ⊎_elim
@@ -198,20 +198,20 @@ module _ (u : UsedOperands) (g : Scoping) (lawful : IsLawful g) (m : PlainModule
     good_used [] live skipped a = tt
     good_used (o ∷ os) live skipped a = (a o (first_held o os), good_used os live skipped (λ x held. a x (more_held o x os held)))
 
-    -- what stands at a place uses its operands
+    -- the statement at a place uses its operands
     good_uses : (q : Place) (spot : Spot) (scope : List ℕ) (c : Control) (now : Configuration) → Safe g f q spot scope c → Covers scope now → Good now → Good (uses frame (u.at_spot spot) now)
     good_uses q spot scope c now a v h =
         good_happen (map (used f now.live now.skipped) (u.at_spot spot)) now h
         (good_used (u.at_spot spot) now.live now.skipped
         (λ o held. keeps.uses frame fine q now.live now.skipped (subst (AreUsable g f now.live now.skipped) (sym a.scoped) v) o (subst (λ x. Contains (u.at_spot x) o) (sym a.stands) held)))
 
-    -- a statement begins
+    -- a statement starts
     good_begins : (s : PlainStatement) (q : Place) (scope : List ℕ) (c : Control) (now : Configuration) → Safe g f q (statement s) scope c → Covers scope now → Good now → Good (begins u frame q s now)
     good_begins s q scope c now a v h =
         let one : Configuration = happen (executed f q ∷ mentions frame (statement_operands s)) (record now { last = Some q }) in
         good_uses q (statement s) scope c one a v (good_happen _ (record now { last = Some q }) h (keeps.executes frame fine q s a.stands, good_mentions (statement_operands s)))
 
-    -- and introduces what it does, one after the other
+    -- and introduces its expressions, one after another
     record AreIntroduced (s : PlainStatement) (scope es : List ℕ) (now : Configuration) : Type 0 where
       pub good : Good (introduces u frame es now)
       pub there : Covers (scope ++ introduced s) (introduces u frame es now)
@@ -231,7 +231,7 @@ module _ (u : UsedOperands) (g : Scoping) (lawful : IsLawful g) (m : PlainModule
 
     -- ---- parts
 
-    -- a part is left, and what was live before it is live again
+    -- a part ends, and the expressions live before it are live again
     leave_one : (outer : List ℕ) (x : Leaving) (goes : Bool) (c : Control) (start : Configuration) (r : Outcome) → (IsTrue x.goes → IsTrue goes) → Covers outer start → Meets outer x c r → MeetsOne outer goes c (leave_scope start r)
     leave_one outer x goes c start r on v met = record { good = met.good; ends = ends_so r.completion met.ends }
       where
@@ -242,7 +242,7 @@ module _ (u : UsedOperands) (g : Scoping) (lawful : IsLawful g) (m : PlainModule
         ends_so (by_return value) e = e
         ends_so halted e = tt
 
-    -- a switch: a break ends it
+    -- a switch: a `Break` completes it
     switch_one : (outer : List ℕ) (goes all : Bool) (c : Control) (start : Configuration) (r : Outcome) → (IsTrue goes → IsTrue all) → Covers outer start → MeetsOne outer goes (enter (case_at 0) c) r → MeetsOne outer all c (leave_switch start r)
     switch_one outer goes all c start r on v met = record { good = met.good; ends = ends_so r.completion met.ends }
       where
@@ -253,7 +253,7 @@ module _ (u : UsedOperands) (g : Scoping) (lawful : IsLawful g) (m : PlainModule
         ends_so (by_return value) e = e
         ends_so halted e = tt
 
-    -- an answer is there, or the run is over
+    -- there is an answer, or the run is over
     answered_one : (outer : List ℕ) (goes : Bool) (c : Control) (answers : List ℤ) (now : Configuration) (go : ℤ → Configuration → Outcome) → Good now → ((a : ℤ) (more : List ℤ) → MeetsOne outer goes c (go a (record now { answers = more }))) → MeetsOne outer goes c (answered answers now go)
     answered_one outer goes c [] now go h met = record { good = h; ends = tt }
     answered_one outer goes c (a ∷ more) now go h met = met a more
@@ -293,7 +293,7 @@ module _ (u : UsedOperands) (g : Scoping) (lawful : IsLawful g) (m : PlainModule
         fall_one outer (holds_continue_in body) (holds_continue_in_cases rest) c falls _ _ (leave_one outer (leaving g (in_block (at 0) body)) (holds_continue_in body) c now _ (λ goes. goes) v (sound.at (in_block (at 0) body) outer c now (a.each zero) v h))
         (λ s w q. cases_one go sound (λ n. at (suc n)) rest outer c s (record { each = λ n. a.each (suc n) }) w q)
 
-  -- sound in each fine frame
+  -- the invariant holds in each valid frame
   record SoundIn (go : Frame → Evaluation) : Type 0 where
     pub at : (frame : Frame) (fine : Fine frame) → Sound frame fine (go frame)
 
@@ -361,7 +361,7 @@ module _ (u : UsedOperands) (g : Scoping) (lawful : IsLawful g) (m : PlainModule
     statement_one (call function arguments result) at rest outer c now a v h =
         called_one function arguments result (at here) (a here).stands (slice_get m.functions function) refl outer false c now v h
 
-    -- a block: its first statement, and the others
+    -- a block: its first statement, and the rest
     next_meets : (s : PlainStatement) (at : Place → Place) (rest : PlainBlock) (outer : List ℕ) (c : Control) (now : Configuration) → IsSafe g frame.function at outer c (next s rest) → Over outer now → Good now
         → let r = eval_statement m go frame at s (begins u frame (at here) s now) in Meets frame fine outer (leaving g (in_block at (next s rest))) c (sequence (introduced s ++ top_level rest) r.completion r.after (λ end. go frame (in_block (λ p. at (later p)) rest) (introduces u frame (introduced s) end)))
     next_meets s at rest outer c now a v h =
@@ -392,9 +392,9 @@ module _ (u : UsedOperands) (g : Scoping) (lawful : IsLawful g) (m : PlainModule
         ends_so (by_return value) end q e = record { good = q; ends = e }
         ends_so halted end q e = record { good = q; ends = tt }
 
-    -- a turn
+    -- an iteration
     module _ (l : Loop) (outer : List ℕ) (c : Control) (start : Configuration) (a : LoopSafe g frame.function outer c l) (v : Over outer start) where
-      -- how what comes after the body completes
+      -- how the continuing block and the condition complete after the body
       abbrev Leaves : Outcome → Type 0
       Leaves r = Meets frame fine outer (leaving g (in_loop l)) c (leave_scope start r)
 
@@ -463,7 +463,7 @@ module _ (u : UsedOperands) (g : Scoping) (lawful : IsLawful g) (m : PlainModule
           ends_so (by_return value) end q e = record { good = q; ends = e }
           ends_so halted end q e = leaves_halted end q
 
-    -- a step is left, or the run is over
+    -- there is a step, or the run is over
     step_meets : (outer : List ℕ) (x : Leaving) (c : Control) (steps : ℕ) (now : Configuration) (then_go : Configuration → Outcome) → Good now → ((k : ℕ) → Meets frame fine outer x c (then_go (record now { steps = k }))) → Meets frame fine outer x c (step steps now then_go)
     step_meets outer x c zero now then_go h met = record { good = h; ends = tt }
     step_meets outer x c (suc k) now then_go h met = met k

@@ -1,4 +1,4 @@
--- The bound on nesting never cuts a run: more than the steps that are left is always enough.
+-- The bound on nesting never ends a run: any bound above the number of steps is enough.
 use Rattle.std.proofs.Common.{◌≡◌, ℕ, zero, suc, ℤ, pos, ◌<◌, ◌≤◌, Bool, true, false, List, [], ◌∷◌, ◌++◌, Option, Some, None, slice_get, refl, sym, ap, subst, ◌∙◌, arith, le_refl}
 use Rattle.std.specs.Ordering.{int_eq}
 use Rattle.ir_blocks.specs.judged.Places.{Place, here, later, inside, loop_condition}
@@ -11,15 +11,15 @@ use Rattle.spec_runs.specs.judged.Laws.{NestingCutsNoRun}
 use Rattle.spec_runs.specs.judged.Machine.{Frame, Configuration, Completion, normal, by_break, by_continue, by_return, halted, Outcome, step, answered, uses, begins, introduces_one, introduces, leave_scope, sequence, Loop, Task, in_block, in_loop, Evaluation, taken_branch, chosen, fall, eval_cases, leave_switch, next_turn, stay_or_leave, eval_condition, after_continuing, eval_continuing, after_body, eval_turn, callee_frame, enters, leave_call, eval_call, eval_statement, eval_task, eval}
 use Rattle.spec_runs.specs.judged.Scoping.{UsedOperands}
 
--- no task makes steps
+-- no task adds steps
 record Falls (go : Frame → Evaluation) : Type 0 where
   pub at : (frame : Frame) (task : Task) (now : Configuration) → (go frame task now).after.steps ≤ now.steps
 
--- the two do the same where fewer than k steps are left
+-- the two agree if fewer than k steps are left
 record Same (k : ℕ) (go other : Frame → Evaluation) : Type 0 where
   pub at : (frame : Frame) (task : Task) (now : Configuration) → now.steps < k → go frame task now ≡ other frame task now
 
--- what a result leaves
+-- what remains after an outcome
 abbrev Leaves : ℕ → Outcome → Type 0
 Leaves n r = r.after.steps ≤ n
 
@@ -52,7 +52,7 @@ call_falls n callee (by_continue left_out) now end le = le
 call_falls n callee (by_return value) now end le = le
 call_falls n callee halted now end le = le
 
--- what is introduced takes no step
+-- introductions take no step
 introduces_steps : (u : UsedOperands) (frame : Frame) (es : List ℕ) (now : Configuration) → (introduces u frame es now).steps ≡ now.steps
 introduces_steps u frame [] now = refl
 introduces_steps u frame (e ∷ es) now = introduces_steps u frame es (introduces_one u frame e now)
@@ -235,7 +235,7 @@ module _ (m : PlainModule) (go other : Frame → Evaluation) (k : ℕ) (falls : 
       ∙ ap (λ (x : Outcome). sequence coming x.completion x.after (λ e. other frame (in_block (λ p. at (later p)) rest) (introduces u frame (introduced s) e))) (statement_same frame at s started lt))
   task_same u frame (in_loop l) now le = step_same k now.steps now _ _ le (λ begun lt. turn_same u frame l begun lt)
 
--- any two bounds above the steps that are left give the same run
+-- any two bounds above the number of steps give the same run
 pub nesting_cuts_no_run : NestingCutsNoRun
 nesting_cuts_no_run u m zero n frame task now lt mt = absurd (omega arith)
 nesting_cuts_no_run u m (suc j) zero frame task now lt mt = absurd (omega arith)

@@ -1,4 +1,4 @@
--- What stands among the operands of an expression is found at any depth.
+-- An expression's operands at any depth are computed exactly.
 use Rattle.std.proofs.Common.{◌≡◌, ℕ, zero, suc, ◌<◌, List, [], ◌∷◌, ⊎_elim, Option, Some, None, Contains, slice_get, refl, sym, subst, arith}
 use Rattle.std.specs.List.{flat_map}
 use Rattle.std.proofs.lemmas.List.Elements.{All-contains, Contains-append_left, Contains-append_right, Contains-append_cases, Contains-push}
@@ -12,7 +12,7 @@ one_is : (y x : ℕ) → Contains (y ∷ []) x → x ≡ y
 one_is y x (zero, lt, is) = sym is
 one_is y x (suc k, lt, is) = absurd (omega (arith, lt))
 
--- what one of several gives is in all that they give
+-- an element of one result is in the concatenation
 held_mapped : (f : ℕ → List ℕ) (xs : List ℕ) (x y : ℕ) → Contains xs x → Contains (f x) y → Contains (flat_map f xs) y
 held_mapped f [] x y held h = none_held x held
 held_mapped f (z ∷ xs) x y held h =

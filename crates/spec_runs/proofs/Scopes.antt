@@ -1,4 +1,4 @@
--- Where scope is in order, what is used may be used.
+-- If scope is valid, used expressions may be used.
 use Rattle.std.proofs.Common.{◌≡◌, ℕ, List, [], ◌∷◌, ◌++◌, ◌⊎◌, inl, inr, ⊎_elim, Option, Some, None, Contains, slice_get, refl, subst}
 use Rattle.ir_blocks.specs.judged.Places.{Place, here, later, inside, condition, OccursAt}
 use Rattle.ir_blocks.specs.judged.Plain.{PlainStatement, PlainBlock, stop, next}
@@ -14,7 +14,7 @@ use Rattle.spec_runs.specs.judged.Laws.{SkippedIsLawful, ScopeSuffices}
 use Rattle.spec_runs.specs.judged.Machine.{introduced_operands}
 use Rattle.spec_runs.specs.judged.Scoping.{UsedOperands, Scoping, IsUsable, AreUsable, IsScoped}
 
--- where the top level leaves all that it introduces, what is visible is what a walk carries
+-- if the top level keeps all that it introduces, the visible expressions are those that a walk carries
 visible_is : (p : Place) (outer : List ℕ) (b : PlainBlock) → visible outer p b ≡ visible_by top_level outer p b
 visible_is here outer b = refl
 visible_is (later p) outer stop = refl
@@ -38,7 +38,7 @@ scope_suffices f ok = record {
   at_introductions = λ p s stands before e after is x at o held. none_held o held;
 }
 
--- what is scoped may be used where all that is in scope is there
+-- a scoped expression may be used if all that is in scope there is live
 module _ (u : UsedOperands) (g : Scoping) (f : PlainFunction) (scoped : IsScoped u g f) where
   pub known : (live skipped scope : List ℕ) (o : ℕ) → AreUsable g f live skipped scope → PreEmitted f o ⊎ Contains scope o → IsUsable g f live skipped o
   known live skipped scope o there h = ⊎_elim (λ a. inl a) (λ held. there.each o held) h

@@ -1,4 +1,4 @@
--- Where strict scope is in order, every operand may be used.
+-- If strict scope is valid, every operand may be used.
 use Rattle.std.proofs.Common.{◌≡◌, ℕ, zero, suc, ◌+◌, ◌-◌, ◌<◌, ◌≤◌, Bool, true, false, List, ◌∷◌, ◌++◌, ◌⊎◌, inl, inr, Option, Some, None, Contains, slice_get, option_to_list, filter, if◌then◌else◌, refl, sym, ap, ◌∙◌, subst, arith, [], ⊎_elim}
 use Rattle.std.proofs.lemmas.List.Elements.{Contains-append_left, Contains-append_right, Contains-append_cases, Contains-push}
 use Rattle.std.specs.List.{cons_option, range_with_len}
@@ -22,7 +22,7 @@ use Rattle.spec_statements.specs.judged.Tables.{checked_at, introduced}
 use Rattle.spec_statements.specs.judged.Visible.{top_level}
 use Rattle.spec_runs.specs.judged.Laws.{StrictIsLawful, AnswersNameNothing, StrictSuffices}
 
--- ---- the level
+-- ---- what the top level leaves
 
 unless_held : (b : Bool) (es : List ℕ) (e : ℕ) → Contains (unless b es) e → Contains es e
 unless_held true es e held = none_held e held
@@ -43,7 +43,7 @@ sure_first s rest e held =
     (λ more. Contains-append_right (introduced s) _ e (unless_held (holds_continue s) (sure_level rest) e more))
     (Contains-append_cases (introduced s) _ e held)
 
--- what holds a continue introduces nothing itself
+-- a statement that contains a continue introduces nothing itself
 holder_introduces : (s : PlainStatement) (e : ℕ) → holds_continue s ≡ true → Contains (introduced s) e → ⊥
 holder_introduces (emit first end) e goes held = cc (goes)
 holder_introduces (block b) e goes held = none_held e held
@@ -64,7 +64,7 @@ nothing_behind s rest e goes held =
 pub strict_is_lawful : StrictIsLawful
 strict_is_lawful = record { leaves = sure_is_top; first = sure_first; skips = λ s rest e goes held. absurd (nothing_behind s rest e goes held) }
 
--- ---- what has to be in scope without the check is among all operands
+-- ---- operands that must be in scope without the check are among all operands
 
 behind : (x e : ℕ) (xs : List ℕ) → Contains xs e → Contains (x ∷ xs) e
 behind x e xs held = Contains-append_right (x ∷ []) xs e held
@@ -89,7 +89,7 @@ option_or_rest None few all e more held = more held
 option_or_rest (Some x) few all e more held =
     ⊎_elim (λ is. subst (λ y. Contains (x ∷ all) y) (sym is) (first x all)) (λ rest. behind x e all (more rest)) (split x e few held)
 
--- of one operand, after which fewer are looked up, and all
+-- of one operand, and then of the rest: those looked up, and all
 by_scoping : (slot : Slot) (when : Scoping) (few all : List Slot) (e : ℕ) → (Contains (handles_of (these few)) e → Contains (handles_of (these all)) e)
     → Contains (handles_of (these (if is_looked_up false when then slot ∷ few else few))) e → Contains (handles_of (these (if is_looked_up true when then slot ∷ all else all))) e
 by_scoping slot Always few all e more held = option_or_rest slot.handle (handles_of (these few)) (handles_of (these all)) e more held
@@ -134,7 +134,7 @@ head_is x y xs ys h = cc (h)
 tail_is : (x y : ℕ) (xs ys : List ℕ) → (x ∷ xs) ≡ (y ∷ ys) → xs ≡ ys
 tail_is x y xs ys h = cc (h)
 
--- the handles of a range before one are all those from its first on
+-- the handles of a range before one are all those from the first on
 before_in : (n a : ℕ) (before : List ℕ) (e : ℕ) (after : List ℕ) → range_with_len a n ≡ before ++ (e ∷ after) → (o : ℕ) → a ≤ o → o < e → Contains before o
 before_in zero a [] e after is o ge lt = let x = is in absurd (cc)
 before_in zero a (b ∷ bs) e after is o ge lt = let x = is in absurd (cc)
@@ -147,7 +147,7 @@ before_in (suc n) a (b ∷ bs) e after is o ge lt =
     (λ later. behind b o bs (before_in n (a + 1) bs e after (tail_is a b rest tail is) o later lt))
     (first_or_later a o ge)
 
--- ---- what is introduced
+-- ---- introductions
 
 among : (before : List ℕ) (e : ℕ) (after : List ℕ) → Contains (before ++ (e ∷ after)) e
 among before e after = Contains-append_right before (e ∷ after) e (first e after)
@@ -160,7 +160,7 @@ module _ (f : PlainFunction) (ok : StrictOK f) (quiet : AnswersNameNothing f) wh
   in_scope : (p : Place) (o : ℕ) → InStrictScope f p o → PreEmitted f o ⊎ Contains (visible_by sure_level [] p f.body) o
   in_scope p o scope = (strict_by_walk_lem f p o).0 scope
 
-  -- an answer has none
+  -- a result has none
   of_answer : (p : Place) (s : PlainStatement) → OccursAt f.body p s → (before : List ℕ) (e : ℕ) (after : List ℕ) → option_to_list (statement_result s) ≡ before ++ (e ∷ after)
       → (x : PlainExpression) → slice_get f.expressions e ≡ Some x → (o : ℕ) → Contains (expression_operands x) o → ⊥
   of_answer p s stands before e after is x at o held =

@@ -1,4 +1,4 @@
--- What is carried of answers is what is answered before.
+-- The result expressions that the walk carries are those of earlier statements.
 use Rattle.std.proofs.Common.{◌++◌, List, ◌≡◌, ℕ, zero, suc, [], ◌⊎◌, inl, inr, ⊎_elim, Option, Some, None, Contains, option_to_list, refl, ap, subst, arith}
 use Rattle.std.proofs.lemmas.List.Elements.{Contains-append_left, Contains-append_right, Contains-append_cases, Contains-push_cases}
 use Rattle.ir_blocks.specs.judged.Places.{Place, here, later, inside, condition}
@@ -16,14 +16,14 @@ held_given : (o : Option ℕ) (e : ℕ) → Contains (option_to_list o) e → o 
 held_given None e held = none_held e held
 held_given (Some x) e held = ⊎_elim (λ none. none_held e none) (λ same. ap Some same) (Contains-push_cases [] x e held)
 
--- nothing stands in an empty block
+-- an empty block has no places
 empty : (p : Place) (e : ℕ) → AnswersBy stop p e → ⊥
 empty here e by = let x = by.1 in cc
 empty (later p) e by = let x = by.1 in cc
 empty (inside part p) e by = let x = by.1 in cc
 empty condition e by = let x = by.1 in cc
 
--- ---- what a statement answers by, by itself and inside it
+-- ---- the result expressions of a statement and its nested statements
 
 own_held : (s : PlainStatement) (e : ℕ) → answer_of s ≡ Some e → Contains (answered_at s) e
 own_held (emit first end) e is = absurd (let x = is in cc)
@@ -62,7 +62,7 @@ part_held kill part e held = none_held e held
 part_held (operation a) part e held = none_held e held
 part_held (call function arguments result) part e held = none_held e held
 
--- the answer at a place of a block is one of the block's
+-- the result expression at a place of a block is one of the block's
 pub by_held : (p : Place) (b : PlainBlock) (e : ℕ) → AnswersBy b p e → Contains (answered_in b) e
 by_held p stop e by = absurd (empty p e by)
 by_held here (next s rest) e by = Contains-append_left _ _ e (own_held s e (let at = by.1 in let is = by.2 in cc))
@@ -70,9 +70,9 @@ by_held (later p) (next s rest) e by = Contains-append_right (answered_at s) _ e
 by_held (inside part p) (next s rest) e by = Contains-append_left _ _ e (part_held s part e (by_held p (part_of (shape_of s) part) e by))
 by_held condition (next s rest) e by = let x = by.1 in cc
 
--- ---- no two places
+-- ---- no two places with the same result expression
 
--- a statement with parts answers by nothing itself
+-- a statement with nested blocks has no result itself
 alone : (s : PlainStatement) (part : Part) (q : Place) (e x : ℕ) → answer_of s ≡ Some e → AnswersBy (part_of (shape_of s) part) q x → ⊥
 alone (emit first end) part q e x is by = empty q x by
 alone (block b) part q e x is by = cc
@@ -86,11 +86,11 @@ alone kill part q e x is by = empty q x by
 alone (operation a) part q e x is by = empty q x by
 alone (call function arguments result) part q e x is by = empty q x by
 
--- the answer of what stands first
+-- the result expression of the first statement
 first_answer : (s : PlainStatement) (rest : PlainBlock) (e : ℕ) → AnswersBy (next s rest) here e → answer_of s ≡ Some e
 first_answer s rest e by = let at = by.1 in let is = by.2 in cc
 
--- one part is another one, or what it answers by is before that one, or the other way round
+-- two parts are the same, or the result expressions of one are before the other
 pub data Apart (s : PlainStatement) (e : ℕ) : Part → Part → Type 0 where
   same : {part : Part} → Apart s e part part
   earlier_part : {left right : Part} → Contains (answered_before_part s right) e → Apart s e left right
@@ -141,7 +141,7 @@ apart kill left right e a b = none_held e a
 apart (operation done) left right e a b = none_held e a
 apart (call function arguments result) left right e a b = none_held e a
 
--- what has been seen stays seen
+-- what was seen before stays in the list
 seen_held : (p : Place) (b : PlainBlock) (seen : List ℕ) (e : ℕ) → Contains seen e → Contains (answered_before seen p b) e
 seen_held here b seen e held = held
 seen_held (later p) stop seen e held = held
@@ -151,7 +151,7 @@ seen_held (inside part p) (next s rest) seen e held = seen_held p (part_of (shap
 seen_held condition stop seen e held = held
 seen_held condition (next s rest) seen e held = Contains-append_left seen _ e held
 
--- and so is what a statement answers by after it, or in an earlier part
+-- and so do the result expressions of a statement after it, and of its earlier parts
 seen_later : (p : Place) (s : PlainStatement) (rest : PlainBlock) (seen : List ℕ) (e : ℕ) → Contains (answered_at s) e → Contains (answered_before seen (later p) (next s rest)) e
 seen_later p s rest seen e held = seen_held p rest (seen ++ answered_at s) e (Contains-append_right seen _ e held)
 
@@ -185,9 +185,9 @@ one_place (inside left p) (inside right q) (next s rest) seen known e at by new 
 one_place condition q (next s rest) seen known e at by new fresh = let x = at.1 in cc
 one_place p condition (next s rest) seen known e at by new fresh = let x = by.1 in cc
 
--- ---- what is carried was answered at another place
+-- ---- carried result expressions are those of another place
 
--- the statement itself, or one inside it
+-- the statement itself, or a nested one
 pub data Own : Place → Type 0 where
   own_here : Own here
   own_inside : {part : Part} {q : Place} → Own (inside part q)
@@ -237,7 +237,7 @@ mutual
   found_case (case value body falls rest) e held =
       ⊎_elim (λ first. (zero, found_in body e first)) (λ more. let found = found_case rest e more in (suc found.0, found.1)) (Contains-append_cases (answered_in body) (answered_in_cases rest) e held)
 
--- at a place that is not this one
+-- at a different place
 pub record Elsewhere (b : PlainBlock) (p : Place) (e : ℕ) : Type 0 where
   pub place : Place
   pub answers : AnswersBy b place e
@@ -260,7 +260,7 @@ not_condition (next s rest) (later q) e by is = cc
 not_condition (next s rest) (inside part q) e by is = cc
 not_condition (next s rest) condition e by is = let x = by.1 in cc
 
--- an answer in an earlier case
+-- a result expression in an earlier case
 case_earlier : (cs : PlainCases) (k e : ℕ) → Contains (answered_before_case cs k) e → (j : ℕ) × AnsweredAt (case_body cs j) e × (j ≡ k → ⊥)
 case_earlier no_case k e held = none_held e held
 case_earlier (case value body falls rest) zero e held = none_held e held

@@ -1,4 +1,4 @@
--- What a function runs is called by a statement that stands in its body.
+-- Each callee of a function is called by a statement in its body.
 use Rattle.std.proofs.Common.{◌≡◌, ◌⊎◌, inl, inr, ℕ, zero, suc, ◌+◌, List, [], ◌∷◌, ◌++◌, map, Option, Some, None, refl, sym, ap, ◌∙◌}
 use Rattle.ir_blocks.specs.judged.Places.{Place, here, later, inside, OccursAt}
 use Rattle.ir_blocks.specs.judged.Plain.{PlainStatement, emit, block, if_, switch, loop, break, continue, return, kill, operation, call, PlainBlock, stop, next, PlainCases, no_case, case}
@@ -67,7 +67,7 @@ module _ (callee : ℕ) (arguments : List ℕ) where
   later_call : (s : PlainStatement) (rest : PlainBlock) → CallOccurs rest callee arguments → CallOccurs (next s rest) callee arguments
   later_call s rest c = record { place = later c.place; answer = c.answer; stands = c.stands }
 
-  -- it stands in a part of the statement
+  -- it is in a nested block of the statement
   abbrev StandsInside : PlainStatement → Type 0
   StandsInside s = (part : Part) × CallOccurs (part_of (shape_of s) part) callee arguments
 

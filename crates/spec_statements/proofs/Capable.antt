@@ -1,4 +1,4 @@
--- More capabilities refuse nothing more.
+-- A larger set of capabilities accepts at least as much.
 use Rattle.std.proofs.Common.{ℕ, List, [], ◌∷◌, Option, Some, None, IsSomeAnd, Bool, true, false}
 use Rattle.ir_types.specs.judged.ExpressionPlain.{PlainExpression, compose, plain}
 use Rattle.ir_types.specs.declared.expressions.Expression.{Expression}

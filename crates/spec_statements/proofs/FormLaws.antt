@@ -1,4 +1,4 @@
--- Wrong forms by chains of calls are those by summaries of the callees.
+-- Wrong forms by call chains are those by summaries of the callees.
 use Rattle.std.proofs.Common.{◌≡◌, ◌⊎◌, inl, inr, ℕ, List, Some, None, sym, ap, subst, ◌∙◌, slice_get}
 use Rattle.spec_expressions.specs.judged.Pairs.{SamplingPair}
 use Rattle.ir_items.specs.judged.Plain.{PlainFunction, PlainModule}

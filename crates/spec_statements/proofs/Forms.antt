@@ -1,10 +1,10 @@
--- The types of expressions have one list of forms.
+-- The list of forms of the types of expressions is unique.
 use Rattle.std.proofs.Common.{◌≡◌, ℕ, suc, List, [], ◌∷◌, Some, length, slice_get, refl, sym, ◌∙◌, arith}
 use Rattle.typing_forms.specs.declared.form.Form.{Form}
 use Rattle.spec_statements.specs.found.Laws.{OneList}
 use Rattle.spec_expressions.proofs.TypingLaws.{one_type}
 
--- lists as long as each other, with the same at each place
+-- lists of the same length, with the same elements
 same_lists : (left right : List Form) → length left ≡ length right → ((place : ℕ) (s t : Form) → slice_get left place ≡ Some s → slice_get right place ≡ Some t → s ≡ t) → left ≡ right
 same_lists [] [] many each = refl
 same_lists [] (y ∷ ys) many each = absurd (omega (arith, many))

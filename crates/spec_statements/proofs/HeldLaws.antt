@@ -1,4 +1,4 @@
--- One payload type is kept, and what is kept after one function more.
+-- At most one payload type is kept, and what is kept after one more function.
 use Rattle.std.proofs.Common.{◌≡◌, ◌≢◌, ◌⊎◌, inl, inr, ⊎_elim, ℕ, suc, ◌<◌, Option, Some, None, refl, sym, ap, subst, ◌∙◌, arith, slice_get}
 use Rattle.std.proofs.lemmas.Bool.{cases_eq}
 use Rattle.std.specs.Prelude.{bit_and}
@@ -32,14 +32,14 @@ module _ (flags : ValidationFlags) (m : PlainModule) (count : ℕ) where
 pub one_payload : OnePayload
 one_payload flags m count held other a b = held_once flags m count held other a b
 
--- nothing is kept at first
+-- none is kept at first
 pub held_at_first : (flags : ValidationFlags) (m : PlainModule) → IsPayloadBefore flags m 0 None
 held_at_first flags m = record {
   some = λ type asked h. absurd (let lt = h.before in omega (arith, lt));
   none = λ no. refl;
 }
 
--- ---- one function more
+-- ---- one more function
 
 below_or_here : (j n : ℕ) → j < suc n → (j < n) ⊎ (j ≡ n)
 below_or_here j n lt = elim (cases_eq j n) [ inl same ↦ inr same | inr differ ↦ inl (omega (arith, lt, differ)) ]
@@ -51,7 +51,7 @@ module _ (flags : ValidationFlags) (m : PlainModule) (n : ℕ) (f : PlainFunctio
   here_before : (type : ℕ) → HasPayload m f type → HasPayloadBefore m (suc n) type
   here_before type h = record { index = n; function = f; before = omega arith; at = at; traced = h }
 
-  -- a payload of one function more is that function's or one from before
+  -- a payload of one more function is that function's or an earlier one
   split : (type : ℕ) → HasPayloadBefore m (suc n) type → HasPayloadBefore m n type ⊎ HasPayload m f type
   split type h = elim (below_or_here h.index n h.before) [
     | inl lt ↦ inl (record { index = h.index; function = h.function; before = lt; at = h.at; traced = h.traced })

@@ -1,4 +1,4 @@
--- What is carried to a place is what stands before it.
+-- The expressions that the walk carries to a place are those introduced before it.
 use Rattle.std.proofs.Common.{ℕ, List, [], ◌++◌, ◌⊎◌, inl, inr, ⊎_elim, Contains, arith}
 use Rattle.std.proofs.lemmas.List.Elements.{Contains-append_left, Contains-append_right, Contains-append_cases}
 use Rattle.ir_blocks.specs.judged.Places.{Place, here, later, inside, condition, IsTop, top_here, top_later, Before, earlier, both_later, both_inside, body_before_continuing, body_before_condition, continuing_before_condition}
@@ -11,7 +11,7 @@ use Rattle.spec_statements.specs.judged.Visible.{top_level, entering, visible, S
 pub none_held : {A : Type 0} (e : ℕ) → Contains [] e → A
 none_held e held = absurd (omega (arith, held.1))
 
--- what was in scope as a part began is in scope in it
+-- expressions in scope at the start of a nested block are in scope in it
 abbrev entered_from : (s : PlainStatement) (part : Part) (outer : List ℕ) (e : ℕ) → Contains outer e → Contains (entering outer s part) e
 entered_from s inner outer e held = held
 entered_from s accepting outer e held = held
@@ -31,7 +31,7 @@ outer_visible condition stop outer e held = held
 outer_visible condition (next s rest) outer e held =
     Contains-append_left _ (top_level (part_of (shape_of s) loop_continuing)) e (Contains-append_left outer _ e held)
 
--- what stands at the top level of a body, by places and as a list
+-- the introductions at the top level of a body, by places and as a list
 pub top_held : {q : Place} → IsTop q → (body : PlainBlock) (e : ℕ) → Introduces body q e → Contains (top_level body) e
 top_held top_here stop e brought = none_held e brought
 top_held top_here (next s rest) e brought = Contains-append_left (introduced s) _ e brought
@@ -43,7 +43,7 @@ held_top stop e held = none_held e held
 held_top (next s rest) e held =
     ⊎_elim (λ own. (here, top_here, own)) (λ more. let t = held_top rest e more in (later t.0, top_later t.1, t.2)) (Contains-append_cases (introduced s) (top_level rest) e held)
 
--- what is brought before a place is carried to it
+-- an expression introduced before a place is carried to it
 before_visible : {q p : Place} → Before q p → (body : PlainBlock) (outer : List ℕ) (e : ℕ) → Introduces body q e → Contains (visible outer p body) e
 before_visible (earlier {p = p}) stop outer e brought = none_held e brought
 before_visible (earlier {p = p}) (next s rest) outer e brought = outer_visible p rest (outer ++ introduced s) e (Contains-append_right outer _ e brought)
@@ -64,7 +64,7 @@ before_visible (continuing_before_condition t) (next s rest) outer e brought =
 abbrev IsBrought : PlainBlock → Place → ℕ → Type 0
 IsBrought body p e = (q : Place) × Before q p × Introduces body q e
 
--- and what is carried to a place was in scope as the body began, or is brought before the place
+-- and an expression carried to a place was in scope before the body, or is introduced before the place
 visible_brought : (p : Place) (body : PlainBlock) (outer : List ℕ) (e : ℕ) → Contains (visible outer p body) e → Contains outer e ⊎ IsBrought body p e
 visible_brought here body outer e held = inl held
 visible_brought (later p) stop outer e held = inl held

@@ -1,4 +1,4 @@
--- What is in strict scope at a place is what a walk carries there that drops what a continue may skip.
+-- An expression is in strict scope at a place exactly if a walk carries it there that drops what a continue may skip.
 use Rattle.std.proofs.Common.{◌≡◌, ℕ, zero, suc, Bool, true, false, ◌||◌, IsTrue, List, [], ◌++◌, ◌⊎◌, inl, inr, ⊎_elim, Contains, refl, sym, ◌∙◌, subst}
 use Rattle.std.proofs.lemmas.Bool.{or_cases, or_left, or_right, cases_Bool}
 use Rattle.std.proofs.lemmas.List.Elements.{Contains-append_left, Contains-append_right, Contains-append_cases}
@@ -15,14 +15,14 @@ use Rattle.spec_statements.specs.judged.Visible.{top_level}
 not_both : {A : Type 0} (b : Bool) → b ≡ true → b ≡ false → A
 not_both b p q = let w : true ≡ false = sym p ∙ q in absurd (cc)
 
--- ---- a continue of the loop around, by places and computed
+-- ---- continues of the enclosing loop, by places and computed
 
 case_holds : (cases : PlainCases) (k : ℕ) → IsTrue (holds_continue_in (case_body cases k)) → IsTrue (holds_continue_in_cases cases)
 case_holds no_case k h = h
 case_holds (case v b f r) zero h = or_left _ _ h
 case_holds (case v b f r) (suc k) h = or_right (holds_continue_in b) _ (case_holds r k h)
 
--- nothing stands in an empty block
+-- an empty block has no places
 in_stop : (c : Place) → OccursAt stop c continue → ⊥
 in_stop here at = let x = at in cc
 in_stop (later c) at = let x = at in cc
@@ -62,7 +62,7 @@ part_holds c part free s at = alone (holds_continue s) (place_holds_in (inside p
 abbrev Goes : PlainBlock → Type 0
 Goes b = (c : Place) × InNoLoop c × OccursAt b c continue
 
--- in the first statement, so that a place of the top level after it is past the continue
+-- in the first statement, so a later place of the top level is after the continue
 abbrev GoesFirst : PlainStatement → PlainBlock → Type 0
 GoesFirst s rest = (c : Place) × InNoLoop c × OccursAt (next s rest) c continue × ((q : Place) → IsTop q → IsPast c (later q))
 
@@ -90,7 +90,7 @@ mutual
   goes_case no_case h = absurd (cc)
   goes_case (case v b f r) h = ⊎_elim (λ l. (zero, goes_in b l)) (λ l. let x = goes_case r l in (suc x.0, x.1)) (or_cases (holds_continue_in b) _ h)
 
--- ---- what the top level leaves, by places
+-- ---- what the top level keeps, by places
 
 abbrev Past : PlainBlock → Place → Type 0
 Past b q = (c : Place) × IsPast c q × OccursAt b c continue
@@ -176,7 +176,7 @@ before_sure (continuing_before_condition t) (next s rest) outer e brought sure =
 abbrev IsSurelyBrought : PlainBlock → Place → ℕ → Type 0
 IsSurelyBrought body p e = (q : Place) × Before q p × Introduces body q e × ¬ MaySkip body q p
 
--- what is skipped in a part is skipped there
+-- an expression skipped in a nested block is skipped there
 
 skip_later : (s : PlainStatement) (rest : PlainBlock) (q p : Place) → MaySkip (next s rest) (later q) (later p) → MaySkip rest q p
 skip_later s rest q p (c, leads, at) = by_leads leads at

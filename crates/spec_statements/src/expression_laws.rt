@@ -1,12 +1,12 @@
-//! Laws of the checks.
+//! Laws of the checks of expressions.
 ghost use Rattle.spec_statements.specs.found.Laws.{MoreCapabilities, OneList};
 
-/// A larger set of capabilities refuses no expression that a smaller one accepted.
+/// A larger set of capabilities accepts every expression that a smaller one accepts.
 pub fn more_capabilities()
     ensures { MoreCapabilities }
 {}
 
-/// The types of all expressions have one list of forms, so that what is required of an expression depends on nothing else.
+/// The list of forms of the types of all expressions is unique, so the rules of an expression depend on nothing else.
 pub fn one_list()
     ensures { OneList }
 {}

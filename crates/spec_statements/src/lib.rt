@@ -1,14 +1,14 @@
-//! What is required of the expressions of a function whose types are known, and which stages may run them; what is required of its
-//! statements: a rule for each kind, what is in scope where, and which stages may run it; and what is required of a function as a
+//! The rules of the expressions of a function, given their types, and the stages that may run them; the rules of its
+//! statements: one for each kind, scope, and the stages that may run them; and the rules of a function as a
 //! whole, over any lower layer that types its expressions.
 //!
-//! The definitions stand in `specs/`, a file for each rule and each family of expressions. `specs/judged/Statements.antt` has one row
-//! for each kind of statement, `specs/judged/Checks.antt` one for each kind of expression that is no composition, which
-//! `specs/judged/Expressions.antt` joins. The functions here do nothing: their contracts are what is known of the definitions
-//! ([`laws`], [`expression_laws`]), and what they say of small expressions ([`worked`]).
+//! The definitions are in `specs/`, a file for each rule and each family of expressions. `specs/judged/Statements.antt` has one row
+//! for each kind of statement, `specs/judged/Checks.antt` one for each kind of expression except compositions, which
+//! `specs/judged/Expressions.antt` adds. The functions here have no effect: their contracts are laws of the definitions
+//! ([`laws`], [`expression_laws`]), and examples on small expressions ([`worked`]).
 //!
-//! `specs/judged/ModuleFunctions.antt` says what is required of the functions of a module, one after the other: the rules of a function,
-//! read with the types, the analysis and the checks of expressions, and what the functions before it leave to it.
+//! `specs/judged/ModuleFunctions.antt` has the rules of the functions of a module, in order: the rules of a function,
+//! given the types, the analysis and the checks of expressions, and what the earlier functions contribute.
 #![tactic(auto)]
 
 pub mod expression_laws;

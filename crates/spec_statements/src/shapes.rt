@@ -1,4 +1,4 @@
-//! Scalars, vectors, matrices and image types, as the rules of expressions read them.
+//! Scalars, vectors, matrices and image types, as the rules of expressions use them.
 
 use ir_arena::handle::Handle;
 use ir_kinds::{
@@ -12,22 +12,22 @@ use ir_types::{SampleLevel, key};
 pub enum Shape {
     /// A scalar.
     Scalar,
-    /// A vector.
+    /// A vector of this size.
     Vector(VectorSize),
-    /// A matrix of column vectors.
+    /// A matrix.
     Matrix {
-        /// How many columns.
+        /// The number of columns.
         columns: VectorSize,
-        /// How many scalars a column has.
+        /// The number of rows.
         rows: VectorSize,
     },
     /// A cooperative matrix.
     CooperativeMatrix {
-        /// How many columns.
+        /// The number of columns.
         columns: CooperativeSize,
-        /// How many scalars a column has.
+        /// The number of rows.
         rows: CooperativeSize,
-        /// Which operand of a product it is.
+        /// Its role: `A`, `B` or `C`.
         role: CooperativeRole,
     },
 }
@@ -37,18 +37,18 @@ pub enum Shape {
 pub struct Shaped {
     /// Its shape.
     pub shape: Shape,
-    /// The type of each component.
+    /// The component type.
     pub scalar: Scalar,
 }
 
 /// The type of an image.
 #[derive(Clone, Copy)]
 pub struct ImageType {
-    /// Its dimension.
+    /// The dimension.
     pub dim: ImageDimension,
-    /// Whether it has layers.
+    /// Whether it is arrayed.
     pub arrayed: bool,
-    /// What its texels are.
+    /// Its class.
     pub class: ImageClass,
 }
 
@@ -57,18 +57,18 @@ pub struct ImageType {
 pub struct Sampling {
     /// The sampler.
     pub sampler: Handle<key::Expression>,
-    /// The component that a gather takes of four texels, if it is one.
+    /// The component of a gather, if it is one.
     pub gather: Option<SwizzleComponent>,
-    /// The coordinates.
+    /// The texture coordinate.
     pub coordinate: Handle<key::Expression>,
-    /// The layer.
+    /// The array index.
     pub array_index: Option<Handle<key::Expression>>,
     /// The offset in texels.
     pub offset: Option<Handle<key::Expression>>,
-    /// The level of detail.
+    /// The sample level.
     pub level: SampleLevel,
-    /// The reference that depths are compared with.
+    /// The depth reference.
     pub depth_ref: Option<Handle<key::Expression>>,
-    /// Whether the coordinates are clamped to half a texel from the edge.
+    /// Whether the coordinate is clamped to half a texel from the edge.
     pub clamp_to_edge: bool,
 }

@@ -1,6 +1,6 @@
-//! What the definitions require of small expressions, worked out by hand.
+//! Examples of the rules on small expressions, worked out by hand.
 //!
-//! The functions do nothing: their contracts are the examples.
+//! The functions have no effect: their contracts are the examples.
 
 ghost use Rattle.std.specs.Prelude.{◌≡◌, [], ◌∷◌, pos, negsuc, Some, None, true, false};
 ghost use Rattle.ir_types.specs.judged.ExpressionPlain.{compose, plain};
@@ -40,7 +40,7 @@ ghost use Rattle.spec_statements.specs.judged.ExpressionStages.{all_stages, samp
 ghost use Rattle.typing_forms.specs.declared.form.Form.TheVariants as form;
 ghost use Rattle.ir_flags.specs.declared.stages.TheConstants.ShaderStages.{FRAGMENT, COMPUTE};
 
-/// Operations on one value.
+/// Unary operations.
 pub fn unary()
     ensures negated_float { UnaryOK unary.Negate (form.Scalar (floating 4)) }
     ensures negated_matrix { UnaryOK unary.Negate (form.Matrix Bi Tri (floating 4)) }
@@ -51,7 +51,7 @@ pub fn unary()
     ensures no_bits_of_floats { ¬ UnaryOK unary.BitwiseNot (form.Scalar (floating 4)) }
 {}
 
-/// Operations on two values.
+/// Binary operations.
 pub fn binary()
     ensures sum { BinaryOK binary.Add (form.Vector Tri (floating 4)) (form.Vector Tri (floating 4)) }
     ensures sum_of_truth_values { ¬ BinaryOK binary.Add (form.Scalar boolean) (form.Scalar boolean) }
@@ -91,7 +91,7 @@ pub fn selections()
     ensures slope_of_an_integer { ¬ DerivativeOK (form.Scalar (signed 4)) }
 {}
 
-/// How images are sampled and loaded from, and what is required of them.
+/// Image samples, loads and queries.
 pub fn images()
     ensures texel { IsTexelCoordinate D2 (form.Vector Bi (unsigned 4)) }
     ensures texel_of_a_cube { ¬ IsTexelCoordinate Cube (form.Vector Tri (signed 4)) }
@@ -131,14 +131,14 @@ pub fn samples()
     ensures outside_gathered { ¬ ExternalOK class.External (Some X) None Zero }
 {}
 
-/// Compositions among other kinds.
+/// Compositions in lists with other kinds of expressions.
 pub fn compositions()
     ensures of_no_type { ¬ RequiredOf (under (record { 0 = 0 }) [] [] []) (compose 0 []) }
     ensures of_what_is_not_composed { ¬ RequiredOf (under (record { 0 = 0 }) (record { name = None; inner = plain_type (inner.Scalar (signed 4)) } ∷ []) [] (form.Scalar (signed 4) ∷ [])) (compose 0 (0 ∷ [])) }
     ensures others_by_their_rows { RequiredOf (under (record { 0 = 0 }) [] [] (form.Scalar (floating 4) ∷ [])) (plain (x.Derivative axis.X control.Coarse 0)) }
 {}
 
-/// Indexes.
+/// Access indices.
 pub fn indexes()
     ensures last_component { AccessIndexOK [] (form.Vector Bi (floating 4)) 1 }
     ensures past_the_array { ¬ AccessIndexOK [] (form.Array 0 (count.Constant 3) 4) 3 }
@@ -158,7 +158,7 @@ pub fn cooperative()
     ensures rows_of_the_sum { ¬ MultiplyAddOK (form.CooperativeMatrix Eight Sixteen (floating 2) role.A) (form.CooperativeMatrix Eight Eight (floating 2) role.B) (form.CooperativeMatrix Eight Eight (floating 2) role.C) }
 {}
 
-/// Stages.
+/// Stages that may run expressions.
 pub fn stages()
     ensures slope { stages_of [] (plain (x.Derivative axis.X control.Coarse 0)) ≡ FRAGMENT }
     ensures exact_level { sample_stages (Exact 0) ≡ all_stages }

@@ -12,8 +12,9 @@ use spirv_words::{
 };
 use std::alloc::Global;
 
-// How deep control flow may nest: the statements that are made of it are gone through by recursion.
-const MAX_NESTING: usize = 255;
+// How many blocks may be nested around a statement, where a switch counts as two: documents nest no deeper, and statements are
+// walked by recursion.
+const MAX_NESTING: u32 = 60;
 
 // What is open around the block that is walked.
 #[derive(Clone, Copy)]
@@ -22,6 +23,8 @@ struct Frame {
     // where its construct merges
     merge: Option<u32>,
     outside: Environment,
+    // how many blocks are around its statements
+    level: u32,
 }
 
 // The parts of constructs.
@@ -193,6 +196,14 @@ impl Walk {
         self.failed.fail(error);
     }
 
+    // How many blocks are around the next statement.
+    fn level(&self) -> u32 {
+        match self.frames.last() {
+            Some(frame) => frame.level,
+            None => 0,
+        }
+    }
+
     // A step more.
     fn add(&mut self, step: Step) {
         self.failed.push(&mut self.steps, step);
@@ -257,7 +268,7 @@ impl Walk {
     fn refusal(&self, block: u32, meaning: Meaning) -> Option<Feature> {
         let here = &self.environment;
         match meaning {
-            Meaning::Nothing if self.frames.len() > MAX_NESTING => Some(Feature::DeepControlFlow),
+            Meaning::Nothing if self.level() > MAX_NESTING => Some(Feature::DeepControlFlow),
             Meaning::Nothing if self.scopes.of_block(block).is_some() => {
                 Some(Feature::BlockReachedTwice)
             }
@@ -376,6 +387,7 @@ impl Walk {
             part,
             merge,
             outside,
+            level: self.level().saturating_add(1),
         };
         self.open(Step::Loop, frame);
     }
@@ -427,6 +439,7 @@ impl Walk {
             part: Part::Accept(if accept == reject { None } else { Some(reject) }),
             merge,
             outside,
+            level: self.level().saturating_add(1),
         };
         self.open(Step::If(number), frame);
         Some(accept)
@@ -533,6 +546,7 @@ impl Walk {
                     part: Part::Case(block),
                     merge: None,
                     outside,
+                    level: self.level().saturating_add(2),
                 };
                 self.failed.push(&mut self.frames, frame);
                 return Some(block);

@@ -113,7 +113,7 @@ pub enum Feature {
     OuterContinue,
     /// Control flow: a branch to an outer loop's header.
     OuterHeader,
-    /// Control flow nested more than 255 deep.
+    /// Control flow nested more than 60 deep.
     DeepControlFlow,
     /// Control flow: a block that is reached twice.
     BlockReachedTwice,
@@ -222,7 +222,7 @@ static TEXTS: [&str; 79] = [
     "control flow: a break out of an outer loop or switch",
     "control flow: a continue of an outer loop",
     "control flow: a branch to an outer loop's header",
-    "control flow nested more than 255 deep",
+    "control flow nested more than 60 deep",
     "control flow: a block that is reached twice",
     "control flow: a merge at a branch",
     "control flow: a switch without a merge",

@@ -1,4 +1,4 @@
--- What is put together of each expression is what the definitions say of it.
+-- The assembled info of each expression satisfies the definitions.
 use Rattle.std.proofs.Common.{◌≡◌, ℕ, zero, suc, ◌+◌, ◌<◌, Option, Some, List, [], ◌∷◌, length, slice_get, refl, sym, ap, ◌∙◌, subst, arith}
 use Rattle.std.specs.Prelude.{slice_index_or}
 use Rattle.std.proofs.lemmas.Option.{slice_get_within, slice_get-get_or}
@@ -19,7 +19,7 @@ use Rattle.typing_forms.specs.declared.resolution.TypeResolution.{TypeResolution
 some_is : {X : Type 0} {a b : X} → Some a ≡ Some b → a ≡ b
 some_is e = cc (e)
 
--- what stands at a place was put together of the type there
+-- the element at a place was assembled from the type there
 record PutTogether (uniformities : List Uniformity) (counts : List ℕ) (globals : List (Option ℕ)) (place e : ℕ) (types : List TypeResolution) (i : ExpressionInfo) : Type 0 where
   ty : TypeResolution
   there : slice_get types e ≡ Some ty

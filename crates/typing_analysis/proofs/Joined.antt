@@ -1,4 +1,4 @@
--- What is answered of a function, by what is found of it.
+-- The result for a function, from its summary.
 use Rattle.std.proofs.Common.{ℕ, List, Option, Some, None, sym, ◌∙◌, subst, inl, inr, length, ◌<◌}
 use Rattle.typing_infos.specs.Infos.{summary_of}
 use Rattle.typing_infos.specs.declared.function_info.FunctionInfo.{FunctionInfo}
@@ -20,7 +20,7 @@ use Rattle.typing_analysis.specs.Infos.{IsFunctionInfo, AreExpressionInfos}
 use Rattle.typing_analysis.specs.Processed.{IsAnalysisFault, untyped, wrong_form, non_uniform, IsAnalysisRefusal, IsAnalysed}
 use Rattle.typing_errors.specs.Answers.{fault_of, ReportsFault}
 
--- ---- the summaries of callees alone count
+-- ---- only the summaries of callees matter
 
 module _ (flags : ValidationFlags) (m : PlainModule) (f : PlainFunction) (summaries others : List Summary) (agree : AgreeOnCallees f summaries others) where
   one_agrees : (arguments : List ℕ) (t : Summary) → CallsOne f summaries arguments t → CallsOne f others arguments t
@@ -59,7 +59,7 @@ module _ (flags : ValidationFlags) (m : PlainModule) (f : PlainFunction) (summar
     clear = λ e fault. is.clear e (fault_agrees flags m f others summaries agree_back e fault);
   }
 
--- ---- no fault stands
+-- ---- no fault holds
 
 module _ (flags : ValidationFlags) (m : PlainModule) (f : PlainFunction) (summaries : List Summary) (info : FunctionInfo) (infos : AreExpressionInfos m f info.expressions.items) where
   typed_clear : (e : ℕ) (o : Option TypingFault) → ReportsFault (inside m f) f.expressions e o → ⊥
@@ -73,7 +73,7 @@ module _ (flags : ValidationFlags) (m : PlainModule) (f : PlainFunction) (summar
   all_clear forms uniform _ (wrong_form {e = e} fault) = forms e fault
   all_clear forms uniform _ (non_uniform {r = r} {e = e} fault) = uniform (record { requirement = r.0; expression = e }) fault
 
--- what is kept of a function in which no operand is of a wrong form, and nothing requires all invocations in vain
+-- the `FunctionInfo` of a function in which no operand is of a wrong form and no requirement of uniformity is violated
 module _ (flags : ValidationFlags) (m : PlainModule) (f : PlainFunction) (summaries : List Summary) (info : FunctionInfo) (is : IsFunctionInfo m f summaries info) where
   pub is_analysed : ((e : ℕ) → IsFormFault f summaries e → ⊥) → ((x : Required) → FunctionFault flags m f x → ⊥) → IsAnalysed flags m f summaries info
   is_analysed forms uniform = record { info = is; clear = all_clear flags m f summaries info is.expressions forms uniform }

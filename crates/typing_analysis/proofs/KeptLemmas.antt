@@ -1,4 +1,4 @@
--- What is kept of a function is what the definitions say of it.
+-- The `FunctionInfo` satisfies the definitions.
 use Rattle.std.proofs.Common.{◌≡◌, false, List, length, refl, sym, ap, ◌∙◌, subst}
 use Rattle.std.specs.List.{flat_map}
 use Rattle.bitflags.specs.Sets.{known_bits}

@@ -1,4 +1,4 @@
--- Where all handles of a function are in range, each item that an expression names is there.
+-- If all handles of a function are in range, each item that an expression names exists.
 use Rattle.std.proofs.Common.{◌≡◌, ℕ, Some, refl, slice_get}
 use Rattle.ir_types.specs.judged.ExpressionPlain.{PlainExpression, compose, plain}
 use Rattle.ir_types.specs.declared.expressions.Expression.TheVariants as x

@@ -7,7 +7,7 @@ use Rattle.typing_analysis.specs.declared.summary.SummaryError.{SummaryError}
 use Rattle.typing_analysis.specs.declared.summary.SummaryError.TheVariants.{Memory, Untyped, WrongForm}
 use Rattle.typing_infos.specs.Types.{IsUntypedFirst}
 
--- the refusal is that memory ran out, or a fault of the function that stands
+-- the error is out of memory, or a fault that the function has
 abbrev pub IsSummaryFault : PlainModule → PlainFunction → List Summary → SummaryError → Type 0
 IsSummaryFault m f summaries (Memory error) = Unit {0}
 IsSummaryFault m f summaries (Untyped expression error) = IsUntypedFirst (inside m f) f.expressions expression error

@@ -1,4 +1,4 @@
--- What is kept of a function, expression by expression and as a whole.
+-- The contents of a `FunctionInfo`, per expression and as a whole.
 use Rattle.std.specs.Prelude.{◌≡◌, ◌↔◌, ℕ, ◌-◌, ◌^◌, min, false, List, Some, length, slice_get}
 use Rattle.std.specs.List.{flat_map}
 use Rattle.bitflags.specs.Sets.{known_bits}
@@ -14,27 +14,27 @@ use Rattle.spec_expressions.specs.judged.Values.{StartsAt}
 use Rattle.spec_expressions.specs.judged.Typing.{HasType}
 use Rattle.typing_errors.specs.Answers.{form_given}
 
--- Of the expression at a place it says where its value comes from and what it requires, at how many places it is an operand,
--- the global variable that its chain of accesses starts at, and a type that it has.
+-- The info of the expression at a place: the source of non-uniformity of its value and its requirements, its reference count,
+-- the global variable at the root of its access chain, and its type.
 pub record IsExpressionInfo (m : PlainModule) (f : PlainFunction) (e : ℕ) (i : ExpressionInfo) : Type 0 where
   pub uniformity : IsUniformity m f e i.uniformity
   pub ref_count : i.ref_count ≡ min (places_of e (effects_of f)) (2 ^ 64 - 1)
   pub assignable_global : (g : ℕ) → (i.assignable_global ≡ Some g) ↔ StartsAt f.expressions e g
   pub ty : HasType m f e (form_given m.types i.ty)
 
--- so of each expression
+-- the info of each expression says so
 pub record AreExpressionInfos (m : PlainModule) (f : PlainFunction) (infos : List ExpressionInfo) : Type 0 where
   pub len : length infos ≡ length f.expressions
   pub each : (e : ℕ) (i : ExpressionInfo) → slice_get infos e ≡ Some i → IsExpressionInfo m f e i
 
--- What is kept of a function by itself, whatever it calls: what it says of each expression, and of the pairs that it samples those
+-- The parts of a `FunctionInfo` that don't depend on callees: the info of each expression, and the sampled pairs that consist
 -- of two global variables.
 pub record IsOwnInfo (m : PlainModule) (f : PlainFunction) (info : FunctionInfo) : Type 0 where
   pub expressions : AreExpressionInfos m f info.expressions.items
   pub sampling_set : info.sampling_set.items ≡ flat_map key_of info.sampling.items
 
--- What is kept of a function, which calls others of which these summaries are kept: the uses of all global variables, the
--- pairs and whether it may end the fragment are joined of its own and its callees', and nothing is noted yet.
+-- The `FunctionInfo` of a function, given the summaries of its callees: the uses of global variables, the sampled pairs and
+-- whether it may discard are joined from its own and its callees'; no stages are noted yet.
 pub record IsFunctionInfo (m : PlainModule) (f : PlainFunction) (summaries : List Summary) (info : FunctionInfo) : Type 0 where
   pub expressions : AreExpressionInfos m f info.expressions.items
   pub globals : length info.uses.items ≡ length m.globals

@@ -1,4 +1,4 @@
--- What is answered of a function: what is kept of it, or a fault.
+-- The result of analyzing a function: its `FunctionInfo`, or a fault.
 use Rattle.std.specs.Prelude.{◌≡◌, ℕ, List, [], Result, Ok, Err}
 use Rattle.spec_expressions.specs.declared.uniformity.UniformityRequirements.{UniformityRequirements}
 use Rattle.typing_infos.specs.declared.function_info.FunctionInfo.{FunctionInfo}
@@ -18,25 +18,25 @@ use Rattle.typing_analysis.specs.Infos.{IsFunctionInfo}
 use Rattle.typing_errors.specs.Answers.{fault_of, ReportsFault}
 use Rattle.typing_errors.specs.declared.resolve_error.ResolveError.{ResolveError}
 
--- The faults that the analysis of a function finds, where it calls functions of which these summaries are kept: an expression
--- has no type, as the error tells; an operand that denotes an image or a sampler is of a wrong form; something requires that
--- all invocations arrive together where they may not.
+-- The faults that the analysis of a function finds, given the summaries of its callees: an expression
+-- has no type, as the error reports; an image or sampler operand is of a wrong form; an operation that requires uniform
+-- control flow is in non-uniform control flow.
 pub data IsAnalysisFault (flags : ValidationFlags) (m : PlainModule) (f : PlainFunction) (summaries : List Summary) : FunctionError → Type 0 where
   untyped : {e : ℕ} {error : ResolveError} → ReportsFault (inside m f) f.expressions e (fault_of error) → IsAnalysisFault flags m f summaries (Expression e (Typing error))
   wrong_form : {e : ℕ} → IsFormFault f summaries e → IsAnalysisFault flags m f summaries (Expression e ExpectedGlobalOrArgument)
   non_uniform : {r : UniformityRequirements} {e : ℕ} {d : UniformityDisruptor} → FunctionFault flags m f (record { requirement = r.0; expression = e }) → IsAnalysisFault flags m f summaries (NonUniformControlFlow r e d)
 
--- memory ran out, or the fault that is reported stands
+-- out of memory, or the reported fault holds
 abbrev pub IsAnalysisRefusal : ValidationFlags → PlainModule → PlainFunction → List Summary → Refusal FunctionError → Type 0
 IsAnalysisRefusal flags m f summaries (refusal.Memory e) = Unit {0}
 IsAnalysisRefusal flags m f summaries (refusal.Fault e) = IsAnalysisFault flags m f summaries (error_of e) × (spans_of e ≡ [])
 
--- what is kept of the function, which has no fault
+-- the `FunctionInfo` of a function that has no fault
 pub record IsAnalysed (flags : ValidationFlags) (m : PlainModule) (f : PlainFunction) (summaries : List Summary) (kept : FunctionInfo) : Type 0 where
   pub info : IsFunctionInfo m f summaries kept
   pub clear : (e : FunctionError) → IsAnalysisFault flags m f summaries e → ⊥
 
--- the one or the other
+-- either of the two
 abbrev pub IsProcessed : ValidationFlags → PlainModule → PlainFunction → List Summary → Result FunctionInfo (Refusal FunctionError) → Type 0
 IsProcessed flags m f summaries (Ok info) = IsAnalysed flags m f summaries info
 IsProcessed flags m f summaries (Err r) = IsAnalysisRefusal flags m f summaries r

@@ -1,4 +1,4 @@
--- What is found of a function before the places of its statements are looked at.
+-- The summary of a function before uniformity is checked.
 use Rattle.std.specs.Prelude.{ℕ, List, length}
 use Rattle.ir_items.specs.judged.Plain.{PlainFunction, PlainModule}
 use Rattle.typing_uniformity.specs.Facts.{AreUniformities}
@@ -10,7 +10,7 @@ use Rattle.spec_expressions.specs.judged.Context.{inside}
 use Rattle.typing_analysis.specs.declared.summary.Summarized.{Summarized}
 use Rattle.typing_infos.specs.Types.{AreTypes}
 
--- It is found of the function, which calls others of which these summaries are kept, and no operand is of a wrong form.
+-- This is the summary of the function, given the summaries of its callees, and no operand is of a wrong form.
 pub record IsSummarized (m : PlainModule) (f : PlainFunction) (summaries : List Summary) (s : Summarized) : Type 0 where
   pub types : AreTypes (inside m f) f.expressions s.types.items
   pub uniformities : AreUniformities m f s.uniformities.items

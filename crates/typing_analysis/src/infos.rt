@@ -1,4 +1,4 @@
-//! What is kept of a function, put together.
+//! Assembles a `FunctionInfo`.
 
 ghost use Rattle.std.specs.Prelude.{◌≡◌, IfOk, slice_index_or};
 ghost use Rattle.spec_expressions.specs.judged.Values.{known_at};
@@ -43,7 +43,7 @@ fn global_at(
     }
 }
 
-// What is known of each expression. The error is out of memory.
+// The info of each expression. The error is out of memory.
 pub(crate) fn expression_infos(
     alloc: Global,
     types: Vec<TypeResolution>,

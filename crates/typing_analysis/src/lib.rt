@@ -1,5 +1,5 @@
-//! What is kept of a function, or why it is refused ([`process_function`]), with the summary: what the function uses, pairs and
-//! needs, found from its own body and from what is kept of the functions that it calls.
+//! Analysis of one function: its `FunctionInfo`, or the error ([`process_function`]); with the summary: global uses, sampled
+//! pairs and uniformity requirements, from its own body and from the infos of its callees.
 #![tactic(auto)]
 
 mod infos;

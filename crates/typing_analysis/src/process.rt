@@ -1,4 +1,4 @@
-//! What is kept of a function, or why it is refused.
+//! Analyzes a function: its `FunctionInfo`, or the error.
 
 ghost use Rattle.std.specs.Prelude.{◌≡◌, List, IfOk, IfErr, OnOk, map};
 ghost use Rattle.typing_errors.specs.declared.error.FunctionError.TheVariants.{Expression};
@@ -30,7 +30,7 @@ use typing_errors::{ExpressionError, FunctionError};
 use typing_infos::FunctionInfo;
 use typing_uniformity::uniformity_fault_by;
 
-// The refusal of an expression.
+// The error for an expression.
 fn refused_at(
     alloc: Global,
     handle: Handle<key::Expression>,
@@ -43,7 +43,7 @@ fn refused_at(
     Refusal::Fault(WithSpan::new(alloc, error))
 }
 
-// The refusal of a function that has no summary.
+// The error for a function that has no summary.
 fn refused(alloc: Global, error: SummaryError) -> Refusal<FunctionError>
     ensures { (flags : ValidationFlags) (m : PlainModule) (f : PlainFunction) (summaries : List Summary)
         → IsSummaryFault m f summaries error → IsAnalysisRefusal flags m f summaries result }
@@ -59,7 +59,7 @@ fn refused(alloc: Global, error: SummaryError) -> Refusal<FunctionError>
     }
 }
 
-// Refuses a fault of uniformity.
+// Returns a uniformity fault as an error.
 fn check_uniformity(
     alloc: Global,
     flags: ValidationFlags,
@@ -81,21 +81,21 @@ fn check_uniformity(
     }
 }
 
-/// What is kept of a function of the module, or of an entry point's, whose body is read as a function's (naga's
-/// `ModuleInfo::process_function`). `infos` has what this call answered for the functions before it, in order; their stages and
-/// uses may have been noted since. Of these only those are read that a call statement of the function names.
+/// The `FunctionInfo` of a function of the module, or of an entry point's function, whose body is analyzed the same way (naga's
+/// `ModuleInfo::process_function`). `infos` holds the results for the functions before it, in order; their stages and
+/// uses may have been noted since. Only those of functions that a call statement names are read.
 ///
 /// Requires what [`typing_handles::handles_in_range`], [`typing_handles::operands_precede`] and
 /// [`typing_handles::filter_parents_precede`] test.
 ///
 /// # Errors
 ///
-/// [`Refusal::Fault`] exactly where a fault of the analysis stands: [`FunctionError::Expression`] with
+/// [`Refusal::Fault`] exactly where the analysis finds a fault: [`FunctionError::Expression`] with
 /// [`ExpressionError::Typing`] at an expression that has no type while its operands have, or with
-/// [`ExpressionError::ExpectedGlobalOrArgument`] at a sampling whose image or sampler is neither a global variable, nor an
+/// [`ExpressionError::ExpectedGlobalOrArgument`] at a sample whose image or sampler is neither a global variable, nor an
 /// access directly on one, nor an argument, or at such an expression that is passed for an image or a sampler of a pair of the
-/// function called; [`FunctionError::NonUniformControlFlow`] for what requires that all invocations arrive together and stands
-/// where they may not. [`Refusal::Memory`] where memory ran out.
+/// called function; [`FunctionError::NonUniformControlFlow`] where an operation that requires uniform control flow is in
+/// non-uniform control flow. [`Refusal::Memory`] if out of memory.
 pub fn process_function(
     alloc: Global,
     module: &Module,
@@ -115,8 +115,8 @@ pub fn process_function(
     process_by(alloc, &[], module, function, infos, flags)
 }
 
-/// The same, where `known` is known of the module's diagnostic filters ([`typing_uniformity::severities_of`]), so that they are not
-/// gone through.
+/// As the function above, with the severities of the module's diagnostic filters given as `known`
+/// ([`typing_uniformity::severities_of`]), so that the filters are not walked again.
 pub fn process_by(
     alloc: Global,
     known: &[Option<Severity>],

@@ -1,4 +1,4 @@
-//! What is found of a function before the places of its statements are looked at.
+//! The summary of a function before uniformity is checked.
 
 ghost use Rattle.std.specs.Prelude.{◌≡◌, ℕ, List, IfOk, IfErr, length, map};
 ghost use Rattle.ir_items.specs.judged.Plain.{PlainFunction, PlainModule};
@@ -27,19 +27,19 @@ use typing_resolve::ResolveContext;
 use typing_summaries::{Context, Counts, Sampled, Tally};
 use typing_uniformity::facts_of;
 
-/// Why a function has no summary.
+/// Summary errors.
 #[derive(Drop)]
 pub enum SummaryError {
-    /// A growth was refused.
+    /// Out of memory.
     Memory(AllocError),
     /// An expression has no type, and each before it has one.
     Untyped {
         /// The expression.
         expression: Handle<key::Expression>,
-        /// Why.
+        /// The error.
         error: ResolveError,
     },
-    /// A sampling has an image or a sampler of another form than a global variable, an access directly on one, or an
+    /// The image or sampler of a sample is neither a global variable, nor an access directly on one, nor an
     /// argument; or such an expression is passed to a function that samples it.
     WrongForm(Handle<key::Expression>),
 }
@@ -55,20 +55,20 @@ impl From<AllocError> for SummaryError {
     }
 }
 
-/// What is found of a function before the places of its statements are looked at.
+/// The summary of a function before uniformity is checked.
 #[derive(Drop)]
 pub struct Summarized {
     /// The types of its expressions.
     pub types: Vec<TypeResolution>,
     /// Their uniformities.
     pub uniformities: Vec<Uniformity>,
-    /// The global variables that their chains of accesses start at.
+    /// The global variable at the root of each expression's access chain.
     pub globals: Vec<Option<Handle<key::GlobalVariable>>>,
-    /// What is counted.
+    /// The tally: operand counts, global uses and sampled pairs.
     pub tally: Tally,
 }
 
-// The tally of a function whose chains of accesses start at these global variables. The error is out of memory.
+// The tally of a function, given the global variable at the root of each access chain. The error is out of memory.
 fn tally_of(
     alloc: Global,
     function: &Function,
@@ -95,7 +95,7 @@ fn tally_of(
     }
 }
 
-// The refusal of a function's expressions, as one of its summary.
+// Converts a typing error into a summary error.
 fn as_summary(refusal: TypingRefusal) -> SummaryError
     ensures { (m : PlainModule) (f : PlainFunction) (summaries : List Summary) → IsFirstUntyped (inside m f) f.expressions refusal → IsSummaryFault m f summaries result }
 {
@@ -124,8 +124,8 @@ fn types_in(
     types_of(alloc, &resolve, &function.expressions)
 }
 
-/// What is found of a function of the module, or of an entry point's, before the places of its statements are looked at.
-/// `callees` has what is kept of the functions that it may call, by their handles; of these only those that a call statement
+/// The summary of a function of the module, or of an entry point's function, before uniformity is checked.
+/// `callees` holds the infos of the functions that it may call, by their handles; only those that a call statement
 /// names are read.
 pub fn summarize(
     alloc: Global,
@@ -156,7 +156,7 @@ pub fn summarize(
 }
 
 impl Summarized {
-    /// The info that is kept of the function. The error is out of memory.
+    /// The `FunctionInfo` of the function. The error is out of memory.
     pub fn into_info(self, alloc: Global) -> Result<FunctionInfo, AllocError>
         ensures { (m : PlainModule) (f : PlainFunction) (summaries : List Summary) → IsSummarized m f summaries self → IfOk result (IsFunctionInfo m f summaries) }
     {

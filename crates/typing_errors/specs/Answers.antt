@@ -1,4 +1,4 @@
--- What an answer says: a canonical form, or a fault.
+-- The meaning of a typing result: a canonical form, or a fault.
 use Rattle.std.specs.Prelude.{ℕ, List, Option, Some, None, Result, Ok, Err, option_map}
 use Rattle.ir_types.specs.judged.Plain.{PlainType}
 use Rattle.ir_types.specs.judged.ExpressionPlain.{PlainExpression}
@@ -16,16 +16,16 @@ use Rattle.typing_errors.specs.declared.resolve_error.ResolveError.TheVariants a
 use Rattle.typing_errors.specs.declared.resolve_error.ResolveRefusal.{ResolveRefusal}
 use Rattle.typing_errors.specs.declared.resolve_error.ResolveRefusal.TheVariants.{Memory, Fault}
 
--- the canonical form of what is given
+-- the canonical form of a result
 abbrev pub form_given : List PlainType → TypeResolution → Form
 form_given types r = form_of types (resolution_view r)
 
--- the same where there may be a fault
+-- the canonical form of a result that may be a fault
 abbrev pub form_answer : List PlainType → Result TypeResolution TypingFault → Result Form TypingFault
 form_answer types (Ok r) = Ok (form_given types r)
 form_answer types (Err f) = Err f
 
--- the fault that an error reports; two errors report none, and are answered by no rule
+-- the fault that an error reports; two errors report none, and no rule returns them
 abbrev pub fault_of : ResolveError → Option TypingFault
 fault_of (error.OutOfBoundsIndex expr index) = Some (fault.OutOfBoundsIndex expr index)
 fault_of (error.InvalidAccess expr indexed) = Some (fault.InvalidAccess expr indexed)
@@ -41,7 +41,7 @@ fault_of (error.FunctionArgumentNotFound number) = Some (fault.FunctionArgumentN
 fault_of error.MissingSpecialType = Some fault.MissingSpecialType
 fault_of (error.BuiltinArgumentsInvalid text) = Some fault.BuiltinArgumentsInvalid
 
--- the form or the fault that an answer tells, and otherwise where it says that memory ran out
+-- the form or the fault that a result denotes; otherwise the result is out of memory
 abbrev pub told : List PlainType → (otherwise : Option (Result Form TypingFault)) → Result TypeResolution ResolveRefusal → Option (Result Form TypingFault)
 told types otherwise (Ok r) = Some (Ok (form_given types r))
 told types otherwise (Err (Fault e)) = option_map (λ f. Err f) (fault_of e)
@@ -56,7 +56,7 @@ abbrev pub ReportsFault : Context → List PlainExpression → ℕ → Option Ty
 ReportsFault context expressions place (Some f) = IsFault context expressions place f
 ReportsFault context expressions place None = ⊥
 
--- An answer about the expression at a place: it has the type that is given, or the fault that is reported.
+-- A result for the expression at a place: the given type, which it has, or the reported fault.
 abbrev pub IsAnswer : Context → List PlainExpression → ℕ → Result TypeResolution ResolveRefusal → Type 0
 IsAnswer context expressions place (Ok r) = HasTypeAmong context expressions place (form_given context.types r)
 IsAnswer context expressions place (Err (Fault e)) = ReportsFault context expressions place (fault_of e)

@@ -1,4 +1,4 @@
-//! Why an atomic operation is refused.
+//! Atomic errors.
 
 use ir_arena::handle::Handle;
 use ir_blocks::AtomicFunction;
@@ -7,40 +7,40 @@ use ir_kinds::AddressSpace;
 use ir_types::key;
 use thiserror::Error;
 
-/// Why an atomic operation is refused (naga's `AtomicError`).
+/// An error of an atomic statement (naga's `AtomicError`).
 #[derive(Clone, Copy, PartialEq, Debug, Error)]
 pub enum AtomicError {
-    /// It is no pointer to an atomic.
+    /// The pointer is not a pointer to an atomic.
     #[error("pointer {0:?} does not point to an atomic")]
     InvalidPointer(Handle<key::Expression>),
-    /// The atomic lies where this is not done.
+    /// The address space doesn't allow the operation.
     #[error("address space {0:?} is not supported")]
     InvalidAddressSpace(AddressSpace),
-    /// The operand is of another type.
+    /// The operand has a wrong type.
     #[error("operand {0:?} has the wrong type")]
     InvalidOperand(Handle<key::Expression>),
     /// The atomic doesn't allow the operation.
     #[error("operation {0:?} is not supported")]
     InvalidOperator(AtomicFunction),
-    /// The answer is no `AtomicResult`.
+    /// The result is no `AtomicResult`.
     #[error("result expression {0:?} is not an `AtomicResult`")]
     InvalidResultExpression(Handle<key::Expression>),
-    /// The answer is that of an exchange that compares.
+    /// The `AtomicResult` has `comparison` set, and the operation is no compare-exchange.
     #[error("result expression {0:?} is that of a compare-exchange")]
     ResultExpressionExchange(Handle<key::Expression>),
-    /// The answer is not that of an exchange that compares.
+    /// The `AtomicResult` does not have `comparison` set, and the operation is a compare-exchange.
     #[error("result expression {0:?} is not that of a compare-exchange")]
     ResultExpressionNotExchange(Handle<key::Expression>),
-    /// The answer is of another type.
+    /// The result has a wrong type.
     #[error("result expression {0:?} has another type than the statement's result")]
     ResultTypeMismatch(Handle<key::Expression>),
-    /// An exchange without an answer.
+    /// An exchange has no result.
     #[error("an exchange must have a result")]
     MissingReturnValue,
     /// The module lacks a capability.
     #[error("capability {0:?} is required")]
     MissingCapability(Capabilities),
-    /// Another operation answers by the same expression.
+    /// Another atomic statement already uses this result expression.
     #[error("result expression {0:?} is already the result of another atomic statement")]
     ResultAlreadyPopulated(Handle<key::Expression>),
 }

@@ -1,24 +1,24 @@
-//! Why a composition is refused.
+//! Composition errors.
 
 use ir_arena::handle::Handle;
 use ir_types::key;
 use thiserror::Error;
 
-/// Why values don't make a composed one (naga's `ComposeError`).
+/// An error of a `Compose` (naga's `ComposeError`).
 #[derive(Clone, Copy, PartialEq, Debug, Error)]
 pub enum ComposeError {
-    /// Nothing of this type is composed (naga's `Type`).
+    /// The type can't be composed (naga's `Type`).
     #[error("type {0:?} cannot be composed")]
     Typing(Handle<key::IrType>),
-    /// There are too few or too many components.
+    /// Wrong number of components.
     #[error("the composition requires {expected} components, but {given} are provided")]
     ComponentCount {
-        /// How many there are.
+        /// The number given.
         given: u32,
-        /// How many it takes.
+        /// The number expected.
         expected: u32,
     },
-    /// A component is of another type.
+    /// A component has a wrong type.
     #[error("component {index} has the wrong type")]
     ComponentType {
         /// The component, counted from 0.

@@ -1,29 +1,29 @@
-//! Why a global expression is refused.
+//! Global expression errors.
 
 use crate::ResolveError;
 use crate::compose::ComposeError;
 use thiserror::Error;
 use typing_layout::LiteralError;
 
-/// Why a global expression is refused (naga's `ConstExpressionError`).
+/// An error of a global expression (naga's `ConstExpressionError`).
 #[derive(Clone, PartialEq, Debug, Drop, Error)]
 pub enum ConstExpressionError {
-    /// Its value is known only when the shader runs.
+    /// The expression is neither const nor override.
     #[error("the expression is not a const-expression or an override-expression")]
     NonConstOrOverride,
-    /// It is constant, and was not worked out.
+    /// The expression is const, and was not evaluated.
     #[error("the constant is not fully evaluated")]
     NonFullyEvaluatedConst,
-    /// It is a composition that can't be made.
+    /// Wraps a `ComposeError`.
     #[error("the composition is invalid: {0}")]
     Compose(ComposeError),
-    /// It is a literal that may not be used.
+    /// Wraps a `LiteralError`.
     #[error("the literal is invalid: {0}")]
     Literal(LiteralError),
     /// It has no type (naga's `Type`).
     #[error("the type cannot be resolved: {0}")]
     Typing(ResolveError),
-    /// It breaks another rule.
+    /// Any other error.
     #[error("the expression is invalid")]
     Other,
 }

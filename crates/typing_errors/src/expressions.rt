@@ -1,4 +1,4 @@
-//! Why an expression of a function is refused.
+//! Expression errors.
 
 use crate::ResolveError;
 use crate::compose::ComposeError;
@@ -9,52 +9,52 @@ use ir_types::key;
 use thiserror::Error;
 use typing_layout::LiteralError;
 
-/// Why an expression of a function is refused (naga's `ExpressionError`).
+/// An error of an expression of a function (naga's `ExpressionError`).
 #[derive(Clone, PartialEq, Debug, Drop, Error)]
 pub enum ExpressionError {
-    /// A statement uses it where it is not yet in scope.
+    /// A statement uses the expression where it is not in scope.
     #[error("the expression is used before it is in scope")]
     NotInScope,
     /// It has no type (naga's `Type`).
     #[error("the type cannot be resolved: {0}")]
     Typing(ResolveError),
-    /// It is a literal that may not be used.
+    /// Wraps a `LiteralError`.
     #[error("the literal is invalid: {0}")]
     Literal(LiteralError),
-    /// It is a composition that can't be made.
+    /// Wraps a `ComposeError`.
     #[error("the composition is invalid: {0}")]
     Compose(ComposeError),
-    /// An image or a sampler is neither a global variable, nor an argument, nor an element of a global variable.
+    /// The image or sampler is neither a global variable, nor an argument, nor an element of a global binding array.
     #[error("the image or sampler must be a global variable or a function argument")]
     ExpectedGlobalOrArgument,
-    /// An image is neither a global variable nor an element of one.
+    /// The image is neither a global variable nor an element of one.
     #[error("the image must be a global variable")]
     ExpectedGlobalVariable,
-    /// What an element is taken of is no array of bindings.
+    /// The base of the access is no binding array.
     #[error("type {0:?} is not a binding array")]
     ExpectedBindingArrayType(Handle<key::IrType>),
-    /// What is written is no image.
+    /// The stored-to expression is no image.
     #[error("type {0:?} is not an image")]
     ExpectedImageType(Handle<key::IrType>),
-    /// The image is of a class that is not written.
+    /// The image class can't be stored to.
     #[error("image class {0:?} does not support the operation")]
     InvalidImageClass(ImageClass),
-    /// The image is of a format that doesn't allow this.
+    /// The image's format doesn't allow the operation.
     #[error("image format {0:?} does not support the operation")]
     InvalidImageFormat(StorageFormat),
-    /// The image may not be accessed so.
+    /// The image's access flags don't allow the operation.
     #[error("storage access {0:?} does not support the operation")]
     InvalidImageStorageAccess(StorageAccess),
-    /// There is a layer and the image has none, or the other way round.
+    /// An array index is given and the image is not arrayed, or the other way round.
     #[error("an array index must be present exactly when the image is arrayed")]
     InvalidImageArrayIndex,
-    /// The layer is no integer scalar.
+    /// The array index is no integer scalar.
     #[error("array index {0:?} must be an integer scalar")]
     InvalidImageArrayIndexType(Handle<key::Expression>),
-    /// The coordinate doesn't fit the image.
+    /// The coordinate type does not match the image.
     #[error("coordinate {1:?} does not have the type that image dimension {0:?} requires")]
     InvalidImageCoordinateType(ImageDimension, Handle<key::Expression>),
-    /// It breaks another rule.
+    /// Any other error.
     #[error("the expression is invalid")]
     Other,
 }

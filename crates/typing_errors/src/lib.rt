@@ -1,6 +1,6 @@
-//! Why a function is refused: of an expression (that it has no type, a width, a literal, a composition, a global expression among
-//! them), of a statement (a call, an atomic operation, an operation of a subgroup) and of a local variable; and what makes control
-//! flow differ between invocations. What the rules of expressions read and answer: the operands whose types make that of an
+//! Errors of a function: of an expression (typing, width, literal, composition, global expression), of a statement (call,
+//! atomic operation, subgroup operation) and of a local variable; and the causes of non-uniform control
+//! flow. What the typing rules of expressions read and return: the operands whose types determine that of an
 //! expression, and the forms of these types.
 #![tactic(auto)]
 

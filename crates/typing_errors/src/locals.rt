@@ -1,19 +1,19 @@
-//! Why a variable of a function is refused.
+//! Local variable errors.
 
 use ir_arena::handle::Handle;
 use ir_types::key;
 use thiserror::Error;
 
-/// Why a variable of a function is refused (naga's `LocalVariableError`).
+/// An error of a local variable of a function (naga's `LocalVariableError`).
 #[derive(Clone, Copy, PartialEq, Debug, Error)]
 pub enum LocalVariableError {
-    /// No variable is of this type.
+    /// No variable may have this type.
     #[error("type {0:?} cannot be the type of a local variable")]
     InvalidType(Handle<key::IrType>),
     /// The initializer has another type than the variable.
     #[error("the initializer has another type than the variable")]
     InitializerType,
-    /// What it begins as is known only when the shader runs.
+    /// The initializer is neither const nor override.
     #[error("the initializer is not a const-expression or an override-expression")]
     NonConstOrOverrideInitializer,
 }

@@ -1,4 +1,4 @@
-//! The operands whose types make that of an expression.
+//! The operands whose types determine the type of an expression.
 
 ghost use Rattle.std.specs.Prelude.{◌≡◌, List, IfOk, Ok, Some, None, slice_get};
 ghost use Rattle.ir_types.specs.judged.ExpressionPlain.{expression_view};
@@ -53,7 +53,7 @@ fn one(first: Handle<key::Expression>) -> Operands
     }
 }
 
-// Those of a math function.
+// The operands of a math function.
 fn math_operands(
     first: Handle<key::Expression>,
     second: Option<Handle<key::Expression>>,
@@ -79,7 +79,7 @@ fn math_operands(
     }
 }
 
-/// The operands whose types make that of the expression.
+/// The operands whose types determine that of the expression.
 pub fn operands_of(expression: &Expression) -> Operands
     ensures first { result.first ≡ slice_get (typing_operands (expression_view expression.now)) 0 }
     ensures second { result.second ≡ slice_get (typing_operands (expression_view expression.now)) 1 }
@@ -133,7 +133,7 @@ pub fn operands_of(expression: &Expression) -> Operands
     }
 }
 
-/// The form of an operand's type, where there is such an operand.
+/// The form of an operand's type, if the operand exists.
 pub fn given_form(types: &UniqueArena<IrType, key::IrType>, given: Option<&TypeResolution>) -> Form
     ensures { result ≡ given_form (types_view types.now) given.entry }
 {
@@ -143,7 +143,7 @@ pub fn given_form(types: &UniqueArena<IrType, key::IrType>, given: Option<&TypeR
     }
 }
 
-// What is no type: a struct that is not the module's.
+// An inner type that is no type: a struct that is not the module's.
 fn nothing(alloc: Global) -> TypeResolution
     ensures { (types : List PlainType) → form_given types result ≡ Form.Nothing }
 {
@@ -153,7 +153,7 @@ fn nothing(alloc: Global) -> TypeResolution
     })
 }
 
-/// The type of an operand once more, as that of the expression. The error is out of memory.
+/// Clones an operand's type as the type of the expression. The error is out of memory.
 pub fn given_again(
     alloc: Global,
     types: &UniqueArena<IrType, key::IrType>,
@@ -173,12 +173,12 @@ pub fn given_again(
 /// The types of up to four operands, in order.
 #[derive(Clone, Copy)]
 pub struct Given<'a> {
-    /// That of the first, if there is one.
+    /// The type of the first, if there is one.
     pub first: Option<&'a TypeResolution>,
-    /// That of the second, if there is one.
+    /// The type of the second, if there is one.
     pub second: Option<&'a TypeResolution>,
-    /// That of the third, if there is one.
+    /// The type of the third, if there is one.
     pub third: Option<&'a TypeResolution>,
-    /// That of the fourth, if there is one.
+    /// The type of the fourth, if there is one.
     pub fourth: Option<&'a TypeResolution>,
 }

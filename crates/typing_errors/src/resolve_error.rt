@@ -1,4 +1,4 @@
-//! Why an expression has no type, as it is answered.
+//! Resolve errors.
 
 ghost use Rattle.std.specs.Prelude.{◌≡◌, Some, IfOk};
 ghost use Rattle.typing_errors.specs.Answers.{fault_of};
@@ -9,64 +9,64 @@ use spec_expressions::{MissingSpecialType, TypingFault};
 use std::alloc::{AllocError, Global};
 use thiserror::Error;
 
-/// Why an expression has no type (naga's `ResolveError`). The texts are for people.
+/// Why an expression has no type (naga's `ResolveError`). The messages are for people.
 #[derive(Clone, Debug, PartialEq, Drop, Error)]
 pub enum ResolveError {
-    /// What is accessed has no part of this number.
+    /// The index is out of bounds.
     #[error("index {index} is out of bounds for expression {expr:?}")]
     OutOfBoundsIndex {
-        /// What is accessed.
+        /// The base expression.
         expr: Handle<key::Expression>,
-        /// The number, from 0.
+        /// The index, from 0.
         index: u32,
     },
-    /// What is accessed has no parts.
+    /// The base can't be indexed.
     #[error("expression {expr:?} cannot be accessed (by a dynamic index: {indexed})")]
     InvalidAccess {
-        /// What is accessed.
+        /// The base expression.
         expr: Handle<key::Expression>,
-        /// Whether the index is an expression, and no number.
+        /// Whether the access is dynamic (`Access`, not `AccessIndex`).
         indexed: bool,
     },
-    /// A part of what is accessed has no parts. No call answers it.
+    /// The type can't be indexed further. Never returned.
     #[error("type {ty:?} cannot be accessed (by a dynamic index: {indexed})")]
     InvalidSubAccess {
         /// The type.
         ty: Handle<key::IrType>,
-        /// Whether the index is an expression, and no number.
+        /// Whether the access is dynamic.
         indexed: bool,
     },
-    /// What is spread over a vector is no scalar.
+    /// The operand of a splat is no scalar.
     #[error("expression {0:?} is not a scalar")]
     InvalidScalar(Handle<key::Expression>),
-    /// What components are taken of is no vector.
+    /// The operand of a swizzle is no vector.
     #[error("expression {0:?} is not a vector")]
     InvalidVector(Handle<key::Expression>),
-    /// What is loaded from is no pointer to what can be loaded.
+    /// The pointer of a load does not point to a loadable type.
     #[error("expression {0:?} is not a pointer that can be loaded")]
     InvalidPointer(Handle<key::Expression>),
-    /// What is sampled, loaded from or queried for its size is no image that allows it.
+    /// The operand of a sample, load or query is no image that allows it.
     #[error("expression {0:?} is not an image that supports the operation")]
     InvalidImage(Handle<key::Expression>),
-    /// There is no function of this name. No call answers it.
+    /// There is no function of this name. Never returned.
     #[error("function {name} is not defined")]
     FunctionNotDefined {
         /// The name.
         name: String,
     },
-    /// The function that was called answers nothing.
+    /// The called function has no result.
     #[error("the function has no result")]
     FunctionReturnsVoid,
-    /// The operands are of types that the operation does not take.
+    /// The operation does not take these operand types.
     #[error("incompatible operands: {0}")]
     IncompatibleOperands(String),
-    /// The function has no argument of this number.
+    /// The function has no argument of this index.
     #[error("function argument {0} does not exist")]
     FunctionArgumentNotFound(u32),
-    /// The module has no type for what the expression gives.
+    /// The module lacks the special type of the expression's result.
     #[error("the special type for the expression is not registered in the module")]
     MissingSpecialType,
-    /// No rule of the built-in function takes these arguments, or they are too many or too few.
+    /// No overload of the built-in function accepts these arguments, or there are too many or too few.
     #[error("invalid arguments of a built-in function: {0}")]
     BuiltinArgumentsInvalid(String),
 }
@@ -74,9 +74,9 @@ pub enum ResolveError {
 /// Why there is no type to answer.
 #[derive(Debug, Drop)]
 pub enum ResolveRefusal {
-    /// Memory ran out.
+    /// Out of memory.
     Memory(AllocError),
-    /// The expression has none.
+    /// The expression has no type.
     Fault(ResolveError),
 }
 
@@ -102,7 +102,7 @@ impl From<AllocError> for ResolveRefusal {
     }
 }
 
-/// The error that tells a fault, with a text where it has one. The error is out of memory.
+/// The error for a fault, with a message if it has one. The error is out of memory.
 pub fn error_of(alloc: Global, fault: TypingFault) -> Result<ResolveError, AllocError>
     ensures { IfOk result (λ e. fault_of e ≡ Some fault) }
 {

@@ -1,4 +1,4 @@
--- A canonical form is in its own canonical form.
+-- A canonical form is its own canonical form.
 use Rattle.std.proofs.Common.{◌≡◌, ℕ, List, Option, Some, None, refl, subst}
 use Rattle.ir_kinds.specs.declared.spaces.AddressSpace.{AddressSpace}
 use Rattle.ir_types.specs.judged.Plain.{PlainInner, struct, plain, PlainType}
@@ -10,7 +10,7 @@ use Rattle.typing_forms.specs.found.Canonical.{canonical, value_pointer, Canonic
 some_is : {A : Type 0} (x y : A) → Some x ≡ Some y → x ≡ y
 some_is x y e = cc
 
--- a value pointer is what the pointer is, and is canonical
+-- a value pointer has the form of the pointer, and is canonical
 module _ (types : List PlainType) (base : ℕ) (space : AddressSpace) where
   abbrev Stands : Option PlainInner → PlainInner → Type 0
   Stands found c = (form_in types None c ≡ pointing base space found) × (canonical types c ≡ None)

@@ -1,4 +1,4 @@
--- What is constructible is found from what is known of the types before.
+-- Constructibility is computed from the entries of earlier types.
 use Rattle.std.proofs.Common.{◌≡◌, ◌↔◌, ◌<◌, ◌≤◌, ◌+◌, ◌⊎◌, inl, inr, ℕ, zero, suc, List, [], ◌∷◌, ◌++◌, Bool, true, false, true≢false, ◌&&◌, IsTrue, All, map, length, Option, Some, None, unwrap_or, option_map, slice_get, refl, sym, ap, subst, ◌∙◌, arith, rules}
 use Rattle.std.specs.List.{list_all}
 use Rattle.std.proofs.lemmas.List.Folds.{list_all-map}
@@ -42,9 +42,9 @@ pub array_composed : (b : Bool) → b ≡ (b && true)
 array_composed true = refl
 array_composed false = refl
 
--- ---- what the parts are
+-- ---- the parts
 
--- what stands at a handle, where something does
+-- the element at a handle, if there is one
 found_or : Option PlainInner → PlainInner
 found_or (Some i) = i
 found_or None = plain (inner.Sampler false)
@@ -65,7 +65,7 @@ module _ (types : List PlainType) where
   to_parts i (alone e) = inl e
   to_parts i (composed {parts = parts} made_of is at ok) = inr (parts, is, (λ k h e. (made_of h, at k h e, ok k h e)))
 
--- what is constructible alone has no parts
+-- what is constructible itself has no parts
 alone_whole : (i : PlainInner) → is_constructible_alone i ≡ true → parts_of i ≡ None
 alone_whole (struct members span) e = let h = e in cc
 alone_whole (plain (inner.Array base size stride)) e = let h = e in cc
@@ -76,7 +76,7 @@ parts_named (struct members span) parts e = some_is _ _ e
 parts_named (plain (inner.Array base (count.Constant n) stride)) parts e = some_is _ _ e
 parts_named (plain i) parts e = search rules
 
--- ---- what is known of the parts decides
+-- ---- the entries of the parts decide
 
 module _ (types : List PlainType) (known : List Bool) (i : PlainInner) where
   abbrev Decided : Type 0
@@ -99,7 +99,7 @@ module _ (types : List PlainType) (known : List Bool) (i : PlainInner) where
   decides : Decided → IsTrue (composed_of known i) ↔ IsConstructible types i
   decides decided = (sound (parts_of i) refl decided, complete (parts_of i) refl decided)
 
--- ---- one type after the other
+-- ---- one type after another
 
 known_more : (known : List Bool) (b : Bool) (h : ℕ) → h < length known → known_at (known ++ b ∷ []) h ≡ known_at known h
 known_more [] b h lt = absurd (omega arith)

@@ -8,7 +8,7 @@ use Rattle.typing_forms.specs.contracts.form.Form.{enum}
 use Rattle.typing_forms.specs.contracts.form.FormPartialEq.TheImpl as of_form
 use Rattle.typing_forms.specs.contracts.form.FormEq.TheImpl.Laws as form_laws
 
--- in the order in which they are declared
+-- in declaration order
 abbrev laws : Laws enum.parts enum.make
 laws = (
   inl (scalar_test, tt),

@@ -1,4 +1,4 @@
--- What a type names is what its members are of.
+-- A type refers to the types of its members.
 use Rattle.std.proofs.Common.{◌≡◌, ◌↔◌, ◌<◌, ◌≤◌, ◌+◌, ◌⊎◌, inl, inr, rules, ℕ, zero, suc, List, [], ◌∷◌, map, length, arith, Bool, IsTrue, All, Some, sym, subst}
 use Rattle.std.proofs.lemmas.List.Elements.{All-map}
 use Rattle.ir_arena.specs.declared.span.Span.{Span}
@@ -28,7 +28,7 @@ members_named b i members span ms r is same below =
     (subst (λ xs. IsTrue r ↔ All (λ named. named < b) (map (λ (m : PlainMember). m.ty) (map member_view xs))) same
     ((λ h. all_types b ms (below.0 h)), (λ h. below.1 (all_members b ms h))))
 
--- each type before a place names only types before it
+-- each type before an index refers only to earlier types
 pub record GoBackBelow (types : List PlainType) (place : ℕ) : Type 0 where
   pub each : (handle : ℕ) (i : PlainInner) → handle < place → inner_at types handle ≡ Some i → All (λ named. named < handle) (named_types i)
 

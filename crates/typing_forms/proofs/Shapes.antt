@@ -1,4 +1,4 @@
--- Types of one shape, a step at a time.
+-- Types of the same shape, step by step.
 use Rattle.std.proofs.Common.{◌≡◌, ◌<◌, ℕ, List, [], ◌∷◌, length, Option, Some, None, Bool, true, false, All, if◌then◌else◌, IfSome, IfNone, refl, sym, ap, subst, ◌∙◌, rules}
 use Rattle.ir_kinds.specs.declared.scalars.Scalar.{Scalar}
 use Rattle.ir_types.specs.judged.Plain.{PlainInner, struct, plain, PlainType}
@@ -12,9 +12,9 @@ use Rattle.typing_forms.proofs.Walks.{one_below}
 some_is : {A : Type 0} (x y : A) → Some x ≡ Some y → x ≡ y
 some_is x y e = cc
 
--- ---- two types together
+-- ---- pairs of types
 
--- what is found of two types is found where both are there
+-- the value for a pair of types exists only if both exist
 found_both : {A : Type 0} (f : PlainInner → PlainInner → Option A) (o p : Option PlainInner) (r : A) → both_found f o p ≡ Some r
     → (i : PlainInner) × (o ≡ Some i) × (j : PlainInner) × (p ≡ Some j) × (f i j ≡ Some r)
 found_both f (Some i) (Some j) r e = (i, refl, j, refl, e)
@@ -28,7 +28,7 @@ picked : {A : Type 0} (x r : A) (b : Bool) → (if b then Some x else None) ≡ 
 picked x r true e = some_is _ _ e
 picked x r false e = let h = e in cc
 
--- the first base of two arrays is one that the first array names
+-- the first base of two arrays is one that the first array refers to
 pair_named : (i j : PlainInner) (pair : ℕ × ℕ) (bound : ℕ) → bases_of i j ≡ Some pair → All (λ named. named < bound) (named_types i) → pair.0 < bound
 pair_named (plain (inner.Array base size stride)) (plain (inner.Array other length step)) pair bound e all =
     subst (λ (p : ℕ × ℕ). p.0 < bound) (picked (base, other) pair (same_count size length) e) (one_below bound (base ∷ []) 0 base all refl)
@@ -37,7 +37,7 @@ pair_named (plain (inner.Array base size stride)) (struct members span) pair bou
 pair_named (plain i) j pair bound e all = let h = e in cc
 pair_named (struct members span) j pair bound e all = let h = e in cc
 
--- arrays have no scalars of their own
+-- an array has no scalar of its own
 no_scalars : (i j : PlainInner) (pair : ℕ × ℕ) → bases_of i j ≡ Some pair → scalars_of i j ≡ None
 no_scalars (plain (inner.Array base size stride)) (plain (inner.Array other length step)) pair e = refl
 no_scalars (plain (inner.Array base size stride)) (plain j) pair e = let h = e in cc

@@ -1,4 +1,4 @@
--- Chains of types, a step at a time.
+-- Chains of types, step by step.
 use Rattle.std.proofs.Common.{◌≡◌, ◌<◌, ◌-◌, ℕ, suc, List, [], ◌∷◌, map, length, All, Option, Some, None, slice_get, IfNone, refl, sym, ap, subst, ◌∙◌, arith, rules}
 use Rattle.std.proofs.lemmas.Option.{slice_get-map, slice_get_within, get_or_from_slice_get}
 use Rattle.ir_kinds.specs.declared.scalars.Scalar.{Scalar}
@@ -11,14 +11,14 @@ use Rattle.typing_forms.specs.found.Elements.{LeadsTo, ends, goes, base_of, last
 some_is : {A : Type 0} (x y : A) → Some x ≡ Some y → x ≡ y
 some_is x y e = cc
 
--- ---- a chain goes back
+-- ---- a chain descends
 
--- how far a chain that goes back can still go
+-- the number of steps that a descending chain can still take
 abbrev pub steps : Option ℕ → ℕ
 steps (Some handle) = suc handle
 steps None = 0
 
--- the next type of a chain is one that the type names
+-- the next type of a chain is one that the type refers to
 abbrev pub IsNamed : (PlainInner → Option ℕ) → Type 0
 IsNamed next = (i : PlainInner) (handle bound : ℕ) → next i ≡ Some handle → All (λ named. named < bound) (named_types i) → handle < bound
 
@@ -42,20 +42,20 @@ module _ (next : PlainInner → Option ℕ) (types : List PlainType) where
     lower (Some other) e = let lt : other < handle = named j other handle e (back.each handle j at) in omega arith
     lower None e = omega arith
 
-  -- ---- a chain leads to one end
+  -- ---- a chain has a unique end
 
-  -- the two lead to the same
+  -- both chains have the same end
   pub record SameEnds (i start : PlainInner) : Type 0 where
     pub from : (end : PlainInner) → LeadsTo next types i end → LeadsTo next types start end
     pub to : (end : PlainInner) → LeadsTo next types start end → LeadsTo next types i end
 
-  -- a chain goes on where its next type does
+  -- a chain continues if its next type exists
   passes_on : (i j : PlainInner) (handle : ℕ) → next i ≡ Some handle → inner_at types handle ≡ Some j → (end : PlainInner) → LeadsTo next types i end → LeadsTo next types j end
   passes_on i j handle n at end (ends m) = absurd (let x = n in let y = m in cc)
   passes_on i j handle n at end (goes {j = k} {handle = other} m there rest) =
       subst (λ x. LeadsTo next types x end) (let a = n in let b = m in let c = at in let d = there in cc) rest
 
-  -- and stops where there is no next type
+  -- and ends if there is no next type
   pub stops : (i : PlainInner) (handle : ℕ) → next i ≡ Some handle → inner_at types handle ≡ None → (end : PlainInner) → LeadsTo next types i end → ⊥
   stops i handle n at end (ends m) = let x = n in let y = m in cc
   stops i handle n at end (goes {handle = other} m there rest) = let a = n in let b = m in let c = at in let d = there in cc
@@ -73,7 +73,7 @@ module _ (next : PlainInner → Option ℕ) (types : List PlainType) where
         to = λ end whole. passes_on i j handle n at end (same.to end whole);
       }
 
--- ---- what a conversion changes
+-- ---- the scalar that a conversion changes
 
 pub no_scalar : (types : List PlainType) (i end : PlainInner) (r : Option Scalar) → LeadsTo base_of types i end → r ≡ converted_scalar end
     → IfNone r ((s : Scalar) → ConvertsBy types i s → ⊥)

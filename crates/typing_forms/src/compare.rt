@@ -1,4 +1,4 @@
-//! Which types are equivalent.
+//! Equivalence of types.
 
 ghost use Rattle.std.specs.Prelude.{◌↔◌, IsTrue};
 ghost use Rattle.typing_forms.specs.judged.Resolutions.{types_view, resolution_view};
@@ -10,9 +10,9 @@ use crate::{TypeResolution, form_of};
 use ir_sets::unique_arena::UniqueArena;
 use ir_types::{IrType, key};
 
-/// Whether two types are equivalent: both are there, and their canonical forms are equal (naga's `compare_types`). Names
-/// don't count, nor whether a type is given by its handle, but for structs: a struct is its handle, and none may be given
-/// as a value. A handle that is none of a type is equivalent to nothing.
+/// Whether two types are equivalent: both exist, and their canonical forms are equal (naga's `compare_types`). Names
+/// don't matter, nor whether a type is given by handle or by value, except for structs: a struct is identified by its handle,
+/// and none may be given by value. A handle without a type is equivalent to nothing.
 pub fn compare_types(
     lhs: &TypeResolution,
     rhs: &TypeResolution,

@@ -1,4 +1,4 @@
-//! Which types have values that can be composed.
+//! Constructible types.
 
 ghost use Rattle.std.specs.Prelude.{◌↔◌, ◌≡◌, IsTrue, IfOk};
 ghost use Rattle.std.specs.List.{list_all};
@@ -13,7 +13,7 @@ use ir_sets::unique_arena::UniqueArena;
 use ir_types::{ArraySize, IrType, StructMember, TypeInner, key};
 use std::alloc::{AllocError, Global};
 
-// What is known of the type at a handle: false where it was not looked at.
+// The entry of the type at a handle: false if it was not visited.
 fn known_at(known: &[bool], handle: Handle<key::IrType>) -> bool
     ensures { result ≡ known_at known.now handle }
 {
@@ -23,14 +23,14 @@ fn known_at(known: &[bool], handle: Handle<key::IrType>) -> bool
     }
 }
 
-// Whether it is known of each member's type that it is constructible.
+// Whether each member's type is constructible, by the entries.
 fn all_known(members: &[StructMember], known: &[bool]) -> bool
     ensures { result ≡ list_all (λ m. known_at known.now m.ty) members.now }
 {
     members.iter().all(|member| known_at(known, member.ty))
 }
 
-// Whether a type is constructible, where it is known of its parts.
+// Whether a type is constructible, given the entries of its parts.
 #[tactic(auto, using(crate::proofs::Constructed::array_composed))]
 fn composed_of(inner: &TypeInner, known: &[bool]) -> bool
     ensures { result ≡ composed_of known.now (inner_view inner.now) }
@@ -51,7 +51,7 @@ fn composed_of(inner: &TypeInner, known: &[bool]) -> bool
     }
 }
 
-// Which types of the arena are constructible, each found once.
+// Which types of the arena are constructible, each visited once.
 fn constructible_types(
     alloc: Global,
     types: &UniqueArena<IrType, key::IrType>,

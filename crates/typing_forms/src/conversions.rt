@@ -1,4 +1,4 @@
-//! Which types are converted to which implicitly.
+//! Implicit conversions between types.
 
 ghost use Rattle.std.specs.Prelude.{◌≡◌, IsTrue, IfSome, IfNone, None};
 ghost use Rattle.ir_kinds.specs.declared.scalars.Scalar.{Scalar};
@@ -71,7 +71,7 @@ fn scalars_of(from: &TypeInner, goal: &TypeInner) -> Option<(Scalar, Scalar)>
     }
 }
 
-// The elements' types of two arrays of one length.
+// The element types of two arrays of one length.
 fn bases_of(
     from: &TypeInner,
     goal: &TypeInner,
@@ -91,7 +91,7 @@ fn bases_of(
     }
 }
 
-// The same of the types at two handles; there is none where a handle is that of no type.
+// The element types of two arrays at two handles; `None` if a handle has no type.
 fn scalars_at(
     types: &UniqueArena<IrType, key::IrType>,
     from: Handle<key::IrType>,
@@ -124,7 +124,7 @@ fn bases_at(
     }
 }
 
-// The scalars in which the types at two handles, which are of one shape, differ.
+// The scalars in which the types at two handles, which have the same shape, differ.
 fn differing_at(
     types: &UniqueArena<IrType, key::IrType>,
     from: Handle<key::IrType>,
@@ -143,7 +143,7 @@ fn differing_at(
     scalars_at(types, left, right)
 }
 
-// The scalars in which two types of one shape differ, in the elements of arrays at any depth.
+// The scalars in which two types of the same shape differ, in the elements of arrays at any depth.
 fn differing_scalars(
     types: &UniqueArena<IrType, key::IrType>,
     from: &TypeInner,
@@ -160,7 +160,7 @@ fn differing_scalars(
     }
 }
 
-// The scalars that a conversion of the one type to the other converts.
+// The scalars that a conversion from the one type to the other converts.
 pub(crate) fn automatically_converts_to(
     types: &UniqueArena<IrType, key::IrType>,
     from: &TypeInner,

@@ -1,4 +1,4 @@
-//! What is found at the end of a chain of types.
+//! The innermost element types of arrays and the innermost last members of structs.
 
 ghost use Rattle.std.specs.Prelude.{◌≡◌, ◌↔◌, IsTrue, IfSome, IfNone};
 ghost use Rattle.ir_kinds.specs.declared.scalars.Scalar.{Scalar};
@@ -38,7 +38,7 @@ fn last_of(inner: &TypeInner) -> Option<Handle<key::IrType>>
     }
 }
 
-// What the elements of arrays of arrays are made of. There is none where a handle is that of no type.
+// The innermost element type of nested arrays. `None` if a handle has no type.
 fn innermost<'a>(
     types: &'a UniqueArena<IrType, key::IrType>,
     inner: &'a TypeInner,
@@ -57,7 +57,7 @@ fn innermost<'a>(
     Some(current)
 }
 
-// What a struct ends in, at any depth. There is none where a handle is that of no type.
+// The innermost last member of nested structs. `None` if a handle has no type.
 fn innermost_last<'a>(
     types: &'a UniqueArena<IrType, key::IrType>,
     inner: &'a TypeInner,
@@ -76,7 +76,7 @@ fn innermost_last<'a>(
     Some(current)
 }
 
-// The scalar that a conversion of a value changes.
+// The scalar that a conversion changes.
 fn converted_scalar(inner: &TypeInner) -> Option<Scalar>
     ensures { result ≡ converted_scalar (inner_view inner.now) }
 {
@@ -88,7 +88,7 @@ fn converted_scalar(inner: &TypeInner) -> Option<Scalar>
     }
 }
 
-// Whether the type holds scalars, and these are abstract.
+// Whether the type holds scalars, and they are abstract.
 fn has_abstract_scalar(inner: &TypeInner) -> bool
     ensures { IsTrue result ↔ HasAbstractScalar (inner_view inner.now) }
 {

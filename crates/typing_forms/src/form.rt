@@ -1,4 +1,4 @@
-//! The canonical form of a type.
+//! Canonical forms of types.
 
 ghost use Rattle.std.specs.Prelude.{◌≡◌, option_map};
 ghost use Rattle.ir_types.specs.judged.Plain.{inner_view};
@@ -13,26 +13,26 @@ use ir_kinds::{
 use ir_sets::unique_arena::UniqueArena;
 use ir_types::{ArraySize, IrType, TypeInner, key};
 
-/// A type in its canonical form: two types are equivalent exactly where their forms are equal.
+/// The canonical form of a type: two types are equivalent exactly if their forms are equal.
 ///
-/// It is what the type is made of, but for a struct, which is its handle, and for a pointer to a scalar or a vector,
-/// which is its value pointer. Names don't count, nor whether the type is one of the module's.
+/// It is the inner type, except for a struct, which is its handle, and for a pointer to a scalar or a vector,
+/// which is its value pointer. Names don't matter, nor whether the type is one of the module's.
 #[derive(Clone, Copy, PartialEq, Eq, Debug)]
 pub enum Form {
     /// A scalar.
     Scalar(Scalar),
-    /// Scalars in a row.
+    /// A vector.
     Vector {
         size: VectorSize,
         scalar: Scalar,
     },
-    /// Column vectors in a row.
+    /// A matrix.
     Matrix {
         columns: VectorSize,
         rows: VectorSize,
         scalar: Scalar,
     },
-    /// A matrix that invocations work on together.
+    /// A cooperative matrix.
     CooperativeMatrix {
         columns: CooperativeSize,
         rows: CooperativeSize,
@@ -52,7 +52,7 @@ pub enum Form {
         scalar: Scalar,
         space: AddressSpace,
     },
-    /// Elements of one type in a row.
+    /// An array.
     Array {
         base: Handle<key::IrType>,
         size: ArraySize,
@@ -70,7 +70,7 @@ pub enum Form {
     Sampler {
         comparison: bool,
     },
-    /// What rays are traced in.
+    /// An acceleration structure.
     AccelerationStructure {
         vertex_return: bool,
     },
@@ -78,16 +78,16 @@ pub enum Form {
     RayQuery {
         vertex_return: bool,
     },
-    /// Resources of one type in a row.
+    /// A binding array.
     BindingArray {
         base: Handle<key::IrType>,
         size: ArraySize,
     },
-    /// What is no type: a handle that the module has not, or a struct that is given without one.
+    /// No type: a handle without a type, or a struct given without a handle.
     Nothing,
 }
 
-/// What the type at a handle is made of, if there is one.
+/// The inner type at a handle, if there is one.
 #[tactic(auto, using(crate::proofs::Lookups::inner_found, crate::proofs::Lookups::inner_past))]
 pub fn inner_of(
     types: &UniqueArena<IrType, key::IrType>,
@@ -101,7 +101,7 @@ pub fn inner_of(
     }
 }
 
-// What a pointer to the type at a handle is.
+// The form of a pointer to the type at a handle.
 fn pointer_form(
     types: &UniqueArena<IrType, key::IrType>,
     base: Handle<key::IrType>,
@@ -134,7 +134,7 @@ const fn struct_form(handle: Option<Handle<key::IrType>>) -> Form
     }
 }
 
-/// The form of what is made of `inner`, and has the handle, if it has one. Without a handle it is no struct.
+/// The form of the inner type `inner` with the given handle, if any. Without a handle it is no struct.
 pub fn form_in(
     types: &UniqueArena<IrType, key::IrType>,
     handle: Option<Handle<key::IrType>>,
@@ -196,7 +196,7 @@ pub fn form_in(
     }
 }
 
-/// The form of the type at a handle, [`Form::Nothing`] where there is none.
+/// The form of the type at a handle, [`Form::Nothing`] if there is none.
 pub fn form_of_type(types: &UniqueArena<IrType, key::IrType>, handle: Handle<key::IrType>) -> Form
     ensures { result ≡ form_of_type (types_view types.now) handle }
 {
@@ -206,7 +206,7 @@ pub fn form_of_type(types: &UniqueArena<IrType, key::IrType>, handle: Handle<key
     }
 }
 
-/// The form of a resolution. Where its handle is that of a type, and no struct is given as a value, it is not
+/// The form of a resolution. If its handle has a type, and no struct is given by value, it is not
 /// [`Form::Nothing`].
 pub fn form_of(types: &UniqueArena<IrType, key::IrType>, resolution: &TypeResolution) -> Form
     ensures { result ≡ form_of (types_view types.now) (resolution_view resolution.now) }

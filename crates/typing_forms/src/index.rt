@@ -1,4 +1,4 @@
-//! How many elements there are to index.
+//! Lengths of indexable types.
 
 ghost use Rattle.std.specs.Prelude.{◌≡◌};
 ghost use Rattle.ir_types.specs.judged.Plain.{inner_view};
@@ -10,37 +10,37 @@ use ir_sets::unique_arena::UniqueArena;
 use ir_types::{ArraySize, IrType, TypeInner, key};
 use thiserror::Error;
 
-/// How many elements what is indexed has (naga's `IndexableLength`).
+/// The number of elements of an indexable type (naga's `IndexableLength`).
 #[derive(Clone, Copy, PartialEq, Eq, Debug)]
 pub enum IndexableLength {
-    /// Always so many.
+    /// Always this many.
     Known(u32),
-    /// As many as the buffer holds.
+    /// Known at run time only: a runtime-sized array.
     Dynamic,
 }
 
-/// Why the length of an array isn't known (naga's `ResolveArraySizeError`). It is of those who put values in the place
-/// of overrides; no call of this crate answers it.
+/// Why the length of an array isn't known (naga's `ResolveArraySizeError`). It is for code that substitutes overrides;
+/// no function of this crate returns it.
 #[derive(Clone, Copy, PartialEq, Eq, Debug, Error)]
 pub enum ResolveArraySizeError {
-    /// The value is no positive number.
+    /// The value is not a positive integer.
     #[error("an array length must be positive")]
     ExpectedPositiveArrayLength,
-    /// The override has no value that is known.
+    /// The override has no known value.
     #[error("the array length is an override without a value")]
     NonConstArrayLength,
 }
 
-/// Why a type has no length to index (naga's `IndexableLengthError`).
+/// Why a type has no indexable length (naga's `IndexableLengthError`).
 #[derive(Clone, Copy, PartialEq, Eq, Debug, Error)]
 pub enum IndexableLengthError {
-    /// It has no elements.
+    /// The type can't be indexed.
     #[error("the type is not indexable")]
     TypeNotIndexable,
-    /// The value of an override gives none.
+    /// The override's value gives no length.
     #[error(transparent)]
     ResolveArraySizeError(ResolveArraySizeError),
-    /// It is as long as an override will say.
+    /// The length depends on an override.
     #[error("the array length is an override that is not resolved yet")]
     Pending(ArraySize),
 }
@@ -56,7 +56,7 @@ fn array_length(size: ArraySize) -> Result<IndexableLength, IndexableLengthError
     }
 }
 
-// The length of what has elements itself.
+// The length of a type that has elements itself.
 fn elements_of(inner: &TypeInner) -> Result<IndexableLength, IndexableLengthError>
     ensures { result ≡ elements_of (inner_view inner.now) }
 {
@@ -68,7 +68,7 @@ fn elements_of(inner: &TypeInner) -> Result<IndexableLength, IndexableLengthErro
     }
 }
 
-// The length of what is indexed, also through a pointer to it.
+// The length of an indexable type, or of what a pointer points to.
 pub(crate) fn length_of(
     types: &UniqueArena<IrType, key::IrType>,
     inner: &TypeInner,

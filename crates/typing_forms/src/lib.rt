@@ -1,5 +1,5 @@
-//! What the type of an expression is given as, the canonical form by which types are compared, what types are built of, how
-//! large they are, and which of them are equivalent.
+//! Type resolutions of expressions, the canonical form by which types are compared, properties and sizes of types,
+//! and equivalence of types.
 #![tactic(auto)]
 
 mod compare;

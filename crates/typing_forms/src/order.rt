@@ -1,4 +1,4 @@
-//! Whether types are built of types that come before them.
+//! Whether types refer only to earlier types.
 
 ghost use Rattle.std.specs.Prelude.{◌↔◌, ◌<◌, ◌≡◌, IsTrue, All, Some, length};
 ghost use Rattle.ir_types.specs.judged.Plain.{inner_view};
@@ -9,14 +9,14 @@ use ir_arena::handle::Handle;
 use ir_sets::unique_arena::UniqueArena;
 use ir_types::{IrType, StructMember, TypeInner, key};
 
-// Whether the type of each member has a place below `bound`.
+// Whether the type of each member has an index below `bound`.
 fn members_below(members: &[StructMember], bound: usize) -> bool
     ensures { IsTrue result ↔ All (λ m. m.ty < bound) members.now }
 {
     members.iter().all(|member| member.ty.index() < bound)
 }
 
-// Whether each type that a type names has a place below `bound`.
+// Whether each type that a type refers to has an index below `bound`.
 fn names_below(inner: &TypeInner, bound: usize) -> bool
     ensures { IsTrue result ↔ All (λ named. named < bound) (named_types (inner_view inner.now)) }
 {
@@ -38,7 +38,7 @@ fn names_below(inner: &TypeInner, bound: usize) -> bool
     }
 }
 
-// What the type at a place is made of.
+// The inner type at an index.
 #[tactic(auto, using(crate::proofs::Orders::type_found))]
 pub(crate) fn type_at(types: &UniqueArena<IrType, key::IrType>, place: usize) -> &TypeInner
     requires within { place < length types.now }
@@ -48,7 +48,7 @@ pub(crate) fn type_at(types: &UniqueArena<IrType, key::IrType>, place: usize) ->
     &types[Handle::at(place)].inner
 }
 
-/// Whether each type names only types before it, as the handle step requires. Calls that go along the types of elements
+/// Whether each type refers only to earlier types, as handle validation requires. Functions that follow the types of elements
 /// or members require it.
 pub fn types_go_back(types: &UniqueArena<IrType, key::IrType>) -> bool
     ensures { IsTrue result ↔ TypesGoBack (types_view types.now) }

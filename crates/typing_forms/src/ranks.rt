@@ -5,9 +5,9 @@ ghost use Rattle.typing_forms.specs.judged.Ranks.{rank_in, float_ranks, integer_
 
 use ir_kinds::{Scalar, ScalarKind};
 
-/// The rank at which a value of `from` is taken where one of `to` is wanted, the lower the better; `None` where it is
-/// not taken (naga's `conversion_rank`). The rank of a scalar for itself is 0. Of the others only the abstract integer
-/// and the abstract float are taken, for scalars that can hold their values.
+/// The rank of the conversion from `from` to the other scalar, the lower the better; `None` if there is
+/// no conversion (naga's `conversion_rank`). The rank of a scalar to itself is 0. Otherwise only abstract integers
+/// and abstract floats convert, to scalars that can represent their values.
 pub fn conversion_rank(from: Scalar, to: Scalar) -> Option<u32>
     ensures { result ≡ rank from to }
 {
@@ -17,7 +17,7 @@ pub fn conversion_rank(from: Scalar, to: Scalar) -> Option<u32>
     converted_rank(from, to)
 }
 
-/// As [`conversion_rank`], without a rank of a scalar for itself: it needs no conversion.
+/// As [`conversion_rank`], without the rank of a scalar to itself: it needs no conversion.
 pub fn converted_rank(from: Scalar, to: Scalar) -> Option<u32>
     ensures { result ≡ conversion from to }
 {
@@ -28,7 +28,7 @@ pub fn converted_rank(from: Scalar, to: Scalar) -> Option<u32>
     }
 }
 
-// The rank of an abstract integer for a scalar.
+// The rank of the conversion of an abstract integer to a scalar.
 fn integer_rank(to: Scalar) -> Option<u32>
     ensures { result ≡ rank_in integer_ranks to }
 {
@@ -47,7 +47,7 @@ fn integer_rank(to: Scalar) -> Option<u32>
     }
 }
 
-// The rank of an abstract float for a scalar.
+// The rank of the conversion of an abstract float to a scalar.
 fn float_rank(to: Scalar) -> Option<u32>
     ensures { result ≡ rank_in float_ranks to }
 {

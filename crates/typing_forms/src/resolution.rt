@@ -1,4 +1,4 @@
-//! What the type of an expression is given as.
+//! Type resolutions of expressions.
 
 ghost use Rattle.std.specs.Prelude.{◌≡◌, ◌↔◌, IsTrue, Some, length, IfOk};
 ghost use Rattle.ir_types.specs.judged.Plain.{inner_view};
@@ -12,14 +12,14 @@ use std::alloc::{AllocError, Global};
 /// The type of an expression (naga's `TypeResolution`).
 #[derive(PartialEq, Debug, Drop)]
 pub enum TypeResolution {
-    /// A type of the module.
+    /// A type of the module, by handle.
     Handle(Handle<key::IrType>),
-    /// A type that the module need not have, by what it is made of. It is no struct.
+    /// A type that need not be in the module's arena, by its inner type. It is no struct.
     Value(TypeInner),
 }
 
 impl TypeResolution {
-    /// The handle of the type, where it is given by one (naga's `TypeResolution::handle`).
+    /// The handle of the type, if it is given by one (naga's `TypeResolution::handle`).
     pub const fn handle(&self) -> Option<Handle<key::IrType>>
         ensures { result ≡ handle_of (resolution_view self.now) }
     {
@@ -29,7 +29,7 @@ impl TypeResolution {
         }
     }
 
-    /// Whether the type is there: given by a handle, it is one of `types`.
+    /// Whether the type exists: given by a handle, it is in `types`.
     pub fn is_among(&self, types: &UniqueArena<IrType, key::IrType>) -> bool
         ensures { IsTrue result ↔ IsAmong (length types.now) (resolution_view self.now) }
     {
@@ -39,7 +39,7 @@ impl TypeResolution {
         }
     }
 
-    /// What the type is made of, lent by the arena or by the resolution itself (naga's
+    /// The inner type, borrowed from the arena or from the resolution itself (naga's
     /// `TypeResolution::inner_with`).
     #[tactic(auto, using(crate::proofs::Lookups::inner_found))]
     pub fn inner_with<'a>(&'a self, types: &'a UniqueArena<IrType, key::IrType>) -> &'a TypeInner
@@ -52,7 +52,7 @@ impl TypeResolution {
         }
     }
 
-    /// An equal resolution in memory of its own (naga's `TypeResolution::clone`). The error is out of memory.
+    /// A deep copy (naga's `TypeResolution::clone`). The error is out of memory.
     pub fn clone(&self, alloc: Global) -> Result<TypeResolution, AllocError>
         ensures { IfOk result (λ copy. resolution_view copy ≡ resolution_view self.now) }
     {

@@ -1,4 +1,4 @@
-//! What is built of a scalar, and what its kind is.
+//! Types built from a scalar, and properties of scalar kinds.
 
 ghost use Rattle.std.specs.Prelude.{◌≡◌, ◌≢◌, ◌↔◌, IsTrue};
 ghost use Rattle.ir_kinds.specs.declared.scalars.Scalar.{Scalar};
@@ -10,7 +10,7 @@ ghost use Rattle.ir_types.specs.declared.types.TypeInner.TheVariants as inner;
 use ir_kinds::{Scalar, ScalarKind, VectorSize};
 use ir_types::TypeInner;
 
-/// The types that are built of one scalar (calls of naga's `Scalar`).
+/// The types that are built from one scalar (methods of naga's `Scalar`).
 pub trait ScalarExt: Sized {
     /// The scalar itself.
     ghost scalar_of: { Self → Scalar };
@@ -44,12 +44,12 @@ impl ScalarExt for Scalar {
     }
 }
 
-/// What a kind of scalar is (a call of naga's `ScalarKind`).
+/// Properties of a scalar kind (methods of naga's `ScalarKind`).
 pub trait ScalarKindExt: Sized {
     /// The kind itself.
     ghost kind_of: { Self → ScalarKind };
 
-    /// Whether values are numbers: all but truth values (naga's `ScalarKind::is_numeric`).
+    /// Whether the kind is numeric: any but `Bool` (naga's `ScalarKind::is_numeric`).
     fn is_numeric(self) -> bool
         ensures { IsTrue result ↔ (kind_of self ≢ kind.Bool) };
 }

@@ -1,4 +1,4 @@
-//! How many bytes a value takes.
+//! Sizes of types in bytes.
 
 ghost use Rattle.std.specs.Prelude.{◌≡◌, ◌*◌, ◌≤◌, ◌<◌, ◌^◌};
 ghost use Rattle.ir_types.specs.judged.Plain.{inner_view};
@@ -22,7 +22,7 @@ fn column_size(rows: VectorSize, width: u8) -> u64
     }
 }
 
-// How many columns or rows a cooperative matrix has.
+// The number of columns or rows of a cooperative matrix.
 fn cooperative_count(size: CooperativeSize) -> u64
     ensures { result ≡ cooperative_count size }
 {
@@ -32,7 +32,7 @@ fn cooperative_count(size: CooperativeSize) -> u64
     }
 }
 
-// How many elements count: one where the number isn't known.
+// The number of elements for a size: one if it isn't known.
 fn counted(size: ArraySize) -> u64
     ensures value { result ≡ counted size }
     ensures in_range { result < 2 ^ 32 }

@@ -1,4 +1,4 @@
-//! The calls of types: what a type is built of, and what can be done with it.
+//! Methods of types: what a type consists of, and what operations it allows.
 
 ghost use Rattle.std.specs.Prelude.{◌≡◌, ◌↔◌, IsTrue, IfSome, IfNone, IfOk, None, option_map};
 ghost use Rattle.ir_kinds.specs.declared.scalars.Scalar.{Scalar};
@@ -27,24 +27,24 @@ use ir_sets::unique_arena::UniqueArena;
 use ir_types::{ArraySize, IrType, TypeInner, key};
 use std::alloc::{AllocError, Global};
 
-/// What can be queried of a type (calls of naga's `TypeInner`). Where a call takes `types`, these are the module's.
+/// Queries on a type (methods of naga's `TypeInner`). A parameter `types` is the module's types.
 pub trait TypeInnerExt: Sized {
-    /// What the type is made of.
+    /// The inner type.
     ghost made_of: { Self → PlainInner };
 
-    /// The scalar of a scalar, a vector or a matrix of either kind (naga's `TypeInner::scalar`).
+    /// The scalar of a scalar, a vector, a matrix or a cooperative matrix (naga's `TypeInner::scalar`).
     fn scalar(&self) -> Option<Scalar>
         ensures { result ≡ scalar_of (made_of self.now) };
 
-    /// What that scalar counts or tells (naga's `TypeInner::scalar_kind`).
+    /// The kind of that scalar (naga's `TypeInner::scalar_kind`).
     fn scalar_kind(&self) -> Option<ScalarKind>
         ensures { result ≡ scalar_kind_of (made_of self.now) };
 
-    /// How many bytes a value of that scalar takes (naga's `TypeInner::scalar_width`).
+    /// The width of that scalar in bytes (naga's `TypeInner::scalar_width`).
     fn scalar_width(&self) -> Option<Bytes>
         ensures { result ≡ scalar_width_of (made_of self.now) };
 
-    /// The scalar that a conversion of a value changes: that of a scalar, a vector or a matrix, or of the elements of an
+    /// The scalar that a conversion changes: that of a scalar, a vector or a matrix, or of the elements of an
     /// array, at any depth (naga's `TypeInner::scalar_for_conversions`).
     fn scalar_for_conversions(&self, types: &UniqueArena<IrType, key::IrType>) -> Option<Scalar>
         requires { TypesGoBack (types_view types.now) }
@@ -55,22 +55,22 @@ pub trait TypeInnerExt: Sized {
     fn vector_size_and_scalar(&self) -> Option<(Option<VectorSize>, Scalar)>
         ensures { result ≡ size_and_scalar (made_of self.now) };
 
-    /// How many components a value is composed of: those of a vector, the columns of a matrix, the elements of an array
+    /// The number of components to compose a value from: those of a vector, the columns of a matrix, the elements of an array
     /// of a constant length, the members of a struct (naga's `TypeInner::components`).
     fn components(&self) -> Option<usize>
         ensures { result ≡ components_of (made_of self.now) };
 
-    /// The type of the component at `index`, of what has components (naga's `TypeInner::component_type`). Those of a
-    /// vector, a matrix or an array have one type, so that `index` says nothing there; a struct has none past its last
+    /// The type of the component at `index` (naga's `TypeInner::component_type`). The components of a
+    /// vector, a matrix or an array have one type, so `index` has no effect there; a struct has none past its last
     /// member.
     fn component_type(&self, index: usize) -> Option<TypeResolution>
         ensures { option_map resolution_view result ≡ component_at (made_of self.now) index };
 
-    /// Where a pointer points (naga's `TypeInner::pointer_space`).
+    /// The address space of a pointer (naga's `TypeInner::pointer_space`).
     fn pointer_space(&self) -> Option<AddressSpace>
         ensures { result ≡ space_of (made_of self.now) };
 
-    /// The type of what a pointer points to (naga's `TypeInner::pointer_base_type`).
+    /// The base type of a pointer (naga's `TypeInner::pointer_base_type`).
     fn pointer_base_type(&self) -> Option<TypeResolution>
         ensures { option_map resolution_view result ≡ pointee_of (made_of self.now) };
 
@@ -78,17 +78,17 @@ pub trait TypeInnerExt: Sized {
     fn is_atomic_pointer(&self, types: &UniqueArena<IrType, key::IrType>) -> bool
         ensures { result ≡ points_to_atomic (types_view types.now) (made_of self.now) };
 
-    /// The size of a value in bytes, where it is at most [`MAX_TYPE_SIZE`] (naga's `TypeInner::try_size`). An array
-    /// counts one element where their number isn't known.
+    /// The size of a value in bytes, if it is at most [`MAX_TYPE_SIZE`] (naga's `TypeInner::try_size`). An array of unknown
+    /// length counts as one element.
     fn try_size(&self) -> Option<u64>
         ensures { result ≡ allowed (type_size (made_of self.now)) };
 
-    /// The size of a value in bytes, however large (naga's `TypeInner::size`). An array counts one element where their
-    /// number isn't known.
+    /// The size of a value in bytes, however large (naga's `TypeInner::size`). An array of unknown length counts as one
+    /// element.
     fn size(&self) -> u64
         ensures { result ≡ type_size (made_of self.now) };
 
-    /// The canonical form of a type that isn't in it: of a pointer to a scalar or a vector its value pointer (naga's
+    /// The canonical form of a type that isn't canonical: the value pointer of a pointer to a scalar or a vector (naga's
     /// `TypeInner::canonical_form`).
     fn canonical_form(&self, types: &UniqueArena<IrType, key::IrType>) -> Option<TypeInner>
         ensures { option_map inner_view result ≡ canonical (types_view types.now) (made_of self.now) };
@@ -100,14 +100,14 @@ pub trait TypeInnerExt: Sized {
             ↔ (form_in (types_view types.now) None (made_of self.now)
             ≡ form_in (types_view types.now) None (made_of rhs.now)) };
 
-    /// Whether only a buffer says how large a value is: of a runtime-sized array, and of a struct that ends in one
+    /// Whether the size is known at run time only: a runtime-sized array, or a struct that ends in one
     /// (naga's `TypeInner::is_dynamically_sized`).
     fn is_dynamically_sized(&self, types: &UniqueArena<IrType, key::IrType>) -> bool
         requires { TypesGoBack (types_view types.now) }
         ensures { IsTrue result ↔ IsDynamicallySized (types_view types.now) (made_of self.now) };
 
-    /// Whether a value can be composed (naga's `TypeInner::is_constructible`). Each type is visited once, which takes
-    /// memory for a mark of each: the error is want of it.
+    /// Whether values can be constructed (naga's `TypeInner::is_constructible`). Each type is visited once, which takes
+    /// memory for one entry each: the error is out of memory.
     fn is_constructible(
         &self,
         alloc: Global,
@@ -116,14 +116,14 @@ pub trait TypeInnerExt: Sized {
         requires { TypesGoBack (types_view types.now) }
         ensures { IfOk result (λ b. IsTrue b ↔ IsConstructible (types_view types.now) (made_of self.now)) };
 
-    /// Whether values hold WGSL's abstract numbers (naga's `TypeInner::is_abstract`).
+    /// Whether values hold abstract numbers of WGSL (naga's `TypeInner::is_abstract`).
     fn is_abstract(&self, types: &UniqueArena<IrType, key::IrType>) -> bool
         requires { TypesGoBack (types_view types.now) }
         ensures { IsTrue result ↔ IsAbstract (types_view types.now) (made_of self.now) };
 
-    /// The scalar that a value holds and the one that is wanted, where the value is converted to the type `goal` without
-    /// being checked: the types differ in their scalars alone, and the one has a rank for the other (naga's
-    /// `TypeInner::automatically_converts_to`). Where arrays put their elements doesn't count.
+    /// The source and target scalars of an automatic conversion to the type `goal`, which is not
+    /// checked for overflow: the types differ in their scalars only, and the conversion has a rank (naga's
+    /// `TypeInner::automatically_converts_to`). Array strides don't matter.
     fn automatically_converts_to(
         &self,
         goal: &Self,
@@ -134,18 +134,18 @@ pub trait TypeInnerExt: Sized {
         ensures none { IfNone result ((s t : Scalar)
             → SameShape (types_view types.now) (made_of self.now) (made_of goal.now) s t → conversion s t ≡ None) };
 
-    /// The dimension of the storage images that take a value as a coordinate (naga's
-    /// `TypeInner::image_storage_coordinates`): an integer `D1`, vectors of two and three of them `D2` and `D3`.
+    /// The dimension of the storage images that take a value of this type as a coordinate (naga's
+    /// `TypeInner::image_storage_coordinates`): an integer `D1`, integer vectors of size two and three `D2` and `D3`.
     fn image_storage_coordinates(&self) -> Option<ImageDimension>
         ensures { result ≡ storage_dimension (made_of self.now) };
 
-    /// How many elements there are to index, also through a pointer to what has them (naga's
+    /// The indexable length of the type, or of what a pointer points to (naga's
     /// `TypeInner::indexable_length`).
     ///
     /// # Errors
     ///
-    /// [`IndexableLengthError::TypeNotIndexable`] where there are none, [`IndexableLengthError::Pending`] where an
-    /// override will say how many.
+    /// [`IndexableLengthError::TypeNotIndexable`] if it can't be indexed, [`IndexableLengthError::Pending`] if the length
+    /// depends on an override.
     fn indexable_length(
         &self,
         types: &UniqueArena<IrType, key::IrType>,
@@ -153,7 +153,7 @@ pub trait TypeInnerExt: Sized {
         ensures { result ≡ length_of (types_view types.now) (made_of self.now) };
 }
 
-// The dimension of an image with so many coordinates, where they are integers.
+// The dimension of an image with this many integer coordinates.
 const fn dimension_of(kind: ScalarKind, dim: ImageDimension) -> Option<ImageDimension>
     ensures { result ≡ dimension_of kind dim }
 {

@@ -1,4 +1,4 @@
--- Calls that pass another number of arguments, found in a body.
+-- Calls with a wrong number of arguments in a body.
 use Rattle.std.proofs.Common.{◌≡◌, ◌≢◌, ◌==◌, ℕ, List, length, Bool, true, false, true≢false, if◌then◌else◌, Option, Some, None, refl, sym, ap, ◌∙◌, subst, slice_get}
 use Rattle.std.proofs.lemmas.Bool.{eq-eqb, eqb-true}
 use Rattle.ir_blocks.specs.judged.Plain.{PlainStatement, call}
@@ -10,7 +10,7 @@ use Rattle.spec_expressions.specs.judged.CallArities.{AritiesMatch}
 use Rattle.typing_handles.specs.Tests.{count_of, fault_at, wrong_count, arity_fault_of, PassesWrongCount}
 use Rattle.typing_handles.specs.declared.arities.ArityFault.{ArityFault}
 
--- ---- none is found
+-- ---- no such call
 
 none_counted : (function seen : ℕ) (o : Option ℕ) → wrong_count function seen o ≡ None → o ≡ Some seen
 none_counted function seen None e = absurd (let x = e in cc)
@@ -28,7 +28,7 @@ pub arities : (m : PlainModule) (f : PlainFunction) → ((p : Place) (s : PlainS
 arities m f none p callee arguments result stands =
     counted_function (slice_get m.functions callee) (length arguments) (none_counted callee (length arguments) (count_of (slice_get m.functions callee)) (none p (call callee arguments result) stands))
 
--- ---- one is found
+-- ---- some such call
 
 record Counted (m : PlainModule) (s : PlainStatement) (x : ArityFault) : Type 0 where
   pub arguments : List ℕ
@@ -79,7 +79,7 @@ wrong_refutes m f x p w ok =
     let c = ok p x.function w.arguments w.answer w.stands in
     w.differs (w.has ∙ ap count_of c.1 ∙ ap Some (sym c.2 ∙ sym w.passed))
 
--- ---- by what is found first
+-- ---- by the first such call
 
 pub none_first : (m : PlainModule) (f : PlainFunction) → first_in (arity_fault_of m) f.body ≡ None → AritiesMatch m f
 none_first m f e = arities m f (λ p s stands. none_at (arity_fault_of m) p f.body e s stands)

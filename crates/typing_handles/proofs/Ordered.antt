@@ -1,4 +1,4 @@
--- A module whose handles are in order gives what is required after.
+-- A module with valid handles satisfies what later passes require.
 use Rattle.std.proofs.Common.{◌≡◌, ℕ, ◌<◌, List, Some, sym, subst, slice_get, length, All, Contains}
 use Rattle.std.proofs.lemmas.List.Elements.{All-contains_itself}
 use Rattle.ir_types.specs.judged.ExpressionPlain.{PlainExpression}

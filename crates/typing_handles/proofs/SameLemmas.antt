@@ -1,4 +1,4 @@
--- The rows of operands with their uses have the handles of the rows without.
+-- The operand lists with uses have the handles of the lists without.
 use Rattle.std.proofs.Common.{◌≡◌, inl, inr, ℕ, ◌<◌, List, ◌∷◌, map, Option, Some, None, option_map, All, refl, sym, ap, subst, []}
 use Rattle.std.specs.List.{cons_option}
 use Rattle.std.proofs.lemmas.List.Elements.{All-cons, All-nil, All-head, All-tail}
@@ -11,7 +11,7 @@ use Rattle.spec_expressions.specs.declared.operand.Slot.{Slot}
 use Rattle.spec_expressions.specs.declared.operand.Usage.{Usage}
 use Rattle.typing_handles.specs.SameOperands.{handles_of, SameOperands, SameOrder}
 
--- of one operand, if it is given, before others
+-- one optional operand, followed by others
 by_one : (usage : Usage) (handle : Option ℕ) (rest : List Operand) (more : List ℕ) → handles_of rest ≡ more
     → handles_of (cons_option (option_map (operand usage) handle) rest) ≡ cons_option handle more
 by_one usage None rest more e = e
@@ -32,7 +32,7 @@ same (each_of when handles) = all_read handles
 pub same_operands : SameOperands
 same_operands x = same (expression_slots x)
 
--- ---- membership in the one form and in the other
+-- ---- membership in either form
 
 among_all : (end : ℕ) (xs : List Operand) → All (λ o. o < end) (handles_of xs) → (operand : Operand) → IsAmong operand xs → operand.handle < end
 among_all end (y ∷ ys) all operand (inl same) =

@@ -1,4 +1,4 @@
--- What a module whose handles are in order gives to the steps after: what layouts, types and the analysis of functions require.
+-- What a module with valid handles guarantees to later passes: layout, typing and the analysis of functions.
 use Rattle.std.specs.Prelude.{◌≡◌, ℕ, Some, length, slice_get}
 use Rattle.ir_items.specs.judged.Plain.{PlainFunction, PlainEntry, PlainModule}
 use Rattle.ir_items.specs.found.Filters.{ParentsPrecede}
@@ -6,7 +6,7 @@ use Rattle.spec_expressions.specs.judged.FunctionHandles.{HandlesInRange, Operan
 use Rattle.spec_expressions.specs.judged.ModuleHandles.{HandlesOK}
 use Rattle.typing_forms.specs.judged.Order.{TypesGoBack}
 
--- what the analysis requires of a function before which so many functions stand, beside the parents of filters and the arities
+-- what the analysis requires of a function at this index, besides the parents of filters and the arities
 -- of calls
 pub record FunctionConditions (m : PlainModule) (before : ℕ) (f : PlainFunction) : Type 0 where
   pub in_range : HandlesInRange m f

@@ -1,4 +1,4 @@
--- The operands of an expression are the same, with the uses that they make and without.
+-- The operands of an expression are the same, with and without their uses.
 use Rattle.std.specs.Prelude.{◌≡◌, ◌↔◌, ℕ, List, map}
 use Rattle.ir_types.specs.judged.ExpressionPlain.{PlainExpression}
 use Rattle.spec_expressions.specs.judged.OperandUses.{Operand, expression_uses}
@@ -9,10 +9,10 @@ use Rattle.spec_expressions.specs.judged.ExpressionNames.{expression_operands}
 abbrev pub handles_of : List Operand → List ℕ
 handles_of operands = map (λ (o : Operand). o.handle) operands
 
--- the handles of the operands with their uses are the operands
+-- the handles of the operands with uses are the operands
 abbrev pub SameOperands : Type 0
 SameOperands = (x : PlainExpression) → handles_of (expression_uses x) ≡ expression_operands x
 
--- so the operands precede in the one sense exactly where they do in the other
+-- so the operands precede in the one sense exactly if they do in the other
 abbrev pub SameOrder : Type 0
 SameOrder = (expressions : List PlainExpression) → OperandsPrecede expressions ↔ UsesPrecede expressions

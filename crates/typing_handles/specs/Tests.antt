@@ -1,11 +1,11 @@
--- Calls that pass another number of arguments than their functions have: the first, found step by step, and what is found.
+-- Calls with a wrong number of arguments: the first, computed step by step, and what the fault states.
 use Rattle.std.specs.Prelude.{◌≡◌, ◌≢◌, ◌==◌, ℕ, List, length, if◌then◌else◌, Option, Some, None, slice_get}
 use Rattle.ir_blocks.specs.judged.Places.{Place, OccursAt}
 use Rattle.ir_blocks.specs.judged.Plain.{PlainStatement, emit, block, if_, switch, loop, break, continue, return, kill, operation, call}
 use Rattle.ir_items.specs.judged.Plain.{PlainFunction, PlainModule}
 use Rattle.typing_handles.specs.declared.arities.ArityFault.{ArityFault}
 
--- how many arguments a function has, if it is there
+-- the number of arguments of a function, if it exists
 abbrev pub count_of : Option PlainFunction → Option ℕ
 count_of None = None
 count_of (Some f) = Some (length f.arguments)
@@ -13,7 +13,7 @@ count_of (Some f) = Some (length f.arguments)
 abbrev pub fault_at : (function : ℕ) → (required : Option ℕ) → (seen : ℕ) → ArityFault
 fault_at function required seen = record { function = function; required = required; seen = seen }
 
--- so many are passed to a function that has so many
+-- this number of arguments is passed, and the function has as many
 abbrev pub wrong_count : (function seen : ℕ) → (required : Option ℕ) → Option ArityFault
 wrong_count function seen None = Some (fault_at function None seen)
 wrong_count function seen (Some required) = if required == seen then None else Some (fault_at function (Some required) seen)
@@ -31,7 +31,7 @@ arity_fault_of m kill = None
 arity_fault_of m (operation a) = None
 arity_fault_of m (call function arguments result) = wrong_count function (length arguments) (count_of (slice_get m.functions function))
 
--- The call at the place passes so many arguments to a function that is not there, or has another number.
+-- The call at the place passes this many arguments to a function that does not exist, or has another number.
 pub record PassesWrongCount (m : PlainModule) (f : PlainFunction) (x : ArityFault) (place : Place) : Type 0 where
   pub arguments : List ℕ
   pub answer : Option ℕ

@@ -13,18 +13,18 @@ use ir_items::{Function, Module, Statement, key};
 use ir_places::Trail;
 use typing_references::{StatementLook, first_in, placed_in};
 
-/// A call that passes another number of arguments than its function has.
+/// A call that passes a wrong number of arguments.
 #[derive(Clone, Copy, PartialEq, Eq, Debug)]
 pub struct ArityFault {
-    /// The function that is called.
+    /// The callee.
     pub function: Handle<key::Function>,
-    /// How many it has, or `None` where it is not there.
+    /// Its number of arguments, or `None` if the callee does not exist.
     pub required: Option<usize>,
-    /// How many are passed.
+    /// The number of arguments passed.
     pub seen: usize,
 }
 
-// The function at a handle, if it is there.
+// The function at a handle, if it exists.
 #[tactic(auto, using(typing_references::proofs::Entries::entries))]
 fn function_at(module: &Module, handle: Handle<key::Function>) -> Option<&Function>
     ensures { option_map (λ f. function_view f.now) result ≡ slice_get (module_view «module».now).functions handle }
@@ -35,7 +35,7 @@ fn function_at(module: &Module, handle: Handle<key::Function>) -> Option<&Functi
     }
 }
 
-// How many arguments the function at a handle has, if it is there.
+// The number of arguments of the function at a handle, if it exists.
 fn count_of(module: &Module, handle: Handle<key::Function>) -> Option<usize>
     ensures { result ≡ count_of (slice_get (module_view «module».now).functions handle) }
 {
@@ -45,7 +45,7 @@ fn count_of(module: &Module, handle: Handle<key::Function>) -> Option<usize>
     }
 }
 
-// A fault, where another number is passed than the function has, or it is not there.
+// The fault, if the number of arguments is wrong or the function does not exist.
 fn wrong_count(
     function: Handle<key::Function>,
     seen: usize,
@@ -71,7 +71,7 @@ fn wrong_count(
     }
 }
 
-// Calls that don't pass as many arguments as their functions have.
+// Calls with a wrong number of arguments.
 #[derive(Drop)]
 struct Arity<'a> {
     module: &'a Module,
@@ -111,8 +111,8 @@ fn first_fault(function: &Function, module: &Module) -> Option<ArityFault>
     first_in(&arity, &function.body)
 }
 
-/// A call of a function that passes another number of arguments than the function that it names has, or names none that is
-/// there, where the trail leads (the first in the order of the text, which no clause says); `None` where there is no such call.
+/// A call that passes a wrong number of arguments or names a function that does not
+/// exist, at the trail's place (the first in program order, which no clause states); `None` if there is no such call.
 pub fn arity_fault(trail: &mut Trail, function: &Function, module: &Module) -> Option<ArityFault>
     ensures { MatchOption result
         (AritiesMatch (module_view «module».now) (function_view function.now))
@@ -125,7 +125,7 @@ pub fn arity_fault(trail: &mut Trail, function: &Function, module: &Module) -> O
     }
 }
 
-/// Whether each function that a call of the function names is there and has as many arguments as are passed.
+/// Whether the callee of each call of the function exists and has as many arguments as are passed.
 pub fn arities_match(function: &Function, module: &Module) -> bool
     ensures { IsTrue result ↔ AritiesMatch (module_view «module».now) (function_view function.now) }
 {

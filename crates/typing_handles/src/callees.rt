@@ -1,4 +1,4 @@
-//! Whether the functions that a function names come before it.
+//! Whether the functions that a function refers to come before it.
 
 ghost use Rattle.std.specs.Prelude.{◌↔◌, IsTrue};
 ghost use Rattle.ir_items.specs.found.View.{function_view};
@@ -7,8 +7,8 @@ ghost use Rattle.spec_expressions.specs.judged.FunctionHandles.{CalleesPrecede};
 use ir_items::{Function, Module};
 use typing_references::forward_callee;
 
-/// Whether each function that the function names, by a call or by what denotes the answer of one, is one of the first
-/// `before` of its module: as many as come before a function, all for an entry point.
+/// Whether each function that the function refers to, by a call or by a call result, is one of the first
+/// `before` functions of its module: for a function those before it, for an entry point all.
 pub fn callees_precede(function: &Function, _module: &Module, before: usize) -> bool
     ensures { IsTrue result ↔ CalleesPrecede before (function_view function.now) }
 {

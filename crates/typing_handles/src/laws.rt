@@ -1,9 +1,9 @@
-//! Laws of modules whose handles are in order.
+//! Laws of modules with valid handles.
 
 ghost use Rattle.typing_handles.specs.Conditions.{OrderGivesConditions};
 
-/// A module whose handles are in order has what the steps after require: types go back, as layouts, infos and checks of
-/// types require; parents of filters and operands of expressions precede; and the handles of each function are in range, and its
+/// A module with valid handles satisfies what later passes require: types refer to earlier types, as layout, info and validation
+/// of types require; filter parents and operands precede; and the handles of each function are in range, and its
 /// callees precede, as the analysis of functions requires.
 pub fn order_gives_conditions()
     ensures { OrderGivesConditions }

@@ -1,10 +1,10 @@
-//! Whether the handles of a function are in order: what the analysis of a function requires of it. The tests take no memory.
+//! Whether the handles of a function are valid: what the analysis of a function requires. The tests allocate nothing.
 //!
 //! [`handles_in_range`], [`operands_precede`], [`callees_precede`], [`filter_parents_precede`], [`arities_match`]; and
-//! [`arity_fault`], which tells the first call that fails the last.
+//! [`arity_fault`], which reports the first call for which `arities_match` fails.
 //!
-//! What a module whose handles are in order gives to layouts, to types and to the analysis of functions, as they require it
-//! ([`laws`]): types go back, filters come after their parents, and operands and callees precede.
+//! What a module with valid handles guarantees to layout, typing and the analysis of functions
+//! ([`laws`]): types refer to earlier types, filters come after their parents, and operands and callees precede.
 #![tactic(auto)]
 
 mod arities;

@@ -1,13 +1,13 @@
-//! Laws of the conditions.
+//! Laws of the handle conditions.
 
 ghost use Rattle.typing_handles.specs.SameOperands.{SameOperands, SameOrder};
 
-/// The operands of an expression are those of the analysis, the uses that they make aside.
+/// The operands of an expression are those of the analysis, without their uses.
 pub fn same_operands()
     ensures { SameOperands }
 {}
 
-/// The operands of expressions precede in the sense of [`crate::operands_precede`] exactly where they do in that of the
+/// The operands of expressions precede in the sense of [`crate::operands_precede`] exactly if they do in that of the
 /// analysis.
 pub fn same_order()
     ensures { SameOrder }

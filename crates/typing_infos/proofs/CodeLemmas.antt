@@ -1,4 +1,4 @@
--- Codes tell pairs apart.
+-- Codes distinguish pairs.
 use Rattle.std.proofs.Common.{◌≡◌, ℕ, ◌+◌, ◌*◌, Bool, true, false, cond, true≢false, ◌||◌, List, [], ◌∷◌, ◌++◌, refl, sym, ap, subst, ◌∙◌, arith}
 use Rattle.std.proofs.lemmas.List.Folds.{list_any-append}
 use Rattle.std.proofs.lemmas.Map.Lookups.{exact_pairs, exact_unsigned}
@@ -31,7 +31,7 @@ exact_code p q e = λ i. (exact_part p.0 q.0 (ap (λ (c : ℕ × ℕ). c.0) e) i
 tied : (c : ℕ × ℕ) → code_cmp c c ≡ Equal
 tied c = λ i. ordering_then (tied_itself nat_cmp_total c.0 i) (tied_itself nat_cmp_total c.1 i)
 
--- codes are at one place exactly where the pairs are equal
+-- a code is in the list exactly if the pair is
 pub codes_tie : (p q : SamplingPair) → is_eq (code_cmp (code_of p) (code_of q)) ≡ pair_eq q p
 codes_tie p q = both_ways (is_eq (code_cmp (code_of p) (code_of q))) (pair_eq q p)
     (λ e. let same : p ≡ q = exact_code p q (exact_pairs nat_cmp nat_cmp exact_unsigned exact_unsigned (code_of p) (code_of q) (equal_by (code_cmp (code_of p) (code_of q)) e)) in
@@ -44,7 +44,7 @@ last true false = refl
 last false true = refl
 last false false = refl
 
--- the code of one more pair is put in
+-- the code of one more pair is inserted
 pub one_coded : (old new : BTreeSet (ℕ × ℕ)) (pairs : List SamplingPair) (p : SamplingPair)
     → ((c : ℕ × ℕ) → contains code_cmp new c ≡ cond (is_eq (code_cmp (code_of p) c)) true (contains code_cmp old c))
     → IsIndexOf old pairs → IsIndexOf new (pairs ++ p ∷ [])

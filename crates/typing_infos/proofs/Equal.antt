@@ -1,4 +1,4 @@
--- Pairs that are equal are the same.
+-- `==` of pairs is equality.
 use Rattle.std.proofs.Common.{◌≡◌, Bool, true, false, true≢false, ◌&&◌, refl, sym, ap}
 use Rattle.std.specs.Prelude.{eqb}
 use Rattle.std.proofs.lemmas.Bool.{eqb-true, eq-eqb}

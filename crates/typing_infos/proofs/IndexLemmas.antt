@@ -1,4 +1,4 @@
--- The codes of values are put into a set one after the other.
+-- The codes of values are inserted into a set one after another.
 use Rattle.std.proofs.Common.{◌≡◌, ℕ, zero, suc, ◌+◌, ◌<◌, ◌≤◌, Bool, true, false, cond, ◌||◌, List, [], ◌∷◌, length, drop, get_or, refl, sym, ap, ◌∙◌, subst, arith}
 use Rattle.std.specs.BTreeSet.{BTreeSet, contains}
 use Rattle.std.specs.List.{list_any}
@@ -22,11 +22,11 @@ at_place [] i x q lt is = absurd (omega (arith, lt))
 at_place (v ∷ values) zero x q lt is = ap (λ z. pair_eq q z || list_any (pair_eq q) values) (sym is)
 at_place (v ∷ values) (suc i) x q lt is = at_place values i x q (omega (arith, lt)) is
 
--- what the codes have, or the values from this place on
+-- the codes in the set, or of the values from this index on
 abbrev pub AreAll : (codes : BTreeSet (ℕ × ℕ)) → (values : List SamplingPair) → ℕ → Type 0
 AreAll codes values i = (q : SamplingPair) → (contains code_cmp codes (code_of q) || list_any (pair_eq q) (drop i values)) ≡ list_any (pair_eq q) values
 
--- the code of one more value is put in
+-- the code of one more value is inserted
 pub one_put : (old new : BTreeSet (ℕ × ℕ)) (values : List SamplingPair) (i j : ℕ) (x : SamplingPair) → j ≡ suc i → i < length values → x ≡ get_or values i x
     → ((c : ℕ × ℕ) → contains code_cmp new c ≡ cond (is_eq (code_cmp (code_of x) c)) true (contains code_cmp old c))
     → AreAll old values i → AreAll new values j
@@ -45,7 +45,7 @@ drop_all [] (suc i) le = refl
 drop_all (v ∷ values) zero le = absurd (omega (arith, le))
 drop_all (v ∷ values) (suc i) le = drop_all values i (omega (arith, le))
 
--- all are put
+-- all are inserted
 pub all_put : (codes : BTreeSet (ℕ × ℕ)) (values : List SamplingPair) (i : ℕ) → length values ≤ i → AreAll codes values i → IsIndexOf codes values
 all_put codes values i le all = λ q.
     let had = contains code_cmp codes (code_of q) in

@@ -1,16 +1,16 @@
--- A place is marked, one place more at a time.
+-- An index is marked, step by step.
 use Rattle.std.proofs.Common.{◌≡◌, ℕ, zero, suc, ◌+◌, ◌<◌, ◌≤◌, Bool, true, false, List, [], ◌∷◌, ◌++◌, length, refl, sym, ap, ◌∙◌, arith}
 use Rattle.std.specs.Prelude.{slice_set}
 use Rattle.typing_infos.specs.Marks.{marked_at}
 
--- one place more, up to the one that is marked, makes no difference
+-- extending by one more, up to the marked index, makes no difference
 pub one_place_more : (marks : List Bool) (place : ℕ) → length marks ≤ place → marked_at (marks ++ false ∷ []) place ≡ marked_at marks place
 one_place_more [] zero le = refl
 one_place_more [] (suc place) le = refl
 one_place_more (m ∷ marks) zero le = absurd (omega (arith, le))
 one_place_more (m ∷ marks) (suc place) le = ap (λ l. m ∷ l) (one_place_more marks place (omega (arith, le)))
 
--- a place that is there is set
+-- a mark in the list is set
 pub set_there : (marks : List Bool) (place : ℕ) → place < length marks → slice_set marks place true ≡ marked_at marks place
 set_there [] place lt = absurd (omega (arith, lt))
 set_there (m ∷ marks) zero lt = refl

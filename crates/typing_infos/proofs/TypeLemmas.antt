@@ -1,4 +1,4 @@
--- Types of expressions, one after the other.
+-- Types of expressions, one after another.
 use Rattle.std.proofs.Common.{◌≡◌, ◌⊎◌, ℕ, zero, suc, ◌+◌, ◌<◌, ◌≤◌, Some, None, Err, List, [], ◌∷◌, ◌++◌, length, map, refl, sym, ap, ◌∙◌, subst, inl, inr, arith, slice_get}
 use Rattle.std.specs.Prelude.{slice_index_or}
 use Rattle.std.proofs.lemmas.Bool.{cases_lt}
@@ -29,12 +29,12 @@ get_known [] missing o lt = absurd (omega (arith, lt))
 get_known (t ∷ ts) missing zero lt = refl
 get_known (t ∷ ts) missing (suc o) lt = get_known ts missing o (omega (arith, lt))
 
--- what is read of types after which an expression stands
+-- the operand types read after the earlier expressions are typed
 pub operands_typed : (c : Context) (xs : List PlainExpression) (types : List TypeResolution) (missing : TypeResolution) (y : PlainExpression) → OperandsBelow (length types) y → TypedSoFar c xs types
     → (o : ℕ) → IsAmong o (typing_operands y) → HasTypeAmong c xs o (form_given c.types (slice_index_or types o missing))
 operands_typed c xs types missing y below typed o among = typed o (slice_index_or types o missing) (get_known types missing o (below o among))
 
--- ---- the operands whose types count are operands
+-- ---- the operands whose types matter are operands
 
 abbrev Takes : PlainExpression → ℕ → Type 0
 Takes y o = (q : Operand) × IsAmong q (expression_uses y) × (q.handle ≡ o)
@@ -95,9 +95,9 @@ typing_taken (plain (x.CooperativeMultiplyAdd a b c)) o h = elim h [ inl e ↦ (
 pub operands_below : (xs : List PlainExpression) → UsesPrecede xs → (e : ℕ) (y : PlainExpression) → slice_get xs e ≡ Some y → OperandsBelow e y
 operands_below xs precede e y at o among = let t = typing_taken y o among in subst (λ z. z < e) t.2 (precede e y t.0 at t.1)
 
--- ---- one after the other
+-- ---- one after another
 
--- what is left of the expressions of a list, from a place on
+-- the rest of the expressions of a list, from an index on
 abbrev pub Rest : List PlainExpression → ℕ → List (ℕ × Expression) → Type 0
 Rest xs p left = (rest : List (Expression × Span)) × (left ≡ handles_from p rest) × ((i : ℕ) → slice_get xs (p + i) ≡ slice_get (map expression_view (values_of rest)) i) × (p + length rest ≡ length xs)
 
@@ -114,7 +114,7 @@ length_views (e ∷ rest) = ap suc (length_views rest)
 pub rest_whole : (entries : List (Expression × Span)) → Rest (map expression_view (values_of entries)) 0 (handles_from 0 entries)
 rest_whole entries = (entries, refl, λ i. ap (slice_get (map expression_view (values_of entries))) (zero_plus i), zero_plus (length entries) ∙ sym (length_views entries))
 
--- the first of what is left
+-- the first of the rest
 pub record First (xs : List PlainExpression) (p : ℕ) (handle : ℕ) (expression : Expression) (left : List (ℕ × Expression)) : Type 0 where
   pub place : handle ≡ p
   pub stands : slice_get xs p ≡ Some (expression_view expression)
@@ -150,7 +150,7 @@ get_push [] y (suc i) z h = cc (h)
 get_push (w ∷ ys) y zero z h = inl h
 get_push (w ∷ ys) y (suc i) z h = elim (get_push ys y i z h) [ inl l ↦ inl l | inr r ↦ inr (ap suc r.0, r.1) ]
 
--- what is known after one more
+-- what holds after one more expression
 abbrev pub Known : Context → List PlainExpression → List TypeResolution → List (ℕ × Expression) → Type 0
 Known c xs types left = TypedSoFar c xs types × Rest xs (length types) left
 
@@ -177,7 +177,7 @@ one_more c xs types lent types' h expression t before left known steps same is h
 typed_before : (c : Context) (xs : List PlainExpression) (types : List TypeResolution) → TypedSoFar c xs types → TypedBefore c xs (length types)
 typed_before c xs types typed e below = let w = get-within types e below in (form_given c.types w.0, typed e w.0 w.1)
 
--- a refusal about the expression at a place, after those that have types
+-- an error at the expression at an index, after those that have types
 abbrev pub RefusedAt : Context → List PlainExpression → ℕ → TypingRefusal → Type 0
 RefusedAt c xs place refusal = IsTypedBy c xs place (Err refusal)
 
@@ -185,7 +185,7 @@ first_untyped : (c : Context) (xs : List PlainExpression) (place : ℕ) (refusal
 first_untyped c xs place (Memory error) before at = tt
 first_untyped c xs place (Fault expression error) before at = record { tells = at.1; before = subst (TypedBefore c xs) (sym at.0) before }
 
--- what is refused after them is of the expression that stands there
+-- an error at that point is that of the expression there
 pub refused : (c : Context) (xs : List PlainExpression) (types lent : List TypeResolution) (h : ℕ) (expression : Expression) (refusal : TypingRefusal) (before left : List (ℕ × Expression))
     → Known c xs types before → before ≡ (h, expression) ∷ left → lent ≡ types
     → ((ys : List PlainExpression) → slice_get ys h ≡ Some (expression_view expression) → TypedSoFar c ys lent → RefusedAt c ys h refusal)

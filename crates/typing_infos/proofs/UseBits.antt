@@ -1,4 +1,4 @@
--- The bits of uses where others are added.
+-- The bits of uses after other uses are added.
 use Rattle.std.proofs.Common.{◌≡◌, ◌≢◌, ◌⊎◌, ℕ, suc, zero, ◌+◌, ◌<◌, ◌≤◌, max, Option, Some, None, Bool, true, false, List, [], ◌∷◌, length, refl, sym, ap, ◌∙◌, subst, inl, inr, ⊎_elim, arith, slice_get, slice_set, get_or, bit_or, bit_and, length-set}
 use Rattle.std.specs.Prelude.{◌↔◌, All, slice_index_or}
 use Rattle.std.specs.Int.{bit_at}
@@ -33,7 +33,7 @@ or_bits a b k = (
 pub zero_has_none : (k : ℕ) → bit_at 0 k ≡ 1 → ⊥
 zero_has_none k e = let z : 0 ≡ 1 = sym (bit_at-zero k) ∙ e in omega (arith, z)
 
--- ---- one use more
+-- ---- one more use
 
 pub marked_length : (uses : List GlobalUse) (at : Option ℕ) (kind : ℕ) → length (marked uses at kind) ≡ length uses
 marked_length uses None kind = refl
@@ -63,7 +63,7 @@ one_use uses (Some h) kind g k lt =
     ))
     (cases_eq h g)
 
--- ---- some uses more
+-- ---- several more uses
 
 pub with_length : (uses : List GlobalUse) (noted : List (ℕ × GlobalUse)) → length (with_uses uses noted) ≡ length uses
 with_length uses [] = refl
@@ -106,7 +106,7 @@ with_bits uses noted g k below = elim (cases_lt g (length uses)) [
   )
 ]
 
--- ---- uses that include others
+-- ---- inclusion of uses
 
 -- so far
 abbrev pub DominatesBelow : List GlobalUse → List GlobalUse → ℕ → Type 0

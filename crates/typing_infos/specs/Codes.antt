@@ -1,4 +1,4 @@
--- Pairs as numbers, by whose order they are found.
+-- Pairs as integer codes, by whose order they are looked up.
 use Rattle.std.specs.Prelude.{◌≡◌, ◌+◌, ◌*◌, ℕ, List}
 use Rattle.std.specs.List.{list_any}
 use Rattle.std.specs.BTreeSet.{BTreeSet, contains}

@@ -1,4 +1,4 @@
--- The pairs that are kept, few or many.
+-- The stored pairs, few or many.
 use Rattle.std.specs.Prelude.{List}
 use Rattle.spec_expressions.specs.judged.Pairs.{SamplingPair}
 use Rattle.spec_expressions.specs.declared.sampling.SamplingKey.{SamplingKey}

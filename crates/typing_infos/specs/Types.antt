@@ -12,7 +12,7 @@ use Rattle.typing_errors.specs.declared.resolve_error.ResolveRefusal.{ResolveRef
 use Rattle.typing_infos.specs.declared.refusal.TypingRefusal.{TypingRefusal}
 use Rattle.typing_infos.specs.declared.refusal.TypingRefusal.TheVariants.{Memory, Fault}
 
--- each item that an expression names is there
+-- each item that an expression refers to exists
 abbrev pub ItemsNamed : Context → List PlainExpression → Type 0
 ItemsNamed c expressions = (e : ℕ) (x : PlainExpression) → slice_get expressions e ≡ Some x → NamesItem c x
 
@@ -20,37 +20,37 @@ ItemsNamed c expressions = (e : ℕ) (x : PlainExpression) → slice_get express
 abbrev pub TypedSoFar : Context → List PlainExpression → List TypeResolution → Type 0
 TypedSoFar c expressions types = (e : ℕ) (r : TypeResolution) → slice_get types e ≡ Some r → HasTypeAmong c expressions e (form_given c.types r)
 
--- all have
+-- all expressions have these types
 pub record AreTypes (c : Context) (expressions : List PlainExpression) (types : List TypeResolution) : Type 0 where
   pub len : length types ≡ length expressions
   pub each : TypedSoFar c expressions types
 
--- each expression before this place has a type
+-- each expression before this index has a type
 abbrev pub TypedBefore : Context → List PlainExpression → ℕ → Type 0
 TypedBefore c expressions place = (e : ℕ) → e < place → (t : Form) × HasTypeAmong c expressions e t
 
--- The expression has no type, as the error tells, and each before it has one.
+-- The expression has no type, as the error reports, and each earlier one has one.
 pub record IsUntypedFirst (c : Context) (expressions : List PlainExpression) (place : ℕ) (error : ResolveError) : Type 0 where
   pub tells : ReportsFault c expressions place (fault_of error)
   pub before : TypedBefore c expressions place
 
--- The refusal is that memory ran out, or of the first expression that has no type.
+-- The error is out of memory, or that of the first expression that has no type.
 abbrev pub IsFirstUntyped : Context → List PlainExpression → TypingRefusal → Type 0
 IsFirstUntyped c expressions (Memory error) = Unit {0}
 IsFirstUntyped c expressions (Fault expression error) = IsUntypedFirst c expressions expression error
 
 -- ---- one expression
 
--- each operand whose type counts stands below this place
+-- each operand whose type matters is below this index
 abbrev pub OperandsBelow : ℕ → PlainExpression → Type 0
 OperandsBelow end expression = (o : ℕ) → IsAmong o (typing_operands expression) → o < end
 
--- an answer about an expression, in any list where its operands have these types and at any place where it occurs there
+-- a result for an expression, in any list where its operands have these types and at any index where it occurs there
 abbrev pub Decided : Context → List TypeResolution → PlainExpression → Result TypeResolution ResolveRefusal → Type 0
 Decided c types expression result =
     (expressions : List PlainExpression) (place : ℕ) → slice_get expressions place ≡ Some expression → TypedSoFar c expressions types → IsAnswer c expressions place result
 
--- an answer about the expression that stands at a place
+-- a result for the expression at an index
 abbrev pub IsTypedBy : Context → List PlainExpression → ℕ → Result TypeResolution TypingRefusal → Type 0
 IsTypedBy c expressions place (Ok t) = HasTypeAmong c expressions place (form_given c.types t)
 IsTypedBy c expressions place (Err (Memory error)) = Unit {0}

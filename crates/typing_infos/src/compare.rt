@@ -1,4 +1,4 @@
-//! Comparing types by what has them: a module, or what a global expression may name.
+//! Comparing types by the owner of the arena: a module, or the context of global expressions.
 
 ghost use Rattle.std.specs.Prelude.{◌↔◌, IsTrue, List};
 ghost use Rattle.ir_types.specs.judged.Plain.{PlainType};
@@ -9,7 +9,7 @@ ghost use Rattle.typing_forms.specs.found.Equivalence.{AreEquivalent};
 use ir_items::{GlobalCtx, Module};
 use typing_forms::{TypeResolution, compare_types};
 
-/// What has types to compare by (`compare_types` of naga's `Module` and `GlobalCtx`).
+/// An owner of types to compare by (`compare_types` of naga's `Module` and `GlobalCtx`).
 pub trait CompareTypes {
     /// The types.
     ghost types_of: { Self → List PlainType };

@@ -19,7 +19,7 @@ use typing_errors::ResolveRefusal;
 use typing_forms::TypeResolution;
 use typing_resolve::ResolveContext;
 
-// What global expressions may depend on: no variables, of which there is an empty list, and no arguments.
+// The resolve context of global expressions: no variables, as an empty arena, and no arguments.
 fn outside<'a>(
     module: &'a Module,
     locals: &'a Arena<LocalVariable, key::LocalVariable>,
@@ -30,15 +30,15 @@ fn outside<'a>(
     ResolveContext::with_locals(module, locals, &[])
 }
 
-/// The type of a global expression of the module, where `types` has those of the expressions before it (naga's
+/// The type of a global expression of the module, given the types `types` of the earlier expressions (naga's
 /// `ModuleInfo::process_const_expression`).
 ///
-/// Requires that the expression is there, that operands come before what has them, and that each item which a global expression
-/// names is there.
+/// Requires that the expression exists, that operands precede, and that each item which a global expression
+/// refers to exists.
 ///
 /// # Errors
 ///
-/// [`ResolveRefusal::Fault`] exactly where the expression has no type, and [`ResolveRefusal::Memory`] where memory ran out.
+/// [`ResolveRefusal::Fault`] exactly if the expression has no type, and [`ResolveRefusal::Memory`] if out of memory.
 pub fn process_const_expression(
     alloc: Global,
     module: &Module,
@@ -60,12 +60,12 @@ pub fn process_const_expression(
 
 /// The types of all global expressions of the module, in order.
 ///
-/// Requires that operands come before what has them, and that each item which a global expression names is there.
+/// Requires that operands precede, and that each item which a global expression refers to exists.
 ///
 /// # Errors
 ///
-/// [`TypingRefusal::Fault`] exactly where a global expression has no type: the first that has none, and why.
-/// [`TypingRefusal::Memory`] where memory ran out.
+/// [`TypingRefusal::Fault`] exactly if a global expression has no type: the first that has none, and why.
+/// [`TypingRefusal::Memory`] if out of memory.
 pub fn const_expression_types(
     alloc: Global,
     module: &Module,

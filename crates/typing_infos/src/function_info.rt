@@ -1,4 +1,4 @@
-//! What is kept of a function.
+//! The info of a function.
 
 ghost use Rattle.std.specs.Prelude.{◌≡◌, ◌<◌, ◌⊎◌, ◌↔◌, ◌||◌, ℕ, Some, All, IsTrue, false, length, slice_get, bit_and};
 ghost use Rattle.bitflags.specs.Sets.{known_bits};
@@ -15,41 +15,41 @@ use ir_types::key;
 use spec_expressions::{ExpressionInfo, GlobalUse, SamplingPair};
 use std::ops::Index;
 
-/// What is kept of a function: how it uses each global variable of the module, what it samples, and what is known of its
-/// expressions (naga's `FunctionInfo`). Indexed by the handle of a global variable it is the use of it, indexed by that of
-/// an expression what is known of it.
+/// The info of a function: how it uses each global variable of the module, what it samples, and the info of its
+/// expressions (naga's `FunctionInfo`). Indexed by a global variable's handle it is the use, indexed by an
+/// expression's handle the `ExpressionInfo`.
 #[derive(Drop)]
 pub struct FunctionInfo {
-    /// The stages that may run it: all, until [`FunctionInfo::note`] says less.
+    /// The stages that may run it: all, until [`FunctionInfo::note`] restricts them.
     pub available_stages: ShaderStages,
-    /// Whether it may end the fragment, itself or by a function that it calls.
+    /// Whether it may discard, itself or in a callee.
     pub may_kill: bool,
     /// The pairs of two global variables among [`FunctionInfo::pairs`], in the same order.
     pub sampling_set: SampledKeys,
-    /// Whether its result is one with two blend sources: `false`, until [`FunctionInfo::note`] says so.
+    /// Whether its result has two blend sources: `false`, until [`FunctionInfo::note`] sets it.
     pub dual_source_blending: bool,
     uses: Vec<GlobalUse>,
     expressions: Vec<ExpressionInfo>,
     sampling: SampledPairs,
 }
 
-/// The parts of a [`FunctionInfo`] that an analysis finds.
+/// The parts of a [`FunctionInfo`] that an analysis computes.
 #[derive(Drop)]
 pub struct FunctionParts {
-    /// Whether it may end the fragment.
+    /// Whether it may discard.
     pub may_kill: bool,
     /// The use of each global variable.
     pub uses: Vec<GlobalUse>,
-    /// What is known of each expression.
+    /// The info of each expression.
     pub expressions: Vec<ExpressionInfo>,
-    /// The pairs.
+    /// The sampled pairs.
     pub sampling: SampledPairs,
-    /// Those of two global variables.
+    /// The pairs of two global variables.
     pub sampling_set: SampledKeys,
 }
 
 impl FunctionInfo {
-    /// The info with these parts, for all stages.
+    /// The info with these parts, available in all stages.
     pub fn of_parts(parts: FunctionParts) -> FunctionInfo
         ensures stages { result.available_stages.0 ≡ known_bits shader_stage_bits }
         ensures blending { result.dual_source_blending ≡ false }
@@ -70,14 +70,14 @@ impl FunctionInfo {
         }
     }
 
-    /// How many global variables the module has (naga's `FunctionInfo::global_variable_count`).
+    /// The number of global variables of the module (naga's `FunctionInfo::global_variable_count`).
     pub fn global_variable_count(&self) -> usize
         ensures { result ≡ length self.now.uses.items }
     {
         self.uses.len()
     }
 
-    /// How many expressions the function has (naga's `FunctionInfo::expression_count`).
+    /// The number of expressions of the function (naga's `FunctionInfo::expression_count`).
     pub fn expression_count(&self) -> usize
         ensures { result ≡ length self.now.expressions.items }
     {
@@ -91,30 +91,30 @@ impl FunctionInfo {
         &self.uses
     }
 
-    /// What is known of each expression, in order.
+    /// The info of each expression, in order.
     pub fn expressions(&self) -> &[ExpressionInfo]
         ensures { result.now ≡ self.now.expressions.items }
     {
         &self.expressions
     }
 
-    /// The images and samplers that it samples, itself or by a function that it calls, each pair once.
+    /// The pairs of images and samplers that it samples, itself or in a callee, each pair once.
     pub fn pairs(&self) -> &[SamplingPair]
         ensures { result.now ≡ (summary_of self.now).pairs }
     {
         self.sampling.as_slice()
     }
 
-    /// The same, as they are shared.
+    /// The sampled pairs, in their shared form.
     pub fn sampled(&self) -> &SampledPairs
         ensures { result.now ≡ self.now.sampling }
     {
         &self.sampling
     }
 
-    /// Notes what more is known of the function: the stages in which what it does may stand, further uses of global variables,
-    /// and, where `dual_source_blending` says so, that its result is one with two blend sources. Its stages are then those
-    /// that it had and that are among these. Requires that the module has the global variables. It takes no memory.
+    /// Adds to the info: the stages in which its operations are available, further uses of global variables,
+    /// and, if `dual_source_blending` is set, that its result has two blend sources. The stages are intersected with
+    /// the given ones. Requires that the module has the global variables. It allocates nothing.
     pub fn note(
         &mut self,
         stages: ShaderStages,
@@ -136,7 +136,7 @@ impl FunctionInfo {
         mark_all(&mut self.uses, uses);
     }
 
-    /// Whether each global variable's use includes the other function's (naga's `FunctionInfo::dominates_global_use`).
+    /// Whether each global variable's use includes the other function's use (naga's `FunctionInfo::dominates_global_use`).
     pub fn dominates_global_use(&self, other: &FunctionInfo) -> bool
         ensures { IsTrue result ↔ Dominates self.now.uses.items other.now.uses.items }
     {
@@ -164,7 +164,7 @@ impl Index<Handle<key::Expression>> for FunctionInfo {
 
     ghost index_gives = { λ info e x. Some x ≡ slice_get info.expressions.items e };
 
-    /// What is known of an expression of the function.
+    /// The info of an expression of the function.
     fn index(&self, handle: Handle<key::Expression>) -> &ExpressionInfo {
         &self.expressions[handle.index()]
     }

@@ -1,4 +1,4 @@
-//! What is kept of a module.
+//! The info of a module.
 
 ghost use Rattle.std.specs.Prelude.{◌≡◌, ◌<◌, ◌++◌, ◌∷◌, [], Some, OnErr, OnOk, length, slice_get};
 
@@ -10,10 +10,10 @@ use std::ops::Index;
 use typing_forms::TypeResolution;
 use typing_layout::{Layouter, TypeInfo, TypeLayout};
 
-/// What is kept of a module (naga's `ModuleInfo`): what is reported of its types and their layouts, the types of its global
-/// expressions, and what is kept of its functions and of those of its entry points, each in order. Indexed by the handle of a
-/// type it is what is reported of it, indexed by that of a global expression its type, indexed by that of a function what is kept
-/// of it.
+/// The info of a module (naga's `ModuleInfo`): flags and layouts of its types, the types of its global
+/// expressions, and the infos of its functions and of its entry points' functions, each in order. Indexed by a type's handle it
+/// is the type's info, by a global expression's handle its type, by a function's handle the function's
+/// info.
 #[derive(Drop)]
 pub struct ModuleInfo {
     types: Vec<TypeInfo>,
@@ -24,7 +24,7 @@ pub struct ModuleInfo {
 }
 
 impl ModuleInfo {
-    /// What is kept of an empty module. It takes no memory.
+    /// The info of an empty module. It allocates nothing.
     pub fn new(alloc: Global) -> ModuleInfo
         ensures types { result.types.items ≡ [] }
         ensures layouts { result.layouter ≡ [] }
@@ -41,7 +41,7 @@ impl ModuleInfo {
         }
     }
 
-    /// What is kept of a module of which this is reported, and nothing yet of its functions and entry points. It takes no memory.
+    /// The info of a module with these types and global expressions, and no functions and entry points yet. It allocates nothing.
     pub fn of_parts(
         alloc: Global,
         types: Vec<TypeInfo>,
@@ -63,7 +63,7 @@ impl ModuleInfo {
         }
     }
 
-    /// What is reported of a type of the module.
+    /// The info of a type of the module.
     pub fn type_info(&self, ty: Handle<key::IrType>) -> TypeInfo
         requires { ty < length self.now.types.items }
         ensures { slice_get self.now.types.items ty ≡ Some result }
@@ -79,7 +79,7 @@ impl ModuleInfo {
         self.layouter[ty]
     }
 
-    /// What is reported of the types, in order.
+    /// The infos of the types, in order.
     pub fn types(&self) -> &[TypeInfo]
         ensures { result.now ≡ self.now.types.items }
     {
@@ -93,14 +93,14 @@ impl ModuleInfo {
         &self.const_expression_types
     }
 
-    /// What is kept of the functions, in order.
+    /// The infos of the functions, in order.
     pub fn functions(&self) -> &[FunctionInfo]
         ensures { result.now ≡ self.now.functions.items }
     {
         &self.functions
     }
 
-    /// What is kept of the function of the entry point at an index (naga's `ModuleInfo::get_entry_point`).
+    /// The info of the function of the entry point at an index (naga's `ModuleInfo::get_entry_point`).
     pub fn get_entry_point(&self, index: usize) -> &FunctionInfo
         requires { index < length self.now.entry_points.items }
         ensures { slice_get self.now.entry_points.items index ≡ Some result.now }
@@ -108,7 +108,7 @@ impl ModuleInfo {
         &self.entry_points[index]
     }
 
-    /// The same, but what is kept of the functions is this, in order. It takes no memory.
+    /// The same info with the given infos of functions, in order. It allocates nothing.
     pub fn with_functions(self, functions: Vec<FunctionInfo>) -> ModuleInfo
         ensures { result ≡ record self { functions = functions } }
     {
@@ -121,7 +121,7 @@ impl ModuleInfo {
         }
     }
 
-    /// The same, but what is kept of the functions of entry points is this, in order. It takes no memory.
+    /// The same info with the given infos of entry points' functions, in order. It allocates nothing.
     pub fn with_entry_points(self, entry_points: Vec<FunctionInfo>) -> ModuleInfo
         ensures { result ≡ record self { entry_points = entry_points } }
     {
@@ -134,7 +134,7 @@ impl ModuleInfo {
         }
     }
 
-    /// Keeps what is known of the next function. The error is out of memory; the info is dropped then, and nothing else changes.
+    /// Adds the info of the next function. The error is out of memory; the info is dropped then, and nothing else changes.
     pub fn push_function(&mut self, info: FunctionInfo) -> Result<(), AllocError>
         ensures added { OnOk result (self.new.functions.items ≡ self.old.functions.items ++ info ∷ []) }
         ensures kept { OnErr result (self.new.functions.items ≡ self.old.functions.items) }
@@ -144,7 +144,7 @@ impl ModuleInfo {
         Ok(())
     }
 
-    /// Keeps what is known of the function of the next entry point. The error is out of memory; the info is dropped then, and
+    /// Adds the info of the next entry point's function. The error is out of memory; the info is dropped then, and
     /// nothing else changes.
     pub fn push_entry_point(&mut self, info: FunctionInfo) -> Result<(), AllocError>
         ensures added { OnOk result (self.new.entry_points.items ≡ self.old.entry_points.items ++ info ∷ []) }
@@ -163,7 +163,7 @@ impl Index<Handle<key::IrType>> for ModuleInfo {
 
     ghost index_gives = { λ info ty x. Some x ≡ slice_get info.types.items ty };
 
-    /// What is reported of a type of the module.
+    /// The info of a type of the module.
     fn index(&self, handle: Handle<key::IrType>) -> &TypeInfo {
         &self.types[handle.index()]
     }
@@ -189,7 +189,7 @@ impl Index<Handle<key::Function>> for ModuleInfo {
 
     ghost index_gives = { λ info f x. Some x ≡ slice_get info.functions.items f };
 
-    /// What is kept of a function of the module.
+    /// The info of a function of the module.
     fn index(&self, handle: Handle<key::Function>) -> &FunctionInfo {
         &self.functions[handle.index()]
     }

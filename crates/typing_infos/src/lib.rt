@@ -1,6 +1,6 @@
-//! What is kept of a module that was judged, and of each of its functions; the types of the expressions of a list, one after
-//! the other: of a function (`types_of`) or of a module's top (`const_expression_types`, and `process_const_expression` for one
-//! alone); and comparing types by what has them: a module, or what a global expression may name.
+//! The info of a validated module and of each of its functions; the types of the expressions of a list, one after
+//! another: of a function (`types_of`) or of the module's global expressions (`const_expression_types`, and
+//! `process_const_expression` for one alone); and comparing types by the owner of the arena: a module, or a global context.
 #![tactic(auto)]
 
 mod compare;

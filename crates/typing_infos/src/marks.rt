@@ -1,4 +1,4 @@
-//! The arguments among pairs.
+//! The arguments among sampled pairs.
 
 ghost use Rattle.std.specs.Prelude.{◌≡◌, IfOk, OnOk};
 ghost use Rattle.typing_infos.specs.Marks.{marked_at, marked_part, marked_pair, marks_of};
@@ -6,7 +6,7 @@ ghost use Rattle.typing_infos.specs.Marks.{marked_at, marked_part, marked_pair, 
 use spec_expressions::{GlobalOrArgument, SamplingPair};
 use std::alloc::{AllocError, Global};
 
-// Marks a place, up to which all are there then. The error is out of memory.
+// Sets the mark at an index, extending the list as needed. The error is out of memory.
 #[tactic(auto, using(crate::proofs::MarkLemmas::one_place_more, crate::proofs::MarkLemmas::set_there))]
 fn mark(marks: &mut Vec<bool>, place: usize) -> Result<(), AllocError>
     ensures { OnOk result (marks.new.items ≡ marked_at marks.old.items place) }
@@ -34,7 +34,7 @@ fn mark_pair(marks: &mut Vec<bool>, pair: SamplingPair) -> Result<(), AllocError
     mark_part(marks, pair.1)
 }
 
-// For each argument whether it is among these pairs, up to the last that is. The error is out of memory.
+// For each argument whether a pair contains it, up to the last one contained. The error is out of memory.
 pub(crate) fn marks_of(alloc: Global, pairs: &[SamplingPair]) -> Result<Vec<bool>, AllocError>
     ensures { IfOk result (λ marks. marks.items ≡ marks_of pairs.now) }
 {

@@ -1,4 +1,4 @@
-//! Sets of pairs, in the order in which they were added.
+//! Insertion-ordered sets of pairs.
 
 ghost use Rattle.std.specs.Prelude.{◌≡◌, ◌↔◌, [], IfOk, IsTrue, OnErr, OnOk, length};
 ghost use Rattle.std.specs.List.{list_any};
@@ -11,9 +11,9 @@ use std::alloc::{AllocError, Global};
 use std::collections::BTreeSet;
 use std::marker::Model;
 
-/// Pairs in the order in which they were added, each once. In a contract it is their list.
+/// An insertion-ordered set of pairs. In a contract it is the list of the pairs.
 ///
-/// Whether a pair is there is found by an order of the pairs and not by a hash: the author of a document chooses them.
+/// Membership is looked up in an ordered map and not a hash map, because attacker-controlled input could force collisions.
 #[derive(Drop)]
 pub struct PairSet {
     pairs: Vec<SamplingPair>,
@@ -42,7 +42,7 @@ fn part_code(part: GlobalOrArgument) -> u64
     }
 }
 
-/// The numbers of a pair, which tell it from all others.
+/// The code of a pair, which is unique to it.
 pub(crate) fn code_of(pair: SamplingPair) -> (u64, u64)
     ensures { result ≡ code_of pair }
 {
@@ -64,7 +64,7 @@ fn codes_of(alloc: Global, pairs: &[SamplingPair]) -> Result<BTreeSet<(u64, u64)
 }
 
 impl PairSet {
-    /// No pair. It takes no memory.
+    /// The empty set. It allocates nothing.
     pub fn new(alloc: Global) -> PairSet
         ensures { result ≡ [] }
     {
@@ -82,7 +82,7 @@ impl PairSet {
         Ok(PairSet { pairs, codes })
     }
 
-    /// What the set takes memory from.
+    /// The allocator of the set.
     pub fn allocator(&self) -> Global {
         *self.pairs.allocator()
     }
@@ -94,28 +94,28 @@ impl PairSet {
         &self.pairs
     }
 
-    /// How many there are.
+    /// The number of pairs.
     pub fn len(&self) -> usize
         ensures { result ≡ length self.now }
     {
         self.pairs.len()
     }
 
-    /// Whether there is none.
+    /// Whether the set is empty.
     pub fn is_empty(&self) -> bool
         ensures { IsTrue result ↔ (length self.now ≡ 0) }
     {
         self.pairs.is_empty()
     }
 
-    /// Whether a pair is there.
+    /// Whether the set contains a pair.
     pub fn contains(&self, pair: &SamplingPair) -> bool
         ensures { result ≡ list_any (pair_eq pair.now) self.now }
     {
         self.codes.contains(&code_of(*pair))
     }
 
-    /// Adds a pair after the others, where it is not there. The error is out of memory; the set is as it was then.
+    /// Inserts a pair at the end, if it is not contained. The error is out of memory; the set is unchanged then.
     pub fn insert(&mut self, pair: SamplingPair) -> Result<(), AllocError>
         ensures added { OnOk result (self.new ≡ with_pair self.old pair) }
         ensures err { OnErr result (self.new ≡ self.old) }

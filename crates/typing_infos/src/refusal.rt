@@ -1,4 +1,4 @@
-//! Why not all expressions of a list have a type.
+//! Typing errors of a list of expressions.
 
 use ir_arena::handle::Handle;
 use ir_types::key;
@@ -8,13 +8,13 @@ use typing_errors::ResolveError;
 /// Why not all expressions of a list have a type.
 #[derive(Debug, Drop)]
 pub enum TypingRefusal {
-    /// A growth was refused.
+    /// Out of memory.
     Memory(AllocError),
-    /// An expression has none, and each before it has one.
+    /// An expression has no type, and each earlier one has one.
     Fault {
         /// The expression.
         expression: Handle<key::Expression>,
-        /// Why.
+        /// The error.
         error: ResolveError,
     },
 }

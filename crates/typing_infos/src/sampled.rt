@@ -1,4 +1,4 @@
-//! What a function samples, in memory that functions share.
+//! The pairs that a function samples, in shared memory.
 
 ghost use Rattle.std.specs.Prelude.{◌≡◌, ◌↔◌, ◌++◌, ◌∷◌, [], IfOk, IfSome, IsTrue, OnErr, OnOk, if◌then◌else◌, length};
 ghost use Rattle.std.specs.List.{flat_map, list_any};
@@ -15,11 +15,11 @@ use std::hash::{DefaultHasher, Hasher};
 use std::marker::Model;
 use std::rc::Rc;
 
-/// So many pairs are a list of each function's own; more are one table, which functions share.
+/// Up to this many pairs are a list owned by each function; more are a table that functions share.
 pub const FEW: usize = 8;
 
-// Many pairs, each once; those of two global variables, in the same order; for each argument whether it is among them; and a
-// number that tells the table from most others.
+// A table of many pairs, each once; the pairs of two global variables, in the same order; for each argument whether a pair
+// contains it; and a digest of the table.
 #[derive(Drop)]
 struct PairTable {
     pairs: PairSet,
@@ -38,7 +38,7 @@ enum StoredPairs {
     Many(Rc<PairTable>),
 }
 
-// Those of two global variables.
+// The pairs of two global variables.
 #[derive(Drop)]
 enum StoredKeys {
     Few(Vec<SamplingKey>),
@@ -77,20 +77,20 @@ impl Model for Keys {
     ghost view = { λ k. keys_stored k.held };
 }
 
-/// The pairs of images and samplers of a function, in the order in which they were found. Many pairs are one table that
+/// The pairs of images and samplers of a function, in the order of insertion. Many pairs are one table that
 /// functions share.
 #[derive(Drop)]
 pub struct SampledPairs {
     items: Pairs,
 }
 
-/// The pairs of two global variables among them, in the same order, shared in the same way.
+/// The pairs of two global variables, in the same order, shared in the same way.
 #[derive(Drop)]
 pub struct SampledKeys {
     items: Keys,
 }
 
-// These values after others. The error is out of memory.
+// Appends these values. The error is out of memory.
 fn append<T: Copy + Drop>(values: &mut Vec<T>, others: &[T]) -> Result<(), AllocError>
     ensures { OnOk result (values.new.items ≡ values.old.items ++ others.now) }
 {
@@ -109,7 +109,7 @@ fn copied<T: Copy + Drop>(values: &Vec<T>) -> Result<Vec<T>, AllocError>
     Ok(copy)
 }
 
-// Whether a value is equal to one of these.
+// Whether a slice contains a value.
 fn holds<T: PartialEq>(values: &[T], value: &T) -> bool
     ensures { result ≡ list_any (T.eq value.now) values.now }
 {
@@ -121,7 +121,7 @@ fn holds<T: PartialEq>(values: &[T], value: &T) -> bool
     false
 }
 
-// The hash of the numbers of these pairs.
+// The digest of the codes of these pairs.
 fn digest_of(pairs: &[SamplingPair]) -> u64 {
     let mut state = DefaultHasher::new();
     for pair in pairs {
@@ -255,7 +255,7 @@ impl Keys {
 }
 
 impl SampledPairs {
-    /// No pair. It takes no memory.
+    /// No pairs. It allocates nothing.
     pub fn new(alloc: Global) -> SampledPairs
         ensures { result.items ≡ [] }
     {
@@ -264,7 +264,7 @@ impl SampledPairs {
         SampledPairs { items }
     }
 
-    /// These pairs, as a table that functions share. Requires that each is there once. The error is out of memory.
+    /// These pairs, as a table that functions share. Requires that the pairs are distinct. The error is out of memory.
     pub fn of_pairs(alloc: Global, pairs: Vec<SamplingPair>) -> Result<SampledPairs, AllocError>
         requires { EachOnce pairs.items }
         ensures { IfOk result (λ sampled. sampled.items ≡ pairs.items) }
@@ -292,28 +292,28 @@ impl SampledPairs {
         self.items.as_slice()
     }
 
-    /// How many there are.
+    /// The number of pairs.
     pub fn len(&self) -> usize
         ensures { result ≡ length self.now.items }
     {
         self.items.as_slice().len()
     }
 
-    /// Whether there is none.
+    /// Whether there are no pairs.
     pub fn is_empty(&self) -> bool
         ensures { IsTrue result ↔ (length self.now.items ≡ 0) }
     {
         self.items.as_slice().is_empty()
     }
 
-    /// Whether a pair is among them.
+    /// Whether a pair is contained.
     pub fn contains(&self, pair: &SamplingPair) -> bool
         ensures { result ≡ list_any (pair_eq pair.now) self.now.items }
     {
         self.items.contains(pair)
     }
 
-    /// Where they are a table, for each argument whether it is among them, up to the last that is.
+    /// For a table: for each argument whether a pair contains it, up to the last one contained.
     pub fn marks(&self) -> Option<&[bool]>
         ensures marked { IfSome result (λ marks. marks.now ≡ marks_of self.now.items) }
         ensures once { IfSome result (λ marks. EachOnce self.now.items) }
@@ -321,13 +321,13 @@ impl SampledPairs {
         self.items.marks()
     }
 
-    /// Where they are a table, a number that tells it from most others: a hash that all know, so that two tables may be made to
-    /// have one.
+    /// For a table: its digest, an unkeyed hash, so that an attacker can build two tables with
+    /// the same digest.
     pub fn digest(&self) -> u64 {
         self.items.digest()
     }
 
-    /// The same pairs, of which a table is shared and nothing of it copied. The error is out of memory.
+    /// A copy that shares the table, if there is one, without copying pairs. The error is out of memory.
     pub fn share(&self) -> Result<SampledPairs, AllocError>
         ensures { IfOk result (λ sampled. sampled.items ≡ self.now.items) }
     {
@@ -335,7 +335,7 @@ impl SampledPairs {
         Ok(SampledPairs { items })
     }
 
-    /// Those of two global variables, of which a table is shared. The error is out of memory.
+    /// The pairs of two global variables; a table is shared. The error is out of memory.
     pub fn keys(&self, alloc: Global) -> Result<SampledKeys, AllocError>
         ensures { IfOk result (λ keys. keys.items ≡ flat_map key_of self.now.items) }
     {
@@ -343,8 +343,8 @@ impl SampledPairs {
         Ok(SampledKeys { items })
     }
 
-    /// Adds a pair after them where they are fewer than [`FEW`] and no table, and says whether it did. The error is out of
-    /// memory; the pairs are as they were then.
+    /// Appends a pair if there are fewer than [`FEW`] and no table, and returns whether it did. The error is out of
+    /// memory; the pairs are unchanged then.
     pub fn push_few(&mut self, pair: SamplingPair) -> Result<bool, AllocError>
         ensures added { IfOk result (λ added. self.new.items ≡ (if added then self.old.items ++ pair ∷ [] else self.old.items)) }
         ensures err { OnErr result (self.new.items ≡ self.old.items) }

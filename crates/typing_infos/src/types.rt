@@ -18,12 +18,12 @@ use typing_errors::ResolveRefusal;
 use typing_forms::TypeResolution;
 use typing_resolve::ResolveContext;
 
-// What is read for an operand that does not come before.
+// The placeholder for the type of an operand that does not precede.
 pub(crate) fn missing_type() -> TypeResolution {
     TypeResolution::Value(TypeInner::Sampler { comparison: false })
 }
 
-// The type of an operand, or another one where it does not come before.
+// The type of an operand, or the placeholder if it does not precede.
 fn found_at<'a>(
     types: &'a [TypeResolution],
     operand: Handle<key::Expression>,
@@ -37,7 +37,7 @@ fn found_at<'a>(
     }
 }
 
-// The type of an expression after those that have these types.
+// The type of an expression, given the types of the earlier ones.
 pub(crate) fn type_pointed(
     alloc: Global,
     context: &ResolveContext<'_>,
@@ -56,7 +56,7 @@ pub(crate) fn type_pointed(
     )
 }
 
-// The refusal of the expression at a handle.
+// The error for the expression at a handle.
 fn refused_at(handle: Handle<key::Expression>, refusal: ResolveRefusal) -> TypingRefusal
     ensures { (c : Context) (expressions : List PlainExpression) → IsAnswer c expressions handle (Err refusal) → IsTypedBy c expressions handle (Err result) }
 {
@@ -69,7 +69,7 @@ fn refused_at(handle: Handle<key::Expression>, refusal: ResolveRefusal) -> Typin
     }
 }
 
-// The type of the expression that stands at a handle.
+// The type of the expression at a handle.
 fn type_at(
     alloc: Global,
     context: &ResolveContext<'_>,
@@ -95,7 +95,7 @@ fn keep(types: &mut Vec<TypeResolution>, found: TypeResolution) -> Result<(), Al
     Ok(())
 }
 
-// No types, with room for so many where there is memory.
+// An empty list of types, with room reserved if there is memory.
 fn room_for(alloc: Global, count: usize) -> Vec<TypeResolution>
     ensures { result.items ≡ [] }
 {
@@ -105,13 +105,13 @@ fn room_for(alloc: Global, count: usize) -> Vec<TypeResolution>
     }
 }
 
-/// The types of all expressions of a list, in order. Requires that operands come before what has them, and that each item which an
-/// expression names is there.
+/// The types of all expressions of a list, in order. Requires that operands precede, and that each item which an
+/// expression refers to exists.
 ///
 /// # Errors
 ///
-/// [`TypingRefusal::Fault`] exactly where an expression has no type: the first that has none. [`TypingRefusal::Memory`] where
-/// memory ran out.
+/// [`TypingRefusal::Fault`] exactly if an expression has no type: the first that has none. [`TypingRefusal::Memory`] if
+/// out of memory.
 pub fn types_of(
     alloc: Global,
     context: &ResolveContext<'_>,

@@ -10,14 +10,14 @@ use ir_arena::handle::Handle;
 use ir_types::key;
 use spec_expressions::GlobalUse;
 
-// A use and a further one.
+// The union of two uses.
 fn joined(kind: GlobalUse, more: GlobalUse) -> GlobalUse
     ensures { result ≡ joined_use kind more.0 }
 {
     kind.union(more)
 }
 
-/// A further use of the global variable at this place. Where there is none, nothing changes.
+/// Adds a use to the global variable at this index. If there is none, nothing changes.
 pub fn mark_at(uses: &mut Vec<GlobalUse>, index: usize, kind: GlobalUse)
     ensures { uses.new.items ≡ marked uses.old.items (Some index) kind.0 }
 {
@@ -26,7 +26,7 @@ pub fn mark_at(uses: &mut Vec<GlobalUse>, index: usize, kind: GlobalUse)
     }
 }
 
-// Further uses of global variables.
+// Adds uses of global variables.
 pub(crate) fn mark_all(
     uses: &mut Vec<GlobalUse>,
     noted: &[(Handle<key::GlobalVariable>, GlobalUse)],
@@ -38,7 +38,7 @@ pub(crate) fn mark_all(
     }
 }
 
-// The use at a place, or none.
+// The use at an index, or the empty use.
 fn use_at(uses: &[GlobalUse], index: usize) -> GlobalUse
     ensures { result ≡ slice_index_or uses.now index no_use }
 {
@@ -55,7 +55,7 @@ fn includes(kind: GlobalUse, other: GlobalUse) -> bool
     kind.contains(other)
 }
 
-// Whether each use includes that of the same global variable among others.
+// Whether each use includes the other's use of the same global variable.
 pub(crate) fn dominates(uses: &[GlobalUse], others: &[GlobalUse]) -> bool
     ensures { IsTrue result ↔ Dominates uses.now others.now }
 {

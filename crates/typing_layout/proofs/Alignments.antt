@@ -27,7 +27,7 @@ pub greatest_next : (tree : ℕ → Tree) (ms : List StructMember) (k : ℕ) (d 
     → greatest_alignment (members_by tree (map member_view (drop k ms))) ≡ max (alignment (tree (get_or ms k d).ty)) (greatest_alignment (members_by tree (map member_view (drop (k + 1) ms))))
 greatest_next tree ms k d lt = rw (add-one, drop-cons ms k d lt) refl
 
--- one more in a running greatest
+-- one more member in a running maximum
 pub next_greatest : (new acc a b rest tail all : ℕ) → new ≡ max acc a → a ≡ b → rest ≡ max b tail → max acc rest ≡ all → max new tail ≡ all
 next_greatest new acc a b rest tail all p q r s = omega arith
 
@@ -39,7 +39,7 @@ member_aligned tree ms ls k m j d all lt is at aligned =
     let same : j ≡ (get_or ms k m).ty = at ∙ ap (λ x. x.ty) is in
     subst (λ i. (get_or ls i d).alignment ≡ alignment (tree (get_or ms k m).ty)) (sym same) (aligned_at tree ls (get_or ms k m).ty d aligned below)
 
--- ---- the types that a type names stand before it
+-- ---- the types that a type refers to come before it
 
 members_below : (n : ℕ) (ms : List StructMember) → All (λ named. named < n) (map (λ m. m.ty) (map member_view ms)) → All (λ m. m.ty < n) ms
 members_below n [] h k d lt = absurd (omega arith)

@@ -1,4 +1,4 @@
--- What layouters hold.
+-- The contents of layouters.
 use Rattle.std.proofs.Common.{◌≡◌, ◌<◌, ◌≤◌, ◌+◌, ◌++◌, ℕ, zero, suc, List, [], ◌∷◌, Some, All, length, take, slice_get, refl, sym, ap, subst, ◌∙◌, ◌⊎◌, inl, inr, arith, length-append}
 use Rattle.std.proofs.Math.Bridge.{le_prop}
 use Rattle.std.proofs.Math.Seq.{take-length}
@@ -19,7 +19,7 @@ use Rattle.typing_layout.specs.declared.layout.TypeLayout.{TypeLayout}
 use Rattle.typing_layout.specs.found.Held.{IsLayoutOf, AreLayouts, IsFaultOf, IsRefused, OneLayout, LayoutsStay}
 use Rattle.typing_layout.specs.found.Laid.{AreAligned}
 
--- lists with the same elements are the same
+-- lists with the same elements are equal
 same_list : {A : Type 0} (xs ys : List A) → length xs ≡ length ys → ((k : ℕ) (x y : A) → slice_get xs k ≡ Some x → slice_get ys k ≡ Some y → x ≡ y) → xs ≡ ys
 same_list [] [] e h = refl
 same_list [] (y ∷ ys) e h = absurd (omega arith)
@@ -52,7 +52,7 @@ layouts_stay types more layouts back held = record {
       subst (λ t. IsLayoutOf t l) (sym (trees_stay types more back handle lt)) (held.each handle l at);
 }
 
--- what stands where one more was added
+-- the elements after one was appended
 pub pushed : {A : Type 0} (xs : List A) (x : A) (k : ℕ) (y : A) → slice_get (xs ++ x ∷ []) k ≡ Some y → (slice_get xs k ≡ Some y) ⊎ ((k ≡ length xs) × (x ≡ y))
 pushed [] x zero y e = inr (refl, cc)
 pushed [] x (suc k) y e = cc
@@ -61,7 +61,7 @@ pushed (z ∷ xs) x (suc k) y e = elim (pushed xs x k y e) [ inl old ↦ inl old
 
 -- ---- type by type
 
--- the first types are laid out, and they are so many
+-- the first types are laid out, this many
 pub record AreFirst (types : List PlainType) (old layouts : List TypeLayout) (place : ℕ) : Type 0 where
   pub next : length layouts ≡ place
   pub held : AreLayouts types layouts
@@ -114,7 +114,7 @@ pub many_types : (entries : List (IrType × Span)) → length (types_view entrie
 many_types [] = refl
 many_types (x ∷ xs) = ap suc (many_types xs)
 
--- ---- the same, as the code comes by it
+-- ---- the same, in the form that the code proves
 
 pub type_at : (entries : List (IrType × Span)) (place handle : ℕ) (t : IrType) → handle ≡ place → Some t ≡ value_at entries handle → inner_at (types_view entries) place ≡ Some (inner_view t.inner)
 type_at entries place handle t same at = subst (λ h. inner_at (types_view entries) h ≡ Some (inner_view t.inner)) same (sym (inner_found entries handle t at))

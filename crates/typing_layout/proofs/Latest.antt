@@ -32,7 +32,7 @@ map_append : (f : ℕ → ExpressionKind) (xs ys : List ℕ) → map f (xs ++ ys
 map_append f [] ys = refl
 map_append f (x ∷ xs) ys = ap (λ l. f x ∷ l) (map_append f xs ys)
 
--- the latest of the kinds of two rows of operands
+-- the latest of the kinds of two lists of operands
 pub latest_of_two : (f : ℕ → ExpressionKind) (xs ys : List ℕ) → latest (map f (xs ++ ys)) ≡ later (latest (map f xs)) (latest (map f ys))
 latest_of_two f xs ys = ap latest (map_append f xs ys) ∙ latest_append (map f xs) (map f ys)
 
@@ -47,9 +47,9 @@ pub all_right : (n : ℕ) (xs ys : List ℕ) → All (λ operand. operand < n) (
 all_right n [] ys h = h
 all_right n (x ∷ xs) ys h = all_right n xs ys (λ j e l. h (suc j) e (omega arith))
 
--- ---- one kind
+-- ---- kinds are unique
 
--- the kinds of the same operands, where each has one kind
+-- the kinds of the same operands are equal, if each has one kind
 same_kinds : (f g : ℕ → ExpressionKind) (operands : List ℕ) → ((place operand : ℕ) → slice_get operands place ≡ Some operand → f operand ≡ g operand) → map f operands ≡ map g operands
 same_kinds f g [] h = refl
 same_kinds f g (x ∷ xs) h =
@@ -57,7 +57,7 @@ same_kinds f g (x ∷ xs) h =
     let rest : map f xs ≡ map g xs = same_kinds f g xs (λ k. h (suc k)) in
     λ i. first i ∷ rest i
 
--- how the kind of an expression that is there comes about
+-- the kind of an expression in the arena, by its definition
 Comes : List PlainExpression → ExpressionKind → Origin → Type 0
 Comes expressions k (own o) = k ≡ o
 Comes expressions k (latest_of operands) =
@@ -83,7 +83,7 @@ one_kind expressions _ _ right (by_operands {handle = handle} {e = e} {operands 
 
 -- ---- expression by expression
 
--- each is the kind of the expression at its index, and there are so many
+-- each is the kind of the expression at its index, and there are this many
 pub record AreFirstKinds (expressions : List PlainExpression) (kinds : List ExpressionKind) (place : ℕ) : Type 0 where
   pub next : length kinds ≡ place
   pub each : (handle : ℕ) (k : ExpressionKind) → slice_get kinds handle ≡ Some k → IsOfKind expressions handle k
@@ -125,7 +125,7 @@ one_kind_more expressions kinds place e k precede first at is = record {
   ];
 }
 
--- the expression at a place of an arena
+-- the expression at an index of an arena
 pub expression_at : (entries : List (Expression × Span)) (place : ℕ) (e : Expression) → Some e ≡ value_at entries place
     → slice_get (map expression_view (map value_of_entry entries)) place ≡ Some (expression_view e)
 expression_at [] place e at = cc
@@ -140,7 +140,7 @@ pub all_kinds : (entries : List (Expression × Span)) (kinds : List ExpressionKi
     → place ≡ length entries → AreKinds (map expression_view (map value_of_entry entries)) kinds
 all_kinds entries kinds place first end = record { many = first.next ∙ end ∙ sym (many_expressions entries); each = first.each }
 
--- ---- the same, as the code comes by it
+-- ---- the same, in the form that the code proves
 
 pub expression_here : (entries : List (Expression × Span)) (place handle : ℕ) (e : Expression) → handle ≡ place → Some e ≡ value_at entries handle
     → slice_get (map expression_view (map value_of_entry entries)) place ≡ Some (expression_view e)

@@ -1,4 +1,4 @@
--- Expressions that have their kinds from earlier ones.
+-- The operands that determine the kinds of expressions precede.
 use Rattle.std.proofs.Common.{◌≡◌, ◌<◌, ◌≤◌, ◌+◌, ◌++◌, ◌↔◌, ◌⊎◌, inl, inr, ℕ, zero, suc, List, [], ◌∷◌, Some, All, IsTrue, Bool, map, option_to_list, length, slice_get, sym, subst, arith, rules}
 use Rattle.std.proofs.lemmas.List.Elements.{All-append}
 use Rattle.std.proofs.lemmas.Option.{slice_get_within}
@@ -10,7 +10,7 @@ use Rattle.typing_layout.specs.judged.Constness.{OriginsPrecede, origin_of, oper
 use Rattle.ir_types.specs.declared.expressions.Expression.TheVariants as expression
 use Rattle.typing_layout.proofs.Latest.{all_right, many_expressions}
 
--- each expression before a place has its kind from earlier ones
+-- each expression before an index has its kind from earlier ones
 pub record PrecedeBelow (expressions : List PlainExpression) (place : ℕ) : Type 0 where
   pub each : (handle : ℕ) (e : PlainExpression) → handle < place → slice_get expressions handle ≡ Some e → All (λ operand. operand < handle) (operands_from (origin_of e))
 

@@ -1,4 +1,4 @@
--- Rounding up by what is left of a division.
+-- Rounding up with the remainder of a division.
 use Rattle.std.proofs.Common.{◌≡◌, ◌≢◌, ◌<◌, ◌≤◌, ◌+◌, ◌-◌, ◌*◌, ◌/◌, ◌%◌, ◌^◌, ℕ, subst, arith, rules, Fits, w32, IsTrue, ◌==◌}
 use Rattle.std.specs.Int.{◌∣◌}
 use Rattle.std.proofs.Math.Nat.{dvd-mul_right}

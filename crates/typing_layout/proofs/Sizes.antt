@@ -11,7 +11,7 @@ use Rattle.typing_layout.specs.judged.Layout.{IsLeastMultiple, RoundedIsLeast, S
 
 -- ---- rounding up
 
--- a multiple is the step as often as it goes into it
+-- a multiple is the step times the quotient
 whole : (step m : ℕ) → 0 < step → step ∣ m → step * (m / step) ≡ m
 whole step m pos d = let r : m % step ≡ 0 = mod-eq-zero_of_dvd step d in omega arith
 
@@ -29,7 +29,7 @@ multiples_apart step m n pos dm dn lt =
     let h : step * (m / step) + step ≤ step * (n / step) = apart step (m / step) (n / step) (omega (arith, em, en, lt)) in
     omega (arith, h, em, en)
 
--- a multiple less than a step above a number is the least that is not below it
+-- a multiple less than a step above a number is the least that is at least the number
 pub least_near : (step n multiple : ℕ) → 0 < step → step ∣ multiple → n ≤ multiple → multiple < n + step → IsLeastMultiple step n multiple
 least_near step n multiple pos d le near = record {
   is_multiple = d;

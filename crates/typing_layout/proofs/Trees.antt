@@ -1,4 +1,4 @@
--- The tree of a type is made of the trees of the types that it names, and stays where types are added after.
+-- The tree of a type consists of the trees of the types that it refers to, and appending types keeps it.
 use Rattle.std.proofs.Common.{◌≡◌, ◌<◌, ℕ, zero, suc, List, [], ◌∷◌, ◌++◌, Option, Some, None, map, option_map, length, slice_get, All, refl, ap, ◌∙◌, arith}
 use Rattle.ir_types.specs.judged.Plain.{PlainMember, PlainInner, struct, plain, PlainType}
 use Rattle.ir_types.specs.declared.types.TypeInner.TheVariants as inner
@@ -7,7 +7,7 @@ use Rattle.typing_forms.specs.judged.Resolutions.{inner_at}
 use Rattle.typing_layout.specs.judged.Tree.{Tree, member, pointer, array, binding_array, struct as struct_tree}
 use Rattle.typing_layout.specs.judged.View.{members_by, tree_by, tree_found, tree_along, type_tree, TreeByTrees, TreesStay}
 
--- ---- only the trees of the types that are named count
+-- ---- only the trees of the types that are referred to matter
 
 members_alike : (f g : ℕ → Tree) (b : ℕ) (ms : List PlainMember) → ((n : ℕ) → n < b → f n ≡ g n) → All (λ named. named < b) (map (λ m. m.ty) ms)
     → members_by f ms ≡ members_by g ms
@@ -40,7 +40,7 @@ found_alike : (types : List PlainType) → TypesGoBack types → (f g : ℕ → 
 found_alike types back f g handle None at same = refl
 found_alike types back f g handle (Some i) at same = tree_alike f g handle i same (back.each handle i at)
 
--- ---- as many handles as the handle says are enough
+-- ---- a depth equal to the handle's index is enough
 
 along_enough : (types : List PlainType) → TypesGoBack types → (n m handle : ℕ) → handle < n → handle < m → tree_along types n handle ≡ tree_along types m handle
 unfolding tree_along
@@ -56,7 +56,7 @@ tree_by_trees types back handle i at =
     ap (tree_found (tree_along types handle)) at
     ∙ tree_alike (tree_along types handle) (type_tree types) handle i (λ k lt. along_enough types back handle (suc k) k lt (omega arith)) (back.each handle i at)
 
--- ---- types that are added after
+-- ---- appended types
 
 at_first : {A : Type 0} (xs ys : List A) (k : ℕ) → k < length xs → slice_get (xs ++ ys) k ≡ slice_get xs k
 at_first [] ys k lt = absurd (omega arith)

@@ -1,4 +1,4 @@
-//! Numbers of bytes that addresses are multiples of.
+//! Alignments in bytes.
 
 ghost use Rattle.std.specs.Prelude.{◌≡◌, ◌↔◌, ◌<◌, ◌≤◌, ◌^◌, IsTrue, IsSome, IfSome};
 ghost use Rattle.std.specs.Int.{IsPowerOfTwo, ◌∣◌};
@@ -10,7 +10,7 @@ use std::fmt::{self, Display};
 use std::marker::Model;
 use std::ops::Mul;
 
-/// A number of bytes that is a power of two (naga's `Alignment`). In a contract it is that number.
+/// An alignment in bytes, a power of two (naga's `Alignment`). In a contract it is that number.
 #[derive(Clone, Copy, PartialEq, Eq, PartialOrd, Ord, Hash, Debug)]
 pub struct Alignment {
     bytes: u32,
@@ -30,7 +30,7 @@ impl Model for Alignment {
 }
 
 impl Alignment {
-    /// One byte, of which each number is a multiple.
+    /// One byte: every number is a multiple.
     pub const ONE: Self = Alignment { bytes: 1 };
     /// Two bytes.
     pub const TWO: Self = Alignment { bytes: 2 };
@@ -41,10 +41,10 @@ impl Alignment {
     /// 16 bytes.
     pub const SIXTEEN: Self = Alignment { bytes: 16 };
 
-    /// The least alignment of arrays and structs in uniform buffers.
+    /// The minimum alignment of arrays and structs in uniform buffers.
     pub const MIN_UNIFORM: Self = Self::SIXTEEN;
 
-    /// The alignment of `n` bytes, or `None` where `n` is no power of two.
+    /// The alignment of `n` bytes, or `None` if `n` is no power of two.
     #[tactic(auto, using(crate::proofs::Powers::power_from_bit, crate::proofs::Powers::bit_from_power))]
     pub fn new(n: u32) -> Option<Self>
         ensures some { IsSome result ↔ IsPowerOfTwo n }
@@ -57,7 +57,7 @@ impl Alignment {
         }
     }
 
-    /// The alignment of a scalar of this width in bytes. Naga panics where the width is no power of two.
+    /// The alignment of a scalar of this width in bytes. Naga panics if the width is no power of two.
     pub fn from_width(width: u8) -> Self
         requires { IsPowerOfTwo width }
         ensures { result ≡ width }
@@ -67,7 +67,7 @@ impl Alignment {
         }
     }
 
-    /// The number of bytes.
+    /// The alignment in bytes.
     pub fn get(self) -> u32
         ensures value { result ≡ self }
         ensures power { IsPowerOfTwo result }
@@ -83,7 +83,7 @@ impl Alignment {
         n % self.get() == 0
     }
 
-    /// The least multiple of the alignment that is not below `n`. It requires that this fits.
+    /// `n` rounded up to a multiple of the alignment. Requires that this fits.
     pub fn round_up(&self, n: u32) -> u32
         requires { rounded_up self.now n < 2 ^ 32 }
         ensures { IsLeastMultiple self.now n result }
@@ -95,7 +95,7 @@ impl Alignment {
 }
 
 impl Display for Alignment {
-    /// Writes the number of bytes.
+    /// Writes the alignment in bytes.
     fn fmt<W: fmt::Write>(&self, f: &mut fmt::Formatter<W>) -> fmt::Result {
         write!(f, "{}", self.get())
     }
@@ -110,7 +110,7 @@ impl Mul<u32> for Alignment {
 
     ghost mul_gives = { λ a n product. product ≡ a * n };
 
-    /// So many times the alignment. It requires that this fits.
+    /// The alignment times an integer. Requires that this fits.
     fn mul(self, rhs: u32) -> u32 {
         self.bytes * rhs
     }
@@ -125,7 +125,7 @@ impl Mul for Alignment {
 
     ghost mul_gives = { λ a b product. product ≡ a * b };
 
-    /// The product, which is a power of two as well. It requires that this fits.
+    /// The product, again a power of two. Requires that this fits.
     #[tactic(auto, using(crate::proofs::Powers::power_of_product))]
     fn mul(self, rhs: Alignment) -> Alignment {
         Alignment {
@@ -140,7 +140,7 @@ impl From<VectorSize> for Alignment {
 
     ghost from_gives = { λ size a. a ≡ vector_alignment size 1 };
 
-    /// The alignment of a vector whose scalars take one byte.
+    /// The alignment of a vector of one-byte scalars.
     #[tactic(auto, using(crate::proofs::Powers::four))]
     fn from(size: VectorSize) -> Self {
         match size {
@@ -156,7 +156,7 @@ impl From<CooperativeSize> for Alignment {
 
     ghost from_gives = { λ size a. a ≡ cooperative_count size };
 
-    /// As many bytes as there are columns or rows.
+    /// The number of columns or rows, as an alignment in bytes.
     #[tactic(auto, using(crate::proofs::Powers::eight, crate::proofs::Powers::sixteen))]
     fn from(size: CooperativeSize) -> Self {
         match size {

@@ -1,12 +1,12 @@
-//! Which expressions are known before a shader runs.
+//! Constness of expressions.
 
-/// When the value of an expression is known (naga's `ExpressionKind`), in rising order.
+/// When the value of an expression is known (naga's `ExpressionKind`), in ascending order.
 #[derive(Clone, Copy, PartialEq, Eq, PartialOrd, Ord, Debug)]
 pub enum ExpressionKind {
-    /// As the module is written.
+    /// When the module is written.
     Const,
-    /// Once the overrides have their values.
+    /// When the overrides are resolved.
     Override,
-    /// As the shader runs.
+    /// At run time.
     Runtime,
 }

@@ -1,6 +1,6 @@
-//! What the definitions say of small types, worked out by hand.
+//! Examples of the definitions on small types, worked out by hand.
 //!
-//! The functions do nothing: their contracts are the examples.
+//! The functions have no effect: their contracts are the examples.
 
 ghost use Rattle.std.specs.Prelude.{◌≡◌, None, false};
 ghost use Rattle.ir_kinds.specs.judged.Scalars.{boolean, floating, unsigned};
@@ -11,7 +11,7 @@ ghost use Rattle.typing_layout.specs.judged.Flags.{HasFlag, Constructible, Data,
 ghost use Rattle.typing_layout.specs.judged.Immediates.{FitsImmediates};
 ghost use Rattle.typing_layout.specs.judged.Tree.{scalar, vector, array, struct, sampler, no_members, member};
 
-/// What types may be used for.
+/// Type flags.
 pub fn flags()
     ensures float_between_stages { HasFlag IoShareable (scalar (floating 4)) }
     ensures truth_value_not_for_host { ¬ HasFlag HostShareable (scalar boolean) }
@@ -23,7 +23,7 @@ pub fn flags()
     ensures struct_of_a_buffer { ¬ HasFlag Sized (struct (member (array (scalar (floating 4)) Dynamic 4) None 0 no_members) 4) }
 {}
 
-/// The alignments of types as parts of uniform buffers.
+/// The alignments of types as members of uniform buffers.
 pub fn uniform_alignments()
     ensures float { uniform_alignment (scalar (floating 4)) ≡ 4 }
     ensures vector_of_three { uniform_alignment (vector Tri (floating 4)) ≡ 16 }
@@ -32,7 +32,7 @@ pub fn uniform_alignments()
     ensures struct_of_floats { uniform_alignment (struct (member (scalar (floating 4)) None 0 no_members) 4) ≡ 16 }
 {}
 
-/// What immediate data may hold.
+/// Types of immediate data.
 pub fn immediates()
     ensures integer { FitsImmediates (scalar (unsigned 4)) }
     ensures half { ¬ FitsImmediates (scalar (floating 2)) }

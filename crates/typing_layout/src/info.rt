@@ -1,23 +1,23 @@
-//! What is reported of a type that is accepted.
+//! The info of a valid type.
 
 use crate::type_error::{Disalignment, ImmediateError};
 use crate::{Alignment, TypeFlags};
 use ir_arena::handle::Handle;
 use ir_types::key;
 
-/// The alignment of a type as a part of a buffer; or what keeps a host from laying it out, and of which type inside (naga's
+/// The alignment of a type within a buffer; or why the host can't share it, and the inner type at fault (naga's
 /// `LayoutCompatibility`).
 pub type LayoutCompatibility = Result<Alignment, (Handle<key::IrType>, Disalignment)>;
 
-/// What is reported of a type that is accepted (naga's `TypeInfo`).
+/// The info of a valid type (naga's `TypeInfo`).
 #[derive(Clone, Copy, Debug)]
 pub struct TypeInfo {
-    /// What the type may be used for.
+    /// The type flags.
     pub flags: TypeFlags,
-    /// Whether a host can lay it out in uniform buffers.
+    /// Its layout in uniform buffers, or why it can't be there.
     pub uniform_layout: LayoutCompatibility,
-    /// Whether a host can lay it out in storage buffers.
+    /// Its layout in storage buffers, or why it can't be there.
     pub storage_layout: LayoutCompatibility,
-    /// Whether immediate data may have the type.
+    /// Whether immediate data may have the type, or why not.
     pub immediates_compatibility: Result<(), ImmediateError>,
 }

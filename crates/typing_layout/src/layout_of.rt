@@ -1,7 +1,7 @@
-//! The layout of a type, from those of the types before it: its alignment is found here, its size by `try_size` of
+//! The layout of a type, given those of the earlier types: its alignment is computed here, its size by `try_size` of
 //! `typing_forms`.
 //!
-//! What is said of a type here holds whatever the trees of the types that it names are, as long as their alignments are
+//! The contracts here hold for any trees of the types that the type refers to, as long as their alignments are
 //! those of the layouts.
 
 ghost use Rattle.std.specs.Prelude.{◌≡◌, ◌<◌, ◌≤◌, ◌*◌, ℕ, length, map, max, All, MatchOption, MatchResult};
@@ -22,14 +22,14 @@ use ir_kinds::{Scalar, VectorSize};
 use ir_types::{StructMember, TypeInner};
 use typing_forms::TypeInnerExt;
 
-// The alignment of a scalar, if its width is one.
+// The alignment of a scalar, if its width is a valid alignment.
 fn scalar_alignment(scalar: Scalar) -> Option<Alignment>
     ensures { MatchOption result (¬ IsPowerOfTwo scalar.width) (λ a. IsPowerOfTwo scalar.width × (a ≡ scalar.width)) }
 {
     Alignment::new(u32::from(scalar.width))
 }
 
-// The alignment of a vector, if the width of its scalars is one.
+// The alignment of a vector, if the width of its scalars is a valid alignment.
 fn vector_alignment(size: VectorSize, scalar: Scalar) -> Option<Alignment>
     ensures { MatchOption result (¬ IsPowerOfTwo scalar.width) (λ a. IsPowerOfTwo scalar.width × (a ≡ vector_alignment size scalar.width)) }
 {
@@ -50,7 +50,7 @@ fn greater(left: Alignment, right: Alignment) -> Alignment
     }
 }
 
-// The greatest alignment of a member, and one where there is none.
+// The greatest alignment of a member, and one if there is none.
 #[tactic(auto, using(crate::proofs::Alignments::below_at))]
 fn greatest_alignment(members: &[StructMember], layouts: &[TypeLayout]) -> Alignment
     requires { All (λ m. m.ty < length layouts.now) members.now }
@@ -63,7 +63,7 @@ fn greatest_alignment(members: &[StructMember], layouts: &[TypeLayout]) -> Align
     greatest
 }
 
-// The alignment of a type, if the width by which it is found is one.
+// The alignment of a type, if the scalar width it depends on is a valid alignment.
 fn alignment_of(inner: &TypeInner, layouts: &[TypeLayout]) -> Option<Alignment>
     requires { All (λ named. named < length layouts.now) (named_types (inner_view inner.now)) }
     ensures { (tree : ℕ → Tree) → AreAligned tree layouts.now → IsAlignmentOf (tree_by tree (inner_view inner.now)) result }
@@ -87,7 +87,7 @@ fn alignment_of(inner: &TypeInner, layouts: &[TypeLayout]) -> Option<Alignment>
     }
 }
 
-/// The layout of a type, from those of the types that it names, or why it has none.
+/// The layout of a type, given those of the types that it refers to, or why it has none.
 pub(crate) fn layout_of(
     inner: &TypeInner,
     layouts: &[TypeLayout],

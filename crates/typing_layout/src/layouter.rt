@@ -17,7 +17,7 @@ use std::alloc::Global;
 use std::marker::Model;
 use std::ops::Index;
 
-/// The layouts of the first types of a module, or of all of them, by their handles (naga's `Layouter`). In a contract it is
+/// The layouts of the types of a module, or of the first of them, by handle (naga's `Layouter`). In a contract it is
 /// the list of the layouts.
 #[derive(Debug, Drop)]
 pub struct Layouter {
@@ -33,7 +33,7 @@ impl Model for Layouter {
     ghost view = { λ l. l.layouts.items };
 }
 
-// Lays out the types from the first one on that has no layout yet.
+// Lays out the types, starting with the first one that has no layout yet.
 fn lay_out(
     layouts: &mut Vec<TypeLayout>,
     types: &UniqueArena<IrType, key::IrType>,
@@ -59,7 +59,7 @@ fn lay_out(
 }
 
 impl Layouter {
-    /// A layouter that holds no layout, which allocates nothing.
+    /// An empty layouter, which allocates nothing.
     pub fn new(alloc: Global) -> Self
         ensures { result ≡ [] }
     {
@@ -68,20 +68,20 @@ impl Layouter {
         }
     }
 
-    /// Frees all layouts. The layouter keeps its memory.
+    /// Removes all layouts. The layouter keeps its memory.
     pub fn clear(&mut self)
         ensures { self.new ≡ [] }
     {
         self.layouts.clear();
     }
 
-    /// Lays out the types that it has no layout of (naga's `update`). The types go back, and each layout that is kept is
-    /// that of the type at its index: so the types are those of the calls before, and perhaps more after.
+    /// Lays out the types that have no layout yet (naga's `update`). Requires that types refer to earlier types, and that each
+    /// layout kept is that of the type at its index: the types are those of the earlier calls, with possibly more appended.
     ///
     /// # Errors
     ///
-    /// The fault of the first type that has no layout, with no span; or out of memory. The layouts of all types before stand
-    /// then.
+    /// The fault of the first type that has no layout, with no span; or out of memory. The layouts of all earlier types are
+    /// kept then.
     pub fn update(
         &mut self,
         types: &UniqueArena<IrType, key::IrType>,

@@ -1,10 +1,10 @@
-//! How many bytes the values of a module's types take and at which addresses they may lie; which types a module may have
-//! under its capabilities, what they may be used for, and which of them a host can lay out; what is reported of a type that
-//! is accepted, and why one is refused; which of a module's expressions are known before a shader runs.
+//! Sizes and alignments of a module's types; which types are valid under given
+//! capabilities, their flags, and which of them are host-shareable; the info of a
+//! valid type, and type errors; the constness of a module's expressions.
 //!
 //! The names of the code are those of naga's `proc::layouter`, `proc::constant_evaluator` and `valid::type`. The functions of
-//! [`tree_laws`], [`flag_laws`], [`tree_worked`] and [`flag_worked`] do nothing: their contracts are what is known of the
-//! definitions, and what these say of small types.
+//! [`tree_laws`], [`flag_laws`], [`tree_worked`] and [`flag_worked`] have no effect: their contracts are laws of the
+//! definitions, and examples on small types.
 #![tactic(auto)]
 
 mod alignment;

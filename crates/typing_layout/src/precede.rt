@@ -1,4 +1,4 @@
-//! Whether expressions have their kinds from expressions before them.
+//! Whether the operands that determine an expression's kind come before it.
 
 ghost use Rattle.std.specs.Prelude.{◌≡◌, ◌<◌, ◌↔◌, ◌++◌, ◌∷◌, [], IsTrue, map, option_to_list, All};
 ghost use Rattle.ir_arena.specs.found.Arenas.{value_of_entry};
@@ -9,14 +9,14 @@ use ir_arena::arena::Arena;
 use ir_arena::handle::Handle;
 use ir_types::{Expression, key};
 
-// Whether each of some expressions comes before a place.
+// Whether each of these expressions comes before a place.
 fn are_below(operands: &[Handle<key::Expression>], place: usize) -> bool
     ensures { IsTrue result ↔ All (λ operand. operand < place) operands.now }
 {
     operands.iter().all(|operand| operand.index() < place)
 }
 
-// Whether an expression, if it is one, comes before a place.
+// Whether an optional expression comes before a place.
 fn is_below(operand: Option<Handle<key::Expression>>, place: usize) -> bool
     ensures { IsTrue result ↔ All (λ operand. operand < place) (option_to_list operand) }
 {
@@ -42,7 +42,7 @@ fn arguments_below(
     is_below(arg2, place) && is_below(arg3, place)
 }
 
-// Whether what an expression has its kind from comes before a place.
+// Whether the operands that determine an expression's kind come before a place.
 fn origin_precedes(expression: &Expression, place: usize) -> bool
     ensures { IsTrue result ↔ All (λ operand. operand < place) (operands_from (origin_of (expression_view expression.now))) }
 {
@@ -93,7 +93,7 @@ fn origin_precedes(expression: &Expression, place: usize) -> bool
     }
 }
 
-/// Whether the operands from which an expression has its kind come before it, for each expression of an arena. It is what
+/// Whether the operands that determine an expression's kind come before it, for each expression of an arena. It is what
 /// [`crate::ExpressionKindTracker::from_arena`] requires.
 pub fn origins_precede(arena: &Arena<Expression, key::Expression>) -> bool
     ensures { IsTrue result ↔ OriginsPrecede (map expression_view (map value_of_entry arena.now)) }

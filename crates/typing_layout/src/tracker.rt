@@ -1,4 +1,4 @@
-//! The kinds of the expressions of an arena.
+//! The constness of the expressions of an arena.
 
 ghost use Rattle.std.specs.Prelude.{◌≡◌, ◌<◌, ◌↔◌, ◌⊎◌, ◌++◌, ◌∷◌, [], ℕ, Some, IsTrue, IfOk, length, map, option_to_list, slice_get, All};
 ghost use Rattle.ir_arena.specs.found.Arenas.{value_of_entry};
@@ -14,7 +14,7 @@ use ir_types::{Expression, key};
 use std::alloc::{AllocError, Global};
 use std::marker::Model;
 
-/// The kind of each expression of an arena, by its handle (naga's `ExpressionKindTracker`). In a contract it is the list of
+/// The constness of each expression of an arena, by its handle (naga's `ExpressionKindTracker`). In a contract it is the list of
 /// the kinds.
 #[derive(Debug, Drop)]
 pub struct ExpressionKindTracker {
@@ -50,7 +50,7 @@ fn later(left: ExpressionKind, right: ExpressionKind) -> ExpressionKind
     }
 }
 
-// The latest of the kinds of some expressions.
+// The latest of the kinds of these expressions.
 fn latest_kind(kinds: &[ExpressionKind], operands: &[Handle<key::Expression>]) -> ExpressionKind
     requires { All (λ operand. operand < length kinds.now) operands.now }
     ensures { result ≡ latest (map (known_kind kinds.now) operands.now) }
@@ -62,7 +62,7 @@ fn latest_kind(kinds: &[ExpressionKind], operands: &[Handle<key::Expression>]) -
     latest
 }
 
-// The kind of an operand, and const where there is none.
+// The kind of an optional operand, const if there is none.
 fn optional_kind(
     kinds: &[ExpressionKind],
     operand: Option<Handle<key::Expression>>,
@@ -95,7 +95,7 @@ fn math_kind(
     later(first, later(later(second, third), fourth))
 }
 
-// The kind of an expression, from those of the expressions before it.
+// The kind of an expression, given those of the earlier expressions.
 fn kind_of(kinds: &[ExpressionKind], expression: &Expression) -> ExpressionKind
     requires { All (λ operand. operand < length kinds.now) (operands_from (origin_of (expression_view expression.now))) }
     ensures { result ≡ kind_by kinds.now (origin_of (expression_view expression.now)) }
@@ -164,8 +164,8 @@ fn kinds_of(
 }
 
 impl ExpressionKindTracker {
-    /// The kinds of the expressions of an arena. What an expression has its kind from comes before it. Each expression is
-    /// looked at one time. The error is out of memory.
+    /// The kinds of the expressions of an arena. Requires that the operands that determine a kind precede. Each expression is
+    /// visited once. The error is out of memory.
     pub fn from_arena(
         alloc: Global,
         arena: &Arena<Expression, key::Expression>,
@@ -177,7 +177,7 @@ impl ExpressionKindTracker {
         Ok(ExpressionKindTracker { kinds })
     }
 
-    /// Whether the value of an expression is known as the module is written.
+    /// Whether an expression is const.
     pub fn is_const(&self, handle: Handle<key::Expression>) -> bool
         requires { handle < length self.now }
         ensures { IsTrue result ↔ (slice_get self.now handle ≡ Some Const) }
@@ -185,7 +185,7 @@ impl ExpressionKindTracker {
         self.kinds[handle.index()] == ExpressionKind::Const
     }
 
-    /// Whether the value of an expression is known once the overrides have their values.
+    /// Whether an expression is const or override.
     pub fn is_const_or_override(&self, handle: Handle<key::Expression>) -> bool
         requires { handle < length self.now }
         ensures { IsTrue result ↔ ((slice_get self.now handle ≡ Some Const) ⊎ (slice_get self.now handle ≡ Some Override)) }

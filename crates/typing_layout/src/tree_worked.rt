@@ -1,6 +1,6 @@
-//! What the definitions say of small types, worked out by hand and computed by the prover.
+//! Examples of the definitions on small types, worked out by hand and computed by the prover.
 //!
-//! The functions do nothing: their contracts are the examples.
+//! The functions have no effect: their contracts are the examples.
 
 ghost use Rattle.std.specs.Prelude.{◌≡◌, None, false, true};
 ghost use Rattle.ir_kinds.specs.judged.Scalars.{boolean, floating, unsigned};
@@ -11,7 +11,7 @@ ghost use Rattle.ir_types.specs.declared.types.ArraySize.TheVariants.{Constant, 
 ghost use Rattle.typing_layout.specs.judged.Layout.{size, alignment};
 ghost use Rattle.typing_layout.specs.judged.Tree.{scalar, vector, matrix, cooperative_matrix, array, struct, sampler, binding_array, no_members, member};
 
-/// How many bytes values take.
+/// Sizes.
 pub fn sizes()
     ensures float { size (scalar (floating 4)) ≡ 4 }
     ensures truth_value { size (scalar boolean) ≡ 1 }
@@ -26,7 +26,7 @@ pub fn sizes()
     ensures opaque { size (binding_array (sampler false) (Constant 3)) ≡ 0 }
 {}
 
-/// Of how many bytes addresses are multiples.
+/// Alignments.
 pub fn alignments()
     ensures float { alignment (scalar (floating 4)) ≡ 4 }
     ensures vector_of_two { alignment (vector Bi (floating 4)) ≡ 8 }

@@ -1,4 +1,4 @@
-//! Why a type is refused, and why a host can't lay it out.
+//! Type errors, and why a type is not host-shareable.
 
 use crate::Alignment;
 use ir_arena::handle::Handle;
@@ -7,45 +7,45 @@ use ir_kinds::{AddressSpace, Bytes, ImageClass, ImageDimension, Scalar, ScalarKi
 use ir_types::key;
 use thiserror::Error;
 
-/// Why there is no scalar of a kind and a width (naga's `WidthError`).
+/// Why a scalar kind and width are invalid (naga's `WidthError`).
 #[derive(Clone, Copy, PartialEq, Debug, Error)]
 pub enum WidthError {
-    /// No scalar of this kind takes so many bytes.
+    /// There is no scalar of this kind and width.
     #[error("a scalar of kind {0:?} cannot have a width of {1} bytes")]
     Invalid(ScalarKind, Bytes),
     /// It requires this capability.
     #[error("capability {0:?} is required")]
     MissingCapability(Capabilities),
-    /// Abstract numbers stand in constants alone.
+    /// Abstract types occur in constants only.
     #[error("abstract types are only for const-expressions")]
     Abstract,
 }
 
-/// Why there is no such literal (naga's `LiteralError`, of values that are reported by their bits).
+/// Why a literal is invalid (naga's `LiteralError`, with floats given by their bits).
 #[derive(Clone, Copy, PartialEq, Debug, Error)]
 pub enum LiteralError {
-    /// Its scalar is none that there is.
+    /// Wraps a `WidthError`.
     #[error("the scalar type of the literal is invalid: {0}")]
     Width(WidthError),
 }
 
-/// Why immediate data can't be of a type (naga's `ImmediateError`).
+/// Why immediate data can't have a type (naga's `ImmediateError`).
 #[derive(Clone, Copy, PartialEq, Debug, Error)]
 pub enum ImmediateError {
-    /// This scalar is inside, which takes two bytes.
+    /// The type contains this two-byte scalar.
     #[error("immediate data cannot contain the scalar type {0:?}")]
     InvalidScalar(Scalar),
 }
 
-/// What keeps a host from laying out a type (naga's `Disalignment`).
+/// Why a type is not host-shareable (naga's `Disalignment`).
 #[derive(Clone, Copy, PartialEq, Debug, Error)]
 pub enum Disalignment {
-    /// The stride of an array is no multiple of what is required of it.
+    /// The array stride is no multiple of the required alignment.
     #[error("the array stride {stride} is not a multiple of the required alignment {alignment}")]
     ArrayStride {
         /// In bytes.
         stride: u32,
-        /// What is required.
+        /// The required alignment.
         alignment: Alignment,
     },
     /// The span of a struct is no multiple of its alignment.
@@ -53,27 +53,27 @@ pub enum Disalignment {
     StructSpan {
         /// In bytes.
         span: u32,
-        /// The struct's.
+        /// The struct's alignment.
         alignment: Alignment,
     },
-    /// A member does not begin at a multiple of what is required.
+    /// A member's offset is no multiple of the required alignment.
     #[error("the offset {offset} of struct member {index} is not a multiple of the required alignment {alignment}")]
     MemberOffset {
-        /// The member's place, from 0.
+        /// The member's index, from 0.
         index: usize,
-        /// Where it begins, in bytes.
+        /// Its offset, in bytes.
         offset: u32,
-        /// What is required.
+        /// The required alignment.
         alignment: Alignment,
     },
-    /// A member begins too near after a struct.
+    /// A member is too close to the end of the struct before it.
     #[error("the offset {offset} of struct member {index} must be at least {expected}, because it follows a struct")]
     MemberOffsetAfterStruct {
-        /// The member's place, from 0.
+        /// The member's index, from 0.
         index: usize,
-        /// Where it begins, in bytes.
+        /// Its offset, in bytes.
         offset: u32,
-        /// Where it may begin at least.
+        /// The minimum offset.
         expected: u64,
     },
     /// The type is not host-shareable.
@@ -81,39 +81,39 @@ pub enum Disalignment {
     NonHostShareable,
 }
 
-/// Why members can't be sources of a blend: what naga's `VaryingError` says of a type.
+/// Why members can't be blend sources: the part of naga's `VaryingError` about types.
 #[derive(Clone, Copy, PartialEq, Debug, Error)]
 pub enum VaryingError {
-    /// Values of the type don't go from one stage to the next.
+    /// The type is not allowed for inter-stage IO.
     #[error("type {0:?} cannot be passed between stages: only numeric scalars and vectors can")]
     NotIOShareableType(Handle<key::IrType>),
-    /// Several members are the same source.
+    /// Several members have the same blend source.
     #[error("blend source {blend_src} has more than one binding")]
     BindingCollisionBlendSrc {
-        /// The source.
+        /// The blend source.
         blend_src: u32,
     },
-    /// There are the sources 0 and 1 alone, at location 0.
+    /// The blend source or location is invalid: there are only the sources 0 and 1, at location 0.
     #[error("a blend source must be 0 or 1, at location 0: blend source {blend_src} at location {location}")]
     InvalidBlendSrcIndex {
         /// The member's location.
         location: u32,
-        /// Its source.
+        /// Its blend source.
         blend_src: u32,
     },
-    /// One of the two sources is missing.
+    /// One of the two blend sources is missing.
     #[error("both blend sources must be present: only {present_blend_src} is")]
     IncompleteBlendSrcUsage {
-        /// The source that is there.
+        /// The source that is present.
         present_blend_src: u32,
     },
-    /// A member beside the sources has a location.
+    /// A member other than the blend sources has a location.
     #[error("a struct with blend sources cannot have other members with locations: location {location}")]
     InvalidBlendSrcWithOtherBindings {
         /// Its location.
         location: u32,
     },
-    /// The types of the two sources are made of different things.
+    /// The types of the two blend sources differ.
     #[error("both blend sources must have the same type: {blend_src_0_type:?} and {blend_src_1_type:?}")]
     BlendSrcOutputTypeMismatch {
         /// The type of source 0.
@@ -123,77 +123,77 @@ pub enum VaryingError {
     },
 }
 
-/// Why a type is refused (naga's `TypeError`; [`TypeError::Other`] is this project's own).
+/// A type error (naga's `TypeError`; [`TypeError::Other`] is this project's own).
 #[derive(Clone, Copy, PartialEq, Debug, Error)]
 pub enum TypeError {
-    /// There is no such scalar.
+    /// Wraps a `WidthError`.
     #[error("{0}")]
     WidthError(WidthError),
     /// It requires this capability.
     #[error("capability {0:?} is required")]
     MissingCapability(Capabilities),
-    /// No atomic is a scalar of this kind and width.
+    /// No atomic has this kind and width.
     #[error("an atomic of kind {0:?} cannot have a width of {1} bytes")]
     InvalidAtomicWidth(ScalarKind, Bytes),
-    /// Values of this type can't be stored, so nothing points to one.
+    /// The base type of a pointer is not `DATA`.
     #[error("the base type {0:?} of the pointer is invalid")]
     InvalidPointerBase(Handle<key::IrType>),
-    /// Only in storage buffers lies what has no known size.
+    /// A pointer to a type of unknown size outside of the storage space.
     #[error("the unsized type {base:?} cannot be the base of a pointer into address space {space:?}")]
     InvalidPointerToUnsized {
-        /// What is pointed to.
+        /// The base type.
         base: Handle<key::IrType>,
-        /// Where it lies.
+        /// The address space.
         space: AddressSpace,
     },
-    /// Values of a member's type can't be stored.
+    /// A member's type is not `DATA`.
     #[error("struct member {index} has type {ty:?}, which cannot be stored as data")]
     InvalidData {
-        /// The member's place, from 0.
+        /// The member's index, from 0.
         index: usize,
         /// Its type.
         ty: Handle<key::IrType>,
     },
-    /// Values of this type can't be stored, or have no known size.
+    /// The base type is not `DATA`, or has no known size.
     #[error("the base type {0:?} of the array is invalid")]
     InvalidArrayBaseType(Handle<key::IrType>),
-    /// Matrices are of floats.
+    /// The scalar of a matrix is no float.
     #[error("matrix elements must be floating-point types")]
     MatrixElementNotFloat,
-    /// There is no image of these dimensions and this class.
+    /// There is no image of this dimension and class.
     #[error("images of dimension {dim:?}, class {class:?} and arrayed {arrayed} are not supported")]
     UnsupportedImageType {
-        /// How many dimensions it has.
+        /// The dimension.
         dim: ImageDimension,
-        /// Whether it is one of several layers.
+        /// Whether it is arrayed.
         arrayed: bool,
-        /// What its texels are.
+        /// The image class.
         class: ImageClass,
     },
-    /// A member before the last has no known size.
+    /// A member other than the last has no known size.
     #[error("struct member {index} has the dynamically sized type {ty:?}, which only the last member can have")]
     InvalidDynamicArray {
-        /// The member's place, from 0.
+        /// The member's index, from 0.
         index: usize,
         /// Its type.
         ty: Handle<key::IrType>,
     },
-    /// A member begins inside the one before.
+    /// A member overlaps the one before.
     #[error("struct member {index} at offset {offset} overlaps the previous member")]
     MemberOverlap {
-        /// The member's place, from 0.
+        /// The member's index, from 0.
         index: usize,
-        /// Where it begins, in bytes.
+        /// Its offset, in bytes.
         offset: u32,
     },
-    /// A member ends past the struct's span.
+    /// A member ends after the struct's span.
     #[error("struct member {index} at offset {offset} with size {size} exceeds the struct span {span}")]
     MemberOutOfBounds {
-        /// The member's place, from 0.
+        /// The member's index, from 0.
         index: usize,
-        /// Where it begins, in bytes.
+        /// Its offset, in bytes.
         offset: u32,
-        /// How many bytes it takes.
+        /// Its size, in bytes.
         size: u32,
         /// The struct's span.
         span: u32,
@@ -201,13 +201,13 @@ pub enum TypeError {
     /// A struct must have at least one member.
     #[error("a struct must have at least one member")]
     EmptyStruct,
-    /// Members can't be sources of a blend.
+    /// Members can't be blend sources.
     #[error("the blend sources of the struct are invalid: {0}")]
     InvalidBlendSrc(VaryingError),
-    /// The size of this array is an override's, and overrides are resolved.
+    /// The array's size is an override, and overrides are already resolved.
     #[error("the array length of type {0:?} is an override without a value")]
     UnresolvedOverride(Handle<key::IrType>),
-    /// A fault without a name: the scalar of a cooperative matrix, or the elements or the size of a binding array.
+    /// A fault with no variant in naga: the scalar of a cooperative matrix, or the elements or the size of a binding array.
     #[error("the cooperative matrix or binding array is invalid")]
     Other,
 }

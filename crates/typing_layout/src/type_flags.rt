@@ -1,33 +1,33 @@
-//! What a type may be used for.
+//! Type flags.
 
 use bitflags::{Flag, Flags, bitflag_items};
 use ir_flags::write_set;
 use std::fmt;
 
-/// What a type may be used for (naga's `TypeFlags`). A contract sees the number of its bits, as `set.0`.
+/// The flags of a type (naga's `TypeFlags`). A contract sees its bits, as `set.0`.
 #[derive(Clone, Copy, PartialEq, Eq)]
 pub struct TypeFlags(
-    /// The bits as a number.
+    /// The bits.
     pub u8,
 );
 
 bitflag_items! {
     impl TypeFlags: u8 {
-        /// Values can be stored.
+        /// Values can be stored in memory.
         const DATA = 1;
-        /// The size of values is known where the pipeline is made.
+        /// The size is known at pipeline creation.
         const SIZED = 2;
         /// Values can be copied.
         const COPY = 4;
-        /// Values go from one stage to the next.
+        /// Values can be passed between stages.
         const IO_SHAREABLE = 8;
-        /// The host lays values out as shaders do.
+        /// The type is host-shareable.
         const HOST_SHAREABLE = 16;
-        /// The size of values does not depend on an override.
+        /// The size does not depend on an override.
         const CREATION_RESOLVED = 32;
-        /// Functions take values.
+        /// Functions take arguments of the type.
         const ARGUMENT = 64;
-        /// Values can be composed.
+        /// Values can be constructed.
         const CONSTRUCTIBLE = 128;
     }
 }

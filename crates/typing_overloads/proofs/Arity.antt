@@ -1,4 +1,4 @@
--- How many arguments the rules of a product have: all as many.
+-- The rules of a product all have the same number of arguments.
 use Rattle.std.proofs.Common.{◌≡◌, ◌∙◌, ◌++◌, ℕ, suc, Some, None, List, [], ◌∷◌, refl, ap, sym, arith, fold, length, map, max, min, slice_get}
 use Rattle.ir_kinds.specs.declared.scalars.Scalar.{Scalar}
 use Rattle.typing_rules.specs.declared.patterns.Pattern.{Pattern}
@@ -17,7 +17,7 @@ length_mapped f (x ∷ xs) = ap (λ n. suc n) (length_mapped f xs)
 arity_by : (p : Pattern) (n : ConstructorSize) (s : Scalar) → arity (math_rule p n s) ≡ length (required_by p)
 arity_by p n s = ap length (required_are p n s) ∙ length_mapped (required_type n s) (required_by p)
 
--- each rule has so many arguments
+-- each rule has this many arguments
 abbrev AllHave : ℕ → List Rule → Type 0
 AllHave k [] = Unit {0}
 AllHave k (r ∷ rs) = (arity r ≡ k) × AllHave k rs
@@ -34,7 +34,7 @@ all_of_rules : (p : Pattern) (ss : List Scalar) (ns : List ConstructorSize) → 
 all_of_rules p ss [] = tt
 all_of_rules p ss (n ∷ ns) = all_joined (length (required_by p)) (row p ss n) (rules_over p ss ns) (all_of_row p n ss) (all_of_rules p ss ns)
 
--- ---- the least and the greatest
+-- ---- minimum and maximum
 
 settled : (op : ℕ → ℕ → ℕ) (again : (n k : ℕ) → op (op n k) k ≡ op n k) (n k : ℕ) (rs : List Rule) → AllHave k rs → fold (λ m r. op m (arity r)) (op n k) rs ≡ op n k
 settled op again n k [] h = refl
@@ -59,12 +59,12 @@ pub most_found : (p : Pattern) (ss : List Scalar) (ns : List ConstructorSize) (n
     → max n (length (required_by p)) ≡ fold (λ m r. max m (arity r)) n (rules_over p ss ns)
 most_found p ss ns n q e = found max max_again n (length (required_by p)) (rules_over p ss ns) q (all_of_rules p ss ns) e
 
--- no rule changes nothing
+-- an empty list changes nothing
 pub none_found : (op : ℕ → Rule → ℕ) (n : ℕ) (rs : List Rule) → None ≡ slice_get rs 0 → n ≡ fold op n rs
 none_found op n [] e = refl
 none_found op n (r ∷ rs) e = absurd (cc)
 
--- ---- of all rules, from the first one's on
+-- ---- over all rules, from the first one on
 
 min_same : (n : ℕ) → min n n ≡ n
 min_same n = omega arith

@@ -1,4 +1,4 @@
--- A test that looks at a shape and at a scalar leaves of a product the product of what it leaves of both.
+-- Filtering a product by a test on shapes and a test on scalars is the product of the filtered shapes and scalars.
 use Rattle.std.proofs.Common.{◌≡◌, ◌==◌, ◌∙◌, ◌++◌, ◌&&◌, ℕ, Bool, true, false, not, Option, Some, None, List, [], ◌∷◌, refl, ap, ap₂, sym, bit_and, cond, filter, is_some, map, slice_get, option_map, option_and_then}
 use Rattle.std.proofs.lemmas.List.Elements.{filter-append}
 use Rattle.std.proofs.lemmas.Option.{slice_get-map}
@@ -29,13 +29,13 @@ row_step q f p n s ss true e h again =
 row_step q f p n s ss false e h again =
     ap (λ b. cond b (math_rule p n s ∷ filter q (row p ss n)) (filter q (row p ss n))) h ∙ again ∙ ap (λ b. row p (cond b (s ∷ filter f ss) (filter f ss)) n) (sym e)
 
--- of a row whose shape passes, the scalars that pass are left
+-- of a shape that passes, the scalars that pass remain
 row_kept : (q : Rule → Bool) (f : Scalar → Bool) (p : Pattern) (n : ConstructorSize) → ((s : Scalar) → q (math_rule p n s) ≡ f s) → (ss : List Scalar)
     → filter q (row p ss n) ≡ row p (filter f ss) n
 row_kept q f p n h [] = refl
 row_kept q f p n h (s ∷ ss) = row_step q f p n s ss (f s) refl (h s) (row_kept q f p n h ss)
 
--- of another row nothing is left
+-- of another shape nothing remains
 row_dropped : (q : Rule → Bool) (p : Pattern) (n : ConstructorSize) → ((s : Scalar) → q (math_rule p n s) ≡ false) → (ss : List Scalar) → filter q (row p ss n) ≡ []
 row_dropped q p n h [] = refl
 row_dropped q p n h (s ∷ ss) = ap (λ b. cond b (math_rule p n s ∷ filter q (row p ss n)) (filter q (row p ss n))) (h s) ∙ row_dropped q p n h ss
@@ -59,7 +59,7 @@ nothing_kept : (q : Rule → Bool) (p : Pattern) → ((n : ConstructorSize) (s :
 nothing_kept q p h ss [] = refl
 nothing_kept q p h ss (n ∷ ns) = filter-append q (row p ss n) (rules_over p ss ns) ∙ ap₂ (λ xs ys. xs ++ ys) (row_dropped q p n (h n) ss) (nothing_kept q p h ss ns)
 
--- ---- what is required for at a place
+-- ---- the required type at an index
 
 pub required_are : (p : Pattern) (n : ConstructorSize) (s : Scalar) → argument_list (math_rule p n s).arguments ≡ map (required_type n s) (required_by p)
 required_are pattern.Same n s = refl
@@ -87,7 +87,7 @@ some_rank : (b : Bool) (o : Option ℕ) → is_some (cond b o None) ≡ b && is_
 some_rank true o = refl
 some_rank false o = refl
 
--- a rule takes what is given at a place where that has a rank
+-- a rule accepts a type at an index if there is a conversion rank
 abbrev takes : ℕ → ValueType → Rule → Bool
 takes place given rule = is_some (rank_at place given rule)
 
@@ -102,12 +102,12 @@ accepts_by : (place : ℕ) (given : ValueType) (p : Pattern) (a : Required) → 
 accepts_by place given p a e n s =
     ap (λ o. is_some (option_and_then (type_rank given) o)) (asked_there p place (Some a) e n s) ∙ some_rank (takes_size given a n) (rank given.scalar (required_scalar a.scalar s))
 
--- what takes an argument is a product of shapes and scalars
+-- the rules that accept an argument are a product of shapes and scalars
 accepting_kept : (place : ℕ) (given : ValueType) (p : Pattern) (a : Required) → slice_get (required_by p) place ≡ Some a → (ss : List Scalar) (ns : List ConstructorSize)
     → filter (takes place given) (rules_over p ss ns) ≡ rules_over p (filter (takes_scalar given a) ss) (filter (takes_size given a) ns)
 accepting_kept place given p a e ss ns = product_kept (takes place given) (takes_scalar given a) (takes_size given a) p (accepts_by place given p a e) ss ns
 
--- where a rule has no such argument, none is left
+-- if a rule has no such argument, none remains
 none_kept : (place : ℕ) (given : ValueType) (p : Pattern) → slice_get (required_by p) place ≡ None → (ss : List Scalar) (ns : List ConstructorSize)
     → filter (takes place given) (rules_over p ss ns) ≡ []
 none_kept place given p e ss ns = nothing_kept (takes place given) p (λ n s. ap (λ o. is_some (option_and_then (type_rank given) o)) (asked_there p place None e n s)) ss ns
@@ -153,7 +153,7 @@ concrete_kept p ss ns = product_kept is_concrete (all_concrete p) (λ n. true) p
 
 -- ---- sets of bits
 
--- a pattern that requires a type here: two sets of bits are cut to those of its shapes and scalars
+-- a pattern with a required type here: both bit sets are intersected with those of its shapes and scalars
 pub accepted : (place : ℕ) (inner : PlainInner) (given : ValueType) (p : Pattern) (a : Required) → Some given ≡ value_type_of inner → Some a ≡ slice_get (required_by p) place
     → (scalar_bits size_bits scalar_mask size_mask : ℕ) → marks scalar_mask scalars ≡ map (takes_scalar given a) scalars → marks size_mask sizes ≡ map (takes_size given a) sizes
     → rules_over p (scalars_in (bit_and scalar_bits scalar_mask)) (sizes_in (bit_and size_bits size_mask))
@@ -163,7 +163,7 @@ accepted place inner given p a e h scalar_bits size_bits scalar_mask size_mask k
     ∙ sym (accepting_kept place given p a (sym h) (scalars_in scalar_bits) (sizes_in size_bits))
     ∙ ap (λ o. filter (accepts_if place o) (rules_over p (scalars_in scalar_bits) (sizes_in size_bits))) e
 
--- one that requires none there
+-- a pattern without one
 pub no_argument : (place : ℕ) (inner : PlainInner) (given : ValueType) (p : Pattern) → Some given ≡ value_type_of inner → None ≡ slice_get (required_by p) place
     → (ss : List Scalar) (ns : List ConstructorSize) → [] ≡ filter (accepts_inner place inner) (rules_over p ss ns)
 no_argument place inner given p e h ss ns = sym (none_kept place given p (sym h) ss ns) ∙ ap (λ o. filter (accepts_if place o) (rules_over p ss ns)) e
@@ -172,7 +172,7 @@ none_left : {A : Type 0} (xs : List A) → [] ≡ filter (λ x. false) xs
 none_left [] = refl
 none_left (x ∷ xs) = none_left xs
 
--- and what is neither a scalar nor a vector nor a matrix
+-- a type that is neither a scalar nor a vector nor a matrix
 pub no_value : (place : ℕ) (inner : PlainInner) (rs : List Rule) → None ≡ value_type_of inner → [] ≡ filter (accepts_inner place inner) rs
 no_value place inner rs e = none_left rs ∙ ap (λ o. filter (accepts_if place o) rs) e
 

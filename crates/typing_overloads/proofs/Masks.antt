@@ -1,4 +1,4 @@
--- Two sets of bits: what stands at the one bits of both is what a test leaves of what stands at those of the first.
+-- The intersection of two bit sets: its members are the first set's members that the test keeps.
 use Rattle.std.proofs.Common.{◌≡◌, ◌/◌, ◌%◌, ◌<◌, ◌==◌, ◌∙◌, ◌&&◌, ℕ, zero, suc, Bool, true, false, List, [], ◌∷◌, refl, ap, sym, arith, bit_and, cond, filter, map}
 use Rattle.std.proofs.lemmas.Nat.{and_shr, and_mod}
 use Rattle.typing_rules.specs.found.Bits.{put_if, chosen, marks}

@@ -1,4 +1,4 @@
--- The rules of either kind of set.
+-- The rules of a set of either representation.
 use Rattle.std.specs.Prelude.{List}
 use Rattle.typing_rules.specs.declared.rules.Rule.{Rule}
 use Rattle.typing_overloads.specs.declared.any.AnyOverloadSet as any

@@ -1,4 +1,4 @@
--- Rules that are made of each of some shapes with each of some scalars, and what each requires at a place.
+-- Products of shapes and scalars as lists of rules, and the type that each rule requires at an argument index.
 use Rattle.std.specs.Prelude.{List, [], ◌∷◌, Bool, true, not, map}
 use Rattle.ir_kinds.specs.declared.scalars.Scalar.{Scalar}
 use Rattle.typing_rules.specs.declared.patterns.Pattern.{Pattern}
@@ -18,16 +18,16 @@ use Rattle.typing_overloads.specs.declared.required.RequiredSize.{RequiredSize}
 use Rattle.typing_overloads.specs.declared.required.RequiredSize.TheVariants as sizes
 use Rattle.typing_overloads.specs.declared.product.Product.{Product}
 
--- ---- what a rule requires
+-- ---- required types
 
--- the shape, of the shape that the rule is made of
+-- the shape, given the rule's shape
 abbrev pub required_size : RequiredSize → ConstructorSize → ConstructorSize
 required_size sizes.Same n = n
 required_size sizes.Scalar n = size.Scalar
 required_size sizes.Column n = vector_of_columns n
 required_size sizes.Row n = vector_of_rows n
 
--- the scalar, of the scalar that the rule is made of
+-- the scalar, given the rule's scalar
 abbrev pub required_scalar : RequiredScalar → Scalar → Scalar
 required_scalar scalars.Same s = s
 required_scalar scalars.I32 s = i32
@@ -42,7 +42,7 @@ own = record { size = sizes.Same; scalar = scalars.Same }
 abbrev pub word : Required
 word = record { size = sizes.Scalar; scalar = scalars.U32 }
 
--- what the rules of a pattern require, in order
+-- the required types of a pattern, in order
 abbrev pub required_by : Pattern → List Required
 required_by pattern.Same = own ∷ []
 required_by pattern.SameTwo = own ∷ own ∷ []
@@ -61,7 +61,7 @@ required_by pattern.ToWord = own ∷ []
 required_by pattern.FromWord = word ∷ []
 required_by pattern.FromTwoWords = word ∷ word ∷ []
 
--- whether a rule of the pattern that is made of the scalar requires no abstract one
+-- whether the pattern's rule for the scalar has no abstract argument
 abbrev pub all_concrete : Pattern → Scalar → Bool
 all_concrete pattern.FromWord s = true
 all_concrete pattern.FromTwoWords s = true
@@ -69,10 +69,10 @@ all_concrete p s = not (is_abstract_kind s.kind)
 
 -- ---- the rules of a product
 
--- a shape with each of the scalars
+-- one shape with each of the scalars
 abbrev pub row : Pattern → List Scalar → ConstructorSize → List Rule
 row p ss n = map (math_rule p n) ss
 
--- each of the shapes with each of the scalars: by shape, then by scalar
+-- each of the shapes with each of the scalars: ordered by shape, then by scalar
 abbrev pub rules_of : Product → List Rule
 rules_of p = rules_over p.pattern (scalars_in p.scalars.0) (sizes_in p.sizes.0)

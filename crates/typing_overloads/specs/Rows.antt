@@ -1,4 +1,4 @@
--- The rules of a function without those that blend vectors by a scalar.
+-- The rules of a function, without those that blend vectors by a scalar.
 use Rattle.std.specs.Prelude.{List}
 use Rattle.ir_kinds.specs.declared.maths.MathFunction.{MathFunction}
 use Rattle.ir_kinds.specs.declared.maths.MathFunction.TheVariants.{Mix}

@@ -1,4 +1,4 @@
-//! Either kind of overload set.
+//! Overload sets of either representation.
 
 ghost use Rattle.std.specs.Prelude.{◌≡◌, List};
 ghost use Rattle.typing_overloads.specs.Either.{any_rules};
@@ -10,12 +10,12 @@ use ir_types::TypeInner;
 use std::alloc::{AllocError, Global};
 use typing_rules::{Rule, ValueType};
 
-/// An overload set of one of the two kinds (naga's `AnyOverloadSet`). A contract sees the rules that are left.
+/// An overload set of one of the two representations (naga's `AnyOverloadSet`). In a contract it is the list of remaining rules.
 #[derive(Debug, Drop)]
 pub enum AnyOverloadSet {
-    /// Rules one by one.
+    /// A list of rules.
     List(List),
-    /// Rules of one form.
+    /// Rules of one regular form.
     Regular(Regular),
 }
 

@@ -21,7 +21,7 @@ const BLENDS: Product = Product {
     sizes: ConstructorSet::VECN,
 };
 
-// The rules of one product, and then those of another, one by one.
+// The rules of one product, followed by those of another, as a list.
 fn both(alloc: Global, first: Product, second: Product) -> Result<AnyOverloadSet, AllocError>
     ensures { IfOk result (λ set. any_rules set ≡ rules_of first ++ rules_of second) }
 {
@@ -31,7 +31,7 @@ fn both(alloc: Global, first: Product, second: Product) -> Result<AnyOverloadSet
     Ok(AnyOverloadSet::List(List::from_rules(alloc, rules)?))
 }
 
-// The rules of one product, one by one where naga keeps them so.
+// The rules of one product, as a list if naga uses one.
 fn one(alloc: Global, rules: Product) -> Result<AnyOverloadSet, AllocError>
     ensures { IfOk result (λ set. any_rules set ≡ rules_of rules) }
 {
@@ -55,7 +55,7 @@ fn one(alloc: Global, rules: Product) -> Result<AnyOverloadSet, AllocError>
     }
 }
 
-/// What a math function has that needs overload sets (a call of naga's `MathFunction`).
+/// Math functions that use overload sets (a method of naga's `MathFunction`).
 pub trait MathFunctionExt: Sized {
     // The rules of the function, in order.
     ghost table: { Self → List Rule };

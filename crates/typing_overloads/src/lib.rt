@@ -1,4 +1,4 @@
-//! Overload sets: the rules of a built-in function that the arguments given so far leave.
+//! Overload sets: the rules of a built-in function that remain after some arguments are supplied.
 #![tactic(auto)]
 
 mod any;

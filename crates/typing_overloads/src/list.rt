@@ -1,4 +1,4 @@
-//! Overload sets that keep their rules one by one.
+//! Overload sets as lists of rules.
 
 ghost use Rattle.std.specs.Prelude.{◌≡◌, IfOk};
 
@@ -9,8 +9,8 @@ use std::alloc::{AllocError, Global};
 use std::marker::Model;
 use typing_rules::{Rule, ValueType};
 
-/// An overload set of any rules, kept one by one (naga's `List`). In a contract it is the list of the rules that are
-/// left.
+/// An overload set as a list of arbitrary rules (naga's `List`). In a contract it is the list of the remaining
+/// rules.
 #[derive(Debug, Drop)]
 pub struct List {
     rules: Vec<Rule>,
@@ -27,7 +27,7 @@ impl Model for List {
 
 impl List {
     /// The set of these rules, the preferred one first (naga's `List::from_rules`), in memory of `alloc` without spare
-    /// room. The error is out of memory.
+    /// capacity. The error is out of memory.
     pub fn from_rules(alloc: Global, rules: Vec<Rule>) -> Result<List, AllocError>
         ensures { IfOk result (λ list. list ≡ rules.items) }
     {

@@ -1,4 +1,4 @@
-//! The table of the math functions, a row for each.
+//! The table of the math functions, one entry each.
 
 ghost use Rattle.std.specs.Prelude.{◌≡◌};
 ghost use Rattle.typing_overloads.specs.Products.{rules_of};
@@ -8,7 +8,7 @@ use crate::product::Product;
 use ir_kinds::MathFunction as Mf;
 use typing_rules::{ConstructorSet as C, Pattern, ScalarSet as S};
 
-// All numbers but the unsigned ones.
+// All numeric scalars but the unsigned integers.
 const SIGNED_NUMBERS: S = S(S::ABSTRACT_INT.0 | S::I32.0 | S::I16.0 | S::I64.0 | S::FLOAT.0);
 
 // Scalars and vectors.
@@ -40,7 +40,7 @@ const fn over(pattern: Pattern, scalars: S, sizes: C) -> Product
     }
 }
 
-/// The rules of a function. `Mix` has others too, of vectors with a scalar.
+/// The rules of a function. `Mix` has further ones, which blend vectors by a scalar.
 pub(crate) const fn row_of(function: Mf) -> Product
     ensures { rules_of result ≡ first_row function }
 {

@@ -1,4 +1,4 @@
-//! What every overload set is.
+//! The trait of overload sets.
 
 ghost use Rattle.std.specs.Prelude.{◌≡◌, ◌<◌, ◌==◌, List, IfOk, Some, filter, length, slice_get};
 ghost use Rattle.ir_types.specs.judged.Plain.{inner_view};
@@ -10,35 +10,35 @@ use ir_types::TypeInner;
 use std::alloc::{AllocError, Global};
 use typing_rules::{Rule, ValueType};
 
-/// The rules that a function has left for the arguments that were supplied (naga's `OverloadSet`). In a contract a set
+/// The rules of a function that remain for the supplied arguments (naga's `OverloadSet`). In a contract a set
 /// is the list of these rules, the preferred one first.
 pub trait OverloadSet: Clone {
-    // The rules that are left, in order.
+    // The remaining rules, in order.
     ghost rules: { Self → List Rule };
 
-    /// Whether no rule is left.
+    /// Whether no rule remains.
     fn is_empty(&self) -> bool
         ensures { result ≡ (length (rules self.now) == 0) };
 
-    /// The least number of arguments that a rule has. Requires that there is one.
+    /// The least number of arguments of a rule. Requires that there is one.
     fn min_arguments(&self) -> usize
         requires { 0 < length (rules self.now) }
         ensures { result ≡ fewest_arguments (rules self.now) };
 
-    /// The greatest number of arguments that a rule has. Requires that there is one.
+    /// The greatest number of arguments of a rule. Requires that there is one.
     fn max_arguments(&self) -> usize
         requires { 0 < length (rules self.now) }
         ensures { result ≡ most_arguments (rules self.now) };
 
-    /// The rules that accept an argument of the type `ty` at the place `i`, counted from 0. The error is out of memory.
+    /// The rules that accept an argument of the type `ty` at the index `i`, counted from 0. The error is out of memory.
     fn arg(&self, alloc: Global, i: usize, ty: &TypeInner) -> Result<Self, AllocError>
         ensures { IfOk result (λ set. rules set ≡ filter (accepts_inner i (inner_view ty.now)) (rules self.now)) };
 
-    /// The rules that have no abstract argument.
+    /// The rules without abstract arguments.
     fn concrete_only(self) -> Self
         ensures { rules result ≡ filter is_concrete (rules self) };
 
-    /// The rule that is preferred. Requires that there is one.
+    /// The preferred rule. Requires that there is one.
     fn most_preferred(&self) -> Rule
         requires { 0 < length (rules self.now) }
         ensures { slice_get (rules self.now) 0 ≡ Some result };
@@ -47,7 +47,7 @@ pub trait OverloadSet: Clone {
     fn overload_list(&self, alloc: Global) -> Result<Vec<Rule>, AllocError>
         ensures { IfOk result (λ list. list.items ≡ rules self.now) };
 
-    /// The types that the rules require at the place `i`, counted from 0: one for each rule that has an argument there,
+    /// The types that the rules require at the index `i`, counted from 0: one for each rule that has an argument there,
     /// in their order. The error is out of memory.
     fn allowed_args(&self, alloc: Global, i: usize) -> Result<Vec<ValueType>, AllocError>
         ensures { IfOk result (λ types. types.items ≡ arguments_at i (rules self.now)) };

@@ -1,4 +1,4 @@
-//! Rules that are made of each of some shapes with each of some scalars.
+//! Products: one rule for each pair of a shape and a scalar.
 
 ghost use Rattle.std.specs.Prelude.{◌≡◌, ◌++◌, OnOk, filter, max, min, slice_get};
 ghost use Rattle.std.specs.List.{fold};
@@ -14,10 +14,10 @@ use ir_types::TypeInner;
 use std::alloc::AllocError;
 use typing_rules::{ConstructorSet, ConstructorSize, Pattern, Rule, ScalarSet, ValueType};
 
-/// The rules that a pattern makes of each of the shapes with each of the scalars: by shape, then by scalar.
+/// The rules of a pattern for each of the shapes with each of the scalars: ordered by shape, then by scalar.
 #[derive(Clone, Copy, Debug)]
 pub(crate) struct Product {
-    /// The form of each rule.
+    /// The pattern of each rule.
     pub pattern: Pattern,
     /// The scalars.
     pub scalars: ScalarSet,
@@ -47,7 +47,7 @@ impl Product {
         }
     }
 
-    /// The rules that accept an argument of the type `given` at a place, counted from 0.
+    /// The rules that accept an argument of the type `given` at an index, counted from 0.
     pub fn accepting(self, place: usize, given: &TypeInner) -> Product
         ensures { rules_of result ≡ filter (accepts_inner place (inner_view given.now)) (rules_of self) }
     {
@@ -64,7 +64,7 @@ impl Product {
         }
     }
 
-    /// The rules that have no abstract argument.
+    /// The rules without abstract arguments.
     pub const fn concrete_only(self) -> Product
         ensures { rules_of result ≡ filter is_concrete (rules_of self) }
     {
@@ -75,7 +75,7 @@ impl Product {
         }
     }
 
-    /// The least of a number and the numbers of the rules' arguments.
+    /// The minimum of a number and the rules' argument counts.
     pub fn min_arity(self, found: usize) -> usize
         ensures { result ≡ fold (λ n r. min n (arity r)) found (rules_of self) }
     {
@@ -85,7 +85,7 @@ impl Product {
         }
     }
 
-    /// The greatest of a number and the numbers of the rules' arguments.
+    /// The maximum of a number and the rules' argument counts.
     pub fn max_arity(self, found: usize) -> usize
         ensures { result ≡ fold (λ n r. max n (arity r)) found (rules_of self) }
     {
@@ -95,7 +95,7 @@ impl Product {
         }
     }
 
-    /// Adds the rules to a list. The error is out of memory.
+    /// Appends the rules to a list. The error is out of memory.
     pub fn add_to(self, rules: &mut Vec<Rule>) -> Result<(), AllocError>
         ensures { OnOk result (rules.new.items ≡ rules.old.items ++ rules_of self) }
     {
@@ -105,7 +105,7 @@ impl Product {
         Ok(())
     }
 
-    /// Adds the types that the rules require at a place, counted from 0, to a list. The error is out of memory.
+    /// Appends the types that the rules require at an index, counted from 0, to a list. The error is out of memory.
     pub fn add_types_to(self, types: &mut Vec<ValueType>, place: usize) -> Result<(), AllocError>
         ensures { OnOk result (types.new.items ≡ types.old.items ++ arguments_at place (rules_of self)) }
     {
@@ -116,7 +116,7 @@ impl Product {
     }
 }
 
-// Adds the rules of one shape.
+// Appends the rules of one shape.
 fn add_row(
     rules: &mut Vec<Rule>,
     pattern: Pattern,
@@ -131,7 +131,7 @@ fn add_row(
     Ok(())
 }
 
-/// Adds a type, if there is one. The error is out of memory.
+/// Appends a type, if there is one. The error is out of memory.
 pub(crate) fn add_type(
     types: &mut Vec<ValueType>,
     wanted: Option<ValueType>,
@@ -144,7 +144,7 @@ pub(crate) fn add_type(
     Ok(())
 }
 
-// Adds the types that the rules of one shape require at a place.
+// Appends the types that the rules of one shape require at an index.
 fn add_types(
     types: &mut Vec<ValueType>,
     place: usize,

@@ -1,4 +1,4 @@
-//! Overload sets of functions whose rules are of one form for each shape and scalar.
+//! Overload sets of functions whose rules have one pattern for all shapes and scalars.
 
 ghost use Rattle.std.specs.Prelude.{◌≡◌, slice_get};
 ghost use Rattle.typing_overloads.specs.Products.{rules_of};
@@ -10,8 +10,8 @@ use std::alloc::{AllocError, Global};
 use std::marker::Model;
 use typing_rules::{Rule, ValueType};
 
-/// An overload set whose rules all are of one form, with each of some shapes and each of some scalars (naga's
-/// `Regular`). In a contract it is the list of the rules that are left.
+/// An overload set whose rules have one pattern, for each of some shapes with each of some scalars (naga's
+/// `Regular`). In a contract it is the list of the remaining rules.
 #[derive(Debug, Drop)]
 pub struct Regular {
     product: Product,
@@ -35,7 +35,7 @@ impl Regular {
         Regular { product }
     }
 
-    // The first rule that is left, if there is one.
+    // The first remaining rule, if there is one.
     fn preferred(&self) -> Option<Rule>
         ensures { result ≡ slice_get self.now 0 }
     {

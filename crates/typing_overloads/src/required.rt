@@ -1,4 +1,4 @@
-//! What the rules of a pattern require at each place, and which of them take a type there.
+//! What the rules of a pattern require at each argument index, and which of them accept a type there.
 
 ghost use Rattle.std.specs.Prelude.{◌≡◌, ◌==◌, is_some, length, map, slice_get};
 ghost use Rattle.typing_rules.specs.judged.MathTable.{vector_of_columns, vector_of_rows};
@@ -15,9 +15,9 @@ use typing_rules::{ConstructorSet, ConstructorSize, Pattern, ScalarSet};
 /// The shape that a rule requires.
 #[derive(Clone, Copy, Debug)]
 pub(crate) enum RequiredSize {
-    /// The one that it is made of.
+    /// The rule's own shape.
     Same,
-    /// One scalar.
+    /// A scalar.
     Scalar,
     /// A vector with one component for each column.
     Column,
@@ -28,7 +28,7 @@ pub(crate) enum RequiredSize {
 /// The scalar that a rule requires.
 #[derive(Clone, Copy, Debug)]
 pub(crate) enum RequiredScalar {
-    /// The one that it is made of.
+    /// The rule's own scalar.
     Same,
     /// A 32-bit signed integer.
     I32,
@@ -36,7 +36,7 @@ pub(crate) enum RequiredScalar {
     U32,
 }
 
-/// The type that a rule requires at a place.
+/// The type that a rule requires at an argument index.
 #[derive(Clone, Copy, Debug)]
 pub(crate) struct Required {
     /// Its shape.
@@ -95,7 +95,7 @@ const ONE_WORD: [Required; 1] = [WORD];
 
 const TWO_WORDS: [Required; 2] = [WORD, WORD];
 
-/// What the rules of a pattern require, in order.
+/// The required types of a pattern, in order.
 pub(crate) const fn required_by(pattern: Pattern) -> &'static [Required]
     ensures { result.now ≡ required_by pattern }
 {
@@ -118,7 +118,7 @@ pub(crate) const fn required_by(pattern: Pattern) -> &'static [Required]
     }
 }
 
-/// What the rules of a pattern require at a place, counted from 0, or `None` where they have no such argument.
+/// The required type of a pattern at an index, counted from 0, or `None` if it has no such argument.
 pub(crate) fn required_at(pattern: Pattern, place: usize) -> Option<Required>
     ensures { result ≡ slice_get (required_by pattern) place }
 {
@@ -177,7 +177,7 @@ const FOUR_ROWS: ConstructorSet = ConstructorSet(
 );
 
 impl RequiredSize {
-    /// The shapes of which rules are made that require the shape `given` here.
+    /// The shapes of the rules that require the shape `given` at this argument.
     pub const fn taking(self, given: ConstructorSize) -> ConstructorSet
         ensures { marks result.0 sizes ≡ map (λ n. constructor_place given == constructor_place (required_size self n)) sizes }
     {
@@ -190,7 +190,7 @@ impl RequiredSize {
     }
 }
 
-// All shapes where the one that is given is a scalar.
+// All shapes if the given shape is a scalar.
 const fn all_or_none(given: ConstructorSize) -> ConstructorSet
     ensures { marks result.0 sizes ≡ map (λ n. constructor_place given == 0) sizes }
 {
@@ -200,7 +200,7 @@ const fn all_or_none(given: ConstructorSize) -> ConstructorSet
     }
 }
 
-// The shapes with so many columns.
+// The shapes with this many columns.
 const fn with_columns(given: ConstructorSize) -> ConstructorSet
     ensures { marks result.0 sizes ≡ map (λ n. constructor_place given == constructor_place (vector_of_columns n)) sizes }
 {
@@ -213,7 +213,7 @@ const fn with_columns(given: ConstructorSize) -> ConstructorSet
     }
 }
 
-// The shapes with so many rows.
+// The shapes with this many rows.
 const fn with_rows(given: ConstructorSize) -> ConstructorSet
     ensures { marks result.0 sizes ≡ map (λ n. constructor_place given == constructor_place (vector_of_rows n)) sizes }
 {
@@ -227,7 +227,7 @@ const fn with_rows(given: ConstructorSize) -> ConstructorSet
 }
 
 impl RequiredScalar {
-    /// The scalars of which rules are made that take the scalar `given` here.
+    /// The scalars of the rules that accept the scalar `given` at this argument.
     pub fn taking(self, given: Scalar) -> ScalarSet
         ensures { marks result.0 scalars ≡ map (λ s. is_some (rank given (required_scalar self s))) scalars }
     {
@@ -246,7 +246,7 @@ const fn all_if(holds: bool) -> ScalarSet
     if holds { ALL_SCALARS } else { NO_SCALAR }
 }
 
-/// The scalars of which rules of the pattern are made that have no abstract argument.
+/// The scalars of the pattern's rules without abstract arguments.
 pub(crate) const fn concrete_scalars(pattern: Pattern) -> ScalarSet
     ensures { marks result.0 scalars ≡ map (λ s. all_concrete pattern s) scalars }
 {

@@ -1,4 +1,4 @@
-//! What is required of rules that are kept one by one.
+//! Operations on lists of rules.
 
 ghost use Rattle.std.specs.Prelude.{◌≡◌, IfOk, filter, max, min};
 ghost use Rattle.std.specs.List.{fold};
@@ -12,7 +12,7 @@ use ir_types::TypeInner;
 use std::alloc::{AllocError, Global};
 use typing_rules::{Rule, ValueType};
 
-/// The rules that accept an argument of the type `given` at a place, counted from 0. The error is out of memory.
+/// The rules that accept an argument of the type `given` at an index, counted from 0. The error is out of memory.
 pub(crate) fn accepting(
     alloc: Global,
     rules: &[Rule],
@@ -30,7 +30,7 @@ pub(crate) fn accepting(
     Ok(left)
 }
 
-/// The rules that have no abstract argument.
+/// The rules without abstract arguments.
 pub(crate) fn concrete(rules: Vec<Rule>) -> Vec<Rule>
     ensures { result.items ≡ filter is_concrete rules.items }
 {
@@ -39,7 +39,7 @@ pub(crate) fn concrete(rules: Vec<Rule>) -> Vec<Rule>
     left
 }
 
-/// The least of a number and the numbers of the rules' arguments.
+/// The minimum of a number and the rules' argument counts.
 pub(crate) fn min_arity(rules: &[Rule], found: usize) -> usize
     ensures { result ≡ fold (λ n r. min n (arity r)) found rules.now }
 {
@@ -50,7 +50,7 @@ pub(crate) fn min_arity(rules: &[Rule], found: usize) -> usize
     least
 }
 
-/// The greatest of a number and the numbers of the rules' arguments.
+/// The maximum of a number and the rules' argument counts.
 pub(crate) fn max_arity(rules: &[Rule], found: usize) -> usize
     ensures { result ≡ fold (λ n r. max n (arity r)) found rules.now }
 {
@@ -61,7 +61,7 @@ pub(crate) fn max_arity(rules: &[Rule], found: usize) -> usize
     greatest
 }
 
-/// The types that the rules require at a place, counted from 0. The error is out of memory.
+/// The types that the rules require at an index, counted from 0. The error is out of memory.
 pub(crate) fn required_for(
     alloc: Global,
     rules: &[Rule],

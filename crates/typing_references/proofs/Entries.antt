@@ -1,4 +1,4 @@
--- What an arena holds, with its handles and without.
+-- The items of an arena, with and without their handles.
 use Rattle.std.proofs.Common.{◌≡◌, ℕ, ◌+◌, ◌≤◌, List, [], ◌∷◌, length, map, Option, None, option_map, slice_get, refl, ap, ◌∙◌}
 use Rattle.std.proofs.lemmas.Option.{slice_get-map, slice_get_past}
 use Rattle.std.specs.Option.{option_or}
@@ -8,7 +8,7 @@ use Rattle.ir_arena.specs.declared.span.Span.{Span}
 use Rattle.ir_items.specs.found.GlobalView.{values_of}
 use Rattle.typing_references.specs.First.{first_of}
 
--- what is found first with the handles is found first without them
+-- the first match with the handles is the first match without them
 pub handles_first : {T A F : Type 0} (view : T → A) (look : A → Option F) (n : ℕ) (entries : List (T × Span)) → first_of (λ h. look (view h.1)) (handles_from n entries) ≡ first_of look (map view (values_of entries))
 handles_first view look n [] = refl
 handles_first view look n (e ∷ es) = ap (option_or (look (view e.0))) (handles_first view look (n + 1) es)

@@ -1,4 +1,4 @@
--- What the faults of the handles of a function say, and what it says that there is none.
+-- What the handle errors of a function imply, and what their absence implies.
 use Rattle.std.proofs.Common.{◌≡◌, inl, inr, ℕ, ◌<◌, ◌≤◌, List, map, true, false, ◌&&◌, if◌then◌else◌, Option, Some, None, option_map, option_and_then, nat_lt, nat_le, refl, sym, ap, subst, Contains, arith}
 use Rattle.std.specs.Option.{option_or, MatchOption}
 use borrow.Author.Tests.{ltb-true, ltb-false, leb-true, leb-false}
@@ -29,7 +29,7 @@ use Rattle.typing_references.specs.declared.fault.HandleFault.{HandleFault}
 use Rattle.typing_references.specs.declared.fault.HandleFault.TheVariants as fault
 use Rattle.typing_references.proofs.FirstLaws.{or_none, or_some, some_is, below_each, below_all, past_one, none_each, one_found, none_in, found_in, none_at, place_found}
 
--- ---- one thing that is named
+-- ---- one reference
 
 pub missing_none : (k : ItemKind) (there place : ℕ) → missing k there place ≡ None → place < there
 missing_none k there place e = elim (nat_lt place there) as (λ b. nat_lt place there ≡ b → (if b then None else Some (fault.Missing k place)) ≡ None → place < there) [
@@ -46,7 +46,7 @@ missing_some k there place h e = elim (nat_lt place there) as (λ b. nat_lt plac
 not_below : (place there : ℕ) → there ≤ place → ¬ (place < there)
 not_below place there le lt = omega (arith, le, lt)
 
--- the value of what is found in an option
+-- the value found in an option
 module _ {A B : Type 0} (look : A → Option B) where
   pub then_none : (o : Option A) → option_and_then look o ≡ None → (x : A) → o ≡ Some x → look x ≡ None
   then_none None e x is = cc
@@ -64,15 +64,15 @@ pub map_some : {A B : Type 0} (f : A → B) (o : Option A) (y : B) → option_ma
 map_some f None y e = cc
 map_some f (Some x) y e = (x, refl, sym (some_is _ y e))
 
--- either there is nothing, or it is this
+-- either there is none, or it is this
 matched : {A P : Type 0} (Q : A → Type 0) (o : Option A) → (o ≡ None → P) → ((x : A) → o ≡ Some x → Q x) → MatchOption o P Q
 matched Q None p q = p refl
 matched Q (Some x) p q = q x refl
 
--- ---- what isn't there
+-- ---- items that don't exist
 
 module _ (m : PlainModule) (f : PlainFunction) where
-  -- the fault is that of something named, which isn't there
+  -- the fault is that of a reference to an item that does not exist
   record Absent (named : Named) (h : HandleFault) : Type 0 where
     pub k : ItemKind
     pub place : ℕ
@@ -133,7 +133,7 @@ module _ (m : PlainModule) (f : PlainFunction) where
     | false ↦ λ first g. (sym (some_is _ h g), λ there. let out = leb-false r.first r.end first in omega (arith, out, there.0))
   ] refl e
 
-  -- ---- where nothing is found, all is there
+  -- ---- if no fault is found, all items exist
 
   module _ (e : function_missing (bounds_of m f) f ≡ None) where
     signature : signature_missing (bounds_of m f) f ≡ None
@@ -180,7 +180,7 @@ module _ (m : PlainModule) (f : PlainFunction) where
     names_there _ _ (statement_calls {p = p} {c = c} {s = s} h is) =
         missing_none kind.Function _ c (then_none (missing kind.Function (bounds_of m f).functions) (statement_callee s) (calls p s h) c is)
 
-  -- ---- what is found isn't there
+  -- ---- the item of a fault does not exist
 
   type_absent : (t : ℕ) (h : HandleFault) → missing kind.Type (bounds_of m f).types t ≡ Some h → Absent (item (target.Type t)) h
   type_absent t h e = item_absent (target.Type t) h e
@@ -239,7 +239,7 @@ module _ (m : PlainModule) (f : PlainFunction) where
   pub missing_told : MatchOption (function_missing (bounds_of m f) f) (HandlesInRange m f) (IsMissingFault m f)
   missing_told = matched (IsMissingFault m f) (function_missing (bounds_of m f) f) names_there function_fault
 
--- ---- what doesn't come before
+-- ---- forward dependencies
 
 pub operands_told : (entries : List (Expression × Span))
     → MatchOption (first_of (λ h. operand_forward h.0 (expression_view h.1)) (handles_from 0 entries)) (OperandsPrecede (map expression_view (values_of entries))) (IsForwardOperand (map expression_view (values_of entries)))

@@ -1,4 +1,4 @@
--- What is found first stands somewhere, and where nothing is found it stands nowhere.
+-- A match of a search exists at some place, and if there is no match there is none at any place.
 use Rattle.std.proofs.Common.{◌≡◌, ◌⊎◌, inl, inr, ℕ, zero, suc, ◌+◌, ◌<◌, ◌≤◌, List, [], ◌∷◌, map, true, false, ◌&&◌, if◌then◌else◌, Option, Some, None, nat_lt, refl, subst, slice_get, All, Contains, arith}
 use Rattle.std.proofs.lemmas.List.Elements.{All-contains}
 use Rattle.std.proofs.lemmas.List.Sums.{AllPass-from_list_all}
@@ -26,7 +26,7 @@ module _ {F : Type 0} where
 pub some_is : {A : Type 0} (x y : A) → Some x ≡ Some y → x ≡ y
 some_is x y e = cc
 
--- ---- handles that don't come before an end
+-- ---- handles that don't come before a bound
 
 past_none : (end : ℕ) (hs : List ℕ) → first_past end hs ≡ None → list_all (λ h. nat_lt h end) hs ≡ true
 past_none end [] e = refl
@@ -48,7 +48,7 @@ past_at end (x ∷ xs) h e = elim (nat_lt x end) as (λ b. nat_lt x end ≡ b �
   | false ↦ λ lt g. (0, g, subst (λ y. end ≤ y) (some_is x h g) (ltb-false x end lt))
 ] refl e
 
--- the first of them is one of them, and doesn't come before the end
+-- the first of them is one of them, and doesn't come before the bound
 pub past_one : (end : ℕ) (hs : List ℕ) (h : ℕ) → first_past end hs ≡ Some h → Contains hs h × ¬ (h < end)
 past_one end hs h e =
     let r = past_at end hs h e in
@@ -69,7 +69,7 @@ module _ {A F : Type 0} (look : A → Option F) where
     | inr b ↦ (let r = one_found ys found b in (suc r.0, r.1, r.2, r.3))
   ]
 
--- the same of a look that knows the place of an item, the first of which is n
+-- the first match of a search that knows the index of an item, where the first has index n
 module _ {T A F : Type 0} (view : T → A) (look : ℕ → A → Option F) where
   abbrev pub in_entries : (n : ℕ) → List (T × Span) → Option F
   in_entries n entries = first_of (λ h. look h.0 (view h.1)) (handles_from n entries)
@@ -87,7 +87,7 @@ module _ {T A F : Type 0} (view : T → A) (look : ℕ → A → Option F) where
     | inr b ↦ (let r = found_from (n + 1) ys found b in (suc r.0, r.1, r.2, subst (λ k. look k r.1 ≡ Some found) (omega arith) r.3))
   ]
 
-  -- the first of which is 0
+  -- the first has index 0
   pub none_in : (entries : List (T × Span)) → in_entries 0 entries ≡ None → (i : ℕ) (x : A) → slice_get (map view (values_of entries)) i ≡ Some x → look i x ≡ None
   none_in entries e i x h = subst (λ k. look k x ≡ None) (omega arith) (none_from 0 entries e i x h)
 
@@ -152,7 +152,7 @@ module _ {F : Type 0} (look : PlainStatement → Option F) where
       none_at p (part_of (shape_of u) part) (part_none u part (or_none _ _ e).0) s at
   none_at condition (next u rest) e s at = let x = at in cc
 
-  -- it stands at some place, in a body
+  -- the match is at some place of a body
   abbrev pub FoundIn : PlainBlock → F → Type 0
   FoundIn b found = (p : Place) × (s : PlainStatement) × OccursAt b p s × (look s ≡ Some found)
 

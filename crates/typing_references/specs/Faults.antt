@@ -1,4 +1,4 @@
--- What is wrong with the handles of a function, found step by step; `spec_expressions` says what is required of them.
+-- Handle errors of a function, computed step by step; `spec_expressions` defines when handles are valid.
 use Rattle.std.specs.Prelude.{◌≡◌, ℕ, ◌<◌, List, length, ◌&&◌, Contains, slice_get, nat_lt, nat_le, if◌then◌else◌, Option, Some, None, option_map, option_and_then}
 use Rattle.std.specs.Option.{option_or}
 use Rattle.ir_blocks.specs.judged.Plain.{PlainStatement}
@@ -20,9 +20,9 @@ use Rattle.spec_expressions.specs.declared.item.ItemKind.TheVariants as kind
 use Rattle.spec_expressions.specs.declared.target.Target.{Target}
 use Rattle.spec_expressions.specs.declared.target.Target.TheVariants as target
 
--- ---- what isn't there
+-- ---- items that don't exist
 
--- how many items of each kind a function may name
+-- the number of items of each kind that a function may refer to
 abbrev pub bounds_of : PlainModule → PlainFunction → Bounds
 bounds_of m f = record {
   types = length m.types;
@@ -35,7 +35,7 @@ bounds_of m f = record {
   expressions = length f.expressions;
 }
 
--- how many may be named outside functions
+-- the number that may be referred to outside of functions
 abbrev pub outside_functions : PlainModule → Bounds
 outside_functions m = record {
   types = length m.types;
@@ -92,7 +92,7 @@ abbrev pub function_missing : Bounds → PlainFunction → Option HandleFault
 function_missing b f =
     option_or (signature_missing b f) (option_or (first_of (local_missing b) f.locals) (option_or (first_of (expression_missing b) f.expressions) (first_in (statement_missing b) f.body)))
 
--- ---- what doesn't come before
+-- ---- forward dependencies
 
 abbrev pub operand_forward : ℕ → PlainExpression → Option HandleFault
 operand_forward e x = option_map (λ o. fault.Forward kind.Expression e o) (first_past e (expression_operands x))
@@ -122,21 +122,21 @@ callees_forward caller f = option_or (first_of (expression_forward caller) f.exp
 abbrev pub parent_forward : ℕ → PlainFilterNode → Option HandleFault
 parent_forward n x = option_and_then (λ parent. if nat_lt parent n then None else Some (fault.Forward kind.DiagnosticFilter n parent)) x.parent
 
--- ---- what the faults mean
+-- ---- the meaning of the faults
 
--- A part of the function names it, and it isn't there.
+-- A part of the function refers to it, and it does not exist.
 pub record IsAbsentIn (m : PlainModule) (f : PlainFunction) (named : Named) : Type 0 where
   pub site : Site
   pub names : Names f site named
   pub absent : ¬ IsThere m f named
 
--- something at this place, of this kind
+-- something at this index, of this kind
 pub record IsMissingIn (m : PlainModule) (f : PlainFunction) (k : ItemKind) (place : ℕ) : Type 0 where
   pub named : Named
   pub absent : IsAbsentIn m f named
   pub at : named_at named ≡ Some (k, place)
 
--- the fault of something that isn't there
+-- the fault of something that does not exist
 abbrev pub IsMissingFault : PlainModule → PlainFunction → HandleFault → Type 0
 IsMissingFault m f (fault.Missing k place) = IsMissingIn m f k place
 IsMissingFault m f (fault.Forward k place depends_on) = ⊥
@@ -149,7 +149,7 @@ IsForwardOperand xs (fault.Forward k place depends_on) =
     (k ≡ kind.Expression) × ((x : PlainExpression) × (slice_get xs place ≡ Some x) × Contains (expression_operands x) depends_on × ¬ (depends_on < place))
 IsForwardOperand xs (fault.Range first end) = ⊥
 
--- the fault of a function that doesn't come before the one that names it
+-- the fault of a function that doesn't come before the one that refers to it
 abbrev pub IsForwardCallee : (caller : ℕ) → PlainFunction → HandleFault → Type 0
 IsForwardCallee caller f (fault.Missing k place) = ⊥
 IsForwardCallee caller f (fault.Forward k place depends_on) =

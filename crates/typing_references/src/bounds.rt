@@ -1,4 +1,4 @@
-//! How many items of each kind may be named.
+//! The number of items of each kind.
 
 ghost use Rattle.std.specs.Prelude.{◌≡◌, option_and_then, option_map};
 ghost use Rattle.ir_items.specs.found.View.{function_view, module_view};
@@ -10,7 +10,7 @@ use ir_arena::handle::Handle;
 use ir_items::{Function, Module, key};
 use spec_expressions::{ItemKind, Target};
 
-/// How many items there are of each kind.
+/// The number of items of each kind.
 #[derive(Clone, Copy)]
 pub struct Bounds {
     /// Types of the module.
@@ -21,9 +21,9 @@ pub struct Bounds {
     pub overrides: usize,
     /// Global variables of the module.
     pub global_variables: usize,
-    /// Variables of the function.
+    /// Local variables of the function.
     pub local_variables: usize,
-    /// Functions of the module that are no entry points.
+    /// Functions of the module, entry points excluded.
     pub functions: usize,
     /// Diagnostic filters of the module.
     pub filters: usize,
@@ -31,7 +31,7 @@ pub struct Bounds {
     pub expressions: usize,
 }
 
-// Whether there is an item at a place, reported by the fault that stands where there is none.
+// The fault of referring to the item at an index, if it does not exist.
 fn missing(kind: ItemKind, there: usize, index: usize) -> Option<HandleFault>
     ensures { result ≡ missing kind there index }
 {
@@ -43,7 +43,7 @@ fn missing(kind: ItemKind, there: usize, index: usize) -> Option<HandleFault>
 }
 
 impl Bounds {
-    /// Those of a function of the module.
+    /// The bounds in a function of the module.
     pub fn of(function: &Function, module: &Module) -> Bounds
         ensures { result ≡ bounds_of (module_view «module».now) (function_view function.now) }
     {
@@ -59,7 +59,7 @@ impl Bounds {
         }
     }
 
-    /// Those of what stands outside functions.
+    /// The bounds outside of functions.
     pub fn outside_functions(module: &Module) -> Bounds
         ensures { result ≡ outside_functions (module_view «module».now) }
     {
@@ -75,7 +75,7 @@ impl Bounds {
         }
     }
 
-    /// The fault of naming an item, if it is not there.
+    /// The fault of referring to an item, if it does not exist.
     pub fn missing_item(&self, item: Target) -> Option<HandleFault>
         ensures { result ≡ item_missing self.now item }
     {
@@ -102,7 +102,7 @@ impl Bounds {
         }
     }
 
-    /// The same of an item that may be named.
+    /// The fault of an optional item, if it does not exist.
     pub fn missing_if(&self, item: Option<Target>) -> Option<HandleFault>
         ensures { result ≡ option_and_then (item_missing self.now) item }
     {
@@ -112,14 +112,14 @@ impl Bounds {
         }
     }
 
-    /// The fault of naming an expression, if it is not there.
+    /// The fault of referring to an expression, if it does not exist.
     pub fn missing_expression(&self, handle: Handle<key::Expression>) -> Option<HandleFault>
         ensures { result ≡ missing kind.Expression self.now.expressions handle }
     {
         missing(ItemKind::Expression, self.expressions, handle.index())
     }
 
-    /// The same of an expression that may be named.
+    /// The fault of an optional expression, if it does not exist.
     pub fn missing_expression_if(
         &self,
         handle: Option<Handle<key::Expression>>,
@@ -133,7 +133,7 @@ impl Bounds {
     }
 }
 
-/// The fault of an operand that is known not to be there.
+/// The fault of an operand that does not exist.
 pub fn absent(operand: Option<Handle<key::Expression>>) -> Option<HandleFault>
     ensures { result ≡ option_map absent operand }
 {

@@ -1,4 +1,4 @@
-//! What expressions name beside their operands.
+//! The items that expressions refer to, besides their operands.
 
 ghost use Rattle.std.specs.Prelude.{◌≡◌};
 ghost use Rattle.ir_types.specs.judged.ExpressionPlain.{expression_view};
@@ -7,7 +7,7 @@ ghost use Rattle.spec_expressions.specs.judged.ExpressionNames.{expression_item}
 use ir_types::Expression;
 use spec_expressions::Target;
 
-/// What an expression names beside its operands, if it names anything.
+/// The item that an expression refers to besides its operands, if any.
 pub fn item_of(expression: &Expression) -> Option<Target>
     ensures { result ≡ expression_item (expression_view expression.now) }
 {

@@ -1,31 +1,31 @@
-//! What is wrong with a handle.
+//! Handle errors.
 
 use spec_expressions::ItemKind;
 
-/// What is wrong with a handle, or with a range of handles. Places are counted from 0.
+/// An error of a handle or of a range of handles. Indices are counted from 0.
 #[derive(Clone, Copy)]
 pub enum HandleFault {
-    /// It is named, and there is no such item.
+    /// An item is referred to that does not exist.
     Missing {
-        /// What it should be.
+        /// Its kind.
         kind: ItemKind,
-        /// The place that it should have.
+        /// Its index.
         index: usize,
     },
-    /// An item depends on one of the same list that does not come before it.
+    /// An item depends on one of the same arena that does not come before it.
     Forward {
-        /// What both are.
+        /// The kind of both.
         kind: ItemKind,
-        /// The place of the item.
+        /// The index of the item.
         index: usize,
-        /// The place of what it depends on.
+        /// The index of its dependency.
         depends_on: usize,
     },
-    /// A range of expressions ends before it begins, or is not in the list of expressions.
+    /// A range of expressions ends before it begins, or is out of bounds.
     Range {
-        /// The place of the first of them.
+        /// The index of the first expression.
         first: u32,
-        /// The place after the last of them.
+        /// The index after the last expression.
         end: u32,
     },
 }

@@ -1,4 +1,4 @@
-//! What does not come before what depends on it.
+//! Forward dependencies.
 
 ghost use Rattle.std.specs.Prelude.{◌≡◌, option_and_then, map};
 ghost use Rattle.std.specs.Option.{MatchOption};
@@ -21,7 +21,7 @@ use ir_arena::handle::Handle;
 use ir_items::{DiagnosticFilterNode, Expression, Function, Statement, key};
 use spec_expressions::{ItemKind, Target};
 
-// The fault of an operand that does not come before the expression at a place, if there is one.
+// The fault of an operand that does not come before the expression at an index, if there is one.
 fn operand_forward(expression: &Expression, index: usize) -> Option<HandleFault>
     ensures { result ≡ operand_forward index (expression_view expression.now) }
 {
@@ -68,7 +68,7 @@ fn function_of(item: Target) -> Option<Handle<key::Function>>
     }
 }
 
-// The fault of a function that is named by the one at a place, and does not come before it.
+// The fault of a function that the one at an index refers to, and that does not come before it.
 fn callee_forward(caller: usize, callee: Option<Handle<key::Function>>) -> Option<HandleFault>
     ensures { result ≡ option_and_then (callee_forward caller) callee }
 {
@@ -119,7 +119,7 @@ fn expressions_forward(
     expressions_with_handles(expressions, caller)
 }
 
-// What statements call and doesn't come before.
+// Searches statements for calls of functions that don't come before the caller.
 #[derive(Drop)]
 struct Forward {
     caller: usize,
@@ -145,7 +145,7 @@ fn callees_forward(function: &Function, caller: usize) -> Option<HandleFault>
     first_in(&forward, &function.body)
 }
 
-/// The fault of a function that is named, by a call or by what denotes the answer of one, in the function at the place
+/// The fault of a function that is referred to, by a call or by a call result, in the function at the index
 /// `caller`, and does not come before it; if there is one.
 pub fn forward_callee(function: &Function, caller: usize) -> Option<HandleFault>
     ensures { MatchOption result (CalleesPrecede caller (function_view function.now)) (IsForwardCallee caller (function_view function.now)) }
@@ -153,7 +153,7 @@ pub fn forward_callee(function: &Function, caller: usize) -> Option<HandleFault>
     callees_forward(function, caller)
 }
 
-// The fault of a parent that does not come before the filter at a place, if there is one.
+// The fault of a parent that does not come before the filter at an index, if there is one.
 fn parent_forward(node: &DiagnosticFilterNode, index: usize) -> Option<HandleFault>
     ensures { result ≡ parent_forward index (node_view node.now) }
 {

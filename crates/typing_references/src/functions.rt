@@ -1,4 +1,4 @@
-//! What is wrong with the handles of a function.
+//! Handle errors of a function.
 
 ghost use Rattle.std.specs.Prelude.{◌≡◌, option_and_then, option_map, map};
 ghost use Rattle.std.specs.Option.{MatchOption};
@@ -26,7 +26,7 @@ use ir_items::{
 };
 use spec_expressions::Target;
 
-/// The fault of what an expression names, if it is not there.
+/// The fault of an item or operand of an expression, if it does not exist.
 pub fn expression_missing(expression: &Expression, bounds: &Bounds) -> Option<HandleFault>
     ensures { result ≡ expression_missing bounds.now (expression_view expression.now) }
 {
@@ -137,7 +137,7 @@ fn signature_missing(function: &Function, bounds: &Bounds) -> Option<HandleFault
     leaf_missing(function.diagnostic_filter_leaf, bounds)
 }
 
-// The fault of a range that a statement emits, if it emits one.
+// The fault of the range that a statement emits, if it emits one.
 fn range_out(range: Option<Range<key::Expression>>, there: usize) -> Option<HandleFault>
     ensures { result ≡ option_and_then (range_out there) (option_map emitted_view range) }
 {
@@ -166,7 +166,7 @@ fn callee_missing(callee: Option<Handle<key::Function>>, bounds: &Bounds) -> Opt
     }
 }
 
-// What statements name and isn't there.
+// Searches statements for handles of items that don't exist.
 #[derive(Drop)]
 struct Missing {
     bounds: Bounds,
@@ -208,9 +208,9 @@ fn function_missing(function: &Function, bounds: Bounds) -> Option<HandleFault>
     first_in(&missing, &function.body)
 }
 
-/// The fault of what the function names, if it is not there: the types of its arguments, its result and its variables, what
-/// these begin as, its diagnostic filter, and what its expressions and its statements name, those for answers among it. It
-/// follows no handle.
+/// The fault of an item that the function refers to, if it does not exist: types of its arguments, its result and its variables,
+/// the variables' initializers, its diagnostic filter, and the items that its expressions and its statements refer to, result
+/// expressions included. Handles are not followed.
 pub fn missing_in_function(function: &Function, module: &Module) -> Option<HandleFault>
     ensures { MatchOption result (HandlesInRange (module_view «module».now) (function_view function.now)) (IsMissingFault (module_view «module».now) (function_view function.now)) }
 {

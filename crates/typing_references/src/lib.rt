@@ -1,6 +1,6 @@
-//! The items, operands, ranges and callees that expressions and statements name; the first of what is looked for in the
-//! statements of a body; and what is wrong with the handles of a function.
-//! `spec_expressions` has what each kind names, and what is required of it.
+//! The items, operands, ranges and callees that expressions and statements refer to; a search for the first match in the
+//! statements of a body; and handle errors of a function.
+//! `spec_expressions` defines what each kind refers to, and when handles are valid.
 #![tactic(auto)]
 
 mod bounds;

@@ -1,4 +1,4 @@
-//! Operands that do not come before an end.
+//! Operands that do not come before a bound.
 
 ghost use Rattle.std.specs.Prelude.{◌≡◌};
 ghost use Rattle.ir_types.specs.judged.ExpressionPlain.{expression_view};
@@ -14,7 +14,7 @@ use ir_items::Statement;
 use ir_types::{Expression, key};
 use spec_expressions::{Scoping, Slot};
 
-// The first of these that does not come before the end.
+// The first of these handles that does not come before the bound.
 fn first_past(handles: &[Handle<key::Expression>], end: usize) -> Option<Handle<key::Expression>>
     ensures { result ≡ first_past end handles.now }
 {
@@ -26,7 +26,7 @@ fn first_past(handles: &[Handle<key::Expression>], end: usize) -> Option<Handle<
     None
 }
 
-// The same of those that are given.
+// The first of these optional handles that does not come before the bound.
 fn given_past(slots: &[Slot], end: usize) -> Option<Handle<key::Expression>>
     ensures { result ≡ first_past end (handles_of (these slots.now)) }
 {
@@ -40,7 +40,7 @@ fn given_past(slots: &[Slot], end: usize) -> Option<Handle<key::Expression>>
     None
 }
 
-// Looks for an operand that does not come before the end.
+// Searches for an operand that does not come before the bound.
 #[derive(Drop)]
 struct Past {
     end: usize,
@@ -67,7 +67,7 @@ impl OperandUser<(), Option<Handle<key::Expression>>> for Past {
     }
 }
 
-/// The first operand of an expression that does not come before the end.
+/// The first operand of an expression that does not come before the bound.
 pub fn operand_past(expression: &Expression, end: usize) -> Option<Handle<key::Expression>>
     ensures { result ≡ first_past end (expression_operands (expression_view expression.now)) }
 {
@@ -75,7 +75,7 @@ pub fn operand_past(expression: &Expression, end: usize) -> Option<Handle<key::E
     with_operands(&past, &mut (), expression)
 }
 
-/// The first operand of a statement that does not come before the end. Operands of what stands inside it are not its own.
+/// The first operand of a statement that does not come before the bound. Operands of nested statements are not its own.
 pub fn statement_operand_past(statement: &Statement, end: usize) -> Option<Handle<key::Expression>>
     ensures { result ≡ first_past end (statement_operands (statement_view statement.now)) }
 {

@@ -1,4 +1,4 @@
-//! The operands of expressions and of statements, whatever is done with them: one arm a kind.
+//! Visitors of the operands of expressions and of statements: one match arm per kind.
 
 ghost use Rattle.std.specs.Prelude.{◌≡◌, ◌∷◌};
 ghost use Rattle.ir_types.specs.judged.ExpressionPlain.{expression_view};
@@ -14,18 +14,18 @@ use spec_expressions::{Scoping, Slot, Usage};
 
 type Operand = Handle<key::Expression>;
 
-/// What is done with the operands of an expression or of a statement, to a state, and what it answers.
+/// A visitor of the operands of an expression or of a statement, with a state and a result.
 pub trait OperandUser<S, A> {
     ghost use Rattle.spec_expressions.specs.judged.Operands.{Operands};
 
-    /// It is done, from the state before to the state after, with this answer.
+    /// The visit takes the state before to the state after, with this result.
     ghost does: { Self → S → S → A → Operands → Type 0 };
 
-    /// With a few operands, each of which may be missing.
+    /// Visits a few optional operands.
     fn take_slots(&self, state: &mut S, slots: &[Slot]) -> A
         ensures { does self.now state.old state.new result (these slots.now) };
 
-    /// With a list of operands, each of which is read.
+    /// Visits a list of operands, each of which is read.
     fn take_list(&self, state: &mut S, scoping: Scoping, handles: &[Handle<key::Expression>]) -> A
         ensures { does self.now state.old state.new result (each_of scoping handles.now) };
 }
@@ -119,7 +119,7 @@ fn read_if(handle: Option<Operand>) -> Slot
     strictly(reads_if(handle))
 }
 
-/// Takes the operands of an expression.
+/// Visits the operands of an expression.
 pub fn with_operands<S, A, T: OperandUser<S, A>>(
     user: &T,
     state: &mut S,
@@ -259,7 +259,7 @@ fn compared(fun: AtomicFunction) -> Option<Operand>
     }
 }
 
-// When what an atomic operation with this result compares with has to be in scope.
+// When the comparand of an atomic operation with this result has to be in scope.
 fn where_answered(answer: Option<Operand>) -> Scoping
     ensures { result ≡ where_answered answer }
 {
@@ -332,7 +332,7 @@ fn with_ray_pipeline<S, A, T: OperandUser<S, A>>(
     }
 }
 
-/// Takes the operands of a statement, a loop's condition among them. Operands of what stands inside it are not its own.
+/// Visits the operands of a statement, a loop's condition among them. Operands of nested statements are not its own.
 pub fn with_statement_operands<S, A, T: OperandUser<S, A>>(
     user: &T,
     state: &mut S,

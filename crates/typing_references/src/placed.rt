@@ -1,4 +1,4 @@
-//! What is looked for in statements, with the place of the one that has it.
+//! A search of statements that also returns the matching statement's path.
 
 ghost use Rattle.std.specs.Prelude.{◌≡◌, None, Some};
 ghost use Rattle.std.specs.Option.{MatchOption};
@@ -11,7 +11,7 @@ use crate::walk::StatementLook;
 use ir_items::{Block, Statement};
 use ir_places::{StatementRule, Trail, check_each};
 
-// That a statement has nothing of it.
+// The statement has no match.
 #[derive(Drop)]
 struct Nothing<'a, T> {
     looked: &'a T,
@@ -34,8 +34,8 @@ impl<'a, F, T: StatementLook<F>> StatementRule<F> for Nothing<'a, T> {
     }
 }
 
-/// What is found first in a block, at any depth, and where the statement stands that has it; as [`crate::first_in`], which tells
-/// no place.
+/// The first match in a block, at any depth, and the path of the statement that has it; [`crate::first_in`] returns
+/// no path.
 pub fn placed_in<F, T: StatementLook<F>>(trail: &mut Trail, looked: &T, block: &Block) -> Option<F>
     ensures { MatchOption result
         ((p : Place) (s : PlainStatement) → OccursAt (block_view block.now) p s → T.look looked.now s ≡ None)

@@ -1,4 +1,4 @@
-//! What statements name beside their operands.
+//! What statements refer to, besides their operands.
 
 ghost use Rattle.std.specs.Prelude.{◌≡◌, option_map};
 ghost use Rattle.ir_blocks.specs.found.View.{statement_view};
@@ -23,7 +23,7 @@ fn ray_result(fun: RayQueryFunction) -> Option<Handle<key::Expression>>
     }
 }
 
-/// The expression that denotes what a statement answers, if it answers anything.
+/// The result expression of a statement, if it has one.
 pub fn result_of(statement: &Statement) -> Option<Handle<key::Expression>>
     ensures { result ≡ statement_result (statement_view statement.now) }
 {

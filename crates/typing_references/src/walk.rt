@@ -1,4 +1,4 @@
-//! What is looked for in statements, found at its first place in a body.
+//! A search of the statements of a body for the first match.
 
 ghost use Rattle.std.specs.Prelude.{◌≡◌, Option, map};
 ghost use Rattle.ir_blocks.specs.judged.Plain.{PlainStatement};
@@ -8,16 +8,16 @@ ghost use Rattle.typing_references.specs.First.{first_in, first_at, first_in_cas
 use ir_blocks::plain_operation;
 use ir_items::{Block, Statement, SwitchCase};
 
-/// What is looked for in a statement, what stands inside it aside.
+/// A search of one statement, without its nested statements.
 pub trait StatementLook<F> {
     ghost look: { Self → PlainStatement → Option F };
 
-    /// What there is of it.
+    /// The match, if there is one.
     fn look(&self, statement: &Statement) -> Option<F>
         ensures { result ≡ look self.now (statement_view statement.now) };
 }
 
-/// The first of it in a block, at any depth.
+/// The first match in a block, at any depth.
 #[cycle(walk)]
 pub fn first_in<F, T: StatementLook<F>>(looked: &T, block: &Block) -> Option<F>
     ensures { result ≡ first_in (T.look looked.now) (block_view block.now) }

@@ -1,4 +1,4 @@
--- From what is known of the operands to what is known of the answer.
+-- From what is known of the operands to what is known of the result.
 use Rattle.std.proofs.Common.{◌≡◌, ◌∙◌, ℕ, zero, suc, List, [], ◌∷◌, Option, Some, None, option_map, Result, Ok, Err, slice_get, inl, inr, sym, ap, subst}
 use Rattle.std.specs.Borrow.{Bor}
 use Rattle.ir_types.specs.judged.Plain.{PlainType}
@@ -24,11 +24,11 @@ among [] k o e = cc (e)
 among (x ∷ xs) zero o e = inl (some_is e)
 among (x ∷ xs) (suc k) o e = inr (among xs k o e)
 
--- an operand is one of those that are queried
+-- an operand is one of those that are read
 pub named : (xs : List ℕ) (k o : ℕ) (operand : Option ℕ) → operand ≡ slice_get xs k → operand ≡ Some o → IsAmong o xs
 named xs k o operand at is = among xs k o (sym at ∙ is)
 
--- what was read of an operand has the form that is known
+-- the operand's type as read has the known form
 pub read_at : (types : List PlainType) (forms : ℕ → Form) (post : ℕ → Bor TypeResolution → Type 0) (xs : List ℕ) (k : ℕ) (operand : Option ℕ) (found : Option (Bor TypeResolution))
     → operand ≡ slice_get xs k
     → ((o : ℕ) (r : Bor TypeResolution) → IsAmong o xs → post o r → form_given types r.now ≡ forms o)
@@ -40,7 +40,7 @@ pub same_rule : (context : Context) (x : PlainExpression) (a b c d p q r s : For
 same_rule context x a b c d p q r s e f g h =
     ap (λ z. expression_rule context x z b c d) e ∙ ap (λ z. expression_rule context x p z c d) f ∙ ap (λ z. expression_rule context x p q z d) g ∙ ap (λ z. expression_rule context x p q r z) h
 
--- what is reported of one outcome is reported of the same
+-- equal outcomes denote the same
 pub told_same : (types : List PlainType) (v w : Result Form TypingFault) (result : Result TypeResolution ResolveRefusal) → v ≡ w → told types (Some v) result ≡ Some v → told types (Some w) result ≡ Some w
 told_same types v w result e t = subst (λ z. told types (Some z) result ≡ Some z) e t
 
@@ -52,7 +52,7 @@ tells context xs place x forms (Some f) stands operands t =
     let faulty : IsFaulty context xs place f = record { expression = x; past = forms; stands = stands; operands = operands; refused = sym (some_is t) } in
     record { faulty = faulty; none = faulty_has_none context xs place f faulty }
 
--- an answer that says what the rule says of the operands' types is one about the expression
+-- a result that agrees with the rule for the operands' types is one for the expression
 pub decided : (context : Context) (xs : List PlainExpression) (place : ℕ) (x : PlainExpression) (forms : ℕ → Form) (result : Result TypeResolution ResolveRefusal)
     → slice_get xs place ≡ Some x → ((o : ℕ) → IsAmong o (typing_operands x) → HasTypeAmong context xs o (forms o))
     → told context.types (Some (rule_at context x forms)) result ≡ Some (rule_at context x forms) → IsAnswer context xs place result
@@ -60,7 +60,7 @@ decided context xs place x forms (Ok r) stands operands t = has x forms stands o
 decided context xs place x forms (Err (Fault e)) stands operands t = tells context xs place x forms (fault_of e) stands operands t
 decided context xs place x forms (Err (Memory e)) stands operands t = tt
 
--- what four operands are read as, and what is reported of the rule for what was read, is what is reported of the rule for their types
+-- the rule's outcome for four operands as read is that for the operands' types
 pub by_reads : (context : Context) (x : PlainExpression) (forms : ℕ → Form) (post : ℕ → Bor TypeResolution → Type 0) (a b c d : Option ℕ) (p q r s : Option (Bor TypeResolution)) (result : Result TypeResolution ResolveRefusal)
     → a ≡ slice_get (typing_operands x) 0 → b ≡ slice_get (typing_operands x) 1 → c ≡ slice_get (typing_operands x) 2 → d ≡ slice_get (typing_operands x) 3
     → (((o : ℕ) (z : Bor TypeResolution) → a ≡ Some o → post o z → form_given context.types z.now ≡ forms o) → given_form context.types p ≡ form_read forms a)

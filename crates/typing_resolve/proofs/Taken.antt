@@ -1,4 +1,4 @@
--- The rules that take one argument after the other.
+-- Rules that accept several arguments, one after another.
 use Rattle.std.proofs.Common.{◌≡◌, ◌∙◌, ℕ, zero, suc, ◌<◌, List, [], ◌∷◌, length, get_or, drop, filter, refl, sym, ap, arith}
 use Rattle.ir_types.specs.judged.Plain.{PlainInner}
 use Rattle.typing_forms.specs.declared.form.Form.{Form}
@@ -12,7 +12,7 @@ dropped [] k d lt = absurd (omega arith)
 dropped (x ∷ xs) zero d lt = refl
 dropped (x ∷ xs) (suc k) d lt = dropped xs k d (omega arith)
 
--- where an argument is taken into account, what its place and the rest leave is what the rest leaves after it
+-- after one argument, its index and the rest leave what the rest leaves of the filtered rules
 pub taken_one : (given : List Form) (place : ℕ) (d : Form) (i : PlainInner) (before after : List Rule) → place < length given
     → value_type_of i ≡ value_of (get_or given place d) → after ≡ filter (accepts_inner place i) before
     → matching_rules (suc place) (drop (suc place) given) after ≡ matching_rules place (drop place given) before

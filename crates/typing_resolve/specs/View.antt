@@ -1,4 +1,4 @@
--- What a context holds, as plain data.
+-- The contents of a resolve context, as mathematical values.
 use Rattle.std.specs.Prelude.{map}
 use Rattle.ir_items.specs.found.GlobalView.{values_of, constant_view, override_view, global_view, special_view}
 use Rattle.ir_items.specs.found.View.{argument_view, local_view, function_view}

@@ -1,4 +1,4 @@
-//! Parts of a value, and pointers to parts of what a pointer leads to.
+//! Accesses: components of a value, or pointers to components of a pointer's base type.
 
 ghost use Rattle.std.specs.Prelude.{◌≡◌, List, None, map, option_map, slice_get};
 ghost use Rattle.ir_kinds.specs.judged.Scalars.{component_count};
@@ -22,7 +22,7 @@ pub(crate) const fn pointer_to(base: Handle<key::IrType>, space: AddressSpace) -
     TypeResolution::Value(TypeInner::Pointer { base, space })
 }
 
-// A pointer to an element of what a pointer leads to.
+// A pointer to an element of the pointer's base type.
 fn pointed_element(
     types: &UniqueArena<IrType, key::IrType>,
     pointee: Handle<key::IrType>,
@@ -46,7 +46,7 @@ fn pointed_element(
     }
 }
 
-// A pointer to a component of the vector of this size that a pointer leads to, if it is a vector.
+// A pointer to a component of a vector of this size, if the pointer's base type is a vector.
 fn pointed_component(
     size: Option<VectorSize>,
     scalar: Scalar,
@@ -64,7 +64,7 @@ fn pointed_component(
     }
 }
 
-// An element of a value; through a pointer, a pointer to it.
+// An element of a value; for a pointer, a pointer to the element.
 fn element(types: &UniqueArena<IrType, key::IrType>, of: Form) -> Option<TypeResolution>
     ensures { option_map (form_given (types_view types.now)) result ≡ element (types_view types.now) of }
 {
@@ -86,7 +86,7 @@ fn element(types: &UniqueArena<IrType, key::IrType>, of: Form) -> Option<TypeRes
     }
 }
 
-// The type of an access at an index that is computed.
+// The type of a dynamic access (`Access`).
 pub(crate) fn access_type(
     types: &UniqueArena<IrType, key::IrType>,
     base: Handle<key::Expression>,
@@ -103,7 +103,7 @@ pub(crate) fn access_type(
     }
 }
 
-// The type of the member of this number.
+// The type of the member at this index.
 fn member_type(members: &[StructMember], index: u32) -> Option<Handle<key::IrType>>
     ensures { result ≡ option_map (λ m. m.ty) (slice_get (map member_view members.now) index) }
 {
@@ -113,7 +113,7 @@ fn member_type(members: &[StructMember], index: u32) -> Option<Handle<key::IrTyp
     }
 }
 
-// A member of the struct with this handle, or why there is none.
+// The member of the struct with this handle, or why there is none.
 fn member_of(
     types: &UniqueArena<IrType, key::IrType>,
     base: Handle<key::Expression>,
@@ -137,7 +137,7 @@ fn member_of(
     }
 }
 
-// A pointer to a part of what a pointer leads to.
+// A pointer to a component of the pointer's base type.
 fn pointed_part(
     types: &UniqueArena<IrType, key::IrType>,
     base: Handle<key::Expression>,
@@ -182,7 +182,7 @@ fn pointed_part(
     }
 }
 
-// A part of so many, or why there is none of this number.
+// The component, or why the index is out of bounds.
 fn one_of(
     base: Handle<key::Expression>,
     index: u32,
@@ -198,7 +198,7 @@ fn one_of(
     }
 }
 
-// A pointer to a component of the vector of this size that a pointer leads to, or why there is none.
+// A pointer to a component of a vector of this size, if the pointer's base type is one, or why there is none.
 fn pointed_component_at(
     base: Handle<key::Expression>,
     index: u32,
@@ -226,7 +226,7 @@ fn pointed_component_at(
     }
 }
 
-// The type of an access at an index that is written.
+// The type of a constant access (`AccessIndex`).
 pub(crate) fn access_index_type(
     types: &UniqueArena<IrType, key::IrType>,
     base: Handle<key::Expression>,

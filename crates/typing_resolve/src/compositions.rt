@@ -1,4 +1,4 @@
-//! One scalar all over a vector, and components of a vector.
+//! Splats and swizzles.
 
 ghost use Rattle.std.specs.Prelude.{◌≡◌, List};
 ghost use Rattle.ir_types.specs.judged.Plain.{PlainType};
@@ -11,7 +11,7 @@ use ir_types::{TypeInner, key};
 use spec_expressions::TypingFault;
 use typing_forms::{Form, TypeResolution};
 
-// A scalar all over a vector.
+// The type of a splat.
 pub(crate) fn splat_type(
     size: VectorSize,
     value: Handle<key::Expression>,
@@ -25,7 +25,7 @@ pub(crate) fn splat_type(
     }
 }
 
-// So many components of a vector.
+// The type of a swizzle of this size.
 pub(crate) fn swizzle_type(
     size: VectorSize,
     vector: Handle<key::Expression>,

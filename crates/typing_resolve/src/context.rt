@@ -1,4 +1,4 @@
-//! What an expression may name, and the call that finds its type.
+//! The resolve context, and the method that computes an expression's type.
 
 ghost use Rattle.std.specs.Prelude.{◌≡◌, ◌↔◌, IsTrue, ℕ, List, map, slice_get, Some};
 ghost use Rattle.ir_types.specs.judged.Plain.{PlainType};
@@ -28,28 +28,28 @@ use std::alloc::Global;
 use typing_errors::{Given, ResolveRefusal, operands_of};
 use typing_forms::TypeResolution;
 
-/// What the type of an expression may depend on, beside those of its operands (naga's `ResolveContext`).
+/// What the type of an expression may depend on, besides those of its operands (naga's `ResolveContext`).
 #[derive(Clone, Copy)]
 pub struct ResolveContext<'a> {
     /// The module's constants.
     pub constants: &'a Arena<Constant, key::Constant>,
-    /// Its overrides.
+    /// The module's overrides.
     pub overrides: &'a Arena<Override, key::Override>,
-    /// Its types.
+    /// The module's types.
     pub types: &'a UniqueArena<IrType, key::IrType>,
-    /// The types that some expressions require.
+    /// The module's special types.
     pub special_types: &'a SpecialTypes,
-    /// The module's variables.
+    /// The module's global variables.
     pub global_vars: &'a Arena<GlobalVariable, key::GlobalVariable>,
-    /// The function's variables.
+    /// The function's local variables.
     pub local_vars: &'a Arena<LocalVariable, key::LocalVariable>,
     /// The module's functions.
     pub functions: &'a Arena<Function, key::Function>,
-    /// What the function is given.
+    /// The function's arguments.
     pub arguments: &'a [FunctionArgument],
 }
 
-// The type of an operand, where there is such an operand.
+// The type of an operand, if the operand exists.
 fn read<'r, F: Fn(Handle<key::Expression>) -> &'r TypeResolution>(
     operand: Option<Handle<key::Expression>>,
     past: &F,
@@ -66,8 +66,8 @@ fn read<'r, F: Fn(Handle<key::Expression>) -> &'r TypeResolution>(
 }
 
 impl<'a> ResolveContext<'a> {
-    /// What the expressions of a function with these variables and arguments may depend on (naga's
-    /// `ResolveContext::with_locals`). Of global expressions both are empty.
+    /// The context of the expressions of a function with these variables and arguments (naga's
+    /// `ResolveContext::with_locals`). For global expressions both are empty.
     pub const fn with_locals(
         module: &'a Module,
         local_vars: &'a Arena<LocalVariable, key::LocalVariable>,
@@ -88,7 +88,7 @@ impl<'a> ResolveContext<'a> {
         }
     }
 
-    /// Whether the constant, override, variable or function that the expression names is there, if it names one, as
+    /// Whether the constant, override, variable or function that the expression refers to exists, if it refers to one, as
     /// [`ResolveContext::resolve`] requires.
     pub fn names_item(&self, expression: &Expression) -> bool
         ensures { IsTrue result ↔ NamesItem (context_view self.now) (expression_view expression.now) }
@@ -131,16 +131,16 @@ impl<'a> ResolveContext<'a> {
         }
     }
 
-    /// The type of `expression`, where `past` answers those of the operands that it depends on (naga's
-    /// `ResolveContext::resolve`). A type of the module is answered by its handle wherever one says it.
+    /// The type of `expression`, where `past` returns the types of the operands that it depends on (naga's
+    /// `ResolveContext::resolve`). A type of the module is returned by its handle wherever the expression declares one.
     ///
-    /// Requires that the constant, override, variable or function that the expression names is there, and that `past` may be
-    /// called for the operands on whose types its own depends.
+    /// Requires that the constant, override, variable or function that the expression refers to exists, and that `past` may be
+    /// called for the operands on whose types the expression's type depends.
     ///
     /// # Errors
     ///
-    /// [`ResolveRefusal::Fault`] exactly where the expression has no type, and [`ResolveRefusal::Memory`] where memory
-    /// ran out.
+    /// [`ResolveRefusal::Fault`] exactly if the expression has no type, and [`ResolveRefusal::Memory`] if
+    /// out of memory.
     pub fn resolve<'r, F: Fn(Handle<key::Expression>) -> &'r TypeResolution>(
         &self,
         alloc: Global,

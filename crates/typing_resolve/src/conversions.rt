@@ -1,4 +1,4 @@
-//! A value as another kind of scalar.
+//! `As`: casts and bit casts.
 
 ghost use Rattle.std.specs.Prelude.{◌≡◌, List};
 ghost use Rattle.ir_types.specs.judged.Plain.{PlainType};
@@ -10,7 +10,7 @@ use ir_types::TypeInner;
 use spec_expressions::TypingFault;
 use typing_forms::{Form, TypeResolution};
 
-// The scalar of this kind, as wide as is said or else as it was.
+// The scalar of this kind, with the given width or else its own.
 const fn converted(kind: ScalarKind, convert: Option<Bytes>, scalar: Scalar) -> Scalar
     ensures { result ≡ converted kind convert scalar }
 {

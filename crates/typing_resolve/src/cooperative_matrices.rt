@@ -1,4 +1,4 @@
-//! Matrices that invocations work on together.
+//! Cooperative matrices.
 
 ghost use Rattle.std.specs.Prelude.{◌≡◌};
 ghost use Rattle.spec_expressions.specs.judged.CooperativeMatrices.{pointed_scalar, cooperative_load_type};
@@ -12,7 +12,7 @@ use ir_types::{IrType, TypeInner, key};
 use spec_expressions::TypingFault;
 use typing_forms::{Form, TypeInnerExt, TypeResolution, inner_of};
 
-// The scalar of what a pointer leads to.
+// The scalar of a pointer's base type.
 fn pointed_scalar(types: &UniqueArena<IrType, key::IrType>, of: Form) -> Option<Scalar>
     ensures { result ≡ pointed_scalar (types_view types.now) of }
 {
@@ -26,7 +26,7 @@ fn pointed_scalar(types: &UniqueArena<IrType, key::IrType>, of: Form) -> Option<
     }
 }
 
-// A matrix of the scalars that a pointer leads to.
+// A cooperative matrix of the scalar that a pointer points to.
 pub(crate) fn cooperative_load_type(
     types: &UniqueArena<IrType, key::IrType>,
     columns: CooperativeSize,

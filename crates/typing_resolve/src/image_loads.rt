@@ -1,4 +1,4 @@
-//! Texels of images, and what is required of images.
+//! Image loads and image queries.
 
 ghost use Rattle.std.specs.Prelude.{◌≡◌, List, None};
 ghost use Rattle.ir_types.specs.judged.Plain.{PlainType, inner_view};
@@ -13,7 +13,7 @@ use ir_types::{ImageQuery, TypeInner, key};
 use spec_expressions::TypingFault;
 use typing_forms::{Form, TypeResolution};
 
-// One texel.
+// The type of a texel.
 fn loaded_texel(class: ImageClass) -> TypeResolution
     ensures { (types : List PlainType) → form_given types result ≡ loaded_texel class }
 {
@@ -25,7 +25,7 @@ fn loaded_texel(class: ImageClass) -> TypeResolution
     }
 }
 
-// A texel of an image.
+// The type of an image load.
 pub(crate) fn image_load_type(
     image: Handle<key::Expression>,
     of: Form,
@@ -38,7 +38,7 @@ pub(crate) fn image_load_type(
     }
 }
 
-// How many texels an image has each way.
+// The number of texels in each dimension.
 fn extent(dim: ImageDimension) -> TypeInner
     ensures { (types : List PlainType) → form_in types None (inner_view result) ≡ extent dim }
 {
@@ -55,7 +55,7 @@ fn extent(dim: ImageDimension) -> TypeInner
     }
 }
 
-// The size of an image.
+// The type of an image size.
 fn size_type(image: Handle<key::Expression>, of: Form) -> Result<TypeResolution, TypingFault>
     ensures { (types : List PlainType) → form_answer types result ≡ size_type image of }
 {
@@ -65,7 +65,7 @@ fn size_type(image: Handle<key::Expression>, of: Form) -> Result<TypeResolution,
     }
 }
 
-// What is required of an image.
+// The type of an image query.
 pub(crate) fn image_query_type(
     image: Handle<key::Expression>,
     query: ImageQuery,

@@ -1,4 +1,4 @@
-//! Samples of images.
+//! Image samples.
 
 ghost use Rattle.std.specs.Prelude.{◌≡◌, List};
 ghost use Rattle.ir_types.specs.judged.Plain.{PlainType};
@@ -18,7 +18,7 @@ pub(crate) const fn texel_scalar(kind: ScalarKind) -> Scalar
     Scalar { kind, width: 4 }
 }
 
-// Four components of a scalar.
+// A vector of four components.
 pub(crate) fn texel(scalar: Scalar) -> TypeResolution
     ensures { (types : List PlainType) → form_given types result ≡ texel scalar }
 {
@@ -28,7 +28,7 @@ pub(crate) fn texel(scalar: Scalar) -> TypeResolution
     })
 }
 
-// A depth, or four of them where they are gathered.
+// A depth, or a vector of four of them if it is a gather.
 fn depth_sample(gather: Option<SwizzleComponent>) -> TypeResolution
     ensures { (types : List PlainType) → form_given types result ≡ depth_sample gather }
 {
@@ -38,7 +38,7 @@ fn depth_sample(gather: Option<SwizzleComponent>) -> TypeResolution
     }
 }
 
-// A sample of an image.
+// The type of an image sample.
 pub(crate) fn image_sample_type(
     image: Handle<key::Expression>,
     gather: Option<SwizzleComponent>,

@@ -1,5 +1,5 @@
-//! The types of expressions, found from the types of their operands. The definitions are those of `spec_expressions`, and
-//! each family of expressions has a module of the name that its definitions have there.
+//! The types of expressions, computed from the types of their operands. The definitions are those of `spec_expressions`, and
+//! each family of expressions has a module of the same name as its definitions there.
 #![tactic(auto)]
 
 mod access;

@@ -1,4 +1,4 @@
-//! Values that are written or declared: literals, constants, overrides, zeros.
+//! Literals, constants, overrides and zero values.
 
 ghost use Rattle.std.specs.Prelude.{◌≡◌, ◌<◌, List, length, map, option_map, slice_get};
 ghost use Rattle.ir_items.specs.found.GlobalView.{values_of, constant_view, override_view};
@@ -22,7 +22,7 @@ pub(crate) fn literal_type(value: Literal) -> TypeResolution
     TypeResolution::Value(value.ty_inner())
 }
 
-// The type of a constant: the one that it declares.
+// The type of a constant: the declared one.
 #[tactic(auto, using(crate::proofs::Lookups::found))]
 pub(crate) fn constant_type(
     constants: &Arena<Constant, key::Constant>,
@@ -35,7 +35,7 @@ pub(crate) fn constant_type(
     TypeResolution::Handle(constants[constant].ty)
 }
 
-// The type of an override: the one that it declares.
+// The type of an override: the declared one.
 #[tactic(auto, using(crate::proofs::Lookups::found))]
 pub(crate) fn override_type(
     overrides: &Arena<Override, key::Override>,

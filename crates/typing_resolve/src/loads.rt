@@ -1,4 +1,4 @@
-//! What a function is given, variables, and what lies where a pointer leads.
+//! Arguments, variables and loads.
 
 ghost use Rattle.std.specs.Prelude.{◌≡◌, ◌<◌, List, Some, length, map, ok_or, option_map, slice_get};
 ghost use Rattle.ir_items.specs.found.GlobalView.{values_of, global_view};
@@ -22,7 +22,7 @@ use ir_types::{IrType, TypeInner, key};
 use spec_expressions::TypingFault;
 use typing_forms::{Form, TypeResolution, inner_of};
 
-// The type of an argument: the one that the function declares.
+// The type of a function argument: the declared one.
 pub(crate) fn argument_type(
     arguments: &[FunctionArgument],
     number: u32,
@@ -36,7 +36,7 @@ pub(crate) fn argument_type(
     }
 }
 
-// The type of a variable of a type: that itself in the space of handles, and else a pointer to it.
+// The type of a variable: its own type in the handle space, and otherwise a pointer to it.
 fn variable_type(ty: Handle<key::IrType>, space: AddressSpace) -> TypeResolution
     ensures { (types : List PlainType) → form_given types result ≡ variable_type types ty space }
 {
@@ -79,7 +79,7 @@ pub(crate) fn global_type(
     variable_type(variable.ty, variable.space)
 }
 
-// The type of a local variable: a pointer to what it declares.
+// The type of a local variable: a pointer to the declared type.
 #[tactic(auto, using(crate::proofs::Lookups::found))]
 pub(crate) fn local_type(
     locals: &Arena<LocalVariable, key::LocalVariable>,
@@ -92,7 +92,7 @@ pub(crate) fn local_type(
     pointer_to(locals[local].ty, AddressSpace::Function)
 }
 
-// What is loaded of what a pointer leads to.
+// The type of a load through a pointer.
 fn loaded(types: &UniqueArena<IrType, key::IrType>, base: Handle<key::IrType>) -> TypeResolution
     ensures { form_given (types_view types.now) result ≡ loaded (types_view types.now) base (inner_at (types_view types.now) base) }
 {
@@ -117,7 +117,7 @@ fn loaded(types: &UniqueArena<IrType, key::IrType>, base: Handle<key::IrType>) -
     }
 }
 
-// A vector of this size, or a scalar.
+// A vector of this size, or a scalar if none is given.
 const fn loaded_value(size: Option<VectorSize>, scalar: Scalar) -> TypeResolution
     ensures { (types : List PlainType) → form_given types result ≡ loaded_value size scalar }
 {
@@ -127,7 +127,7 @@ const fn loaded_value(size: Option<VectorSize>, scalar: Scalar) -> TypeResolutio
     }
 }
 
-// What a pointer leads to.
+// The type of a load.
 pub(crate) fn load_type(
     types: &UniqueArena<IrType, key::IrType>,
     pointer: Handle<key::Expression>,
@@ -142,7 +142,7 @@ pub(crate) fn load_type(
     }
 }
 
-// The length of an array.
+// The type of an array length.
 pub(crate) fn array_length_type() -> TypeResolution
     ensures { (types : List PlainType) → form_given types result ≡ form.Scalar (unsigned 4) }
 {

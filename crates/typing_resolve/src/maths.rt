@@ -1,4 +1,4 @@
-//! Math functions, by their overload sets.
+//! Math functions, resolved by their overload sets.
 
 ghost use Rattle.std.specs.Prelude.{◌≡◌, IfOk, Some};
 ghost use Rattle.ir_types.specs.judged.Plain.{inner_view};
@@ -21,7 +21,7 @@ use typing_forms::Form;
 use typing_overloads::{AnyOverloadSet, MathFunctionExt, OverloadSet};
 use typing_rules::Rule;
 
-// The type of an argument, as overload sets take it: for all that are no values stands a type that no rule takes.
+// The type of an argument for the overload sets: if it is no value type, a placeholder that no rule accepts.
 fn argument_inner(of: Form) -> TypeInner
     ensures { value_type_of (inner_view result) ≡ value_of of }
 {
@@ -41,7 +41,7 @@ fn argument_inner(of: Form) -> TypeInner
     }
 }
 
-// The rules of a function that take these arguments. The error is out of memory.
+// The remaining rules of a function for these arguments. The error is out of memory.
 #[tactic(auto, using(crate::proofs::Taken::taken_one, crate::proofs::Taken::taken_all))]
 fn taking(alloc: Global, fun: MathFunction, given: &[Form]) -> Result<AnyOverloadSet, AllocError>
     ensures { IfOk result (λ set. any_rules set ≡ matching_rules 0 given.now (math_overloads fun)) }
@@ -53,7 +53,7 @@ fn taking(alloc: Global, fun: MathFunction, given: &[Form]) -> Result<AnyOverloa
     Ok(rules)
 }
 
-// What a rule gives.
+// The result type of a rule.
 fn concluded(context: &ResolveContext<'_>, rule: Rule) -> Typing
     ensures { form_answer (context_view context.now).types result ≡ concluded (context_view context.now) (Some rule) }
 {
@@ -63,7 +63,7 @@ fn concluded(context: &ResolveContext<'_>, rule: Rule) -> Typing
     }
 }
 
-// What a function gives for these arguments. The error is out of memory.
+// The result type of a function for these arguments. The error is out of memory.
 fn math_of(
     alloc: Global,
     context: &ResolveContext<'_>,
@@ -82,7 +82,7 @@ fn math_of(
     Ok(concluded(context, rules.most_preferred()))
 }
 
-// What a function gives for up to four arguments, the first of which is of this form. The error is out of memory.
+// The result type of a function for up to four arguments, the first of which has this form. The error is out of memory.
 pub(crate) fn math_type(
     alloc: Global,
     context: &ResolveContext<'_>,

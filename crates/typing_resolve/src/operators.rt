@@ -1,4 +1,4 @@
-//! Operations on one value and on two.
+//! Unary and binary operations.
 
 ghost use Rattle.std.specs.Prelude.{◌≡◌, List, IfOk, Ok};
 ghost use Rattle.ir_types.specs.judged.Plain.{PlainType};
@@ -15,7 +15,7 @@ use std::alloc::{AllocError, Global};
 use typing_errors::{Typing, given_again, given_form};
 use typing_forms::{Form, TypeResolution};
 
-// Truth values in the shape of a value.
+// Bools in the shape of a value.
 pub(crate) fn truth_of(of: Form) -> Typing
     ensures { (types : List PlainType) → form_answer types result ≡ truth_of of }
 {
@@ -29,7 +29,7 @@ pub(crate) fn truth_of(of: Form) -> Typing
     }
 }
 
-// A vector times what is on the right.
+// A vector multiplied by the right operand.
 fn vector_times(
     alloc: Global,
     types: &UniqueArena<IrType, key::IrType>,
@@ -54,7 +54,7 @@ fn vector_times(
     }
 }
 
-// A matrix of so many rows of a scalar times what is on the right.
+// A matrix with this many rows multiplied by the right operand.
 fn matrix_times(
     alloc: Global,
     types: &UniqueArena<IrType, key::IrType>,
@@ -80,7 +80,7 @@ fn matrix_times(
     }
 }
 
-// Anything else times what is on the right.
+// Anything else multiplied by the right operand.
 fn other_times(
     alloc: Global,
     types: &UniqueArena<IrType, key::IrType>,
@@ -95,7 +95,7 @@ fn other_times(
     }
 }
 
-// What a product is.
+// The type of a product.
 fn product(
     alloc: Global,
     types: &UniqueArena<IrType, key::IrType>,
@@ -115,7 +115,7 @@ fn product(
     }
 }
 
-// What an operation on two values gives.
+// The type of a binary operation.
 pub(crate) fn binary_type(
     alloc: Global,
     types: &UniqueArena<IrType, key::IrType>,

@@ -1,4 +1,4 @@
-//! What ray queries answer.
+//! Results of ray queries.
 
 ghost use Rattle.std.specs.Prelude.{◌≡◌, List, ok_or, option_map};
 ghost use Rattle.ir_types.specs.judged.Plain.{PlainType};
@@ -14,7 +14,7 @@ use ir_types::{TypeInner, key};
 use spec_expressions::TypingFault;
 use typing_forms::TypeResolution;
 
-// A type that the module has, if it has it.
+// A special type, if the module has it.
 pub(crate) fn special_type(
     special: Option<Handle<key::IrType>>,
 ) -> Result<TypeResolution, TypingFault>
@@ -26,7 +26,7 @@ pub(crate) fn special_type(
     }
 }
 
-// Whether a query went on.
+// The result of `Proceed`: a bool.
 pub(crate) fn proceed_type() -> TypeResolution
     ensures { (types : List PlainType) → form_given types result ≡ form.Scalar boolean }
 {

@@ -1,4 +1,4 @@
-//! What calls answered.
+//! Results of calls.
 
 ghost use Rattle.std.specs.Prelude.{◌≡◌, ◌<◌, List, length, map, ok_or, option_and_then, option_map, slice_get};
 ghost use Rattle.ir_items.specs.found.GlobalView.{values_of};
@@ -16,7 +16,7 @@ use ir_types::key;
 use spec_expressions::TypingFault;
 use typing_forms::TypeResolution;
 
-// What a call of this function answers: what it declares.
+// The type of a call result: the function's declared one.
 #[tactic(auto, using(crate::proofs::Lookups::found))]
 pub(crate) fn call_result_type(
     functions: &Arena<Function, key::Function>,

@@ -11,7 +11,7 @@ use ir_types::TypeInner;
 use typing_errors::Typing;
 use typing_forms::{Form, TypeResolution};
 
-// All or any of the components: one truth value; about numbers: one for each.
+// The type of a relational function: `All` and `Any` give one bool; `IsNan` and `IsInf` one per component.
 pub(crate) fn relational_type(fun: RelationalFunction, of: Form) -> Typing
     ensures { (types : List PlainType) → form_answer types result ≡ relational_type fun of }
 {

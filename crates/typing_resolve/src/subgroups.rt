@@ -1,4 +1,4 @@
-//! What operations of a subgroup answered.
+//! Results of subgroup operations.
 
 ghost use Rattle.std.specs.Prelude.{◌≡◌, List};
 ghost use Rattle.ir_types.specs.judged.Plain.{PlainType};
@@ -11,7 +11,7 @@ use ir_kinds::{Scalar, VectorSize};
 use ir_types::TypeInner;
 use typing_forms::TypeResolution;
 
-// A bit for each invocation.
+// The result of a ballot: one bit for each invocation.
 pub(crate) fn ballot_type() -> TypeResolution
     ensures { (types : List PlainType) → form_given types result ≡ form.Vector Quad (unsigned 4) }
 {

@@ -1,4 +1,4 @@
-//! The type of an expression, by the types of its operands: one arm for each kind.
+//! The type of an expression from the types of its operands: one match arm for each kind.
 
 ghost use Rattle.std.specs.Prelude.{◌≡◌, List, IfOk, Some};
 ghost use Rattle.ir_types.specs.judged.Plain.{PlainType};
@@ -28,7 +28,7 @@ use std::alloc::{AllocError, Global};
 use typing_errors::{Given, ResolveRefusal, Typing, error_of, given_again, given_form};
 use typing_forms::TypeResolution;
 
-// The type of an expression whose operands have these types. The error is out of memory.
+// The type of an expression, given those of its operands. The error is out of memory.
 fn typing(
     alloc: Global,
     context: &ResolveContext<'_>,
@@ -90,7 +90,7 @@ fn typing(
     }
 }
 
-// What is answered of a type or a fault: the fault as an error, if there is memory for its text.
+// Converts a type or a fault into a result: the fault as an error, if there is memory for its message.
 fn answer(alloc: Global, found: Typing) -> Result<TypeResolution, ResolveRefusal>
     ensures { (types : List PlainType) → told types (Some (form_answer types found)) result ≡ Some (form_answer types found) }
 {
@@ -103,7 +103,7 @@ fn answer(alloc: Global, found: Typing) -> Result<TypeResolution, ResolveRefusal
     }
 }
 
-// The type of an expression whose operands have these types, or why there is none.
+// The type of an expression, given those of its operands, or why there is none.
 pub(crate) fn answered(
     alloc: Global,
     context: &ResolveContext<'_>,

@@ -1,4 +1,4 @@
--- A member of a set has the bit of its place, and what has its bit is a member.
+-- The bit of a set's member is set, and an element whose bit is set is a member.
 use Rattle.std.proofs.Common.{◌≡◌, ◌<◌, ◌+◌, ◌*◌, ◌/◌, ◌%◌, ◌^◌, ◌==◌, ◌∙◌, ◌⊎◌, inl, inr, ℕ, zero, suc, Bool, true, false, List, [], ◌∷◌, Some, refl, ap, sym, subst, arith, rules, Contains, slice_get}
 use Rattle.std.specs.Int.{bit_at}
 use Rattle.std.specs.Int.RustNames.{bit_and}
@@ -40,7 +40,7 @@ at_first x y ys e = (zero, omega arith, e)
 behind : {A : Type 0} (x y : A) (ys : List A) → Contains ys x → Contains (y ∷ ys) x
 behind x y ys (k, lt, e) = (suc k, omega (arith, lt), e)
 
--- each item has its place, counted from a number on
+-- each item has its index, counted from a number on
 abbrev Placed : {A : Type 0} → (A → ℕ) → ℕ → List A → Type 0
 Placed place n [] = Unit {0}
 Placed place n (x ∷ xs) = (place x ≡ n) × Placed place (suc n) xs
@@ -50,7 +50,7 @@ placed_at place n [] k x p e = absurd (cc)
 placed_at place n (y ∷ ys) zero x p e = let same : x ≡ y = cc in (ap place same ∙ p.0) ∙ omega arith
 placed_at place n (y ∷ ys) (suc k) x p e = placed_at place (suc n) ys k x p.1 e ∙ omega arith
 
--- a place that has its bit, counted from a number on
+-- an index whose bit is set, counted from a number on
 abbrev BitFrom : ℕ → ℕ → ℕ → Type 0
 BitFrom bits n place = (k : ℕ) × (place ≡ n + k) × (bit_at bits k ≡ 1)
 
@@ -96,7 +96,7 @@ by_bits place xs p set k x e = ((λ h. one_way (bit_of place 0 set xs x p h)), (
         let same : j ≡ k = omega (arith, is, there) in
         has_from_bit set k (subst (λ i. bit_at set i ≡ 1) same bit)
 
--- ---- scalars and shapes
+-- ---- scalars and constructors
 
 scalar_place : Scalar → ℕ
 scalar_place s = position_or_len (same_scalar s) scalars

@@ -1,4 +1,4 @@
--- The one bits of a number: their sum, their order, and what each is.
+-- The one bits of an integer: their sum, their order, and their values.
 use Rattle.std.proofs.Common.{◌≡◌, ◌<◌, ◌+◌, ◌*◌, ◌/◌, ◌%◌, ◌^◌, ◌==◌, ◌∙◌, ℕ, zero, suc, Bool, true, false, List, refl, ap, sym, subst, arith, rules, sum}
 use Rattle.std.proofs.Math.Nat.{pow-succ', mul-suc, mul_assoc, mul_comm}
 use Rattle.std.proofs.lemmas.List.Sums.{sum_by-cons}

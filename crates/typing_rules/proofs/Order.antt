@@ -1,4 +1,4 @@
--- In an ordered list the first rule that is left is the best one, whatever is required.
+-- In an ordered list the first remaining rule is the best one, whatever the filters.
 use Rattle.std.proofs.Common.{◌≡◌, ◌≤◌, ◌⊎◌, ℕ, zero, suc, Bool, true, false, Option, Some, None, List, [], ◌∷◌, refl, ap, sym, subst, inl, inr, ◌∙◌, arith, rules, nat_eq, cond}
 use Rattle.std.specs.Prelude.{◌&&◌, ◌==◌, nat_le, is_some, option_and_then, filter, slice_get, if◌then◌else◌}
 use Rattle.ir_kinds.specs.declared.scalars.ScalarKind.{ScalarKind}
@@ -22,7 +22,7 @@ abbrev pub none_or_zero : Option ℕ → Bool
 none_or_zero (Some x) = nat_eq x 0
 none_or_zero None = true
 
--- no scalar has a smaller rank to b than to a
+-- no scalar has a smaller conversion rank to b than to a
 abbrev pub scalar_before : Scalar → Scalar → Bool
 scalar_before a b =
     none_or_zero (rank b a) && (rank_le (rank_in integer_ranks a) (rank_in integer_ranks b) && rank_le (rank_in float_ranks a) (rank_in float_ranks b))
@@ -37,14 +37,14 @@ abbrev pub all_before : List ValueType → List ValueType → Bool
 all_before (a ∷ ats) (b ∷ bs) = type_before a b && all_before ats bs
 all_before _ _ = true
 
--- no argument has a smaller rank to s than to r
+-- no argument has a smaller conversion rank to s than to r
 abbrev pub before : Rule → Rule → Bool
 before r s = all_before (argument_list r.arguments) (argument_list s.arguments)
 
 abbrev pub same_type : ValueType → ValueType → Bool
 same_type a b = same_size a b && same_scalar a.scalar b.scalar
 
--- the first has the type of one of the others, or nothing is taken for both of these
+-- the first has the type of one of the others, or nothing is accepted for both of these
 abbrev pub type_covers : ValueType → ValueType → ValueType → Bool
 type_covers q a b = if same_size a b then (if same_type q a then true else same_type q b) else true
 
@@ -54,13 +54,13 @@ all_cover qs (a ∷ ats) [] = true
 all_cover [] (a ∷ ats) (b ∷ bs) = false
 all_cover (q ∷ qs) (a ∷ ats) (b ∷ bs) = type_covers q a b && all_cover qs ats bs
 
--- q is left wherever r and s are
+-- q remains wherever r and s do
 abbrev pub covers : Rule → Rule → Rule → Bool
 covers q r s =
     all_cover (argument_list q.arguments) (argument_list r.arguments) (argument_list s.arguments)
     && (if is_concrete r && is_concrete s then is_concrete q else true)
 
--- what is reported already, or one of these rules is left wherever r and s are
+-- an earlier result, or one of these rules remains wherever r and s do
 abbrev pub or_covered : Bool → List Rule → Rule → Rule → Bool
 or_covered true qs r s = true
 or_covered false [] r s = false
@@ -77,7 +77,7 @@ ordered_after earlier (r ∷ rs) = all_after earlier r rs && ordered_after (r �
 abbrev pub ordered : List Rule → Bool
 ordered rs = ordered_after [] rs
 
--- ---- tests of two truth values
+-- ---- tests of two bools
 
 both : (a b : Bool) → a && b ≡ true → (a ≡ true) × (b ≡ true)
 both true b h = (refl, h)
@@ -139,7 +139,7 @@ is_same_scalar a b h =
     let kinds : a.kind ≡ b.kind = sym (kind_back a.kind) ∙ (ap kind_of numbers ∙ kind_back b.kind) in
     ap (λ (k : ScalarKind). record { kind = k; width = a.width }) kinds ∙ ap (λ (w : ℕ). record { kind = b.kind; width = w }) widths
 
--- the ranks of a conversion are those of one of the two abstract scalars
+-- the conversion ranks are those of one of the two abstract scalars
 converted : (c d : Bool) (a b : Scalar) (x y : ℕ) → rank_le (rank_in integer_ranks a) (rank_in integer_ranks b) && rank_le (rank_in float_ranks a) (rank_in float_ranks b) ≡ true
     → (if c then rank_in integer_ranks a else if d then rank_in float_ranks a else None) ≡ Some x
     → (if c then rank_in integer_ranks b else if d then rank_in float_ranks b else None) ≡ Some y → x ≤ y
@@ -215,7 +215,7 @@ covered q r s (supplied i given) h k l = cover_if q r s i (value_type_of given) 
 covered q r s concrete h k l =
     chosen_test (is_concrete r && is_concrete s) (is_concrete q) (both (all_cover (argument_list q.arguments) (argument_list r.arguments) (argument_list s.arguments)) _ h).1 (joined _ _ k l)
 
--- ---- all demands together
+-- ---- all filters together
 
 abbrev meets_all : List Demand → Rule → Bool
 meets_all [] r = true
@@ -253,7 +253,7 @@ left_is : (ds : List Demand) (rs : List Rule) → left_by ds rs ≡ filter (meet
 left_is [] rs = sym (all_kept rs)
 left_is (d ∷ ds) rs = left_is ds (filter (meets d) rs) ∙ filter_both (meets d) (meets_all ds) rs
 
--- ---- the first that is left
+-- ---- the first remaining rule
 
 abbrev NoneMeets : List Demand → List Rule → Type 0
 NoneMeets ds [] = Unit {0}
@@ -302,7 +302,7 @@ best_step ds earlier ts t r s true again o n h f k =
     ]
 best_step ds earlier ts t r s false again o n h f k = again (both (all_after earlier t ts) (ordered_after (t ∷ earlier) ts) o).1 (h, n) f k
 
--- of those that are left the first one is before the others, or the same
+-- of the remaining rules the first one comes before the others, or is the same
 best_of : (ds : List Demand) (earlier rs : List Rule) (r s : Rule) → FirstIsBest ds earlier rs r s
 best_of ds earlier [] r s o n e m = absurd m
 best_of ds earlier (t ∷ ts) r s o n e m = best_step ds earlier ts t r s (meets_all ds t) (best_of ds (t ∷ earlier) ts r s) o n refl e m

@@ -1,4 +1,4 @@
-//! Sets of shapes.
+//! Sets of constructors: scalar, vectors and matrices by size.
 
 ghost use Rattle.std.specs.Prelude.{◌≡◌, ◌==◌, [], ◌∷◌, length};
 ghost use Rattle.ir_types.specs.judged.Plain.{inner_view};
@@ -12,10 +12,10 @@ use bitflags::{Flag, Flags, bitflag_items};
 use ir_kinds::VectorSize;
 use ir_types::TypeInner;
 
-/// A set of shapes (naga's `ConstructorSet`). A contract sees the number of its bits, as `set.0`.
+/// A set of constructors (naga's `ConstructorSet`). A contract sees its bits, as `set.0`.
 #[derive(Clone, Copy, PartialEq, Eq, Debug)]
 pub struct ConstructorSet(
-    /// The bits as a number.
+    /// The bits.
     pub u16,
 );
 
@@ -142,8 +142,8 @@ impl ConstructorSet {
 }
 
 impl ConstructorSet {
-    /// The set of the one shape that an inner form has, and the empty set for what is neither a scalar nor a vector nor
-    /// a matrix (naga's `ConstructorSet::singleton`).
+    /// The singleton set of the constructor of an inner type, and the empty set for a type that is neither a scalar nor a vector
+    /// nor a matrix (naga's `ConstructorSet::singleton`).
     pub const fn singleton(inner: &TypeInner) -> ConstructorSet
         ensures { sizes_in result.0 ≡ size_of (value_type_of (inner_view inner.now)) }
     {
@@ -153,7 +153,7 @@ impl ConstructorSet {
         }
     }
 
-    /// Whether the set has exactly one shape (naga's `ConstructorSet::is_singleton`).
+    /// Whether the set has exactly one element (naga's `ConstructorSet::is_singleton`).
     pub fn is_singleton(self) -> bool
         ensures { result ≡ (length (sizes_in self.0) == 1) }
     {
@@ -164,7 +164,7 @@ impl ConstructorSet {
         }
     }
 
-    /// The shape in the set (naga's `ConstructorSet::size`). Requires that it has exactly one.
+    /// The constructor in the set (naga's `ConstructorSet::size`). Requires that it has exactly one.
     pub fn size(self) -> ConstructorSize
         requires { length (sizes_in self.0) ≡ 1 }
         ensures { sizes_in self.0 ≡ result ∷ [] }
@@ -175,14 +175,14 @@ impl ConstructorSet {
         }
     }
 
-    /// The shapes in the set, in order.
+    /// The constructors in the set, in order.
     pub const fn sizes(self) -> Members<'static, ConstructorSize>
         ensures { result ≡ sizes_in self.0 }
     {
         Members::new(self.0 as u64, &SIZES)
     }
 
-    /// The sets of one shape each that together are the set, in order (naga's `ConstructorSet::members`).
+    /// The singleton subsets, in order (naga's `ConstructorSet::members`).
     pub const fn members(self) -> Members<'static, ConstructorSet>
         ensures { result ≡ chosen self.0 single_sizes }
     {

@@ -1,5 +1,5 @@
-//! The rules of built-in math functions: which types they take together, and what they give; sets of scalars and of shapes,
-//! each with one bit for a member, and the one bits of a number.
+//! The rules of built-in math functions: their argument types, and their result types; sets of scalars and of constructors,
+//! each a bit set; and the one bits of an integer.
 #![tactic(auto)]
 
 mod constructor_set;

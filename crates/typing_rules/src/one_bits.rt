@@ -1,12 +1,12 @@
-//! The one bits of a number, and what stands at their places.
+//! The one bits of an integer, and list elements selected by them.
 
 ghost use Rattle.std.specs.Prelude.{◌≡◌};
 ghost use Rattle.typing_rules.specs.found.Bits.{chosen, one_bits};
 
 use std::marker::Model;
 
-/// The elements of a list that stand at the places of a number's one bits, the lowest first. In a contract it is the
-/// list of those that are still to come.
+/// The elements of a list at the indices of an integer's one bits, the lowest first. In a contract it is the
+/// list of the remaining elements.
 #[derive(Drop)]
 pub struct Members<'a, T> {
     bits: u64,
@@ -23,7 +23,7 @@ impl<'a, T> Model for Members<'a, T> {
 }
 
 impl<'a, T> Members<'a, T> {
-    /// Those of the items that stand at the places of the one bits.
+    /// The items at the indices of the one bits.
     pub(crate) const fn new(bits: u64, items: &'a [T]) -> Self
         ensures { result ≡ chosen bits items.now }
     {
@@ -120,8 +120,8 @@ static POWERS: [u64; 64] = [
     1 << 63,
 ];
 
-/// The one bits of a number, each as the power of two that it denotes, the lowest first (naga's `OneBitsIter`). In a
-/// contract it is the list of those that are still to come.
+/// The one bits of an integer, each as a power of two, the lowest first (naga's `OneBitsIter`). In a
+/// contract it is the list of the remaining ones.
 #[derive(Drop)]
 pub struct OneBitsIter {
     powers: Members<'static, u64>,

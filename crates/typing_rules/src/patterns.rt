@@ -1,4 +1,4 @@
-//! How rules are made of a shape and a scalar.
+//! Patterns of rules: a rule from a shape and a scalar.
 
 ghost use Rattle.std.specs.Prelude.{◌≡◌};
 ghost use Rattle.typing_rules.specs.judged.Types.{value_type};
@@ -7,40 +7,40 @@ ghost use Rattle.typing_rules.specs.judged.MathTable.{vector_size, vector_of_col
 use crate::rules::{Arguments, Conclusion, ConstructorSize, Rule, ValueType};
 use ir_kinds::{PredeclaredType, Scalar, VectorSize};
 
-/// How a rule is made of a shape and a scalar, which together are the type `x`.
+/// The pattern of a rule with a shape and a scalar, which together are the type `x`.
 #[derive(Clone, Copy, PartialEq, Eq, Debug)]
 pub enum Pattern {
-    /// x gives x.
+    /// `x` -> `x`.
     Same,
-    /// x, x give x.
+    /// `x`, `x` -> `x`.
     SameTwo,
-    /// x, x, x give x.
+    /// `x`, `x`, `x` -> `x`.
     SameThree,
-    /// x gives its scalar.
+    /// `x` -> the scalar of `x`.
     ToScalar,
-    /// x, x give their scalar.
+    /// `x`, `x` -> the scalar of `x`.
     TwoToScalar,
-    /// x, x and the scalar of x give x.
+    /// `x`, `x`, the scalar of `x` -> `x`.
     WithScalar,
-    /// x and a 32-bit signed integer of the same shape give x.
+    /// `x`, a 32-bit signed integer of the same shape -> `x`.
     WithExponent,
-    /// x and two 32-bit unsigned integers give x.
+    /// `x` and two 32-bit unsigned integers -> `x`.
     WithRange,
-    /// x, x and two 32-bit unsigned integers give x.
+    /// `x`, `x` and two 32-bit unsigned integers -> `x`.
     TwoWithRange,
-    /// x gives the struct of its fraction and its whole number.
+    /// `x` -> the `modf` struct: fractional and whole part.
     ToFraction,
-    /// x gives the struct of its fraction and its exponent.
+    /// `x` -> the `frexp` struct: fraction and exponent.
     ToExponent,
-    /// A vector like a row and one like a column of the matrix x give x.
+    /// A vector with one component per column and one with one per row -> the matrix `x` (outer product).
     ToOuter,
-    /// A matrix x gives the matrix with its rows and columns changed about.
+    /// A matrix `x` -> its transpose.
     ToTransposed,
-    /// x gives a 32-bit unsigned integer.
+    /// `x` -> a 32-bit unsigned integer.
     ToWord,
-    /// A 32-bit unsigned integer gives x.
+    /// A 32-bit unsigned integer -> `x`.
     FromWord,
-    /// Two 32-bit unsigned integers give x.
+    /// Two 32-bit unsigned integers -> `x`.
     FromTwoWords,
 }
 
@@ -50,7 +50,7 @@ const WORD: ValueType = ValueType {
 };
 
 impl ConstructorSize {
-    // The size that a predeclared struct's key has: none for a scalar.
+    // The size in a predeclared struct's key: none for a scalar.
     const fn vector_size(self) -> Option<VectorSize>
         ensures { result ≡ vector_size self }
     {
@@ -80,7 +80,7 @@ impl ConstructorSize {
         }
     }
 
-    // A matrix with rows and columns changed about.
+    // The transposed matrix.
     const fn transposed(self) -> ConstructorSize
         ensures { result ≡ transposed self }
     {
@@ -128,7 +128,7 @@ impl Pattern {
         }
     }
 
-    // What the rule gives.
+    // The rule's result.
     const fn conclusion(self, size: ConstructorSize, scalar: Scalar) -> Conclusion
         ensures { result ≡ (math_rule self size scalar).conclusion }
     {
@@ -159,7 +159,7 @@ impl Pattern {
         }
     }
 
-    /// The rule that is made of a shape and a scalar.
+    /// The rule with this shape and scalar.
     pub const fn rule(self, size: ConstructorSize, scalar: Scalar) -> Rule
         ensures { result ≡ math_rule self size scalar }
     {

@@ -1,4 +1,4 @@
-//! Rules, and how they are made.
+//! Rules of math functions.
 
 ghost use Rattle.std.specs.Prelude.{◌≡◌, length, slice_get};
 ghost use Rattle.ir_types.specs.judged.Plain.{plain, inner_view};
@@ -12,15 +12,15 @@ use typing_forms::conversion_rank;
 /// The shape of a value, without its scalar (naga's `ConstructorSize`).
 #[derive(Clone, Copy, PartialEq, Eq, Debug)]
 pub enum ConstructorSize {
-    /// One scalar.
+    /// A scalar.
     Scalar,
-    /// Scalars in a row.
+    /// A vector.
     Vector(VectorSize),
-    /// Column vectors in a row.
+    /// A matrix.
     Matrix {
-        /// How many columns.
+        /// The number of columns.
         columns: VectorSize,
-        /// How many scalars a column has.
+        /// The number of rows.
         rows: VectorSize,
     },
 }
@@ -41,7 +41,7 @@ impl ConstructorSize {
         }
     }
 
-    /// The shape's place among the thirteen, counted from 0: the scalar, vectors by their size, matrices by columns
+    /// The constructor's index among the thirteen, counted from 0: the scalar, vectors by size, matrices by columns
     /// and then rows.
     pub const fn place(self) -> u8
         ensures { result ≡ constructor_place self }
@@ -66,7 +66,7 @@ impl ConstructorSize {
     }
 }
 
-/// The type of a value: a scalar, a vector or a matrix.
+/// The type of a scalar, a vector or a matrix.
 #[derive(Clone, Copy, PartialEq, Eq, Debug)]
 pub struct ValueType {
     /// Its shape.
@@ -76,14 +76,14 @@ pub struct ValueType {
 }
 
 impl ValueType {
-    /// What the type is made of.
+    /// The inner type.
     pub const fn to_inner(self) -> TypeInner
         ensures { inner_view result ≡ plain (inner_of self.size self.scalar) }
     {
         self.size.to_inner(self.scalar)
     }
 
-    /// The type of a value that an inner form is, or `None` where it is another form.
+    /// The value type of an inner type, or `None` if it is no scalar, vector or matrix.
     pub const fn of(inner: &TypeInner) -> Option<ValueType>
         ensures { result ≡ value_type_of (inner_view inner.now) }
     {
@@ -118,8 +118,8 @@ impl ValueType {
         }
     }
 
-    /// How far a value of this type is from the type that is required, or `None` where it does not convert to it: the
-    /// rank of the scalars where the shapes are the same.
+    /// The conversion rank from this type to the required type, or `None` if there is no conversion: the
+    /// rank of the scalars if the shapes are the same.
     pub fn rank_to(self, wanted: ValueType) -> Option<u32>
         ensures { result ≡ type_rank self wanted }
     {
@@ -145,7 +145,7 @@ pub enum Arguments {
 }
 
 impl Arguments {
-    /// How many there are.
+    /// The number of arguments.
     pub const fn len(&self) -> usize
         ensures { result ≡ length (argument_list self.now) }
     {
@@ -157,7 +157,7 @@ impl Arguments {
         }
     }
 
-    /// The type at a place, counted from 0, or `None` where there is no such argument.
+    /// The type at an index, counted from 0, or `None` if there is no such argument.
     pub const fn get(&self, place: usize) -> Option<ValueType>
         ensures { result ≡ slice_get (argument_list self.now) place }
     {
@@ -178,34 +178,34 @@ impl Arguments {
     }
 }
 
-/// What a rule gives (naga's `Conclusion`).
+/// The result of a rule (naga's `Conclusion`).
 #[derive(Clone, Copy, PartialEq, Eq, Debug)]
 pub enum Conclusion {
     /// A value of this type.
     Value(ValueType),
-    /// A struct that the module has for such results.
+    /// A predeclared struct.
     Predeclared(PredeclaredType),
 }
 
-/// The types that a function takes together, and what it then gives (naga's `Rule`).
+/// The argument types that a function accepts together, and its result type (naga's `Rule`).
 #[derive(Clone, Copy, PartialEq, Eq, Debug)]
 pub struct Rule {
     /// The types of its arguments.
     pub arguments: Arguments,
-    /// What it gives.
+    /// The result.
     pub conclusion: Conclusion,
 }
 
 impl Rule {
-    /// How far a value of the type is from what the rule requires at a place, counted from 0, or `None` where it does
-    /// not convert to it, or there is no such argument.
+    /// The conversion rank from the type to the rule's argument at an index, counted from 0, or `None` if there is
+    /// no conversion or no such argument.
     pub fn rank_at(&self, place: usize, given: ValueType) -> Option<u32>
         ensures { result ≡ rank_at place given self.now }
     {
         given.rank_to(self.arguments.get(place)?)
     }
 
-    /// Whether a value of the inner form can be the argument at a place, counted from 0.
+    /// Whether the rule accepts an argument of the inner type at an index, counted from 0.
     pub fn accepts(&self, place: usize, given: &TypeInner) -> bool
         ensures { result ≡ accepts_inner place (inner_view given.now) self.now }
     {
@@ -215,7 +215,7 @@ impl Rule {
         }
     }
 
-    /// Whether no argument is of an abstract scalar.
+    /// Whether no argument has an abstract scalar.
     pub const fn is_concrete(&self) -> bool
         ensures { result ≡ is_concrete self.now }
     {

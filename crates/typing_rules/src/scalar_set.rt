@@ -10,11 +10,11 @@ use crate::one_bits::Members;
 use bitflags::{Flag, Flags, bitflag_items};
 use ir_kinds::{Scalar, ScalarKind};
 
-/// A set of scalars, the preferred ones with the lowest bits (naga's `ScalarSet`). A contract sees the number of its
+/// A set of scalars, the preferred ones with the lowest bits (naga's `ScalarSet`). A contract sees its
 /// bits, as `set.0`.
 #[derive(Clone, Copy, PartialEq, Eq, Debug)]
 pub struct ScalarSet(
-    /// The bits as a number.
+    /// The bits.
     pub u16,
 );
 
@@ -42,7 +42,7 @@ bitflag_items! {
         const F16 = 512;
         /// 64-bit floats.
         const F64 = 1024;
-        /// Truth values.
+        /// Bools.
         const BOOL = 2048;
     }
 }
@@ -119,7 +119,7 @@ impl ScalarSet {
             | ScalarSet::U64.0,
     );
 
-    /// All numbers.
+    /// All numeric scalars.
     pub const NUMERIC: ScalarSet = ScalarSet(ScalarSet::FLOAT.0 | ScalarSet::INTEGER.0);
 
     /// The abstract scalars.
@@ -147,12 +147,12 @@ impl ScalarSet {
         ScalarSet::F32.0 | ScalarSet::F16.0 | ScalarSet::F64.0,
     );
 
-    /// The floats of functions that naga does not compute for abstract ones.
+    /// The floats of functions that naga does not evaluate for abstract floats.
     pub const FLOAT_ABSTRACT_UNIMPLEMENTED: ScalarSet = ScalarSet::CONCRETE_FLOAT;
 }
 
 impl ScalarSet {
-    /// The set of one scalar, and the empty set for a scalar that is none of the twelve (naga's
+    /// The singleton set of a scalar, and the empty set for a scalar that is none of the twelve (naga's
     /// `ScalarSet::singleton`).
     pub const fn singleton(scalar: Scalar) -> ScalarSet
         ensures { scalars_in result.0 ≡ filter (same_scalar scalar) scalars }
@@ -174,7 +174,7 @@ impl ScalarSet {
         }
     }
 
-    /// The scalars that `from` converts to, itself with them (naga's `ScalarSet::convertible_from`).
+    /// The scalars that `from` converts to, itself included (naga's `ScalarSet::convertible_from`).
     pub const fn convertible_from(from: Scalar) -> ScalarSet
         ensures members { scalars_in result.0 ≡ filter (λ to. is_some (rank from to)) scalars }
         ensures each { marks result.0 scalars ≡ map (λ to. is_some (rank from to)) scalars }
@@ -204,7 +204,7 @@ impl ScalarSet {
         Members::new(self.0 as u64, &SCALARS)
     }
 
-    /// The sets of one scalar each that together are the set, the preferred one first (naga's `ScalarSet::members`).
+    /// The singleton subsets, the preferred one first (naga's `ScalarSet::members`).
     pub const fn members(self) -> Members<'static, ScalarSet>
         ensures { result ≡ chosen self.0 single_scalars }
     {

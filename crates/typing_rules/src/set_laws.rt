@@ -1,4 +1,4 @@
-//! What holds of the sets and of one bits.
+//! Laws of the sets and of one bits.
 
 ghost use Rattle.std.specs.Prelude.{◌≡◌, ◌++◌, [], ◌∷◌, sum};
 ghost use Rattle.ir_kinds.specs.judged.Scalars.{boolean, abstract_int, abstract_float};
@@ -8,14 +8,14 @@ ghost use Rattle.typing_rules.specs.found.Members.{scalars, scalars_in, sizes, s
 
 use crate::{ConstructorSet, ScalarSet};
 
-/// The one bits of a number rise, are powers of two, and have the number as their sum.
+/// The one bits of an integer ascend, are powers of two, and add up to the integer.
 pub fn ones_of_a_number(bits: u64)
     ensures sum { sum (one_bits bits) ≡ bits }
     ensures rising { IsRisingFrom 0 (one_bits bits) }
     ensures powers { ArePowersOfTwo (one_bits bits) }
 {}
 
-/// A set has a scalar, or a shape, exactly where it has the bit of its place among the twelve, or the thirteen.
+/// A set has a scalar, or a constructor, exactly if the bit of its index among the twelve, or the thirteen, is set.
 pub fn members_by_bits()
     ensures scalars { MembersByBits scalars }
     ensures sizes { MembersByBits sizes }

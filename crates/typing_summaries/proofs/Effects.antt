@@ -1,4 +1,4 @@
--- A tally after all effects, in the order of the text.
+-- The tally after all effects, in program order.
 use Rattle.std.proofs.Common.{◌≡◌, ℕ, ◌+◌, true, List, [], ◌∷◌, ◌++◌, map, Option, Some, None, slice_get, refl, sym, ap, ◌∙◌}
 use Rattle.ir_types.specs.judged.ExpressionPlain.{PlainExpression, plain}
 use Rattle.ir_types.specs.declared.expressions.Expression.TheVariants as x
@@ -59,7 +59,7 @@ do_statement k s t =
     do_append k (map takes (statement_uses s)) (leaving_effects s) t
     ∙ (ap (do_all k (leaving_effects s)) (do_takes k (statement_uses s) t) ∙ do_leaving k s (count_all k (statement_uses s) t))
 
--- a part, and what stands after it
+-- a nested block, and what follows it
 then_rest : (k : Known) (xs ys : List Effect) (t u v : Tallied) → do_all k xs t ≡ u → do_all k ys u ≡ v → do_all k (xs ++ ys) t ≡ v
 then_rest k xs ys t u v first after = do_append k xs ys t ∙ (ap (do_all k ys) first ∙ after)
 

@@ -1,4 +1,4 @@
--- A callee is joined of which each pair is the same pair in its caller.
+-- A callee is merged each of whose pairs is the same pair in the caller.
 use Rattle.std.proofs.Common.{◌≡◌, ◌⊎◌, ℕ, zero, suc, ◌<◌, ◌≤◌, Bool, true, false, true≢false, ◌||◌, List, [], ◌∷◌, ◌++◌, fold, inl, inr, length, drop, get_or, Option, Some, None, slice_get, refl, sym, ap, ◌∙◌, subst, arith, if◌then◌else◌}
 use Rattle.std.specs.List.{list_any}
 use Rattle.indexmap.specs.IndexSet.{insert_all, insert_key}
@@ -24,7 +24,7 @@ module _ {T : Type 0} (eq : T → T → Bool) where
   already : (vals : List T) (k : T) → list_any (eq k) vals ≡ true → insert_key eq vals k ≡ vals
   already vals k e = ap (λ b. kept b vals k) e
 
-  -- those that are there are not added
+  -- elements already in the list are not added
   all_there : (vals others : List T) → ((k : T) → IsAmong k others → list_any (eq k) vals ≡ true) → insert_all eq vals others ≡ vals
   all_there vals [] there = refl
   all_there vals (k ∷ others) there =
@@ -49,7 +49,7 @@ module _ {T : Type 0} (eq : T → T → Bool) where
   begins_longer [] more (o ∷ others) begins = elim begins [ ]
   begins_longer (v ∷ vals) more (o ∷ others) begins = (begins.0, begins_longer vals more others begins.1)
 
-  -- two halves that begin with two lists, of which the first is as long
+  -- two concatenations that begin with two lists, the first as long as the second
   pub begins_both : (front behind few more : List T) → length front ≡ length few → BeginsWith eq front few → BeginsWith eq behind more → BeginsWith eq (front ++ behind) (few ++ more)
   begins_both [] behind [] more same first rest = rest
   begins_both (v ∷ front) behind [] more same first rest = absurd (omega (arith, same))
@@ -67,13 +67,13 @@ module _ {T : Type 0} (eq : T → T → Bool) where
   once_insert : (xs : List T) (k : T) → insert_all eq [] xs ≡ xs → insert_all eq [] (insert_key eq xs k) ≡ insert_key eq xs k
   once_insert xs k once = once_kept (list_any (eq k) xs) xs k once refl
 
--- one more pair leaves each there once
+-- inserting a pair keeps the list distinct
 pub once_more : (pairs : List SamplingPair) (p : SamplingPair) (added : List SamplingPair) → EachOnce pairs → added ≡ insert_key pair_eq pairs p → EachOnce added
 once_more pairs p added once is = subst EachOnce (sym is) (once_insert pair_eq pairs p once)
 
--- ---- pairs that begin with others
+-- ---- pairs that begin with other pairs
 
--- what begins so is these, and a rest
+-- a list that begins with another is that list and a rest
 front_is : (pairs front : List SamplingPair) → BeginsWith pair_eq pairs front → (rest : List SamplingPair) × (pairs ≡ front ++ rest)
 front_is pairs [] begins = (pairs, refl)
 front_is [] (p ∷ front) begins = elim begins [ ]
@@ -83,14 +83,14 @@ begins_self : (pairs : List SamplingPair) → BeginsWith pair_eq pairs pairs
 begins_self [] = tt
 begins_self (p ∷ pairs) = (pair_self p, begins_self pairs)
 
--- all that begin with those that are there give all
+-- inserting all pairs of a list that begins with the present ones gives that list
 front_joined : (front rest : List SamplingPair) → EachOnce front → EachOnce (front ++ rest) → insert_all pair_eq front (front ++ rest) ≡ front ++ rest
 front_joined front rest own all =
     insert_append pair_eq front front rest
     ∙ ap (λ z. insert_all pair_eq z rest) (all_there pair_eq front front (begins_there pair_eq front front (begins_self front)) ∙ sym own)
     ∙ (sym (insert_append pair_eq [] front rest) ∙ all)
 
--- ---- what is passed on
+-- ---- arguments that are passed on
 
 part_same : (meaning : ℕ → Option GlobalOrArgument) (arguments : List ℕ) (part : GlobalOrArgument) → ((n : ℕ) → part ≡ Argument n → PassesOn meaning arguments n) → seen_through meaning arguments (Some part) ≡ Some part
 part_same meaning arguments (Global g) passes = refl
@@ -105,7 +105,7 @@ all_same meaning arguments pairs marks are passes = λ p among.
     )
 
 module _ (expressions : List PlainExpression) (arguments : List ℕ) where
-  -- each pair comes up as it is
+  -- each pair is the same in the caller
   as_they_are : (pairs : List SamplingPair) (t : Paired) → PassesAllOn (global_or_argument expressions) arguments pairs → pass_all_up expressions arguments pairs t ≡ record { pairs = insert_all pair_eq t.pairs pairs; wrong = t.wrong }
   as_they_are [] t same = refl
   as_they_are (p ∷ pairs) t same =
@@ -125,7 +125,7 @@ module _ (expressions : List PlainExpression) (arguments : List ℕ) where
       let all : insert_all pair_eq t.pairs pairs ≡ t.pairs = all_there pair_eq t.pairs pairs (begins_there pair_eq t.pairs pairs begins) in
       sym (as_they_are pairs t same ∙ (λ i. record { pairs = all i; wrong = t.wrong }))
 
--- ---- fronts, place by place
+-- ---- beginnings, element by element
 
 module _ {T : Type 0} (eq : T → T → Bool) where
   at_place : (vals others : List T) (i : ℕ) (v o : T) → i < length vals → i < length others → v ≡ get_or vals i v → o ≡ get_or others i o → eq o v ≡ true
@@ -135,7 +135,7 @@ module _ {T : Type 0} (eq : T → T → Bool) where
   at_place (x ∷ xs) (y ∷ ys) zero v o lv lo ev eo same rest = ((λ j. eq (sym eo j) (sym ev j)) ∙ same, rest)
   at_place (x ∷ xs) (y ∷ ys) (suc i) v o lv lo ev eo same rest = at_place xs ys i v o (omega (arith, lv)) (omega (arith, lo)) ev eo same rest
 
-  -- what begins so after a place, and is equal at it, begins so from it on
+  -- a list that begins so after an index, and is equal at it, begins so from it on
   pub front_step : (vals others : List T) (i j : ℕ) (v o : T) → j ≡ suc i → i < length vals → i < length others → v ≡ get_or vals i v → o ≡ get_or others i o → eq o v ≡ true
       → BeginsWith eq (drop j vals) (drop j others) → BeginsWith eq (drop i vals) (drop i others)
   front_step vals others i j v o next lv lo ev eo same rest =
@@ -150,6 +150,6 @@ module _ {T : Type 0} (eq : T → T → Bool) where
   drop_all (x ∷ xs) zero h = absurd (omega (arith, h))
   drop_all (x ∷ xs) (suc n) h = drop_all xs n (omega (arith, h))
 
-  -- nothing is left at the end
+  -- nothing remains at the end
   pub front_end : (vals others : List T) (i : ℕ) → length others ≤ i → BeginsWith eq (drop i vals) (drop i others)
   front_end vals others i le = subst (BeginsWith eq (drop i vals)) (sym (drop_all others i le)) tt

@@ -1,4 +1,4 @@
--- What a list and a set after it hold together, where one more value is added once.
+-- The contents of a list followed by a set, after one more value is inserted.
 use Rattle.std.proofs.Common.{◌≡◌, Bool, true, false, ◌||◌, List, [], ◌∷◌, ◌++◌, length, refl, sym, ap, ◌∙◌, subst, if◌then◌else◌}
 use Rattle.std.proofs.lemmas.List.{append-nil, append_assoc, nil_from_length}
 use Rattle.std.proofs.lemmas.List.Folds.{list_any-append}
@@ -9,7 +9,7 @@ module _ {T : Type 0} (eq : T → T → Bool) where
   abbrev added : Bool → List T → T → List T
   added b ks k = if b then ks else ks ++ k ∷ []
 
-  -- whether it is there is required of both parts
+  -- membership is tested in both parts
   in_both : (few more : List T) (k : T) (b : Bool) → list_any (eq k) few ≡ b → insert_key eq (few ++ more) k ≡ added (b || list_any (eq k) more) (few ++ more) k
   in_both few more k b e = ap (λ z. added z (few ++ more) k) (list_any-append (eq k) few more ∙ ap (λ z. z || list_any (eq k) more) e)
 

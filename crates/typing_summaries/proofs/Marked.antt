@@ -1,4 +1,4 @@
--- Each argument among pairs is marked.
+-- Each argument that a pair contains is marked.
 use Rattle.std.proofs.Common.{◌≡◌, ◌⊎◌, ℕ, zero, suc, Bool, true, false, List, [], ◌∷◌, fold, inl, inr, Option, Some, None, slice_get, refl, sym, ap, ◌∙◌, subst}
 use Rattle.typing_rules.specs.judged.Laws.{IsAmong}
 use Rattle.spec_expressions.specs.declared.sampling.GlobalOrArgument.{GlobalOrArgument}

@@ -1,4 +1,4 @@
--- The pairs after all effects, and the expressions that are wrong.
+-- The pairs after all effects, and the operands at fault.
 use Rattle.std.proofs.Common.{◌≡◌, ◌⊎◌, ℕ, Option, Some, None, Bool, true, false, true≢false, ◌||◌, List, [], ◌∷◌, ◌++◌, refl, sym, ap, ◌∙◌, subst, inl, inr}
 use Rattle.std.specs.Prelude.{◌↔◌, if◌then◌else◌}
 use Rattle.std.specs.List.{list_any}
@@ -21,7 +21,7 @@ some_is e = cc (e)
 pub none_some : {X : Type 0} {A : Type 0} {x : X} → None ≡ Some x → A
 none_some e = absurd (cc (e))
 
--- ---- one pair more
+-- ---- one more pair
 
 at_head : (p q : SamplingPair) (ps : List SamplingPair) (b : Bool) → pair_eq p q ≡ b → (list_any (pair_eq p) ps ≡ true → IsAmong p ps) → (b || list_any (pair_eq p) ps) ≡ true → (q ≡ p) ⊎ IsAmong p ps
 at_head p q ps true is after h = inl (sym (pair_same p q is))
@@ -60,7 +60,7 @@ paired_one wi ws None b t p =
     let e = part_pairs ws b (with_wrong wi t) in
     (λ h. inl (subst (IsAmong p) e h), λ s. subst (IsAmong p) (sym e) (elim s [ inl l ↦ l | inr m ↦ none_some m.0 ]))
 
--- some pair of a callee comes up as p
+-- some pair of a callee is p in the caller
 abbrev pub SomeComesUp : List PlainExpression → List ℕ → List SamplingPair → SamplingPair → Type 0
 SomeComesUp expressions arguments qs p = (q : SamplingPair) × IsAmong q qs × ComesUp expressions arguments q p
 
@@ -82,9 +82,9 @@ passed_pairs expressions arguments (q ∷ qs) t p =
       ]),
     )
 
--- ---- what is wrong
+-- ---- operands at fault
 
--- something is wrong, and this
+-- there is a fault, and it is this
 abbrev pub IsSome : Option ℕ → Type 0
 IsSome o = (e : ℕ) × (o ≡ Some e)
 
@@ -100,7 +100,7 @@ wrong_comes : (o w : Option ℕ) → IsSome w → IsSome (first_wrong o w)
 wrong_comes (Some x) w h = (x, refl)
 wrong_comes None w h = h
 
--- an expression is wrong at a place that denotes nothing
+-- an operand at an index is at fault if it denotes nothing
 abbrev pub WrongPart : Option ℕ → Option GlobalOrArgument → ℕ → Type 0
 WrongPart w a e = (w ≡ Some e) × (a ≡ None)
 
@@ -140,7 +140,7 @@ pair_comes wi ws (Some a) None t e (inr h) = wrong_comes t.wrong ws (e, h.0)
 pair_comes wi ws None b t e (inl h) = part_stays ws b (with_wrong wi t) (wrong_comes t.wrong wi (e, h.0))
 pair_comes wi ws None b t e (inr h) = part_comes ws b (with_wrong wi t) e h
 
--- ---- what is wrong with arguments
+-- ---- arguments at fault
 
 argument_wrong : (expressions : List PlainExpression) (arguments : List ℕ) (part : GlobalOrArgument) (e : ℕ) → WrongPart (passed_for arguments part) (seen_through (global_or_argument expressions) arguments (Some part)) e → IsWrongArgument expressions arguments part e
 argument_wrong expressions arguments (Global g) e h = none_some h.0
@@ -150,7 +150,7 @@ wrong_argument : (expressions : List PlainExpression) (arguments : List ℕ) (pa
 wrong_argument expressions arguments part e (n, is, at, none) =
     subst (λ z. WrongPart (passed_for arguments z) (seen_through (global_or_argument expressions) arguments (Some z)) e) (sym is) (at, ap (argument_means (global_or_argument expressions)) at ∙ none)
 
--- an argument that is passed for a part of one of these pairs is wrong
+-- an argument that is passed for a part of one of these pairs is at fault
 abbrev pub SomeWrong : List PlainExpression → List ℕ → List SamplingPair → ℕ → Type 0
 SomeWrong expressions arguments qs e = (q : SamplingPair) × IsAmong q qs × (IsWrongArgument expressions arguments q.0 e ⊎ IsWrongArgument expressions arguments q.1 e)
 

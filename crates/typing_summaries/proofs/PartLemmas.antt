@@ -1,4 +1,4 @@
--- What a call passes, part by part.
+-- The arguments of a call, one by one.
 use Rattle.std.proofs.Common.{◌≡◌, ℕ, zero, suc, ◌+◌, ◌<◌, ◌≤◌, min, Bool, true, false, List, [], ◌∷◌, ◌++◌, length, drop, get_or, Option, Some, slice_get, refl, sym, ap, ◌∙◌, arith}
 use Rattle.std.proofs.lemmas.List.{append-nil, append_assoc}
 use Rattle.spec_expressions.specs.declared.sampling.GlobalOrArgument.{GlobalOrArgument}
@@ -25,7 +25,7 @@ module _ (meaning : ℕ → Option GlobalOrArgument) where
   nothing_left (m ∷ marks) (a ∷ arguments) zero le = absurd (omega (arith, le))
   nothing_left (m ∷ marks) (a ∷ arguments) (suc i) le = nothing_left marks arguments i (omega (arith, le))
 
-  -- the same parts are passed, so what is marked means the same
+  -- the same parts are passed, so marked arguments have the same denotations
   pub same_means : (marks : List Bool) (xs ys : List ℕ) (n : ℕ) → parts_of meaning marks xs ≡ parts_of meaning marks ys → slice_get marks n ≡ Some true → argument_means meaning (slice_get xs n) ≡ argument_means meaning (slice_get ys n)
   same_means [] xs ys n e at = absurd (cc (at))
   same_means (m ∷ marks) [] [] n e at = refl
@@ -35,7 +35,7 @@ module _ (meaning : ℕ → Option GlobalOrArgument) where
   same_means (false ∷ marks) (x ∷ xs) (y ∷ ys) zero e at = absurd (cc (at))
   same_means (m ∷ marks) (x ∷ xs) (y ∷ ys) (suc n) e at = same_means marks xs ys n (cc (e)) at
 
-  -- what is passed at a place that is marked is what the argument means
+  -- the argument passed at a marked index has the denotation of the part
   pub part_means : (marks : List Bool) (xs : List ℕ) (n : ℕ) (part : GlobalOrArgument) → slice_get marks n ≡ Some true → slice_get (parts_of meaning marks xs) n ≡ Some (Some part) → argument_means meaning (slice_get xs n) ≡ Some part
   part_means [] xs n part at e = absurd (cc (at))
   part_means (m ∷ marks) [] n part at e = absurd (cc (e))
@@ -43,7 +43,7 @@ module _ (meaning : ℕ → Option GlobalOrArgument) where
   part_means (false ∷ marks) (x ∷ xs) zero part at e = absurd (cc (at))
   part_means (m ∷ marks) (x ∷ xs) (suc n) part at e = part_means marks xs n part at e
 
--- one part more after those that were found
+-- one more part after those found so far
 pub one_more : (meaning : ℕ → Option GlobalOrArgument) (parts : List (Option GlobalOrArgument)) (marks : List Bool) (arguments : List ℕ) (i : ℕ) (part : Option GlobalOrArgument) → i < length marks → i < length arguments
     → part ≡ part_if (get_or marks i false) (meaning (get_or arguments i 0))
     → (parts ++ part ∷ []) ++ parts_of meaning (drop (i + 1) marks) (drop (i + 1) arguments) ≡ parts ++ parts_of meaning (drop i marks) (drop i arguments)

@@ -1,4 +1,4 @@
--- A callee that was joined for the same before adds nothing, and one that is joined is there.
+-- Merging a callee again for the same parts adds nothing, and a merged callee's pairs are in the list.
 use Rattle.std.proofs.Common.{◌≡◌, ◌⊎◌, ℕ, zero, suc, arith, ◌<◌, ◌≤◌, length, get_or, map, option_map, Option, Some, None, Bool, true, false, true≢false, ◌&&◌, ◌||◌, List, [], ◌∷◌, ◌++◌, refl, sym, ap, ◌∙◌, subst, inl, inr, slice_get}
 use Rattle.std.specs.Prelude.{if◌then◌else◌}
 use Rattle.std.specs.Cmp.Lexicographic.{pointwise}
@@ -29,7 +29,7 @@ use Rattle.typing_summaries.proofs.PartLemmas.{same_means, part_means}
 abbrev HasPair : SamplingPair → List SamplingPair → Type 0
 HasPair p held = list_any (pair_eq p) held ≡ true
 
--- ---- pairs that are there stay
+-- ---- pairs in the list stay
 
 or_left : (b c : Bool) → b ≡ true → (b || c) ≡ true
 or_left true c e = refl
@@ -92,7 +92,7 @@ module _ (expressions : List PlainExpression) (arguments : List ℕ) where
       (one_holds (passed_for arguments r.0) (passed_for arguments r.1) (seen r.0) (seen r.1) image sampler t (ap (λ z. seen z.0) is ∙ ei) (ap (λ z. seen z.1) is ∙ es))
   covered (r ∷ pairs) t q (inr among) image sampler ei es = covered pairs (pass_up expressions arguments r t) q among image sampler ei es
 
--- ---- what is there adds nothing
+-- ---- pairs in the list add nothing
 
 already : (held : List SamplingPair) (p : SamplingPair) → HasPair p held → insert_key pair_eq held p ≡ held
 already held p e = ap (λ b. if b then held else held ++ p ∷ []) e
@@ -108,11 +108,11 @@ part_noted : (w : Option ℕ) (b : Option GlobalOrArgument) (t : Paired) (e : �
 part_noted w None t e is = noted w t e is
 part_noted w (Some b) t e is = refl
 
--- it denotes something
+-- it has a denotation
 abbrev pub Means : Option GlobalOrArgument → Type 0
 Means a = (x : GlobalOrArgument) × (a ≡ Some x)
 
--- something is wrong, or both denote something
+-- there is a fault, or both have denotations
 abbrev pub Settled : Paired → Option GlobalOrArgument → Option GlobalOrArgument → Type 0
 Settled t a b = ((e : ℕ) × (t.wrong ≡ Some e)) ⊎ (Means a × Means b)
 
@@ -131,7 +131,7 @@ module _ (expressions : List PlainExpression) (arguments : List ℕ) where
       ap (pass_all_up expressions arguments pairs) (one_stays (passed_for arguments q.0) (passed_for arguments q.1) (seen expressions arguments q.0) (seen expressions arguments q.1) t (holds q (inl refl)) (settled q (inl refl)))
       ∙ all_stay pairs t (λ r among. holds r (inr among)) (λ r among. settled r (inr among))
 
--- ---- the same parts
+-- ---- equal parts
 
 module _ (expressions : List PlainExpression) (pairs : List SamplingPair) where
   seen_same : (xs ys : List ℕ) → parts_of (global_or_argument expressions) (marks_of pairs) xs ≡ parts_of (global_or_argument expressions) (marks_of pairs) ys → (part : GlobalOrArgument) → ((n : ℕ) → part ≡ Argument n → slice_get (marks_of pairs) n ≡ Some true)
@@ -150,7 +150,7 @@ module _ (expressions : List PlainExpression) (pairs : List SamplingPair) where
       let s = stand n (marked n refl) in
       (s.0, part_means (global_or_argument expressions) (marks_of pairs) xs n s.0 (marked n refl) (ap (λ ps. slice_get ps n) (sym are) ∙ s.1))
 
--- ---- what was joined
+-- ---- merged callees
 
 same_parts : (a b : Option GlobalOrArgument) → option_eq each.TheImpl.ghosts.eq a b ≡ true → a ≡ b
 same_parts None None e = refl
@@ -173,19 +173,19 @@ pairs_same (x ∷ xs) (y ∷ ys) e = let h = both (pair_eq x y) (pointwise pair_
 pub parts_same : (parts others : List (Option GlobalOrArgument)) → pointwise (option_eq each.TheImpl.ghosts.eq) parts others ≡ true → parts ≡ others
 parts_same parts others e = same_lists parts others e
 
--- what stands at a place is among all
+-- an entry at an index is one of all
 pub at_place : (joined : List Passed) (i : ℕ) (p : Passed) → i < length joined → p ≡ get_or joined i p → IsAmong p joined
 at_place [] i p lt is = absurd (omega (arith, lt))
 at_place (q ∷ joined) zero p lt is = inl (sym is)
 at_place (q ∷ joined) (suc i) p lt is = inr (at_place joined i p (omega (arith, lt)) is)
 
--- what is kept of a callee has its pairs alone
+-- a callee's info has only its own pairs
 one_kept : (k : Known) (callee other : ℕ) (pairs more : List SamplingPair) → IsKept k callee pairs → IsKept k other more → other ≡ callee → more ≡ pairs
 one_kept k callee other pairs more kept held same =
     let s : held.summary ≡ kept.summary = some_is (sym held.found ∙ (ap (slice_get k.summaries) same ∙ kept.found)) in
     sym held.same ∙ (ap (λ z. z.pairs) s ∙ kept.same)
 
--- what was joined is there where more is
+-- what was merged is in any larger list
 more_held : (k : Known) (held now : List SamplingPair) (p : Passed) → ((image sampler : GlobalOrArgument) → HasPair (image, sampler) held → HasPair (image, sampler) now) → IsJoined k held p → IsJoined k now p
 more_held k held now p stay is = record { kept = is.kept; covered = λ others same r in_pairs image sampler ei es. stay image sampler (is.covered others same r in_pairs image sampler ei es) }
 
@@ -198,13 +198,13 @@ module _ (k : Known) (callee : ℕ) (pairs : List SamplingPair) (kept : IsKept k
     its_pairs : there.0.pairs.items ≡ pairs
     its_pairs = elim there.3 [ inl same ↦ one_kept k callee there.0.callee pairs there.0.pairs.items kept (all there.0 there.1).kept same | inr same ↦ same ]
 
-    -- whatever the arguments are for which these parts are passed
+    -- for any arguments with these parts
     covered_there : (others : List ℕ) → parts_of (global_or_argument k.expressions) (marks_of pairs) others ≡ parts → IsCovered k.expressions others pairs held
     covered_there others same =
         subst (λ z. IsCovered k.expressions others z held) its_pairs
         ((all there.0 there.1).covered others (ap (λ z. parts_of (global_or_argument k.expressions) (marks_of z) others) its_pairs ∙ (same ∙ sym there.2)))
 
-  -- for what it was joined before it adds nothing
+  -- merging again for the same parts adds nothing
   pub adds_nothing : (joined : List Passed) (t : Paired) → AreJoined k joined t.pairs → Holds joined callee pairs parts → IsWrong t ⊎ AllStand marks parts
       → t ≡ pass_all_up k.expressions arguments pairs t
   adds_nothing joined t all there settled =
@@ -220,7 +220,7 @@ module _ (k : Known) (callee : ℕ) (pairs : List SamplingPair) (kept : IsKept k
     its_kept : IsKept k p.callee p.pairs.items
     its_kept = subst (λ c. IsKept k c p.pairs.items) (sym of) (subst (IsKept k callee) (sym is_pairs) kept)
 
-    -- it, for which one was joined before, is noted beside that
+    -- a callee is recorded beside the one that was merged before for it
     pub alike_joined : (joined : List Passed) (held : List SamplingPair) → AreJoined k joined held → Holds joined callee pairs parts → AreJoined k (joined ++ p ∷ []) held
     alike_joined joined held all there q among = elim (among-cases joined (p ∷ []) q among) [
       | inl before ↦ all q before
@@ -234,7 +234,7 @@ module _ (k : Known) (callee : ℕ) (pairs : List SamplingPair) (kept : IsKept k
       ]
     ]
 
-    -- where it is joined, it and all that were joined before are there
+    -- after merging it, it and all merged before are in the list
     pub one_joined : (joined : List Passed) (t : Paired) → AreJoined k joined t.pairs → AreJoined k (joined ++ p ∷ []) (pass_all_up k.expressions arguments pairs t).pairs
     one_joined joined t all q among =
         let now = (pass_all_up k.expressions arguments pairs t).pairs in
@@ -253,12 +253,12 @@ module _ (k : Known) (callee : ℕ) (pairs : List SamplingPair) (kept : IsKept k
           ]
         ]
 
--- pairs that are joined of few leave what was joined before
+-- merging a few pairs keeps the callees merged before
 pub few_joined : (k : Known) (joined : List Passed) (arguments : List ℕ) (pairs : List SamplingPair) (t : Paired) → AreJoined k joined t.pairs → AreJoined k joined (pass_all_up k.expressions arguments pairs t).pairs
 few_joined k joined arguments pairs t are q among =
     more_held k t.pairs (pass_all_up k.expressions arguments pairs t).pairs q (λ image sampler h. all_have k.expressions arguments pairs t (image, sampler) h) (are q among)
 
--- ---- what is kept of a callee
+-- ---- callee infos
 
 pub callee_there : (infos : List FunctionInfo) (callee place : ℕ) (info : FunctionInfo) → place < length infos → info ≡ get_or infos place info → place ≡ callee → slice_get (map summary_of infos) callee ≡ Some (summary_of info)
 callee_there infos callee place info lt at is =

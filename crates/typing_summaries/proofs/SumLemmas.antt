@@ -1,4 +1,4 @@
--- What a tally says after all effects, by what each of them gives.
+-- The tally after all effects, by what each of them contributes.
 use Rattle.std.proofs.Common.{◌≡◌, ◌⊎◌, ℕ, ◌+◌, ◌-◌, ◌^◌, ◌<◌, ◌≤◌, min, Option, Some, None, Bool, true, false, ◌||◌, IsTrue, List, [], ◌∷◌, length, refl, sym, ap, ◌∙◌, subst, inl, inr, ⊎_elim, arith, slice_get, get_or, length-set, add-zero, add_assoc, eq-eqb}
 use Rattle.std.specs.Prelude.{◌↔◌, ◌==◌, if◌then◌else◌, slice_index}
 use Rattle.std.specs.Int.{bit_at}
@@ -19,12 +19,12 @@ use Rattle.typing_summaries.proofs.PairLemmas.{Means, paired_one, SomeComesUp, p
 some_is : {X : Type 0} {x y : X} → Some x ≡ Some y → x ≡ y
 some_is e = cc (e)
 
--- one of the effects gives it
+-- one of the effects contributes it
 abbrev pub Given : (Effect → Type 0) → List Effect → Type 0
 Given G effects = (x : Effect) × IsAmong x effects × G x
 
--- what holds after each effect exactly where it was so before or the effect gives it, holds after all exactly where it was so at
--- the beginning or one of them gives it
+-- a property that holds after each effect iff it held before or the effect contributes it, holds after all iff it held
+-- at the beginning or one of them contributes it
 module _ (k : Known) (Q : Tallied → Type 0) (G : Effect → Type 0) (OK : Tallied → Type 0)
     (keeps : (x : Effect) (t : Tallied) → OK t → OK (do_one k x t))
     (step : (x : Effect) (t : Tallied) → OK t → Q (do_one k x t) ↔ (Q t ⊎ G x)) where
@@ -125,7 +125,7 @@ pair_step k p discards t ok = same_side
 pub pairs_after : (k : Known) (p : SamplingPair) (effects : List Effect) (t : Tallied) → IsAmong p (do_all k effects t).paired.pairs ↔ (IsAmong p t.paired.pairs ⊎ Given (GivesPair k p) effects)
 pairs_after k p effects t = after_all k (HasPairIn p) (GivesPair k p) Anything (λ x t ok. tt) (pair_step k p) effects t tt
 
--- ---- ends of the fragment
+-- ---- discards
 
 abbrev pub GivesKill : Known → Effect → Type 0
 GivesKill k (takes o) = ⊥
@@ -161,7 +161,7 @@ kill_step k discards t ok = (λ h. inr tt, λ s. refl)
 pub kills_after : (k : Known) (effects : List Effect) (t : Tallied) → ((do_all k effects t).may_kill ≡ true) ↔ ((t.may_kill ≡ true) ⊎ Given (GivesKill k) effects)
 kills_after k effects t = after_all k MayKillIn (GivesKill k) Anything (λ x t ok. tt) (kill_step k) effects t tt
 
--- ---- what is wrong
+-- ---- operands at fault
 
 abbrev pub GivesWrong : Known → ℕ → Effect → Type 0
 GivesWrong k e (takes o) = ⊥

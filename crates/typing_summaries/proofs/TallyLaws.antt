@@ -1,4 +1,4 @@
--- The tally of a function says what its definitions say.
+-- The tally of a function satisfies its definition.
 use Rattle.std.proofs.Common.{◌≡◌, ◌≢◌, ◌⊎◌, ℕ, zero, suc, ◌+◌, ◌-◌, ◌^◌, ◌<◌, ◌≤◌, min, Option, Some, None, Bool, true, false, IsTrue, List, [], ◌∷◌, ◌++◌, length, replicate, refl, sym, ap, ◌∙◌, subst, inl, inr, ⊎_elim, arith, slice_get, get_or, eqb}
 use Rattle.std.specs.Prelude.{◌↔◌, ◌==◌, slice_index_or}
 use Rattle.std.specs.Int.{bit_at}
@@ -26,17 +26,17 @@ use Rattle.typing_summaries.proofs.SumLemmas.{Given, uses_length, GivesUse, uses
 some_is : {X : Type 0} {x y : X} → Some x ≡ Some y → x ≡ y
 some_is e = cc (e)
 
--- ---- names
+-- ---- global variables referred to
 
 -- one of these expressions is the global variable
 abbrev NamedIn : ℕ → List PlainExpression → Type 0
 NamedIn g xs = (e : ℕ) × (slice_get xs e ≡ Some (plain (x.GlobalVariable g)))
 
--- the global variable has no kind of use
+-- the global variable has no use
 abbrev IsUnused : ℕ → List GlobalUse → Type 0
 IsUnused g uses = (slice_index_or uses g no_use).0 ≡ 0
 
--- what the names of these expressions make of the use of g
+-- how these expressions change the use of g
 record Named (xs : List PlainExpression) (g k : ℕ) (uses more : List GlobalUse) : Type 0 where
   longer : length more ≡ length uses
   to : HasUseBit more g k → HasUseBit uses g k ⊎ ((bit_at QUERY.0 k ≡ 1) × NamedIn g xs × IsUnused g uses)
@@ -47,7 +47,7 @@ queried_length : (b : Bool) (uses : List GlobalUse) (h : ℕ) → length (querie
 queried_length true uses h = marked_length uses (Some h) QUERY.0
 queried_length false uses h = refl
 
--- a use that has a kind is left as it is
+-- a use that is not empty is unchanged
 used_stays : (uses : List GlobalUse) (h g : ℕ) (b : Bool) → ((slice_index_or uses h no_use).0 == 0) ≡ b → (IsUnused g uses → ⊥) → slice_index_or (queried b uses h) g no_use ≡ slice_index_or uses g no_use
 used_stays uses h g false is used = refl
 used_stays uses h g true is used =
@@ -128,7 +128,7 @@ named_length (y ∷ rest) uses = named_length rest uses
 plus_none : (n : ℕ) → 0 + n ≡ n
 plus_none n = omega arith
 
--- ---- the whole
+-- ---- whole tallies
 
 module _ (f : PlainFunction) (globals : List (Option ℕ)) (summaries : List Summary) (n : ℕ) (starts : AreStarts f.expressions globals) where
   abbrev pub known_of : Known

@@ -15,7 +15,7 @@ use Rattle.typing_summaries.proofs.Effects.{do_one, do_all}
 some_is : {X : Type 0} {x y : X} → Some x ≡ Some y → x ≡ y
 some_is e = cc (e)
 
--- a number is 0 or has a bit
+-- an integer is 0 or has a bit set
 some_bit_by : (fuel n : ℕ) → n ≤ fuel → (n ≡ 0) ⊎ ((j : ℕ) × (bit_at n j ≡ 1))
 some_bit_by zero n le = inl (omega (arith, le))
 some_bit_by (suc fuel) n le =
@@ -30,13 +30,13 @@ some_bit_by (suc fuel) n le =
 pub some_bit : (n : ℕ) → (n ≡ 0) ⊎ ((j : ℕ) × (bit_at n j ≡ 1))
 some_bit n = some_bit_by n n (omega arith)
 
--- ---- those of a callee
+-- ---- uses of a callee
 
 merged_length : (i : ℕ) (uses others : List GlobalUse) → length (merged_from i uses others) ≡ length uses
 merged_length i uses [] = refl
 merged_length i uses (other ∷ others) = merged_length (i + 1) (marked uses (Some i) other.0) others ∙ marked_length uses (Some i) other.0
 
--- what stands at a place among those that begin at i
+-- the element at an index among those that begin at i
 abbrev AtFrom : ℕ → List GlobalUse → (g k : ℕ) → Type 0
 AtFrom i others g k = (j : ℕ) × (g ≡ i + j) × HasUseBit others j k
 

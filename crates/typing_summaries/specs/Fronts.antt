@@ -1,7 +1,7 @@
--- A list that begins with another.
+-- Lists that begin with another list.
 use Rattle.std.specs.Prelude.{◌≡◌, ℕ, Bool, true, List, [], ◌∷◌}
 
--- each of the others is equal to the value at its place
+-- each element of the other is equal to the one at its index
 abbrev pub BeginsWith : {T : Type 0} → (T → T → Bool) → List T → List T → Type 0
 BeginsWith eq values [] = Unit {0}
 BeginsWith eq [] (other ∷ others) = ⊥

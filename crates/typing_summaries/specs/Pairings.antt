@@ -1,4 +1,4 @@
--- The pairs of images and samplers, and what each effect of a function does to them.
+-- Sampled pairs, and how each effect of a function changes them.
 use Rattle.std.specs.Prelude.{ℕ, List, [], ◌∷◌, Option, Some, None, slice_get}
 use Rattle.indexmap.specs.IndexSet.{insert_key}
 use Rattle.ir_types.specs.judged.ExpressionPlain.{PlainExpression, plain}
@@ -10,7 +10,7 @@ use Rattle.spec_expressions.specs.judged.CallChains.{global_or_argument, seen_th
 use Rattle.typing_summaries.specs.Listed.{listed}
 use Rattle.typing_summaries.specs.declared.pairs.Sampled.{Sampled}
 
--- the pairs, and an expression of a wrong form for an image or a sampler, if there is one
+-- the pairs, and an image or sampler operand of a wrong form, if there is one
 pub record Paired : Type 0 where
   pub pairs : List SamplingPair
   pub wrong : Option ℕ
@@ -28,23 +28,23 @@ first_wrong None other = other
 abbrev pub with_wrong : Option ℕ → Paired → Paired
 with_wrong e t = record { pairs = t.pairs; wrong = first_wrong t.wrong e }
 
--- an expression is wrong where it denotes nothing
+-- an operand is at fault if it denotes nothing
 abbrev pub part_wrong : Option ℕ → Option GlobalOrArgument → Paired → Paired
 part_wrong wrong None t = with_wrong wrong t
 part_wrong wrong (Some part) t = t
 
--- an image and a sampler that denote these, and the expressions that are wrong where they denote nothing
+-- an image and a sampler with these denotations, and the operands at fault if they have none
 abbrev pub pair_one : (wrong_image wrong_sampler : Option ℕ) → (image sampler : Option GlobalOrArgument) → Paired → Paired
 pair_one wi ws (Some image) (Some sampler) t = with_pair (image, sampler) t
 pair_one wi ws (Some image) None t = with_wrong ws t
 pair_one wi ws None sampler t = part_wrong ws sampler (with_wrong wi t)
 
--- the expression that is passed for an argument
+-- the expression passed for an argument
 abbrev pub passed_for : List ℕ → GlobalOrArgument → Option ℕ
 passed_for arguments (Global g) = None
 passed_for arguments (Argument number) = slice_get arguments number
 
--- a pair of a callee to which these arguments are passed
+-- a callee's pair, with these arguments
 abbrev pub pass_up : List PlainExpression → List ℕ → SamplingPair → Paired → Paired
 pass_up expressions arguments p t =
     pair_one (passed_for arguments p.0) (passed_for arguments p.1)
@@ -54,7 +54,7 @@ abbrev pub pass_all_up : List PlainExpression → List ℕ → List SamplingPair
 pass_all_up expressions arguments [] t = t
 pass_all_up expressions arguments (p ∷ rest) t = pass_all_up expressions arguments rest (pass_up expressions arguments p t)
 
--- the sampling that the expression at a place is, if it is one
+-- the sample that the expression at an index is, if it is one
 abbrev pub sample_one : List PlainExpression → ℕ → PlainExpression → Paired → Paired
 sample_one expressions e (plain (ImageSample image sampler gathers coordinate array_index offset level depth_ref clamp_to_edge)) t =
     pair_one (Some e) (Some e) (global_or_argument expressions image) (global_or_argument expressions sampler) t

@@ -1,19 +1,19 @@
--- What a call passes for the arguments that are marked.
+-- The arguments of a call that are marked.
 use Rattle.std.specs.Prelude.{◌≡◌, ℕ, Bool, true, false, List, [], ◌∷◌, Option, Some, None, slice_get}
 use Rattle.spec_expressions.specs.declared.sampling.GlobalOrArgument.{GlobalOrArgument}
 
--- what an argument denotes, where it is marked
+-- the denotation of an argument, if it is marked
 abbrev pub part_if : Bool → Option GlobalOrArgument → Option GlobalOrArgument
 part_if true part = part
 part_if false part = None
 
--- so of each argument, as far as both go
+-- the denotations of all marked arguments, up to the shorter length
 abbrev pub parts_of : (meaning : ℕ → Option GlobalOrArgument) → (marks : List Bool) → (arguments : List ℕ) → List (Option GlobalOrArgument)
 parts_of meaning [] arguments = []
 parts_of meaning (mark ∷ marks) [] = []
 parts_of meaning (mark ∷ marks) (argument ∷ arguments) = part_if mark (meaning argument) ∷ parts_of meaning marks arguments
 
--- where an argument is marked, what is passed for it denotes something
+-- each marked argument has a denotation
 abbrev pub Stands : List Bool → List (Option GlobalOrArgument) → ℕ → Type 0
 Stands marks parts number = slice_get marks number ≡ Some true → (part : GlobalOrArgument) × (slice_get parts number ≡ Some (Some part))
 

@@ -1,4 +1,4 @@
--- What a caller passes on as it was given it.
+-- Arguments that a caller passes on unchanged.
 use Rattle.std.specs.Prelude.{◌≡◌, ℕ, List, Option, Some, slice_get}
 use Rattle.typing_rules.specs.judged.Laws.{IsAmong}
 use Rattle.spec_expressions.specs.declared.sampling.GlobalOrArgument.{GlobalOrArgument}
@@ -7,7 +7,7 @@ use Rattle.spec_expressions.specs.judged.Pairs.{SamplingPair}
 use Rattle.spec_expressions.specs.judged.CallChains.{seen_through}
 use Rattle.spec_expressions.specs.found.Arguments.{argument_means}
 
--- what is passed for an argument is the caller's argument of the same number
+-- the argument passed is the caller's own argument of the same index
 abbrev pub PassesOn : (meaning : ℕ → Option GlobalOrArgument) → (arguments : List ℕ) → ℕ → Type 0
 PassesOn meaning arguments number = argument_means meaning (slice_get arguments number) ≡ Some (Argument number)
 

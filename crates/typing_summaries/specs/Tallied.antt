@@ -1,4 +1,4 @@
--- What a tally of a function says.
+-- The meaning of a function's tally.
 use Rattle.std.specs.Prelude.{◌≡◌, ◌↔◌, ℕ, ◌-◌, ◌^◌, ◌<◌, min, List, length, Option, Some, None, slice_index}
 use Rattle.ir_items.specs.judged.Plain.{PlainFunction}
 use Rattle.spec_expressions.specs.judged.Effects.{effects_of, places_of}
@@ -8,8 +8,8 @@ use Rattle.typing_summaries.specs.Tallies.{Tallied}
 abbrev pub summary_in : Tallied → Summary
 summary_in t = record { uses = t.counted.uses; pairs = t.paired.pairs; may_kill = t.may_kill }
 
--- The tally has what is joined of the function itself and of its callees, how often each expression is an operand, and an
--- expression of a wrong form, if there is one.
+-- The tally has the function's summary joined with its callees', the reference counts, and an image or sampler operand
+-- of a wrong form, if there is one.
 pub record IsTally (globals : ℕ) (f : PlainFunction) (summaries : List Summary) (t : Tallied) : Type 0 where
   pub joined : IsJoined globals f summaries (summary_in t)
   pub uses : length t.counted.uses ≡ globals

@@ -1,4 +1,4 @@
--- What a tally says, and what each effect of a function does to it.
+-- The contents of a tally, and how each effect of a function changes them.
 use Rattle.std.specs.Prelude.{◌≡◌, ℕ, ◌+◌, ◌-◌, ◌^◌, min, Bool, true, false, ◌||◌, List, [], ◌∷◌, ◌++◌, map, replicate, Option, Some, None, slice_get, slice_set, slice_index, slice_index_or, ◌==◌}
 use Rattle.ir_types.specs.judged.ExpressionPlain.{PlainExpression, plain, expression_view}
 use Rattle.ir_types.specs.declared.expressions.Expression.{Expression}
@@ -35,7 +35,7 @@ abbrev pub take_all : List (Option ℕ) → List Operand → Counted → Counted
 take_all globals [] t = t
 take_all globals (o ∷ rest) t = take_all globals rest (take_one globals o t)
 
--- the uses from this place on, each with that of the same global variable among others
+-- the uses from this index on, each joined with the other list's use of the same global variable
 abbrev pub merged_from : ℕ → List GlobalUse → List GlobalUse → List GlobalUse
 merged_from g uses [] = uses
 merged_from g uses (other ∷ others) = merged_from (g + 1) (marked uses (Some g) other.0) others
@@ -43,12 +43,12 @@ merged_from g uses (other ∷ others) = merged_from (g + 1) (marked uses (Some g
 abbrev pub merged : List GlobalUse → List GlobalUse → List GlobalUse
 merged uses others = merged_from 0 uses others
 
--- QUERY for a global variable that has no kind of use
+-- QUERY is added to a global variable that has no use
 abbrev pub queried : (unused : Bool) → List GlobalUse → ℕ → List GlobalUse
 queried true uses g = marked uses (Some g) QUERY.0
 queried false uses g = uses
 
--- ---- the whole
+-- ---- whole tallies
 
 pub record Tallied : Type 0 where
   pub counted : Counted
@@ -58,7 +58,7 @@ pub record Tallied : Type 0 where
 abbrev pub tallied : Tally → Tallied
 tallied t = record { counted = counted t.counts; paired = paired t.sampled; may_kill = t.may_kill }
 
--- what is known before
+-- the inputs
 pub record Known : Type 0 where
   pub expressions : List PlainExpression
   pub globals : List (Option ℕ)
@@ -90,7 +90,7 @@ join_summary k arguments (Some s) t = record {
   may_kill = t.may_kill || s.may_kill;
 }
 
--- that it ends the fragment or runs a function
+-- a discard or a call
 abbrev pub leave : Known → PlainStatement → Tallied → Tallied
 leave k (emit first end) t = t
 leave k (block body) t = t
@@ -129,7 +129,7 @@ abbrev mutual
   done_in_cases k no_case t = t
   done_in_cases k (case value body falls rest) t = done_in_cases k rest (done_in k body t)
 
--- QUERY for each global variable that an expression names and that has no kind of use
+-- QUERY is added to each global variable that an expression refers to and that has no use
 abbrev pub name_one : PlainExpression → List GlobalUse → List GlobalUse
 name_one (plain (GlobalVariable g)) uses = queried ((slice_index_or uses g no_use).0 == 0) uses g
 name_one _ uses = uses
@@ -138,7 +138,7 @@ abbrev pub name_all : List PlainExpression → List GlobalUse → List GlobalUse
 name_all [] uses = uses
 name_all (expression ∷ rest) uses = name_all rest (name_one expression uses)
 
--- the same of expressions that are given with their handles
+-- the tally and the uses after expressions that are given with their handles
 abbrev pub expressions_done_with : Known → List (ℕ × Expression) → Tallied → Tallied
 expressions_done_with k [] t = t
 expressions_done_with k (h ∷ rest) t = expressions_done_with k rest (expression_done k h.0 (expression_view h.1) t)
@@ -147,7 +147,7 @@ abbrev pub name_all_with : List (ℕ × Expression) → List GlobalUse → List 
 name_all_with [] uses = uses
 name_all_with (h ∷ rest) uses = name_all_with rest (name_one (expression_view h.1) uses)
 
--- no place counted, no use made, no pair
+-- zero counts, empty uses, no pairs
 abbrev pub nothing_tallied : (expressions globals : ℕ) → Tallied
 nothing_tallied expressions globals = record {
   counted = record { counts = replicate expressions 0; uses = replicate globals no_use };
@@ -162,6 +162,6 @@ named k t = record {
   may_kill = t.may_kill;
 }
 
--- all of a function with this body, in a module of so many global variables
+-- the tally of a function with this body, in a module with this many global variables
 abbrev pub whole_tally : Known → (expressions globals : ℕ) → PlainBlock → Tallied
 whole_tally k expressions globals body = named k (done_in k body (expressions_done k 0 k.expressions (nothing_tallied expressions globals)))

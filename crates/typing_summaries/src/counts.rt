@@ -1,4 +1,4 @@
-//! How often expressions are operands, and how global variables are used.
+//! Reference counts of expressions, and uses of global variables.
 
 ghost use Rattle.std.specs.Prelude.{◌≡◌, Option, List, Some, map, IfOk, replicate, slice_index_or, ◌==◌};
 ghost use Rattle.spec_expressions.specs.judged.OperandUses.{operand};
@@ -15,19 +15,19 @@ use spec_expressions::GlobalUse;
 use std::alloc::{AllocError, Global};
 use typing_infos::mark_at;
 
-/// At how many places each expression is an operand, and the use of each global variable.
+/// The reference count of each expression, and the use of each global variable.
 #[derive(Drop)]
 pub struct Counts {
-    /// The number of places of each expression; at `usize::MAX` it stays.
+    /// The reference count of each expression; it saturates at `usize::MAX`.
     pub counts: Vec<usize>,
     /// The use of each global variable.
     pub uses: Vec<GlobalUse>,
 }
 
-// The global variable that a chain of accesses starts at, if any.
+// The global variable at the root of an access chain, if any.
 pub(crate) type Start = Option<Handle<key::GlobalVariable>>;
 
-// That of one expression.
+// The global variable at the root of the access chain of one expression.
 fn start_of(
     globals: &[Start],
     handle: Handle<key::Expression>,
@@ -58,7 +58,7 @@ fn mark(uses: &mut Vec<GlobalUse>, global: Option<Handle<key::GlobalVariable>>, 
 }
 
 impl Counts {
-    // Nothing counted.
+    // Zero counts and empty uses.
     pub(crate) fn new(
         alloc: Global,
         expressions: usize,
@@ -72,12 +72,12 @@ impl Counts {
         Ok(Counts { counts, uses })
     }
 
-    // What the lists take memory from.
+    // The allocator of the lists.
     pub(crate) fn allocator(&self) -> Global {
         *self.counts.allocator()
     }
 
-    // One operand, which makes this use of the global variable that it starts at.
+    // Adds one operand, with this use of the global variable at its root.
     pub(crate) fn take(
         &mut self,
         globals: &[Start],
@@ -98,7 +98,7 @@ impl Counts {
         }
     }
 
-    // The uses that a callee makes.
+    // Adds the uses of a callee.
     pub(crate) fn merge(&mut self, others: &[GlobalUse])
         ensures { counted self.new ≡ record { counts = self.old.counts.items; uses = merged self.old.uses.items others.now } }
     {
@@ -120,7 +120,7 @@ fn mark_in(uses: &mut [GlobalUse], index: usize, kind: GlobalUse)
     }
 }
 
-// Each use with that of the same global variable among the others. The loop is so that many are joined together.
+// The union of each use with the other list's use of the same global variable. The loop is written so that it can be vectorized.
 #[tactic(auto, using(crate::proofs::Merging::rest))]
 fn merge(uses: &mut [GlobalUse], others: &[GlobalUse])
     ensures { uses.new ≡ merged uses.old others.now }
@@ -131,7 +131,7 @@ fn merge(uses: &mut [GlobalUse], others: &[GlobalUse])
     }
 }
 
-// `QUERY` for a global variable that has no kind of use.
+// Adds `QUERY` to a global variable that has no use.
 pub(crate) fn name(uses: &mut Vec<GlobalUse>, global: Handle<key::GlobalVariable>)
     ensures { uses.new.items ≡ queried ((slice_index_or uses.old.items global no_use).0 == 0) uses.old.items global }
 {

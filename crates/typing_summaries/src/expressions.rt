@@ -1,4 +1,4 @@
-//! The effects of expressions, and the global variables that they name.
+//! The effects of expressions, and of the global variables that they refer to.
 
 ghost use Rattle.std.specs.Prelude.{◌≡◌, map, OnOk};
 ghost use Rattle.ir_types.specs.judged.ExpressionPlain.{expression_view};
@@ -26,7 +26,7 @@ impl Tally {
         self.sampled.sample(context.expressions, handle, expression)
     }
 
-    /// All expressions of the function. The error is out of memory.
+    /// Adds all expressions of the function. The error is out of memory.
     #[tactic(auto, using(crate::proofs::Handles::expressions_with))]
     pub fn add_expressions(&mut self, context: &Context<'_>) -> Result<(), AllocError>
         ensures { OnOk result (tallied self.new ≡ expressions_done (known context.now) 0 (known context.now).expressions (tallied self.old)) }
@@ -54,7 +54,7 @@ impl Counts {
         }
     }
 
-    /// `QUERY` for each global variable that an expression names and that has no kind of use.
+    /// Adds `QUERY` to each global variable that an expression refers to and that has no use.
     #[tactic(auto, using(crate::proofs::Handles::names_with))]
     pub fn name_globals(&mut self, expressions: &Expressions)
         ensures uses { self.new.uses.items ≡ name_all (map expression_view (values_of expressions.now)) self.old.uses.items }

@@ -1,4 +1,4 @@
-//! What callees with many pairs were passed, so that each is joined once for what it is passed.
+//! The arguments of callees with many pairs, so that each callee is merged once for equal arguments.
 
 ghost use Rattle.std.specs.Prelude.{◌≡◌, ◌⊎◌, ◌+◌, ◌++◌, ◌∷◌, [], IfOk, IsTrue, OnOk, length, map};
 ghost use Rattle.ir_types.specs.judged.ExpressionPlain.{expression_view};
@@ -18,8 +18,8 @@ use std::alloc::{AllocError, Global};
 use std::collections::BTreeMap;
 use typing_infos::SampledPairs;
 
-/// A function that was called, its table of pairs, and for each of its arguments, up to the last among the pairs, what was passed:
-/// what that stands for in the caller where the argument is among the pairs, and nothing where it isn't.
+/// A callee, its table of pairs, and for each of its arguments, up to the last among the pairs, the argument passed:
+/// its denotation in the caller if the argument is among the pairs, and otherwise none.
 #[derive(Drop)]
 pub(crate) struct Passed {
     callee: usize,
@@ -27,15 +27,15 @@ pub(crate) struct Passed {
     parts: Vec<Option<GlobalOrArgument>>,
 }
 
-/// All that were passed so far, and where to look for one of them: a place for each callee with what was passed, and one for the
-/// digest of its table. What stands at a place is compared, so that nothing rests on digests.
+/// All entries so far, and an index of them: the position for each callee and its arguments, and for the
+/// digest of its table. Entries are always compared, so that correctness does not depend on digests.
 #[derive(Drop)]
 pub(crate) struct Joined {
     passed: Vec<Passed>,
     places: BTreeMap<Vec<u64>, usize>,
 }
 
-// Whether it is this callee, or one with this table, with these parts.
+// Whether the entry is of this callee, or of one with this table, with these parts.
 fn is_same(
     passed: &Passed,
     callee: usize,
@@ -53,7 +53,7 @@ fn is_same(
     passed.pairs.as_slice() == pairs
 }
 
-// What is passed, as a number.
+// The code of an argument.
 fn number_of(part: GlobalOrArgument) -> u64 {
     match part {
         GlobalOrArgument::Global(global) => global.index() as u64,
@@ -61,7 +61,7 @@ fn number_of(part: GlobalOrArgument) -> u64 {
     }
 }
 
-// Where to look for what was passed, by the number of a callee or the digest of a table. The error is out of memory.
+// The index key of a call, by the number of a callee or the digest of a table. The error is out of memory.
 fn place_key(
     alloc: Global,
     is_digest: bool,
@@ -81,7 +81,7 @@ fn place_key(
 }
 
 impl Joined {
-    /// Nothing passed.
+    /// No entries.
     pub(crate) fn new(alloc: Global) -> Joined
         ensures { result.passed.items ≡ [] }
     {
@@ -91,7 +91,7 @@ impl Joined {
         }
     }
 
-    // Whether this callee, or one with this table, was passed these parts, so far as the place of the key tells.
+    // Whether this callee, or one with this table, was called with these parts, as far as the entry at the key tells.
     fn has(
         &self,
         key: &[u64],
@@ -110,7 +110,7 @@ impl Joined {
         }
     }
 
-    // Notes where what was passed last is found. The error is out of memory.
+    // Indexes the last entry by a key. The error is out of memory.
     fn note_place(&mut self, key: Vec<u64>) -> Result<(), AllocError>
         ensures { self.new.passed ≡ self.old.passed }
     {
@@ -121,7 +121,7 @@ impl Joined {
         }
     }
 
-    // Notes that a callee with a table was passed these parts, to be found by two keys. The error is out of memory.
+    // Adds an entry of a callee with a table and these parts, and indexes it by two keys. The error is out of memory.
     fn note(&mut self, passed: Passed, own: Vec<u64>, alike: Vec<u64>) -> Result<(), AllocError>
         ensures { OnOk result (self.new.passed.items ≡ self.old.passed.items ++ passed ∷ []) }
     {
@@ -145,7 +145,7 @@ fn part_if(
     }
 }
 
-// What is passed for the arguments that are marked. The error is out of memory.
+// The parts for the marked arguments. The error is out of memory.
 #[tactic(auto, using(crate::proofs::PartLemmas::one_more, crate::proofs::PartLemmas::no_more))]
 fn parts_of(
     alloc: Global,
@@ -163,7 +163,7 @@ fn parts_of(
     Ok(parts)
 }
 
-// Whether something that denotes a part was passed for an argument, where it is marked.
+// Whether the argument passed denotes a part, if it is marked.
 fn stands(marks: &[bool], parts: &[Option<GlobalOrArgument>], number: usize) -> bool
     ensures { IsTrue result → Stands marks.now parts.now number }
 {
@@ -182,7 +182,7 @@ fn stands(marks: &[bool], parts: &[Option<GlobalOrArgument>], number: usize) -> 
     }
 }
 
-// The same of each argument.
+// Whether each marked argument denotes a part.
 fn all_stand(marks: &[bool], parts: &[Option<GlobalOrArgument>]) -> bool
     ensures { IsTrue result → AllStand marks.now parts.now }
 {
@@ -194,7 +194,7 @@ fn all_stand(marks: &[bool], parts: &[Option<GlobalOrArgument>]) -> bool
     true
 }
 
-// Whether what was joined for this once adds nothing when it is joined again: something is wrong already, or nothing of it is.
+// Whether merging again for the same parts adds nothing: an operand is at fault already, or each marked argument denotes a part.
 fn is_settled(sampled: &Sampled, marks: &[bool], parts: &[Option<GlobalOrArgument>]) -> bool
     ensures { IsTrue result → IsWrong (paired sampled.now) ⊎ AllStand marks.now parts.now }
 {
@@ -204,9 +204,9 @@ fn is_settled(sampled: &Sampled, marks: &[bool], parts: &[Option<GlobalOrArgumen
     }
 }
 
-// Notes the pairs of a callee that has a table of them and marks of its arguments, as the caller that passes these sees them,
-// unless the callee, or another with its table, was joined for the same before: then they are there, and with them what is wrong,
-// if anything is.
+// Merges the pairs of a callee that has a table of them and marks of its arguments, with the arguments substituted,
+// unless the callee, or another with its table, was merged for the same parts before: then the pairs are there, and the error,
+// if any.
 fn join_table(
     sampled: &mut Sampled,
     joined: &mut Joined,
@@ -249,8 +249,8 @@ fn join_table(
     joined.note(passed, own, alike)
 }
 
-/// Notes the pairs of a callee, as the caller that passes these arguments sees them. Few are looked through at each call; a table
-/// is joined once for each that is passed, whatever callees have it. The error is out of memory.
+/// Merges the pairs of a callee, with the arguments substituted. A few pairs are looked up at each call; a table
+/// is merged once for each list of parts, whatever callees share it. The error is out of memory.
 pub(crate) fn join_pairs(
     sampled: &mut Sampled,
     joined: &mut Joined,

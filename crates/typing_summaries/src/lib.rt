@@ -1,5 +1,5 @@
-//! How often the expressions of a function are operands, what it does to global variables, and which pairs of images and
-//! samplers it samples: from its own body, and from what is kept of the functions that it calls, as it sees them.
+//! Reference counts of a function's expressions, its uses of global variables, and the pairs of images and
+//! samplers that it samples: from its own body, and from the infos of its callees, with the arguments substituted.
 #![tactic(auto)]
 
 mod counts;

@@ -1,4 +1,4 @@
-//! Lists of pairs, each once.
+//! Lists of distinct pairs.
 
 ghost use Rattle.std.specs.Prelude.{◌≡◌, ◌++◌, [], IfOk, IsTrue, OnOk};
 ghost use Rattle.indexmap.specs.IndexSet.{insert_key};
@@ -10,9 +10,9 @@ use spec_expressions::SamplingPair;
 use std::alloc::{AllocError, Global};
 use typing_infos::{PairSet, SampledPairs};
 
-/// Pairs in the order in which they were found, each once. The first few are a list, or all those of a function that is called,
-/// which has them as well; only those after them are found by a table of this list's own: most functions sample few pairs, and a
-/// table is dear to make.
+/// Distinct pairs in the order of insertion. The first few are a plain list, or a table shared with a callee;
+/// only the later ones are looked up in this list's own table: most functions sample few pairs, and building a
+/// table is expensive.
 #[derive(Drop)]
 pub struct PairList {
     few: SampledPairs,
@@ -20,7 +20,7 @@ pub struct PairList {
     ghost once: { EachOnce (few.items ++ more) },
 }
 
-// These values after others. The error is out of memory.
+// Appends these values. The error is out of memory.
 fn append<T: Copy + Drop>(values: &mut Vec<T>, others: &[T]) -> Result<(), AllocError>
     ensures { OnOk result (values.new.items ≡ values.old.items ++ others.now) }
 {
@@ -30,7 +30,7 @@ fn append<T: Copy + Drop>(values: &mut Vec<T>, others: &[T]) -> Result<(), Alloc
     Ok(())
 }
 
-// Whether values begin with others.
+// Whether a slice begins with another.
 fn begins_with<T: Copy + PartialEq>(values: &[T], others: &[T]) -> bool
     ensures { IsTrue result → BeginsWith T.eq values.now others.now }
 {
@@ -49,7 +49,7 @@ fn begins_with<T: Copy + PartialEq>(values: &[T], others: &[T]) -> bool
 impl PairList {
     ghost use Rattle.typing_summaries.specs.Listed.{listed};
 
-    /// No pair.
+    /// No pairs.
     pub fn new(alloc: Global) -> PairList
         ensures { listed result ≡ [] }
     {
@@ -59,7 +59,7 @@ impl PairList {
         }
     }
 
-    // These pairs, each once, which another function has as well.
+    // These distinct pairs, shared with another function.
     pub(crate) fn shared(alloc: Global, pairs: SampledPairs) -> PairList
         requires { EachOnce pairs.items }
         ensures { listed result ≡ pairs.items }
@@ -70,7 +70,7 @@ impl PairList {
         }
     }
 
-    // What the list takes memory from.
+    // The allocator of the list.
     pub(crate) fn allocator(&self) -> Global {
         self.more.allocator()
     }
@@ -87,14 +87,14 @@ impl PairList {
         begins_with(front, few) && begins_with(behind, self.more.as_slice())
     }
 
-    // Whether the list begins with these, as far as it is one that another function has.
+    // Whether the list begins with these, if it is shared with another function.
     pub(crate) fn begins_with(&self, pairs: &[SamplingPair]) -> bool
         ensures { IsTrue result → BeginsWith pair_eq (listed self.now) pairs.now }
     {
         begins_with(self.few.as_slice(), pairs)
     }
 
-    /// Adds a pair, where it is not there. The error is out of memory.
+    /// Inserts a pair, if it is not contained. The error is out of memory.
     #[tactic(auto, using(crate::proofs::Listing::there, crate::proofs::Listing::first, crate::proofs::Listing::later))]
     pub fn insert(&mut self, pair: SamplingPair) -> Result<(), AllocError>
         ensures { OnOk result (listed self.new ≡ insert_key pair_eq (listed self.old) pair) }

@@ -1,4 +1,4 @@
-//! The operands of expressions and of statements, counted.
+//! Counts of the operands of expressions and of statements.
 
 ghost use Rattle.std.specs.Prelude.{◌≡◌};
 ghost use Rattle.ir_types.specs.judged.ExpressionPlain.{expression_view};
@@ -14,7 +14,7 @@ use ir_types::{Expression, key};
 use spec_expressions::{GlobalUse, Scoping, Slot, Usage};
 use typing_references::{OperandUser, with_operands, with_statement_operands};
 
-// Counts operands.
+// A visitor that counts operands.
 #[derive(Drop)]
 struct Counter<'a> {
     globals: &'a [Start],
@@ -37,7 +37,7 @@ impl OperandUser<Counts, ()> for Counter<'_> {
 }
 
 impl Counts {
-    // One operand that is used so.
+    // One operand with this use.
     fn take_used(&mut self, globals: &[Start], handle: Handle<key::Expression>, usage: Usage)
         ensures { counted self.new ≡ take_one globals.now (operand usage handle) (counted self.old) }
     {
@@ -72,7 +72,7 @@ impl Counts {
         with_operands(&counter, self, expression);
     }
 
-    // The operands of a statement itself, and not of the statements inside it.
+    // The operands of a statement itself, without its nested statements.
     pub(crate) fn take_statement(&mut self, globals: &[Start], statement: &Statement)
         ensures { counted self.new ≡ take_all globals.now (statement_uses (statement_view statement.now)) (counted self.old) }
     {

@@ -1,4 +1,4 @@
-//! Pairs of images and samplers.
+//! Sampled pairs of images and samplers.
 
 ghost use Rattle.std.specs.Prelude.{◌≡◌, ℕ, Some, IfOk, IsTrue, OnOk, None, [], slice_get, true};
 ghost use Rattle.ir_types.specs.judged.ExpressionPlain.{expression_view};
@@ -17,25 +17,25 @@ use spec_expressions::{GlobalOrArgument, SamplingPair};
 use std::alloc::{AllocError, Global};
 use typing_infos::SampledPairs;
 
-/// The pairs, each once.
+/// The sampled pairs.
 #[derive(Drop)]
 pub struct Sampled {
-    /// The pairs in the order in which they were found.
+    /// The distinct pairs, in order of insertion.
     pub pairs: PairList,
-    /// An expression of a wrong form for an image or a sampler, if there is one.
+    /// An image or sampler operand of a wrong form, if there is one.
     pub wrong: Option<Handle<key::Expression>>,
 }
 
-/// What an image or a sampler denotes, and the expression that is wrong where it denotes nothing.
+/// The denotation of an image or sampler operand, or the operand at fault.
 #[derive(Clone, Copy)]
 pub struct Part {
-    /// What it denotes.
+    /// The denotation.
     pub means: Option<GlobalOrArgument>,
-    /// The expression, if there is one.
+    /// The operand, if there is one.
     pub wrong: Option<Handle<key::Expression>>,
 }
 
-// What denotes this in a callee, seen from the caller that passes these arguments.
+// The denotation of a callee's part in the caller, with these arguments.
 fn seen(
     expressions: &Expressions,
     arguments: &[Handle<key::Expression>],
@@ -62,7 +62,7 @@ fn seen(
     }
 }
 
-// Whether what is passed for an argument is the caller's argument of the same number.
+// Whether the argument passed is the caller's own argument of the same index.
 fn passes_on(
     expressions: &Expressions,
     arguments: &[Handle<key::Expression>],
@@ -82,7 +82,7 @@ fn passes_on(
     }
 }
 
-// The same of an argument, where it is marked.
+// Whether a marked argument is passed on unchanged.
 fn passes_if_marked(
     expressions: &Expressions,
     arguments: &[Handle<key::Expression>],
@@ -103,7 +103,7 @@ fn passes_if_marked(
     }
 }
 
-// The same of all arguments that are marked.
+// Whether all marked arguments are passed on unchanged.
 fn passes_marked_on(
     expressions: &Expressions,
     arguments: &[Handle<key::Expression>],
@@ -119,7 +119,7 @@ fn passes_marked_on(
     true
 }
 
-// Whether each of a table of pairs of a callee is the same pair in the caller.
+// Whether each pair of a callee's table is the same pair in the caller.
 fn passes_all_on(
     expressions: &Expressions,
     arguments: &[Handle<key::Expression>],
@@ -135,7 +135,7 @@ fn passes_all_on(
 }
 
 impl Sampled {
-    /// No pair.
+    /// No pairs.
     pub fn new(alloc: Global) -> Sampled
         ensures { paired result ≡ record { pairs = []; wrong = None } }
     {
@@ -167,7 +167,7 @@ impl Sampled {
         }
     }
 
-    /// Notes an image and a sampler: as a pair where both denote something, and else the expression that is wrong. The error
+    /// Adds an image and a sampler: a pair if both denote something, otherwise the operand at fault. The error
     /// is out of memory.
     pub fn pair(&mut self, image: Part, sampler: Part) -> Result<(), AllocError>
         ensures { OnOk result (paired self.new ≡ pair_one image.wrong sampler.wrong image.means sampler.means (paired self.old)) }
@@ -188,7 +188,7 @@ impl Sampled {
         }
     }
 
-    // A pair of a callee to which these arguments are passed.
+    // Adds a callee's pair, with these arguments.
     fn pass_up(
         &mut self,
         expressions: &Expressions,
@@ -203,7 +203,7 @@ impl Sampled {
         )
     }
 
-    /// Notes all pairs of a callee to which these arguments are passed, as the caller sees them. The error is out of memory.
+    /// Adds all pairs of a callee, with these arguments substituted. The error is out of memory.
     pub fn pass_all_up(
         &mut self,
         expressions: &Expressions,
@@ -218,8 +218,8 @@ impl Sampled {
         Ok(())
     }
 
-    /// The same for what is kept of the callee. Where each of a table of pairs is the same pair in the caller, and those that the
-    /// caller has are the first of them, it shares the table, and nothing is copied. The error is out of memory.
+    /// The same for a callee's info. If each pair of a table is the same pair in the caller, and the caller's pairs
+    /// are the first of them, the table is shared, and nothing is copied. The error is out of memory.
     pub fn join(
         &mut self,
         expressions: &Expressions,

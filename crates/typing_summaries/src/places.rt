@@ -1,4 +1,4 @@
-//! What expressions denote in their function.
+//! Denotations of expressions in their function.
 
 ghost use Rattle.std.specs.Prelude.{◌≡◌, Some, map, slice_get, option_map};
 ghost use Rattle.std.specs.Option.{option_copied};
@@ -26,7 +26,7 @@ fn get(expressions: &Expressions, handle: Handle<key::Expression>) -> Option<&Ex
     }
 }
 
-// What an expression denotes as the base of an access.
+// The denotation of the base of an access.
 fn base_means(expression: &Expression) -> Option<GlobalOrArgument>
     ensures { result ≡ base_denotes (Some (expression_view expression.now)) }
 {
@@ -57,7 +57,7 @@ fn means(expressions: &Expressions, expression: &Expression) -> Option<GlobalOrA
     }
 }
 
-/// What the expression at a handle denotes: a global variable, where it is one or an access directly on one, or an
+/// The denotation of the expression at a handle: a global variable, if it is one or an access directly on one, or an
 /// argument.
 pub fn place(expressions: &Expressions, handle: Handle<key::Expression>) -> Option<GlobalOrArgument>
     ensures { result ≡ global_or_argument (map expression_view (values_of expressions.now)) handle }

@@ -1,4 +1,4 @@
-//! The pair that an expression samples.
+//! The pair of a sample expression.
 
 ghost use Rattle.std.specs.Prelude.{◌≡◌, Some, map, OnOk};
 ghost use Rattle.ir_types.specs.judged.ExpressionPlain.{expression_view};
@@ -12,7 +12,7 @@ use ir_arena::handle::Handle;
 use ir_types::{Expression, key};
 use std::alloc::AllocError;
 
-// What an operand of a sampling denotes; where it denotes nothing, the sampling is wrong.
+// The denotation of an image or sampler operand; if there is none, the sample is at fault.
 fn own_part(
     expressions: &Expressions,
     operand: Handle<key::Expression>,
@@ -28,7 +28,7 @@ fn own_part(
 }
 
 impl Sampled {
-    /// Notes the pair of a sampling, where the expression is one. The error is out of memory.
+    /// Adds the pair of a sample, if the expression is one. The error is out of memory.
     pub fn sample(
         &mut self,
         expressions: &Expressions,

@@ -1,4 +1,4 @@
-//! What is counted of a function.
+//! The tally of a function.
 
 ghost use Rattle.std.specs.Prelude.{◌≡◌, IfOk, length};
 ghost use Rattle.ir_blocks.specs.found.View.{block_view};
@@ -13,30 +13,30 @@ use ir_types::{Expression, key};
 use std::alloc::{AllocError, Global};
 use typing_infos::FunctionInfo;
 
-/// What a tally is made from.
+/// The inputs of a tally.
 #[derive(Clone, Copy)]
 pub struct Context<'a> {
     /// The function's expressions.
     pub expressions: &'a Arena<Expression, key::Expression>,
-    /// For each of them the global variable that its chain of accesses starts at, if any.
+    /// The global variable at the root of each expression's access chain, if any.
     pub globals: &'a [Option<Handle<key::GlobalVariable>>],
-    /// What is kept of the functions that it may call, by their handles.
+    /// The infos of the functions that it may call, by their handles.
     pub callees: &'a [FunctionInfo],
 }
 
-/// What is counted of a function.
+/// The tally of a function.
 #[derive(Drop)]
 pub struct Tally {
-    /// At how many places each expression is an operand, and the use of each global variable.
+    /// The reference count of each expression, and the use of each global variable.
     pub counts: Counts,
     /// The pairs.
     pub sampled: Sampled,
-    /// Whether the fragment may be ended.
+    /// Whether the function may discard.
     pub may_kill: bool,
 }
 
 impl Tally {
-    /// Nothing counted of so many expressions and global variables.
+    /// An empty tally for this many expressions and global variables.
     pub fn new(alloc: Global, expressions: usize, globals: usize) -> Result<Tally, AllocError>
         ensures { IfOk result (λ t. tallied t ≡ nothing_tallied expressions globals) }
     {
@@ -47,7 +47,7 @@ impl Tally {
         })
     }
 
-    /// All of a function with this body, in a module of so many global variables. The error is out of memory.
+    /// The tally of a function with this body, in a module with this many global variables. The error is out of memory.
     pub fn of_function(
         alloc: Global,
         context: &Context<'_>,

@@ -1,4 +1,4 @@
-//! The effects of a body's statements, in the order of its text.
+//! The effects of a body's statements, in program order.
 
 ghost use Rattle.std.specs.Prelude.{◌≡◌, map, OnOk, slice_get};
 ghost use Rattle.ir_blocks.specs.found.View.{statement_view, block_view, case_view, cases_of};
@@ -13,7 +13,7 @@ use ir_types::key;
 use std::alloc::AllocError;
 
 impl Tally {
-    // What is kept of a function, as one that is called with these arguments.
+    // Adds the info of a callee, with these arguments.
     fn join(
         &mut self,
         context: &Context<'_>,
@@ -43,7 +43,7 @@ impl Tally {
         }
     }
 
-    // That the statement ends the fragment or runs a function.
+    // Adds a discard or a call.
     fn leave(
         &mut self,
         context: &Context<'_>,
@@ -76,7 +76,7 @@ impl Tally {
         }
     }
 
-    // The statement itself, and not the statements inside it.
+    // Adds the statement itself, without its nested statements.
     fn add_statement(
         &mut self,
         context: &Context<'_>,
@@ -91,7 +91,7 @@ impl Tally {
         self.leave(context, statement, joined)
     }
 
-    /// All statements of a block, at any depth. The error is out of memory.
+    /// Adds all statements of a block, at any depth. The error is out of memory.
     pub fn add_block(&mut self, context: &Context<'_>, block: &Block) -> Result<(), AllocError>
         ensures { OnOk result (tallied self.new ≡ done_in (known context.now) (block_view block.now) (tallied self.old)) }
     {
@@ -99,7 +99,7 @@ impl Tally {
         self.add_all(context, block, &mut joined)
     }
 
-    // The same, where these callees were joined before.
+    // As above, given the callees merged so far.
     #[cycle(walk)]
     fn add_all(
         &mut self,

@@ -1,4 +1,4 @@
--- What the walk answers is what is required at a disrupted place.
+-- The walk's result is a requirement in disrupted control flow.
 use Rattle.std.proofs.Common.{◌≡◌, ℕ, Bool, true, false, IsTrue, List, length, Option, Some, None, option_map, refl, sym, ap, ◌∙◌, subst}
 use Rattle.ir_flags.specs.Sets.{Has}
 use Rattle.ir_flags.specs.declared.settings.ValidationFlags.{ValidationFlags}

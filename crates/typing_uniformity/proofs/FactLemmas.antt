@@ -1,4 +1,4 @@
--- Facts of earlier expressions make those of later ones.
+-- The facts of earlier expressions determine those of later ones.
 use Rattle.std.proofs.Common.{◌≡◌, ◌⊎◌, ℕ, zero, suc, ◌+◌, ◌<◌, ◌≤◌, Option, Some, None, Bool, true, false, true≢false, IsTrue, List, [], ◌∷◌, ◌++◌, length, map, refl, sym, ap, ◌∙◌, subst, inl, inr, arith, slice_get}
 use Rattle.std.specs.Prelude.{◌↔◌}
 use Rattle.std.proofs.lemmas.Bool.{cases_lt}
@@ -51,7 +51,7 @@ known_before known y e lt = ap inner_of (get_before known y e lt)
 known_last : (known : List (Option ℕ)) (y : Option ℕ) → known_at (known ++ y ∷ []) (length known) ≡ y
 known_last known y = ap inner_of (get_last known y)
 
--- what stands at p and after it is this
+-- the list from p on is this
 abbrev OccursFrom : List PlainExpression → ℕ → List (Expression × Span) → Type 0
 OccursFrom xs p entries = (i : ℕ) → slice_get xs (p + i) ≡ slice_get (map expression_view (values_of entries)) i
 
@@ -94,7 +94,7 @@ find_none known (o ∷ os) found h =
     let here = or_none known o.handle found r.0 in
     (here.0, λ q among. elim among [ inl is ↦ subst (λ z. known_at known z.handle ≡ None) is here.1 | inr later ↦ r.1 q later ])
 
--- how a value comes from a source
+-- how a value gets its source
 record Through (m : PlainModule) (f : PlainFunction) (e s : ℕ) : Type 0 where
   expression : PlainExpression
   operand : Operand
@@ -167,12 +167,12 @@ are_sources m f entries is precede =
     let len : length (sources_of m f [] (handles_from 0 entries)) ≡ length f.expressions = r.1 ∙ (zero_plus (length entries) ∙ (sym (length_views entries) ∙ ap length (sym is))) in
     record { len = len; each = λ e lt. r.0 e (subst (λ z. e < z) (sym len) lt) }
 
--- ---- chains of accesses
+-- ---- access chains
 
 abbrev StartsKnown : List PlainExpression → List (Option ℕ) → Type 0
 StartsKnown xs known = (e g : ℕ) → e < length known → (known_at known e ≡ Some g) ↔ StartsAt xs e g
 
--- what the chain that starts at e is
+-- the root of the access chain of e
 abbrev StartsBy : List PlainExpression → (e g : ℕ) → Type 0
 StartsBy xs e g =
     (slice_get xs e ≡ Some (plain (x.GlobalVariable g)))

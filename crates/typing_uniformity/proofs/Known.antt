@@ -1,4 +1,4 @@
--- What is known of the uniformity of each expression is what the definitions say of it.
+-- The uniformity facts of each expression satisfy the definitions.
 use Rattle.std.proofs.Common.{◌≡◌, ℕ, ◌<◌, IsTrue, List, length, Option, Some, None, is_some, slice_get, refl, sym, ap, ◌∙◌, subst}
 use Rattle.std.proofs.lemmas.Option.{slice_get_within}
 use Rattle.ir_flags.specs.declared.settings.ValidationFlags.{ValidationFlags}
@@ -28,7 +28,7 @@ some_or_none : (o : Option ℕ) → (o ≡ None → ⊥) → IsTrue (is_some o)
 some_or_none None h = absurd (h refl)
 some_or_none (Some s) h = refl
 
--- of a list that is as long, something stands where something stands
+-- a list of the same length has an element wherever the other has one
 stands_too : {X Y : Type 0} (xs : List X) (ys : List Y) (e : ℕ) (y : Y) → length xs ≡ length ys → slice_get ys e ≡ Some y → (x : X) × (slice_get xs e ≡ Some x)
 stands_too xs ys e y same at =
     get-within xs e (subst (λ n. e < n) (sym same) (slice_get_within ys e y at))

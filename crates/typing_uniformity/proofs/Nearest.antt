@@ -13,19 +13,19 @@ use Rattle.ir_kinds.specs.declared.diagnostics.StandardFilterableTriggeringRule.
 use Rattle.spec_expressions.specs.judged.Severity.{FilterChain, IsNearest}
 use Rattle.typing_uniformity.specs.Nearest.{AreNearest}
 
--- the plain item at a handle
+-- the item at a handle, as a mathematical value
 pub plain_at : {T P : Type 0} → (view : T → P) (entries : List (T × Span)) (handle : ℕ) (item : T)
     → Some item ≡ value_at entries handle → slice_get (map view (values_of entries)) handle ≡ Some (view item)
 plain_at {T} {P} view entries handle item e =
     slice_get-map view (values_of entries) handle
     ∙ ap (option_map view) (slice_get-map (λ (x : T × Span). x.0) entries handle ∙ sym e)
 
--- how far a search can still go
+-- the number of steps that the search can still take
 abbrev pub ahead : Option ℕ → ℕ
 ahead None = 0
 ahead (Some handle) = handle + 1
 
--- what comes before a handle, if anything, is less far ahead
+-- the parent of a handle, if any, has a smaller index
 pub ahead_before : (o : Option ℕ) (handle : ℕ) → ((place : ℕ) → o ≡ Some place → place < handle) → ahead o ≤ handle
 ahead_before None handle before = omega arith
 ahead_before (Some place) handle before = let h : place < handle = before place refl in omega arith
@@ -33,7 +33,7 @@ ahead_before (Some place) handle before = let h : place < handle = before place 
 abbrev Trail : List PlainFilterNode → Option ℕ → Type 0
 Trail nodes start = (trail : List PlainFilterNode) × FilterChain nodes start trail
 
--- there is a trail from every handle
+-- every handle has a chain of parents
 trail_at : (nodes : List PlainFilterNode) → ParentsPrecede nodes → (handle : ℕ) (o : Option PlainFilterNode) → slice_get nodes handle ≡ o → ((node : PlainFilterNode) → ahead node.parent ≤ handle → Trail nodes node.parent) → Trail nodes (Some handle)
 trail_at nodes precede handle None e rest = ([], e)
 trail_at nodes precede handle (Some node) e rest =
@@ -46,7 +46,7 @@ trail_from nodes precede zero (Some handle) h = absurd (omega arith)
 trail_from nodes precede (suc bound) (Some handle) h =
     trail_at nodes precede handle (slice_get nodes handle) refl (λ node up. trail_from nodes precede bound node.parent (omega arith))
 
--- a node with the rule ends the search
+-- a node for the rule ends the search
 pub found : (nodes : List PlainFilterNode) → ParentsPrecede nodes → (handle : ℕ) (node : PlainFilterNode) (rule : StandardFilterableTriggeringRule)
     → slice_get nodes handle ≡ Some node → node.rule ≡ standard rule → IsNearest nodes (Some handle) rule (Some node.severity)
 found nodes precede handle node rule e h =
@@ -54,12 +54,12 @@ found nodes precede handle node rule e h =
     let rest = trail_from nodes precede handle node.parent up in
     (node ∷ rest.0, (e, rest.1), inl (h, refl))
 
--- another leads on to its parent
+-- another node continues at its parent
 pub passed : (nodes : List PlainFilterNode) (handle : ℕ) (node : PlainFilterNode) (rule : StandardFilterableTriggeringRule) (s : Option Severity)
     → slice_get nodes handle ≡ Some node → (¬ (node.rule ≡ standard rule)) → IsNearest nodes node.parent rule s → IsNearest nodes (Some handle) rule s
 passed nodes handle node rule s e other behind = (node ∷ behind.0, (e, behind.1), inr (other, behind.2))
 
--- the severity at a node is its own, or that of the nodes after it
+-- the severity at a node is its own, or that of its parent
 pub own_or_behind : (nodes : List PlainFilterNode) → ParentsPrecede nodes → (handle : ℕ) (node : PlainFilterNode) (behind s : Option Severity) → slice_get nodes handle ≡ Some node → IsNearest nodes node.parent DerivativeUniformity behind
     → (node.rule ≡ standard DerivativeUniformity) × (s ≡ Some node.severity) ⊎ (¬ (node.rule ≡ standard DerivativeUniformity)) × (s ≡ behind) → IsNearest nodes (Some handle) DerivativeUniformity s
 own_or_behind nodes precede handle node behind s e at (inl own) =
@@ -67,7 +67,7 @@ own_or_behind nodes precede handle node behind s e at (inl own) =
 own_or_behind nodes precede handle node behind s e at (inr other) =
     subst (IsNearest nodes (Some handle) DerivativeUniformity) (sym other.1) (passed nodes handle node DerivativeUniformity behind e other.0 at)
 
--- what is in a list after which one more stands
+-- the element of a list to which one more was appended
 last_or_before : {X : Type 0} (xs : List X) (x y : X) (k : ℕ) → slice_get (xs ++ x ∷ []) k ≡ Some y → (slice_get xs k ≡ Some y) ⊎ ((k ≡ length xs) × (x ≡ y))
 last_or_before [] x y zero e = inr (refl, cc (e))
 last_or_before [] x y (suc k) e = absurd (cc (e))
@@ -84,7 +84,7 @@ behind_all nodes known o are is = λ handle found at. elim (last_or_before known
   | inr last ↦ subst (λ k. IsNearest nodes (Some k) DerivativeUniformity found) (sym last.0) (subst (IsNearest nodes (Some (length known)) DerivativeUniformity) last.1 is)
 ]
 
--- one more node of which the severity is known
+-- one more node of known severity
 pub one_more : (nodes : List PlainFilterNode) (known : List (Option Severity)) (o : Option Severity) (more : List (Option Severity)) (place : ℕ) → more ≡ known ++ o ∷ [] → length known ≡ place → AreNearest nodes known
     → IsNearest nodes (Some place) DerivativeUniformity o → (length more ≡ place + 1) × AreNearest nodes more
 one_more nodes known o more place pushed many are is = (
@@ -92,6 +92,6 @@ one_more nodes known o more place pushed many are is = (
   subst (AreNearest nodes) (sym pushed) (behind_all nodes known o are (subst (λ k. IsNearest nodes (Some k) DerivativeUniformity o) (sym many) is)),
 )
 
--- of no node anything is known
+-- no node is known
 pub nothing_known : (nodes : List PlainFilterNode) → AreNearest nodes []
 nothing_known nodes = λ handle found at. absurd (cc (at))

@@ -1,4 +1,4 @@
--- The first place from another on that passes a test, and the look-up by these places.
+-- The first index from another on that passes a test, and the look-up by these indices.
 use Rattle.std.proofs.Common.{◌≡◌, ◌⊎◌, inl, inr, ⊎_elim, ℕ, zero, suc, ◌+◌, ◌<◌, ◌≤◌, Bool, true, false, IsTrue, ◌||◌, ◌&&◌, cond, nat_lt, List, [], ◌∷◌, length, Option, Some, None, slice_get, slice_index_or, slice_set, get_or, refl, sym, ap, ◌∙◌, subst, arith, true≢false}
 use Rattle.std.proofs.lemmas.Bool.{cases_eq, cases_lt}
 use Rattle.std.proofs.lemmas.Option.{get_or_from_slice_get, slice_get_within, slice_get_past}
@@ -13,7 +13,7 @@ use Rattle.typing_uniformity.specs.Requiring.{required_of, requirement_in, is_er
 
 -- ---- steps of the loop
 
--- at the end of all
+-- at the end of the list
 pub next_end : (test : ℕ → Bool) (count : ℕ) → IsNext test count count count
 next_end test count = record { ahead = omega arith; within = omega arith; passes = λ lt. absurd (omega arith); between = λ k from to. absurd (omega arith) }
 
@@ -29,7 +29,7 @@ next_before test count place later first step fails n =
     between : (k : ℕ) → place ≤ k → k < first → test k ≡ false
     between k from to = elim (cases_eq k place) [ inl same ↦ subst (λ x. test x ≡ false) (sym same) fails | inr other ↦ n.between k (omega arith) to ]
 
--- ---- what counts
+-- ---- requirements that count
 
 error_is : (severity : Severity) → is_error severity ≡ true → severity ≡ Error
 error_is Off e = cc
@@ -112,7 +112,7 @@ module _ (severity : Severity) (uniformities : List Uniformity) (next : List ℕ
   found_from first end None x at e = cc
   found_from first end (Some place) x at e = found_with first end place (slice_get uniformities place) x (next_at first place at) refl e
 
-  -- what requires something is within
+  -- an expression with a requirement is in the range
   asking_within : (k : ℕ) → asks severity uniformities k ≡ true → k < length uniformities
   asking_within k e = inside (slice_get uniformities k) refl
     where
@@ -126,7 +126,7 @@ module _ (severity : Severity) (uniformities : List Uniformity) (next : List ℕ
           nothing_counts Error e = cc
       inside (Some u) at = slice_get_within uniformities k u at
 
-  -- a place before the end that requires something is found
+  -- an index before the end that has a requirement is found
   not_none : (end place : ℕ) (u : Uniformity) → place < end → required_with end place (Some u) ≡ None → ⊥
   not_none end place u lt e = with_none (nat_lt place end) (lt-ltb place end lt) e
     where

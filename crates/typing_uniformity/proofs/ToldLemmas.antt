@@ -1,4 +1,4 @@
--- What is put together of each expression is what the definitions say of it.
+-- The uniformities assembled for each expression satisfy the definitions.
 use Rattle.std.proofs.Common.{◌≡◌, ℕ, zero, suc, ◌+◌, List, [], ◌∷◌, length, map, Option, Some, None, option_map, slice_get, refl, sym, ap, ◌∙◌, subst, arith}
 use Rattle.std.proofs.lemmas.Option.{slice_get-map, slice_get_within}
 use Rattle.ir_arena.specs.judged.Handles.{handles_from}

@@ -1,4 +1,4 @@
--- What is known of expressions, from what is known of those before them.
+-- Facts about expressions, given those of the earlier ones.
 use Rattle.std.specs.Prelude.{◌≡◌, ℕ, ◌<◌, Bool, true, false, List, [], ◌∷◌, ◌++◌, length, Option, Some, None, slice_get}
 use Rattle.ir_types.specs.judged.ExpressionPlain.{PlainExpression, plain, expression_view}
 use Rattle.ir_types.specs.declared.expressions.Expression.{Expression}
@@ -9,7 +9,7 @@ use Rattle.spec_expressions.specs.judged.OperandUses.{Operand, expression_uses}
 use Rattle.spec_expressions.specs.judged.Values.{known_at, is_source, ComesFrom, IsExact}
 use Rattle.spec_expressions.specs.judged.Faults.{requirement_at}
 
--- what is found already, or what is known of one more operand
+-- the fact found so far, or that of one more operand
 abbrev pub or_known : List (Option ℕ) → ℕ → Option ℕ → Option ℕ
 or_known sources e (Some s) = Some s
 or_known sources e None = known_at sources e
@@ -22,18 +22,18 @@ abbrev pub source_if : Bool → ℕ → Option ℕ → Option ℕ
 source_if true e below = Some e
 source_if false e below = below
 
--- where the value of the expression at a place comes from
+-- the source of non-uniformity of the expression at an index
 abbrev pub source_of : PlainModule → PlainFunction → List (Option ℕ) → ℕ → PlainExpression → Option ℕ
 source_of m f sources e expression = source_if (is_source m f expression) e (find_all sources (expression_uses expression) None)
 
--- where its chain of accesses starts
+-- the root of its access chain
 abbrev pub start_of : List (Option ℕ) → PlainExpression → Option ℕ
 start_of globals (plain (GlobalVariable g)) = Some g
 start_of globals (plain (Access base index)) = known_at globals base
 start_of globals (plain (AccessIndex base index)) = known_at globals base
 start_of globals _ = None
 
--- what is known of all, after those that come first
+-- the facts of all expressions, after the given earlier ones
 abbrev pub sources_of : PlainModule → PlainFunction → List (Option ℕ) → List (ℕ × Expression) → List (Option ℕ)
 sources_of m f known [] = known
 sources_of m f known (h ∷ rest) = sources_of m f (known ++ source_of m f known h.0 (expression_view h.1) ∷ []) rest
@@ -42,17 +42,17 @@ abbrev pub starts_of : List (Option ℕ) → List (ℕ × Expression) → List (
 starts_of known [] = known
 starts_of known (h ∷ rest) = starts_of (known ++ start_of known (expression_view h.1) ∷ []) rest
 
--- for each expression a source that its value comes from, if there is one
+-- for each expression its source of non-uniformity, if there is one
 pub record AreSources (m : PlainModule) (f : PlainFunction) (sources : List (Option ℕ)) : Type 0 where
   pub len : length sources ≡ length f.expressions
   pub each : (e : ℕ) → e < length f.expressions → IsExact (known_at sources e) (ComesFrom m f e)
 
--- It tells a source of the value of the expression at a place, if there is one, and what the expression requires.
+-- A source of non-uniformity of the expression at an index, if there is one, and its requirements.
 pub record IsUniformity (m : PlainModule) (f : PlainFunction) (e : ℕ) (u : Uniformity) : Type 0 where
   pub source : IsExact u.non_uniform_result (ComesFrom m f e)
   pub requirements : u.requirements.0 ≡ requirement_at f.expressions e
 
--- so of each expression
+-- the facts of each expression
 pub record AreUniformities (m : PlainModule) (f : PlainFunction) (all : List Uniformity) : Type 0 where
   pub len : length all ≡ length f.expressions
   pub each : (e : ℕ) (u : Uniformity) → slice_get all e ≡ Some u → IsUniformity m f e u

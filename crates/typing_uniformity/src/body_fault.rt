@@ -1,4 +1,4 @@
-//! The fault of uniformity of a body.
+//! The uniformity fault of a body.
 
 ghost use Rattle.std.specs.Prelude.{◌≡◌, ◌↔◌, IsTrue, IfOk, false, option_map};
 ghost use Rattle.ir_flags.specs.Sets.{Has};
@@ -21,19 +21,19 @@ use spec_expressions::{Uniformity, UniformityRequirements};
 use std::alloc::{AllocError, Global};
 use typing_errors::{FunctionError, UniformityDisruptor};
 
-/// What requires that all invocations arrive at it together, and stands where they may not.
+/// An operation that requires uniform control flow, in non-uniform control flow.
 #[derive(Clone, Copy, Debug)]
 pub struct NonUniform {
-    /// What it requires.
+    /// The requirement.
     pub requirements: UniformityRequirements,
-    /// The expression that requires it, or the result of the statement that does.
+    /// The expression that has the requirement, or the statement's result expression.
     pub expression: Handle<key::Expression>,
-    /// What makes invocations differ: the first of a choice around it and of an end before it.
+    /// The cause: the first of an enclosing branch and an earlier return or discard.
     pub disruptor: UniformityDisruptor,
 }
 
 impl NonUniform {
-    /// The error that tells it.
+    /// The error that reports it.
     pub fn into_error(self) -> FunctionError
         ensures { result ≡ NonUniformControlFlow self.requirements self.expression self.disruptor }
     {
@@ -47,7 +47,7 @@ fn requires_uniformity(flags: ValidationFlags) -> bool
     flags.contains(ValidationFlags::CONTROL_FLOW_UNIFORMITY)
 }
 
-// The first fault of the body, by what is known of expressions.
+// The first fault of the body, given the infos of expressions.
 fn first_fault(uniformities: &[Uniformity], next: &[usize], body: &Block) -> Option<NonUniform>
     ensures { option_map required_view result ≡ required_in (varies_of uniformities.now) (look_of uniformities.now next.now) false (block_view body.now) }
 {
@@ -55,10 +55,10 @@ fn first_fault(uniformities: &[Uniformity], next: &[usize], body: &Block) -> Opt
     seen_in(&facts, &None, body).fault
 }
 
-/// A fault of uniformity of a body, or `None` where it has none: under the flag `CONTROL_FLOW_UNIFORMITY` an expression that
-/// requires something that counts and is emitted, or a uniform load of workgroup memory, at a place where invocations may
-/// differ. `uniformities` has what is known of the function's expressions, in order, and `severity` is that of the rule of
-/// derivatives in the function (see [`crate::derivative_severity`]). The error is out of memory.
+/// A uniformity fault of a body, or `None` if there is none: under the flag `CONTROL_FLOW_UNIFORMITY` an emitted expression
+/// with a requirement that counts, or a uniform load from workgroup memory, in non-uniform control
+/// flow. `uniformities` has the uniformity of the function's expressions, in order, and `severity` is that of the derivative
+/// diagnostic rule in the function (see [`crate::derivative_severity`]). The error is out of memory.
 pub fn find_fault(
     alloc: Global,
     flags: ValidationFlags,

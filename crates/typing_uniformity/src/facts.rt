@@ -1,4 +1,4 @@
-//! What is known of all expressions of a function.
+//! The uniformity and access chain root of each expression of a function.
 
 ghost use Rattle.std.specs.Prelude.{◌≡◌, ◌++◌, ◌∷◌, [], OnOk, IfOk};
 ghost use Rattle.ir_arena.specs.judged.Handles.{handles_from};
@@ -16,12 +16,12 @@ use ir_types::{Expression, key};
 use spec_expressions::Uniformity;
 use std::alloc::{AllocError, Global};
 
-/// What is known of each expression of a function.
+/// The uniformity and access chain root of each expression of a function.
 #[derive(Drop)]
 pub struct Facts {
-    /// A source that its value comes from, if there is one, and what it requires.
+    /// The source of non-uniformity of its value, if any, and its requirements.
     pub uniformities: Vec<Uniformity>,
-    /// The global variable that its chain of accesses starts at, if it starts at one.
+    /// The global variable at the root of its access chain, if any.
     pub globals: Vec<Option<Handle<key::GlobalVariable>>>,
 }
 
@@ -96,7 +96,7 @@ fn all_starts(
     Ok(globals)
 }
 
-/// What is known of each expression of a function. Requires that each operand comes before what has it. The error is out of
+/// Computes these facts for each expression of a function. Requires that operands precede. The error is out of
 /// memory.
 pub fn facts_of(alloc: Global, module: &Module, function: &Function) -> Result<Facts, AllocError>
     requires { UsesPrecede (function_view function.now).expressions }

@@ -1,4 +1,4 @@
-//! For each expression the first from it on that requires all invocations.
+//! For each expression, the first one from it on that requires uniform control flow.
 
 ghost use Rattle.std.specs.Prelude.{◌≡◌, IfOk, length, slice_get};
 ghost use Rattle.typing_uniformity.specs.Requiring.{is_error, counts, asks, AreNext};
@@ -16,7 +16,7 @@ fn is_error(severity: Severity) -> bool
     }
 }
 
-// Whether what is required for counts.
+// Whether a requirement counts.
 fn counts(severity: Severity, requirements: UniformityRequirements) -> bool
     ensures { result ≡ counts severity requirements.0 }
 {
@@ -26,7 +26,7 @@ fn counts(severity: Severity, requirements: UniformityRequirements) -> bool
                 || requirements.0 == UniformityRequirements::IMPLICIT_LEVEL.0)
 }
 
-// Whether the expression at a place requires something that counts.
+// Whether the expression at an index has a requirement that counts.
 fn asks(severity: Severity, uniformities: &[Uniformity], place: usize) -> bool
     ensures { result ≡ asks severity uniformities.now place }
 {
@@ -36,7 +36,7 @@ fn asks(severity: Severity, uniformities: &[Uniformity], place: usize) -> bool
     }
 }
 
-// For each expression the first from it on that requires something that counts, their number where there is none. The
+// For each expression the first one from it on with a requirement that counts, the number of expressions if there is none. The
 // error is out of memory.
 pub(crate) fn next_requiring(
     alloc: Global,

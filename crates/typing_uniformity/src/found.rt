@@ -1,4 +1,4 @@
-//! The first source among operands.
+//! The first source of non-uniformity among operands.
 
 ghost use Rattle.std.specs.Prelude.{◌≡◌, Option, None, map};
 ghost use Rattle.ir_types.specs.judged.ExpressionPlain.{expression_view};
@@ -15,7 +15,7 @@ use typing_references::{OperandUser, with_operands};
 
 type Operand = Handle<key::Expression>;
 
-// What is known of an expression, if something is.
+// The facts of an expression, if they are known.
 pub(crate) fn known(sources: &[Option<Operand>], operand: Operand) -> Option<Operand>
     ensures { result ≡ known_at sources.now operand }
 {
@@ -25,7 +25,7 @@ pub(crate) fn known(sources: &[Option<Operand>], operand: Operand) -> Option<Ope
     }
 }
 
-// What is found already, or the source of one more operand.
+// The source found so far, or that of one more operand.
 fn one(sources: &[Option<Operand>], found: Option<Operand>, operand: Operand) -> Option<Operand>
     ensures { result ≡ or_known sources.now operand found }
 {
@@ -57,7 +57,7 @@ fn all(sources: &[Option<Operand>], operands: &[Operand]) -> Option<Operand>
     found
 }
 
-// Finds the first source among operands.
+// A visitor that searches for the first source among operands.
 #[derive(Drop)]
 struct Sources<'a> {
     sources: &'a [Option<Operand>],
@@ -79,7 +79,7 @@ impl OperandUser<(), Option<Operand>> for Sources<'_> {
     }
 }
 
-// The source that an operand of the expression comes from, if there is one.
+// The source of non-uniformity of the expression's operands, if any.
 pub(crate) fn source_below(sources: &[Option<Operand>], expression: &Expression) -> Option<Operand>
     ensures { result ≡ find_all sources.now (expression_uses (expression_view expression.now)) None }
 {

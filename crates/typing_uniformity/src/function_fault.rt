@@ -1,4 +1,4 @@
-//! The fault of uniformity of a function.
+//! The uniformity fault of a function.
 
 ghost use Rattle.std.specs.Prelude.{◌≡◌, IfOk};
 ghost use Rattle.ir_items.specs.found.View.{function_view, module_view};
@@ -14,9 +14,9 @@ use ir_kinds::Severity;
 use spec_expressions::Uniformity;
 use std::alloc::{AllocError, Global};
 
-/// A fault of uniformity of a function of the module, or `None` where it has none (see [`find_fault`]). `uniformities` says of
-/// each of its expressions where its value comes from and what it requires, and the parent of each diagnostic filter comes
-/// before it. The error is out of memory.
+/// A uniformity fault of a function of the module, or `None` if there is none (see [`find_fault`]). `uniformities` has for
+/// each of its expressions the source of non-uniformity of its value and its requirements, and each diagnostic filter's parent
+/// precedes it. The error is out of memory.
 pub fn uniformity_fault(
     alloc: Global,
     flags: ValidationFlags,
@@ -31,8 +31,8 @@ pub fn uniformity_fault(
     uniformity_fault_by(alloc, flags, &[], module, function, uniformities)
 }
 
-/// The same, where `known` is known of the module's diagnostic filters (see [`crate::severities_of`]), so that they are not gone
-/// through. The error is out of memory.
+/// As above, with the severities of the module's diagnostic filters given as `known` (see [`crate::severities_of`]), so that the
+/// filters are not walked again. The error is out of memory.
 pub fn uniformity_fault_by(
     alloc: Global,
     flags: ValidationFlags,

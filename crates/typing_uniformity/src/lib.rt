@@ -1,7 +1,7 @@
-//! What is known of the expressions of a function before its statements are looked at: where their values come from, the
-//! global variables that their chains of accesses start at, and what they require of control flow.
+//! Facts about the expressions of a function, computed before its statements are walked: sources of non-uniformity, the
+//! global variables at the roots of their access chains, and their uniformity requirements.
 //!
-//! Faults of uniformity of functions: what requires that all invocations arrive at it together, and stands where they may not.
+//! Uniformity faults of functions: operations that require uniform control flow, in non-uniform control flow.
 #![tactic(auto)]
 
 mod body_fault;

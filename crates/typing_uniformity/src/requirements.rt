@@ -1,4 +1,4 @@
-//! What expressions require of control flow.
+//! Uniformity requirements of expressions.
 
 ghost use Rattle.std.specs.Prelude.{◌≡◌};
 ghost use Rattle.ir_types.specs.judged.ExpressionPlain.{expression_view};
@@ -7,7 +7,7 @@ ghost use Rattle.spec_expressions.specs.judged.Values.{requirements_of};
 use ir_types::Expression;
 use spec_expressions::UniformityRequirements;
 
-// What the expression itself requires of control flow, if anything.
+// The expression's own uniformity requirements, if any.
 pub(crate) fn requirements_of(expression: &Expression) -> UniformityRequirements
     ensures { result.0 ≡ requirements_of (expression_view expression.now) }
 {

@@ -1,4 +1,4 @@
-//! What is known of expressions.
+//! Look-ups of uniformity facts.
 
 ghost use Rattle.std.specs.Prelude.{◌≡◌, is_some, option_map, slice_get};
 ghost use Rattle.spec_expressions.specs.found.Found.{where_disrupted};
@@ -10,8 +10,8 @@ use ir_items::key;
 use spec_expressions::Uniformity;
 use typing_errors::UniformityDisruptor;
 
-// Whether the value of each expression differs and what it requires, and for each the first from it on that requires
-// something.
+// The uniformity of each expression, and for each the first one from it on that has a
+// requirement.
 #[derive(Drop)]
 pub(crate) struct Requiring<'a> {
     pub(crate) uniformities: &'a [Uniformity],
@@ -19,7 +19,7 @@ pub(crate) struct Requiring<'a> {
 }
 
 impl Requiring<'_> {
-    // What makes invocations differ where a value chooses.
+    // The cause of non-uniform control flow of a branch on a value.
     pub(crate) fn choice(&self, value: Handle<key::Expression>) -> Option<UniformityDisruptor>
         ensures { is_some result ≡ varies_of self.now.uniformities.now value }
     {
@@ -32,7 +32,7 @@ impl Requiring<'_> {
         }
     }
 
-    // The fault of an expression that requires something, where it comes before the end.
+    // The fault of an expression with a requirement, if it comes before the bound.
     fn required_at(
         &self,
         place: usize,
@@ -57,7 +57,7 @@ impl Requiring<'_> {
         }
     }
 
-    // The fault of the first expression of a range that requires something, where invocations differ.
+    // The fault of the first expression of a range with a requirement, in non-uniform control flow.
     pub(crate) fn emitted(
         &self,
         first: u32,

@@ -1,4 +1,4 @@
-//! How severe faults of derivatives are in a function.
+//! Severities of the derivative diagnostic rule.
 
 ghost use Rattle.std.specs.Prelude.{◌≡◌, ◌↔◌, ◌⊎◌, ◌<◌, IfOk, IsTrue, length, map};
 ghost use Rattle.ir_items.specs.judged.GlobalPlain.{standard};
@@ -15,14 +15,14 @@ use ir_items::{DiagnosticFilterNode, FilterableTriggeringRule, Function, Module,
 use ir_kinds::{Severity, StandardFilterableTriggeringRule};
 use std::alloc::{AllocError, Global};
 
-// The filters of a module, in order.
+// The diagnostic filters of a module, in order.
 type Filters = Arena<DiagnosticFilterNode, key::DiagnosticFilterNode>;
 
-// The rule of derivatives.
+// The derivative uniformity rule.
 const DERIVATIVES: StandardFilterableTriggeringRule =
     StandardFilterableTriggeringRule::DerivativeUniformity;
 
-// Whether the node's filter is one of this rule.
+// Whether the node's filter is for this rule.
 fn has_rule(node: &DiagnosticFilterNode, rule: StandardFilterableTriggeringRule) -> bool
     ensures { IsTrue result ↔ ((node_view node.now).rule ≡ standard rule) }
 {
@@ -32,7 +32,7 @@ fn has_rule(node: &DiagnosticFilterNode, rule: StandardFilterableTriggeringRule)
     }
 }
 
-// The severity of the nearest filter of the rule, from a handle on to its parent and so on, if there is one.
+// The severity of the nearest filter for the rule, from a handle on along the parents, if there is one.
 fn nearest(
     filters: &Filters,
     start: Option<Handle<key::DiagnosticFilterNode>>,
@@ -54,8 +54,8 @@ fn nearest(
     None
 }
 
-// The severity of the nearest filter of derivatives from a handle on, where this is known of nodes: as it is known of that one;
-// where nothing is, it is looked for.
+// The severity of the nearest derivative filter from a handle on, looked up in `known` if the node is in it,
+// and otherwise searched for.
 fn nearest_by(
     filters: &Filters,
     known: &[Option<Severity>],
@@ -73,7 +73,7 @@ fn nearest_by(
     nearest(filters, start, DERIVATIVES)
 }
 
-// The severity at a node of which this is that of the nodes after it.
+// The severity at a node, given that of its parent.
 fn own_or(node: &DiagnosticFilterNode, behind: Option<Severity>) -> Option<Severity>
     ensures { ((node_view node.now).rule ≡ standard DerivativeUniformity) × (result ≡ Some (node_view node.now).severity)
         ⊎ (¬ ((node_view node.now).rule ≡ standard DerivativeUniformity)) × (result ≡ behind) }
@@ -85,7 +85,7 @@ fn own_or(node: &DiagnosticFilterNode, behind: Option<Severity>) -> Option<Sever
     }
 }
 
-// The severity at a node, where this is known of those before it.
+// The severity at a node, given those of the earlier nodes.
 fn nearest_at(
     filters: &Filters,
     known: &[Option<Severity>],
@@ -100,8 +100,8 @@ fn nearest_at(
     own_or(node, nearest_by(filters, known, node.parent))
 }
 
-/// For each node of a module's diagnostic filters the severity of the nearest filter of derivatives, from it on to its parent
-/// and so on, if there is one. Each takes what was found of its parent. The error is out of memory.
+/// For each node of a module's diagnostic filters the severity of the nearest derivative filter, from it on along the
+/// parents, if there is one. Each reuses its parent's. The error is out of memory.
 pub fn severities_of(alloc: Global, module: &Module) -> Result<Vec<Option<Severity>>, AllocError>
     requires { ParentsPrecede ((module_view «module».now).filters) }
     ensures nearest { IfOk result (λ known. AreNearest (module_view «module».now).filters known.items) }
@@ -117,8 +117,8 @@ pub fn severities_of(alloc: Global, module: &Module) -> Result<Vec<Option<Severi
     Ok(known)
 }
 
-/// How severe faults of derivatives are in a function: as its nearest filter of their rule says, from the function's leaf on;
-/// where there is none, the nearest from the module's leaf on; where there is none either, [`Severity::Error`].
+/// The severity of derivatives in non-uniform control flow in a function: that of the nearest filter from the function's leaf on;
+/// if there is none, the nearest from the module's leaf on; if there is none either, [`Severity::Error`].
 pub fn derivative_severity(function: &Function, module: &Module) -> Severity
     requires { ParentsPrecede ((module_view «module».now).filters) }
     ensures { HasSeverity (module_view «module».now) (function_view function.now) DerivativeUniformity result }
@@ -126,8 +126,8 @@ pub fn derivative_severity(function: &Function, module: &Module) -> Severity
     derivative_severity_by(&[], function, module)
 }
 
-/// The same, where this is known of the module's diagnostic filters (see [`severities_of`]). Of a leaf of which nothing is known
-/// the nodes after it are gone through.
+/// As above, with the severities of the module's diagnostic filters given (see [`severities_of`]). From a leaf that is not among
+/// them the parents are walked.
 pub fn derivative_severity_by(
     known: &[Option<Severity>],
     function: &Function,

@@ -1,4 +1,4 @@
-//! Expressions whose own values may differ between invocations.
+//! Expressions that are sources of non-uniformity.
 
 ghost use Rattle.std.specs.Prelude.{◌≡◌, Some, Option, map, slice_get, option_map};
 ghost use Rattle.std.specs.Option.{option_copied};
@@ -140,7 +140,7 @@ fn argument_varies(arguments: &[FunctionArgument], number: u32) -> bool
     }
 }
 
-// Whether the expression's own value may differ between invocations, whatever its operands are.
+// Whether the expression is a source of non-uniformity, whatever its operands are.
 pub(crate) fn is_source(module: &Module, function: &Function, expression: &Expression) -> bool
     ensures { result ≡ is_source (module_view «module».now) (function_view function.now) (expression_view expression.now) }
 {

@@ -24,8 +24,8 @@ fn source_at(
     }
 }
 
-/// The uniformity of each expression of a function, in order: where its value comes from, as `sources` says, and what it requires
-/// for. The error is out of memory.
+/// The uniformity of each expression of a function, in order: its source of non-uniformity, given by `sources`, and its
+/// requirements. The error is out of memory.
 pub(crate) fn uniformities_of(
     alloc: Global,
     function: &Function,

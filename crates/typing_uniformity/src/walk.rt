@@ -1,4 +1,4 @@
-//! The walk over a body.
+//! The walk of a body.
 
 ghost use Rattle.std.specs.Prelude.{◌≡◌, ◌||◌, false, is_some, option_map, map};
 ghost use Rattle.ir_blocks.specs.found.View.{statement_view, block_view, case_view, cases_of};
@@ -15,14 +15,14 @@ use ir_items::{Block, Statement, SwitchCase, key};
 use spec_expressions::UniformityRequirements;
 use typing_errors::UniformityDisruptor;
 
-// What a part of a body shows: whether it holds an end that not all invocations take, and its first fault.
+// The result of walking a part of a body: its first disruptor, if any, and its first fault.
 #[derive(Clone, Copy)]
 pub(crate) struct Seen {
     pub(crate) end: Option<UniformityDisruptor>,
     pub(crate) fault: Option<NonUniform>,
 }
 
-// What makes invocations differ by one of two.
+// The first of two causes of non-uniform control flow.
 fn either(
     a: &Option<UniformityDisruptor>,
     b: &Option<UniformityDisruptor>,
@@ -44,7 +44,7 @@ fn first(a: &Option<NonUniform>, b: &Option<NonUniform>) -> Option<NonUniform>
     }
 }
 
-// What two parts show.
+// The combined result of two parts.
 fn both(a: &Seen, b: &Seen) -> Seen
     ensures ends { is_some result.end ≡ (is_some a.now.end || is_some b.now.end) }
     ensures fault { option_map required_view result.fault ≡ first_required (option_map required_view a.now.fault) (option_map required_view b.now.fault) }
@@ -55,7 +55,7 @@ fn both(a: &Seen, b: &Seen) -> Seen
     }
 }
 
-// An end shows itself where invocations differ.
+// A return or discard is a disruptor only in non-uniform control flow.
 fn ended(disruptor: &Option<UniformityDisruptor>, end: UniformityDisruptor) -> Seen
     ensures ends { is_some result.end ≡ is_some disruptor.now }
     ensures fault { option_map required_view result.fault ≡ None }
@@ -69,7 +69,7 @@ fn ended(disruptor: &Option<UniformityDisruptor>, end: UniformityDisruptor) -> S
     }
 }
 
-// A uniform load is a fault where invocations differ.
+// A uniform load is a fault if control flow is non-uniform.
 fn loaded(
     answer: Handle<key::Expression>,
     disruptor: &Option<UniformityDisruptor>,
@@ -86,7 +86,7 @@ fn loaded(
     }
 }
 
-// No end and no fault.
+// No disruptor and no fault.
 fn nothing() -> Seen
     ensures ends { is_some result.end ≡ false }
     ensures fault { option_map required_view result.fault ≡ None }
@@ -97,7 +97,7 @@ fn nothing() -> Seen
     }
 }
 
-// A fault, if there is one, and no end.
+// A fault, if there is one, and no disruptor.
 fn alone(fault: Option<NonUniform>) -> Seen
     ensures ends { is_some result.end ≡ false }
     ensures fault { result.fault ≡ fault }

@@ -1,13 +1,15 @@
-// What attributes say.
+// Attributes of declarations.
 
 use crate::builder::ModuleBuilder;
-use ir_kinds::{Literal, ResourceBinding, ShaderStage};
+use ir_flags::Capabilities;
+use ir_kinds::{EarlyDepthTest, Literal, ResourceBinding, ShaderStage};
 use wgsl_expressions::{Lowering, Operand, Value};
+use wgsl_functions::lower_steps;
 use wgsl_text::{Extent, WgslError};
 use wgsl_tree::{Attribute, Part, StepKind};
-use wgsl_words::AttributeWord;
+use wgsl_words::{AttributeWord, depth_test_of};
 
-// The attribute of this name among these.
+// The attribute with this name in this list.
 pub(crate) fn find<B: ModuleBuilder>(
     lowering: &Lowering<B>,
     part: Part,
@@ -22,7 +24,7 @@ pub(crate) fn find<B: ModuleBuilder>(
     None
 }
 
-// The whole number that a value is, if it is one.
+// The value of an operand, if it is a constant that is a non-negative integer.
 pub(crate) fn number_of(value: &Value) -> Option<u32> {
     let Value::Literal(literal) = value else {
         return None;
@@ -40,11 +42,11 @@ pub(crate) fn arguments<B: ModuleBuilder>(
     lowering: &mut Lowering<B>,
     attribute: &Attribute,
 ) -> Vec<Operand> {
-    lowering.run(attribute.steps);
+    lower_steps(lowering, attribute.steps);
     lowering.take(attribute.count)
 }
 
-// The whole number that is the one argument of an attribute.
+// The integer that is the only argument of an attribute.
 pub(crate) fn number<B: ModuleBuilder>(lowering: &mut Lowering<B>, attribute: &Attribute) -> u32 {
     let given = arguments(lowering, attribute);
     let found = match given.first() {
@@ -74,7 +76,7 @@ pub(crate) fn number<B: ModuleBuilder>(lowering: &mut Lowering<B>, attribute: &A
     }
 }
 
-// The word that is the argument of an attribute at this place of its steps.
+// The word that is the attribute's argument at this index.
 pub(crate) fn word_of<B: ModuleBuilder>(
     lowering: &Lowering<B>,
     attribute: &Attribute,
@@ -91,7 +93,7 @@ pub(crate) fn word_of<B: ModuleBuilder>(
     }
 }
 
-// Where a pipeline binds a variable.
+// The resource binding of a variable.
 pub(crate) fn binding<B: ModuleBuilder>(
     lowering: &mut Lowering<B>,
     part: Part,
@@ -109,7 +111,7 @@ pub(crate) fn binding<B: ModuleBuilder>(
     }
 }
 
-// A binding lacks an attribute.
+// Reports that `@group` or `@binding` is missing.
 fn missing<B: ModuleBuilder>(
     lowering: &mut Lowering<B>,
     attribute: &Attribute,
@@ -120,7 +122,7 @@ fn missing<B: ModuleBuilder>(
     None
 }
 
-// Where the arguments of an attribute stand, without its parentheses.
+// The span of an attribute's arguments, without the parentheses.
 pub(crate) fn arguments_extent<B: ModuleBuilder>(
     lowering: &Lowering<B>,
     attribute: &Attribute,
@@ -137,7 +139,7 @@ pub(crate) fn arguments_extent<B: ModuleBuilder>(
     }
 }
 
-// Where an attribute stands, with its `@`.
+// The span of an attribute, with its `@`.
 pub(crate) fn whole_extent<B: ModuleBuilder>(
     lowering: &Lowering<B>,
     attribute: &Attribute,
@@ -152,7 +154,7 @@ pub(crate) fn whole_extent<B: ModuleBuilder>(
     }
 }
 
-// Whether it says a stage.
+// Whether it is a shader stage attribute.
 fn is_stage(word: AttributeWord) -> bool {
     matches!(
         word,
@@ -160,7 +162,7 @@ fn is_stage(word: AttributeWord) -> bool {
     )
 }
 
-// Whether it stands before members, arguments and results.
+// Whether it applies to members, parameters and results.
 fn is_of_members(word: AttributeWord) -> bool {
     matches!(
         word,
@@ -175,41 +177,92 @@ fn is_of_members(word: AttributeWord) -> bool {
     )
 }
 
-// Whether it is of an extension that is not translated.
-fn is_gated(word: AttributeWord) -> bool {
-    matches!(
-        word,
-        AttributeWord::BlendSrc
-            | AttributeWord::PerPrimitive
-            | AttributeWord::Task
-            | AttributeWord::Mesh
-            | AttributeWord::Payload
-            | AttributeWord::RayGeneration
-            | AttributeWord::AnyHit
-            | AttributeWord::ClosestHit
-            | AttributeWord::Miss
-            | AttributeWord::IncomingPayload
-            | AttributeWord::EarlyDepthTest
-    )
+// The extension that an attribute requires: its capability, and the error if it is not enabled.
+fn extension_of(word: AttributeWord) -> Option<(Capabilities, &'static str)> {
+    match word {
+        AttributeWord::BlendSrc => Some((
+            Capabilities::DUAL_SOURCE_BLENDING,
+            "the `dual_source_blending` enable extension is not enabled",
+        )),
+        AttributeWord::PerPrimitive
+        | AttributeWord::Task
+        | AttributeWord::Mesh
+        | AttributeWord::Payload => Some((
+            Capabilities::MESH_SHADER,
+            "the `wgpu_mesh_shader` enable extension is not enabled",
+        )),
+        AttributeWord::RayGeneration
+        | AttributeWord::AnyHit
+        | AttributeWord::ClosestHit
+        | AttributeWord::Miss
+        | AttributeWord::IncomingPayload => Some((
+            Capabilities::RAY_TRACING_PIPELINE,
+            "the `wgpu_ray_tracing_pipeline` enable extension is not enabled",
+        )),
+        _ => None,
+    }
 }
 
-// Each attribute stands before what it is for.
+// Whether it belongs to an unsupported shader stage.
+fn is_untranslated(word: AttributeWord) -> bool {
+    match extension_of(word) {
+        Some(_) => !matches!(word, AttributeWord::BlendSrc | AttributeWord::PerPrimitive),
+        None => false,
+    }
+}
+
+// Checks that each attribute applies to its declaration, and that its extension is enabled.
 pub(crate) fn check<B: ModuleBuilder>(lowering: &mut Lowering<B>, part: Part, members: bool) {
     for place in part.start..part.end {
         let Some(attribute) = lowering.tree.attributes.get(place as usize).copied() else {
             break;
         };
+        let word = attribute.word;
         let extent = lowering.extent(attribute.token);
-        if is_of_members(attribute.word) != members {
+        if is_of_members(word) != members {
             lowering.fail(WgslError::of_name("unknown attribute: ", extent, ""));
         }
-        if is_gated(attribute.word) {
+        if let Some((capability, text)) = extension_of(word) {
+            if lowering.tree.enabled.0 & capability.0 == 0 {
+                lowering.wrong(text, extent);
+            }
+        }
+        if is_untranslated(word) {
             lowering.unsupported_name("the attribute ", extent);
+        }
+        if word == AttributeWord::EarlyDepthTest {
+            let _ = depth_test(lowering, &attribute);
         }
     }
 }
 
-// The stage of a function, if it is an entry point.
+// The argument of `@early_depth_test`.
+fn depth_test<B: ModuleBuilder>(
+    lowering: &mut Lowering<B>,
+    attribute: &Attribute,
+) -> Option<EarlyDepthTest> {
+    let Some((name, extent)) = word_of(lowering, attribute, 0) else {
+        let extent = arguments_extent(lowering, attribute);
+        lowering.wrong("expected identifier", extent);
+        return None;
+    };
+    let found = depth_test_of(lowering.tree.tokens.word(name));
+    if found.is_none() {
+        lowering.fail(WgslError::of_name("unknown conservative depth: ", extent, ""));
+    }
+    found
+}
+
+// The early depth test of an entry point, if it has one.
+pub(crate) fn early_depth_test<B: ModuleBuilder>(
+    lowering: &mut Lowering<B>,
+    part: Part,
+) -> Option<EarlyDepthTest> {
+    let attribute = find(lowering, part, AttributeWord::EarlyDepthTest)?;
+    depth_test(lowering, &attribute)
+}
+
+// The shader stage of a function, if it is an entry point.
 pub(crate) fn stage<B: ModuleBuilder>(
     lowering: &mut Lowering<B>,
     part: Part,
@@ -233,7 +286,7 @@ pub(crate) fn stage<B: ModuleBuilder>(
     found
 }
 
-// How many invocations a workgroup has.
+// The workgroup size.
 pub(crate) fn workgroup_size<B: ModuleBuilder>(
     lowering: &mut Lowering<B>,
     part: Part,

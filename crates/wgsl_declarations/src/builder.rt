@@ -1,38 +1,34 @@
-// What modules are written into.
+// The interface through which modules are built.
 
 use ir_flags::Capabilities;
-use ir_items::{Constant, FunctionArgument, FunctionResult, GlobalVariable, Override};
-use ir_kinds::ShaderStage;
+use ir_items::{Constant, FunctionArgument, FunctionResult, GlobalVariable};
+use ir_kinds::{EarlyDepthTest, ShaderStage};
 use wgsl_text::Extent;
 use wgsl_types::Builder;
 
-/// What an entry point is beside its function.
+/// The properties of an entry point except its function.
 #[derive(Clone, Copy)]
 pub struct EntryHead {
     /// Its stage.
     pub stage: ShaderStage,
-    /// How many invocations a workgroup has, each way.
+    /// The workgroup size.
     pub size: [u32; 3],
+    /// The early depth test, if it has one.
+    pub depth_test: Option<EarlyDepthTest>,
 }
 
-/// What modules are written into.
+/// The target that a module is emitted into.
 pub trait ModuleBuilder: Builder {
-    /// What is computed from here on is of the module, or of a function.
+    /// Sets whether the following expressions are global or in a function.
     fn set_global(&mut self, is_global: bool);
 
-    /// A variable of the module; answers its number.
+    /// Adds a global variable; returns its index.
     fn variable(&mut self, variable: GlobalVariable, extent: Extent) -> u32;
 
-    /// The module uses this.
-    fn require(&mut self, capability: Capabilities);
-
-    /// A constant of the module; answers its number.
+    /// Adds a constant; returns its index.
     fn constant(&mut self, constant: Constant, extent: Extent) -> u32;
 
-    /// An override; answers its number.
-    fn overridable(&mut self, overridable: Override, extent: Extent) -> u32;
-
-    /// Ends a function, whose body is the block that is open; answers its number.
+    /// Ends a function, whose body is the open block; returns its index.
     fn end_function(
         &mut self,
         name: Option<String>,
@@ -41,7 +37,7 @@ pub trait ModuleBuilder: Builder {
         extent: Extent,
     ) -> u32;
 
-    /// Ends a function that is an entry point, likewise.
+    /// Ends an entry point, whose body is the open block.
     fn end_entry(
         &mut self,
         head: EntryHead,

@@ -1,6 +1,6 @@
 // Functions and entry points.
 
-use crate::attributes::{binding, find, stage, workgroup_size};
+use crate::attributes::{binding, early_depth_test, find, stage, workgroup_size};
 use crate::builder::{EntryHead, ModuleBuilder};
 use crate::interface::bound;
 use crate::structs::shape_of;
@@ -14,7 +14,7 @@ use wgsl_tree::{Item, Member, Part};
 use wgsl_types::Shape;
 use wgsl_words::AttributeWord;
 
-// The members of a function that are arguments.
+// The members of a function declaration that are parameters.
 fn argument_part(item: &Item, has_result: bool) -> Part {
     let end = if has_result {
         item.members.end.saturating_sub(1)
@@ -27,14 +27,16 @@ fn argument_part(item: &Item, has_result: bool) -> Part {
     }
 }
 
-// An argument.
+// Lowers a parameter.
 fn argument<B: ModuleBuilder>(
     lowering: &mut Lowering<B>,
     member: &Member,
     number: u32,
 ) -> (FunctionArgument, Shape) {
     let extent = lowering.extent(member.token);
+    lowering.builder.set_global(true);
     let shape = shape_of(lowering, member.steps);
+    lowering.builder.set_global(false);
     let made = FunctionArgument {
         name: lowering.name_at(member.token),
         ty: lowering.type_handle(shape, extent),
@@ -53,7 +55,7 @@ fn argument<B: ModuleBuilder>(
     (made, shape)
 }
 
-// All arguments.
+// Lowers all parameters.
 fn take_arguments<B: ModuleBuilder>(
     lowering: &mut Lowering<B>,
     part: Part,
@@ -74,7 +76,7 @@ fn take_arguments<B: ModuleBuilder>(
     arguments
 }
 
-// What a function gives.
+// The result of a function.
 fn result_of<B: ModuleBuilder>(
     lowering: &mut Lowering<B>,
     item: &Item,
@@ -94,12 +96,12 @@ fn result_of<B: ModuleBuilder>(
     (Some(FunctionResult { ty, binding }), shape)
 }
 
-// The number of arguments' types so far.
+// The number of parameter types in the table.
 fn argument_count<B: ModuleBuilder>(lowering: &Lowering<B>) -> u32 {
     u32::try_from(lowering.arguments.len()).unwrap_or(u32::MAX)
 }
 
-// A function.
+// Lowers a function.
 pub(crate) fn function<B: ModuleBuilder>(
     lowering: &mut Lowering<B>,
     item: &Item,
@@ -126,7 +128,11 @@ pub(crate) fn function<B: ModuleBuilder>(
     let title = lowering.name_at(item.token);
     let number = match stage {
         Some(stage) => {
-            let head = EntryHead { stage, size };
+            let head = EntryHead {
+                stage,
+                size,
+                depth_test: early_depth_test(lowering, item.attributes),
+            };
             lowering.builder.end_entry(head, title, arguments, gives);
             None
         }

@@ -1,4 +1,4 @@
-// How arguments, results and members are bound.
+// Bindings of arguments, results and members.
 
 use crate::attributes::{check, find, number, whole_extent, word_of};
 use crate::builder::ModuleBuilder;
@@ -10,7 +10,7 @@ use wgsl_tree::{Attribute, Part};
 use wgsl_types::Shape;
 use wgsl_words::{AttributeWord, built_in_of, interpolation_of, sampling_of};
 
-// A built-in value.
+// The binding of a built-in value.
 fn built_in<B: ModuleBuilder>(
     lowering: &mut Lowering<B>,
     attribute: &Attribute,
@@ -32,7 +32,7 @@ fn built_in<B: ModuleBuilder>(
     }
 }
 
-// What a built-in value requires.
+// Records the capability that a built-in value requires.
 fn require_built_in<B: ModuleBuilder>(
     lowering: &mut Lowering<B>,
     built_in: BuiltIn,
@@ -54,7 +54,7 @@ fn require_built_in<B: ModuleBuilder>(
     }
 }
 
-// How a value between vertices is found, as an attribute says.
+// The interpolation and sampling of an `@interpolate` attribute.
 fn interpolation<B: ModuleBuilder>(
     lowering: &mut Lowering<B>,
     attribute: &Attribute,
@@ -75,7 +75,7 @@ fn interpolation<B: ModuleBuilder>(
     found
 }
 
-// A location: floats are found with the perspective where nothing else is said.
+// The binding of a location: the default interpolation of floats is `Perspective`.
 fn located<B: ModuleBuilder>(
     lowering: &mut Lowering<B>,
     attribute: &Attribute,
@@ -119,7 +119,7 @@ fn located<B: ModuleBuilder>(
     }
 }
 
-// What attributes bind a value of this type to, if they do.
+// The binding from the attributes of a value of this type, if they specify one.
 pub(crate) fn bound<B: ModuleBuilder>(
     lowering: &mut Lowering<B>,
     part: Part,

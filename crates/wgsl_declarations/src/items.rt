@@ -1,4 +1,4 @@
-// All items, each after those that it names.
+// Lowers all declarations, each after its dependencies.
 
 use crate::attributes::{check, find};
 use crate::builder::ModuleBuilder;
@@ -9,7 +9,7 @@ use wgsl_expressions::{Declared, Lowering};
 use wgsl_tree::{Item, ItemKind};
 use wgsl_words::AttributeWord;
 
-// An item.
+// Lowers a declaration.
 fn declared<B: ModuleBuilder>(lowering: &mut Lowering<B>, item: &Item) -> Declared {
     check(lowering, item.attributes, false);
     if !matches!(item.kind, ItemKind::Function(_)) {
@@ -42,7 +42,7 @@ fn declared<B: ModuleBuilder>(lowering: &mut Lowering<B>, item: &Item) -> Declar
     }
 }
 
-/// Writes all items, until something is wrong.
+/// Lowers all declarations, until an error occurs.
 pub fn lower_items<B: ModuleBuilder>(lowering: &mut Lowering<B>) {
     lowering.builder.set_global(true);
     for place in 0..lowering.names.order.len() {

@@ -1,4 +1,4 @@
-//! The items of a text of WGSL in the IR: constants, types, variables, functions and entry points.
+//! Lowers WGSL's global declarations to the IR: constants, overrides, types, variables, functions and entry points.
 #![tactic(auto)]
 
 mod attributes;

@@ -5,22 +5,23 @@ use crate::builder::ModuleBuilder;
 use crate::interface::bound;
 use ir_types::{ArraySize, StructMember};
 use wgsl_expressions::{Declared, Lowering};
+use wgsl_functions::lower_steps;
 use wgsl_text::Failure;
 use wgsl_tree::{Item, Member, Part};
 use wgsl_types::{Layout, RowKind, Shape, TypeMember};
 use wgsl_words::AttributeWord;
 
-// How many members a struct may have.
+// The maximum number of members of a struct.
 const MAX_MEMBERS: u32 = 1023;
 
-// The type that steps say.
+// The type that these steps denote.
 pub(crate) fn shape_of<B: ModuleBuilder>(lowering: &mut Lowering<B>, steps: Part) -> Shape {
-    lowering.run(steps);
+    lower_steps(lowering, steps);
     let operand = lowering.pop();
     lowering.type_of(&operand)
 }
 
-// Whether it is an array as long as its buffer.
+// Whether it is a runtime-sized array.
 fn is_unbounded<B: ModuleBuilder>(lowering: &Lowering<B>, shape: Shape) -> bool {
     match lowering.table.row(shape) {
         Some(row) => matches!(row.kind, RowKind::Array(_, ArraySize::Dynamic)),
@@ -28,7 +29,7 @@ fn is_unbounded<B: ModuleBuilder>(lowering: &Lowering<B>, shape: Shape) -> bool 
     }
 }
 
-// How a member lies in memory, with what its attributes say.
+// The layout of a member, with its `@align` and `@size`.
 fn layout_of<B: ModuleBuilder>(
     lowering: &mut Lowering<B>,
     member: &Member,
@@ -69,17 +70,17 @@ fn layout_of<B: ModuleBuilder>(
     layout
 }
 
-// What is built of a struct.
+// A struct under construction.
 #[derive(Drop)]
 struct Built {
     members: Vec<StructMember>,
-    // for the table
+    // the members for the table
     shapes: Vec<TypeMember>,
     layout: Layout,
 }
 
 impl Built {
-    // A member more.
+    // Adds a member.
     fn add<B: ModuleBuilder>(&mut self, lowering: &mut Lowering<B>, member: &Member) {
         let extent = lowering.extent(member.token);
         let shape = shape_of(lowering, member.steps);
@@ -103,7 +104,7 @@ impl Built {
     }
 }
 
-// A struct.
+// Lowers a struct.
 pub(crate) fn structure<B: ModuleBuilder>(lowering: &mut Lowering<B>, item: &Item) -> Declared {
     let extent = lowering.extent(item.token);
     if item.members.count() > MAX_MEMBERS {
@@ -144,7 +145,7 @@ pub(crate) fn structure<B: ModuleBuilder>(lowering: &mut Lowering<B>, item: &Ite
     Declared::Type(shape)
 }
 
-// The members in the table.
+// Adds the members to the table.
 fn keep<B: ModuleBuilder>(lowering: &mut Lowering<B>, shapes: &[TypeMember]) -> Part {
     let start = u32::try_from(lowering.table.members.len()).unwrap_or(u32::MAX);
     let mut failed = Failure::NONE;

@@ -1,26 +1,31 @@
-// Constants and variables of the module.
+// Constants, overrides and variables at module scope.
 
 use crate::attributes::{binding, find, number};
 use crate::builder::ModuleBuilder;
 use ir_flags::MemoryDecorations;
 use ir_items::{Constant, GlobalVariable, Override};
 use ir_kinds::{AddressSpace, Literal};
+use wgsl_constants::Known;
 use wgsl_expressions::{Declared, Lowering, Operand, Value, handle_of};
+use wgsl_functions::lower_steps;
 use wgsl_text::{Extent, WgslError};
-use wgsl_tree::Item;
+use wgsl_tree::{Item, Part};
 use wgsl_types::Shape;
-use wgsl_values::converted;
 use wgsl_words::AttributeWord;
 
-// A value of another type than was said.
+// Reports that an initializer does not have the declared type.
 fn other_type<B: ModuleBuilder>(lowering: &mut Lowering<B>, name: Extent) -> Declared {
     let text = " is expected to be of another type than its value";
     lowering.fail(WgslError::of_name("the type of ", name, text));
     Declared::Nothing
 }
 
-// A scalar that is known. Its type is one of the module's, if it is no abstract one.
-fn known<B: ModuleBuilder>(lowering: &mut Lowering<B>, literal: Literal, name: Extent) -> Declared {
+// A constant scalar. Its type is added to the module, unless it is abstract.
+fn known_scalar<B: ModuleBuilder>(
+    lowering: &mut Lowering<B>,
+    literal: Literal,
+    name: Extent,
+) -> Declared {
     let scalar = literal.scalar();
     if !scalar.is_abstract() {
         let _ = lowering.type_handle(Shape::Scalar(scalar), name);
@@ -28,23 +33,36 @@ fn known<B: ModuleBuilder>(lowering: &mut Lowering<B>, literal: Literal, name: E
     Declared::Literal(literal)
 }
 
-// A constant that is no scalar.
+// A composite constant, which is added to the module unless its scalars are abstract.
 fn composite<B: ModuleBuilder>(
     lowering: &mut Lowering<B>,
     item: &Item,
-    value: u32,
+    place: u32,
     shape: Shape,
 ) -> Declared {
+    let is_abstract = match lowering.table.leaf(shape) {
+        Some(scalar) => scalar.is_abstract(),
+        None => false,
+    };
+    if is_abstract {
+        return Declared::Known(place, shape);
+    }
     let extent = lowering.extent(item.token);
+    let operand = Operand {
+        value: Value::Known(place, shape),
+        extent,
+    };
+    let (value, _) = lowering.value(operand);
     let constant = Constant {
         name: lowering.name_at(item.token),
         ty: lowering.type_handle(shape, extent),
         init: handle_of(value),
     };
-    Declared::Constant(lowering.builder.constant(constant, extent), shape)
+    let number = lowering.builder.constant(constant, extent);
+    Declared::Known(lowering.store.name(number, place), shape)
 }
 
-// An `override`.
+// Lowers an `override`.
 pub(crate) fn overridable<B: ModuleBuilder>(
     lowering: &mut Lowering<B>,
     item: &Item,
@@ -52,7 +70,7 @@ pub(crate) fn overridable<B: ModuleBuilder>(
     has_init: bool,
 ) -> Declared {
     let extent = lowering.extent(item.token);
-    lowering.run(item.steps);
+    lower_steps(lowering, item.steps);
     let operand = if has_init {
         lowering.pop()
     } else {
@@ -87,7 +105,7 @@ pub(crate) fn overridable<B: ModuleBuilder>(
     Declared::Override(lowering.builder.overridable(made, extent), shape)
 }
 
-// What a variable or an override begins as, and its type.
+// The initializer of a variable or an override, and its type.
 fn initial<B: ModuleBuilder>(
     lowering: &mut Lowering<B>,
     operand: Operand,
@@ -110,13 +128,13 @@ fn initial<B: ModuleBuilder>(
     }
 }
 
-// A `const`.
+// Lowers a `const`.
 pub(crate) fn constant<B: ModuleBuilder>(
     lowering: &mut Lowering<B>,
     item: &Item,
     is_typed: bool,
 ) -> Declared {
-    lowering.run(item.steps);
+    lower_steps(lowering, item.steps);
     let operand = lowering.pop();
     let wanted = if is_typed {
         let ty = lowering.pop();
@@ -125,39 +143,49 @@ pub(crate) fn constant<B: ModuleBuilder>(
         None
     };
     let name = lowering.extent(item.token);
-    match (operand.value, wanted) {
-        (Value::Literal(literal), Some(Shape::Scalar(scalar))) => match converted(literal, scalar) {
-            Some(literal) => known(lowering, literal, name),
-            None => other_type(lowering, name),
+    if lowering.known_of(&operand).is_none() {
+        return not_known(lowering, operand);
+    }
+    let known = match wanted {
+        Some(shape) => match lowering.known_for(&operand, shape) {
+            Some(place) => Some(lowering.store.known(place)),
+            None => None,
         },
-        (Value::Literal(literal), None) => known(lowering, literal, name),
-        (Value::Parts(start, size), None) => Declared::Parts(start, size),
-        (_, Some(shape)) => {
-            let value = lowering.value_for(operand, shape);
-            composite(lowering, item, value, shape)
-        }
-        (_, None) => {
-            let (value, shape) = lowering.value(operand);
-            composite(lowering, item, value, shape)
-        }
+        None => lowering.known_of(&operand),
+    };
+    match known {
+        Some(Known::Scalar(literal)) => known_scalar(lowering, literal, name),
+        Some(Known::Whole(place, shape)) => composite(lowering, item, place, shape),
+        None => other_type(lowering, name),
     }
 }
 
-// A `const_assert`.
+// Reports that an initializer is not a constant expression.
+fn not_known<B: ModuleBuilder>(lowering: &mut Lowering<B>, operand: Operand) -> Declared {
+    let loaded = lowering.load(operand);
+    lowering.wrong("Unexpected override-expression", loaded.extent);
+    Declared::Nothing
+}
+
+// Lowers a `const_assert`.
 pub(crate) fn assertion<B: ModuleBuilder>(lowering: &mut Lowering<B>, item: &Item) -> Declared {
-    lowering.run(item.steps);
+    lower_steps(lowering, item.steps);
     let operand = lowering.pop();
     match operand.value {
         Value::Literal(Literal::Bool(true)) => {}
         Value::Literal(Literal::Bool(false)) => {
             lowering.wrong("`const_assert` failure", operand.extent);
         }
+        Value::Literal(_) => lowering.wrong(
+            "must be a const-expression that resolves to a `bool`",
+            operand.extent,
+        ),
         _ => lowering.unsupported("a `const_assert` of this", operand.extent),
     }
     Declared::Nothing
 }
 
-// The space of a variable: that of its template arguments, or that of handles.
+// The address space of a variable: from its template arguments, else `Handle`.
 fn space_of<B: ModuleBuilder>(lowering: &mut Lowering<B>, templates: &[Operand]) -> AddressSpace {
     match templates.first() {
         Some(space) => lowering.space(space, templates.get(1)),
@@ -165,7 +193,19 @@ fn space_of<B: ModuleBuilder>(lowering: &mut Lowering<B>, templates: &[Operand])
     }
 }
 
-// A `var`.
+// The memory decorations of a variable.
+fn decorations<B: ModuleBuilder>(lowering: &Lowering<B>, part: Part) -> MemoryDecorations {
+    let mut set = 0;
+    if find(lowering, part, AttributeWord::Coherent).is_some() {
+        set |= MemoryDecorations::COHERENT.0;
+    }
+    if find(lowering, part, AttributeWord::Volatile).is_some() {
+        set |= MemoryDecorations::VOLATILE.0;
+    }
+    MemoryDecorations(set)
+}
+
+// Lowers a global `var`.
 pub(crate) fn variable<B: ModuleBuilder>(
     lowering: &mut Lowering<B>,
     item: &Item,
@@ -174,7 +214,7 @@ pub(crate) fn variable<B: ModuleBuilder>(
     has_init: bool,
 ) -> Declared {
     let extent = lowering.extent(item.token);
-    lowering.run(item.steps);
+    lower_steps(lowering, item.steps);
     let operand = if has_init {
         lowering.pop()
     } else {
@@ -189,11 +229,6 @@ pub(crate) fn variable<B: ModuleBuilder>(
     let given = lowering.take(u32::from(templates));
     let space = space_of(lowering, &given);
     let (init, shape) = initial(lowering, operand, has_init, wanted, extent);
-    if find(lowering, item.attributes, AttributeWord::Coherent).is_some()
-        || find(lowering, item.attributes, AttributeWord::Volatile).is_some()
-    {
-        lowering.unsupported("memory that is coherent or volatile", extent);
-    }
     let variable = GlobalVariable {
         name: lowering.name_at(item.token),
         space,
@@ -203,7 +238,7 @@ pub(crate) fn variable<B: ModuleBuilder>(
             Some(value) => Some(handle_of(value)),
             None => None,
         },
-        memory_decorations: MemoryDecorations(0),
+        memory_decorations: decorations(lowering, item.attributes),
     };
     let number = lowering.builder.variable(variable, extent);
     Declared::Variable(number, shape, space)

@@ -1,20 +1,17 @@
-//! The expressions of a text of WGSL in the IR: names, types, constructors, operators, access and calls.
+//! Lowers WGSL expressions to the IR: names, types, operators, access and automatic conversions.
 #![tactic(auto)]
 
-mod access;
-mod calls;
-mod constructors;
+mod constants;
 mod conversions;
 mod declared;
 mod logical;
 mod lowering;
 mod names;
 mod operators;
-mod shapes;
-mod steps;
+mod predeclared;
 mod templates;
 mod values;
 
 pub use declared::{Declared, FunctionEntry};
-pub use lowering::Lowering;
+pub use lowering::{Lowering, MAX_LEVEL};
 pub use values::{Operand, Value, handle_of, number_of};

@@ -1,4 +1,4 @@
-// `&&` and `||`: what stands on the right is computed only where the left does not decide.
+// `&&` and `||`: the right operand is evaluated only if the left one does not decide the result.
 
 use crate::lowering::Lowering;
 use crate::values::{Operand, Value, handle_of, number_of};
@@ -10,7 +10,7 @@ use wgsl_text::Extent;
 use wgsl_types::{Builder, Shape};
 
 impl<B: Builder> Lowering<B> {
-    /// Between the operands of `||`, or else of `&&`.
+    /// Lowers the part between the operands of `||`, or else of `&&`.
     pub fn between(&mut self, or: bool, token: u32) {
         let popped = self.pop();
         let left = self.load(popped);
@@ -51,9 +51,10 @@ impl<B: Builder> Lowering<B> {
             extent,
         });
         self.builder.open();
+        self.set_level(self.level.saturating_add(1), extent);
     }
 
-    // Stores the result in the block that is open.
+    // Stores the result in the current block.
     fn store(&mut self, pointer: u32, value: u32, extent: Extent) {
         let store = Statement::Store {
             pointer: handle_of(pointer),
@@ -62,7 +63,7 @@ impl<B: Builder> Lowering<B> {
         self.builder.statement(store, extent);
     }
 
-    /// After the second operand.
+    /// Lowers the part after the second operand.
     pub fn logical(&mut self, or: bool) {
         let popped = self.pop();
         let right = self.load(popped);
@@ -82,6 +83,7 @@ impl<B: Builder> Lowering<B> {
         let (condition, _) = self.value(left);
         let (value, _) = self.value(right);
         self.store(pointer, value, extent);
+        self.level = self.level.saturating_sub(1);
         let accept = self.builder.close();
         self.builder.open();
         let decided = self.place(Expression::Literal(Literal::Bool(or)), extent);

@@ -1,42 +1,47 @@
-// What expressions are lowered with.
+// The context of lowering.
 
 use crate::declared::Declared;
 use crate::values::{Operand, Value, number_of};
-use ir_kinds::Literal;
 use ir_types::Expression;
 use std::alloc::Global;
+use wgsl_constants::Store;
 use wgsl_names::{Names, Scopes};
 use wgsl_text::{Extent, Failure, WgslError};
 use wgsl_tokens::Mark;
 use wgsl_tree::{Step, Tree};
 use wgsl_types::{Builder, Shape, TypeHandle, TypeTable};
 
-/// A text that is lowered: what was read of it, and what it is written into.
+/// The maximum number of nested blocks around a statement, where a switch counts as two. Documents have the same limit.
+pub const MAX_LEVEL: u32 = 60;
+
+/// The state of lowering: the parsed text, and the builder that IR is emitted into.
 pub struct Lowering<B: Builder> {
     /// The allocator.
     pub alloc: Global,
     /// The text.
     pub tree: Tree,
-    /// What its names at module scope stand for.
+    /// What its identifiers at module scope denote.
     pub names: Names,
-    /// What its items are.
+    /// Its lowered declarations.
     pub items: Vec<Declared>,
-    /// The types of the arguments of its functions.
+    /// The parameter types of its functions.
     pub arguments: Vec<Shape>,
     /// Its arrays, structs and pointers.
     pub table: TypeTable,
-    /// The scalars of vectors that are known.
-    pub parts: Vec<Literal>,
-    /// What the names of a function stand for.
+    /// Its constants.
+    pub store: Store,
+    /// The identifiers in scope in the current function.
     pub scopes: Scopes<Value>,
-    /// The expressions that no step used yet, the last one last.
+    /// The operand stack.
     pub stack: Vec<Operand>,
-    /// What it is written into.
+    /// The number of blocks around the current statement, as [`MAX_LEVEL`] counts them.
+    pub level: u32,
+    /// The builder.
     pub builder: B,
 }
 
 impl<B: Builder> Lowering<B> {
-    /// Nothing is lowered yet.
+    /// The initial state.
     pub fn new(
         alloc: Global,
         tree: Tree,
@@ -45,6 +50,7 @@ impl<B: Builder> Lowering<B> {
         failed: &mut Failure,
     ) -> Lowering<B> {
         let items = failed.table(alloc, Declared::Nothing, tree.items.len());
+        let store = Store::new(alloc, tree.tokens.list.len());
         let scopes = Scopes::new(alloc, tree.tokens.names.len(), failed);
         Lowering {
             alloc,
@@ -53,14 +59,15 @@ impl<B: Builder> Lowering<B> {
             items,
             arguments: Vec::new(alloc),
             table: TypeTable::new(alloc),
-            parts: Vec::new(alloc),
+            store,
             scopes,
             stack: Vec::new(alloc),
+            level: 0,
             builder,
         }
     }
 
-    /// What it was written into, where all else is let go.
+    /// The builder; everything else is dropped.
     pub fn into_builder(self) -> B {
         let Lowering {
             alloc: _,
@@ -69,49 +76,62 @@ impl<B: Builder> Lowering<B> {
             items: _items,
             arguments: _arguments,
             table: _table,
-            parts: _parts,
+            store: _store,
             scopes: _scopes,
             stack: _stack,
+            level: _,
             builder,
         } = self;
         builder
     }
 
-    /// This is wrong.
+    /// Reports an error.
     pub fn fail(&mut self, error: WgslError) {
         self.builder.fail(error);
     }
 
-    /// This is no WGSL.
+    /// Reports that the text is invalid WGSL.
     pub fn wrong(&mut self, text: &'static str, extent: Extent) {
         self.builder.fail(WgslError::malformed(text, extent));
     }
 
-    /// This is not translated.
+    /// Reports that a construct is unsupported.
     pub fn unsupported(&mut self, text: &'static str, extent: Extent) {
         self.builder.fail(WgslError::unsupported(text, extent));
     }
 
-    /// What this names is not translated.
+    /// Reports that what an identifier denotes is unsupported.
     pub fn unsupported_name(&mut self, text: &'static str, extent: Extent) {
         self.builder.fail(WgslError::unsupported_name(text, extent));
     }
 
-    /// Whether something was wrong.
+    /// Whether an error was reported.
     pub fn has_failed(&self) -> bool {
         self.builder.has_failed()
     }
 
-    /// Does what failed for want of memory, if it did.
+    /// Reports an out-of-memory failure, if there was one.
     pub fn join(&mut self, failed: &Failure) {
         if let Some(error) = failed.first {
             self.builder.fail(error);
         }
     }
 
-    /// The name that stands at a token.
+    /// Checks the nesting level of a block. It is an error if it is too deep.
+    pub fn set_level(&mut self, level: u32, extent: Extent) {
+        self.level = level;
+        if level > MAX_LEVEL {
+            self.unsupported("blocks nested more than 60 deep", extent);
+        }
+    }
+
+    /// The identifier at a token.
     pub fn name_at(&mut self, token: u32) -> Option<String> {
-        let extent = self.extent(token);
+        self.words_at(self.extent(token))
+    }
+
+    /// The text of a span.
+    pub fn words_at(&mut self, extent: Extent) -> Option<String> {
         match String::from_utf8_lossy(self.alloc, self.tree.tokens.part(extent)) {
             Ok(name) => Some(name),
             Err(_) => {
@@ -121,7 +141,7 @@ impl<B: Builder> Lowering<B> {
         }
     }
 
-    /// The number of the word at a token.
+    /// The word index of the identifier at a token.
     pub fn word_at(&self, token: u32) -> u32 {
         match self.tree.tokens.mark(token as usize) {
             Mark::Name(number) => number,
@@ -129,29 +149,29 @@ impl<B: Builder> Lowering<B> {
         }
     }
 
-    /// Where a token stands.
+    /// The span of a token.
     pub fn extent(&self, token: u32) -> Extent {
         self.tree.tokens.at(token as usize).extent()
     }
 
-    /// The step at this place.
+    /// The step at an index.
     pub fn step_at(&self, place: u32) -> Option<Step> {
         self.tree.steps.get(place as usize).copied()
     }
 
-    /// One more expression.
+    /// Pushes an operand.
     pub fn push(&mut self, operand: Operand) {
         if self.stack.push(operand).is_err() {
             self.builder.fail(WgslError::MEMORY);
         }
     }
 
-    /// The last expression.
+    /// Pops an operand.
     pub fn pop(&mut self) -> Operand {
         self.stack.pop().unwrap_or(Operand::NOTHING)
     }
 
-    /// The last so many expressions, in order.
+    /// Pops operands; they are in order.
     pub fn take(&mut self, count: u32) -> Vec<Operand> {
         let mut taken = Vec::new(self.alloc);
         let start = self.stack.len().saturating_sub(count as usize);
@@ -165,12 +185,12 @@ impl<B: Builder> Lowering<B> {
         taken
     }
 
-    /// An expression that is computed here.
+    /// Adds an expression that an `Emit` statement has to cover.
     pub fn compute(&mut self, expression: Expression, extent: Extent) -> u32 {
         number_of(self.builder.compute(expression, extent))
     }
 
-    /// An expression that is always there, or that a statement gives.
+    /// Adds an expression that needs no `Emit`, or is the result of a statement.
     pub fn place(&mut self, expression: Expression, extent: Extent) -> u32 {
         number_of(self.builder.place(expression, extent))
     }

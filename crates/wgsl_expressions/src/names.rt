@@ -1,17 +1,17 @@
-// What names stand for.
+// Resolution of identifiers.
 
 use crate::declared::Declared;
 use crate::lowering::Lowering;
 use crate::values::{Operand, Value};
 use ir_arena::handle::Handle;
-use ir_kinds::AddressSpace;
+use ir_kinds::{AddressSpace, Literal};
 use ir_types::Expression;
+use wgsl_builtins::{function_of, ray_constant_of, type_of};
 use wgsl_text::Extent;
 use wgsl_types::{Builder, Shape};
-use wgsl_words::{function_of, type_of};
 
 impl<B: Builder> Lowering<B> {
-    // The item that a word names.
+    // The declaration that a word denotes.
     fn item(&self, name: u32) -> Option<Declared> {
         match self.names.items.get(name as usize) {
             Some(0) | None => None,
@@ -19,7 +19,7 @@ impl<B: Builder> Lowering<B> {
         }
     }
 
-    // A variable of the module.
+    // A global variable as an operand.
     fn variable(
         &mut self,
         number: u32,
@@ -39,19 +39,12 @@ impl<B: Builder> Lowering<B> {
         }
     }
 
-    // What an item is, where it is named.
+    // The operand of an identifier that denotes this declaration.
     fn item_value(&mut self, item: Declared, extent: Extent) -> Value {
         match item {
             Declared::Literal(literal) => Value::Literal(literal),
-            Declared::Parts(start, size) => Value::Parts(start, size),
-            Declared::Constant(number, shape) => {
-                let handle = Handle::at(number.min(4_294_967_294) as usize);
-                Value::Computed(self.place(Expression::Constant(handle), extent), shape)
-            }
-            Declared::Override(number, shape) => {
-                let handle = Handle::at(number.min(4_294_967_294) as usize);
-                Value::Computed(self.place(Expression::Override(handle), extent), shape)
-            }
+            Declared::Known(place, shape) => Value::Known(place, shape),
+            Declared::Override(number, shape) => Value::Override(number, shape),
             Declared::Type(shape) => Value::Type(shape),
             Declared::Variable(number, shape, space) => self.variable(number, shape, space, extent),
             Declared::Function(entry) => Value::Function(entry),
@@ -62,11 +55,14 @@ impl<B: Builder> Lowering<B> {
         }
     }
 
-    // What a word stands for that no text declares.
+    // The operand of a predeclared identifier.
     fn predeclared(&self, name: u32) -> Value {
         let word = self.tree.tokens.word(name);
         if let Some(maker) = type_of(word) {
             return Value::Maker(maker);
+        }
+        if let Some(number) = ray_constant_of(word) {
+            return Value::Literal(Literal::U32(number));
         }
         match function_of(word) {
             Some(function) => Value::BuiltIn(function),
@@ -74,7 +70,7 @@ impl<B: Builder> Lowering<B> {
         }
     }
 
-    /// A name.
+    /// Lowers an identifier.
     pub fn name(&mut self, name: u32, token: u32) {
         let extent = self.extent(token);
         let value = match self.scopes.get(name) {

@@ -1,15 +1,15 @@
-// Operators.
+// Lowers unary and binary operators.
 
 use crate::lowering::Lowering;
-use crate::shapes::{result_of, splats};
 use crate::values::{Operand, Value, handle_of};
-use ir_kinds::{BinaryOperator, Literal, Scalar, ScalarKind, UnaryOperator};
+use ir_kinds::{BinaryOperator, Scalar, ScalarKind, UnaryOperator};
 use ir_types::Expression;
+use wgsl_constants::{Lanes, combine, negate};
+use wgsl_convert::ColumnStep;
 use wgsl_text::Extent;
-use wgsl_types::{Builder, Shape};
-use wgsl_values::{Folded, converted, fold_binary, fold_unary};
+use wgsl_types::{Builder, Shape, result_of, splats};
 
-// The scalar that both convert to, where one of them is known.
+// The common scalar of two operands: the scalar of both, or the one that an abstract operand converts to.
 fn common(left: Scalar, right: Scalar) -> Option<Scalar> {
     if left == right {
         return Some(left);
@@ -25,7 +25,7 @@ fn common(left: Scalar, right: Scalar) -> Option<Scalar> {
     }
 }
 
-// Whether it moves bits.
+// Whether the operator is a shift.
 fn is_shift(operator: BinaryOperator) -> bool {
     matches!(
         operator,
@@ -34,28 +34,26 @@ fn is_shift(operator: BinaryOperator) -> bool {
 }
 
 impl<B: Builder> Lowering<B> {
-    // What is known of an operation; where it can't be, that is told.
-    fn folded(&mut self, folded: Folded, extent: Extent) -> Option<Value> {
-        match folded {
-            Folded::Made(literal) => Some(Value::Literal(literal)),
-            Folded::Wrong(text) => {
-                self.wrong(text, extent);
-                Some(Value::Nothing)
-            }
-            Folded::Open => None,
+    // Evaluates a unary operator on a constant.
+    fn known_unary(
+        &mut self,
+        op: UnaryOperator,
+        operand: &Operand,
+        extent: Extent,
+    ) -> Option<Value> {
+        let known = self.known_of(operand)?;
+        match self.store.lanes(known) {
+            Some(lanes) => self.settled(negate(op, &lanes), extent),
+            None => self.of_columns(&ColumnStep::Unary(op), known, extent),
         }
     }
 
-    /// An operation on one value.
+    /// Lowers a unary operator.
     pub fn unary(&mut self, op: UnaryOperator, token: u32) {
         let popped = self.pop();
         let operand = self.load(popped);
         let extent = self.extent(token).until(operand.extent);
-        let known = match operand.value {
-            Value::Literal(literal) => self.folded(fold_unary(op, literal), extent),
-            _ => None,
-        };
-        let value = match known {
+        let value = match self.known_unary(op, &operand, extent) {
             Some(value) => value,
             None => {
                 let (value, shape) = self.value(operand);
@@ -66,25 +64,53 @@ impl<B: Builder> Lowering<B> {
         self.push(Operand { value, extent });
     }
 
-    // What is known of an operation on two values that are.
+    // Two constant scalars or vectors, converted to operand types that the operator accepts.
+    fn known_pair(
+        &self,
+        op: BinaryOperator,
+        left: &Lanes,
+        right: &Lanes,
+    ) -> Option<(Lanes, Lanes)> {
+        if is_shift(op) {
+            return Some((*left, right.converted(Scalar::U32)?));
+        }
+        let scalar = common(left.scalar(), right.scalar())?;
+        Some((left.converted(scalar)?, right.converted(scalar)?))
+    }
+
+    // Evaluates a binary operator on two constants.
     fn known_binary(
         &mut self,
         op: BinaryOperator,
-        left: Literal,
-        right: Literal,
+        left: &Operand,
+        right: &Operand,
         extent: Extent,
     ) -> Option<Value> {
-        if is_shift(op) {
-            let right = converted(right, Scalar::U32)?;
-            return self.folded(fold_binary(op, left, right), extent);
+        let (first, second) = (self.known_of(left)?, self.known_of(right)?);
+        // a constant matrix is only evaluated in a product with a scalar
+        let is_product = matches!(op, BinaryOperator::Multiply);
+        match (self.store.lanes(first), self.store.lanes(second)) {
+            (Some(first), Some(second)) => match self.known_pair(op, &first, &second) {
+                Some((first, second)) => self.settled(combine(op, &first, &second), extent),
+                None => self.stays(extent),
+            },
+            (Some(scalar), None) if is_product && scalar.size.is_none() => {
+                match scalar.converted(self.scalar_of(right)?) {
+                    Some(scalar) => self.of_columns(&ColumnStep::Left(op, scalar), second, extent),
+                    None => self.stays(extent),
+                }
+            }
+            (None, Some(scalar)) if is_product && scalar.size.is_none() => {
+                match scalar.converted(self.scalar_of(left)?) {
+                    Some(scalar) => self.of_columns(&ColumnStep::Right(op, scalar), first, extent),
+                    None => self.stays(extent),
+                }
+            }
+            _ => self.stays(extent),
         }
-        let scalar = common(left.scalar(), right.scalar())?;
-        let left = converted(left, scalar)?;
-        let right = converted(right, scalar)?;
-        self.folded(fold_binary(op, left, right), extent)
     }
 
-    // The scalar that both values are to be of.
+    // The common scalar of both operands.
     fn common_of(&self, left: &Operand, right: &Operand) -> Option<Scalar> {
         let (Some(from), Some(to)) = (self.scalar_of(left), self.scalar_of(right)) else {
             return None;
@@ -101,7 +127,7 @@ impl<B: Builder> Lowering<B> {
         }
     }
 
-    // Both values, as ones of the scalar that they have in common.
+    // Both operands converted to their common scalar.
     fn both(
         &mut self,
         op: BinaryOperator,
@@ -124,7 +150,7 @@ impl<B: Builder> Lowering<B> {
         }
     }
 
-    // A scalar for each component of a vector.
+    // Splats a scalar to a vector.
     fn splat_as(&mut self, value: (u32, Shape), beside: Shape, extent: Extent) -> (u32, Shape) {
         match (value.1, beside) {
             (Shape::Scalar(scalar), Shape::Vector(size, _)) => {
@@ -136,13 +162,11 @@ impl<B: Builder> Lowering<B> {
         }
     }
 
-    /// What an operator makes of two values.
+    /// Lowers a binary operator on two run-time operands.
     pub fn combine(&mut self, op: BinaryOperator, left: Operand, right: Operand) -> Operand {
         let extent = left.extent.until(right.extent);
-        if let (Value::Literal(a), Value::Literal(b)) = (left.value, right.value) {
-            if let Some(value) = self.known_binary(op, a, b, extent) {
-                return Operand { value, extent };
-            }
+        if let Some(value) = self.known_binary(op, &left, &right, extent) {
+            return Operand { value, extent };
         }
         let (mut first, mut second) = self.both(op, left, right);
         if splats(op) {
@@ -158,7 +182,7 @@ impl<B: Builder> Lowering<B> {
         Operand::computed(self.compute(binary, extent), shape, extent)
     }
 
-    /// An operation on two values.
+    /// Lowers a binary operator.
     pub fn binary(&mut self, op: BinaryOperator) {
         let right = self.pop();
         let left = self.pop();

@@ -1,16 +1,18 @@
-// Types, and what makes them of template arguments.
+// Types, type generators and template arguments.
 
 use crate::lowering::Lowering;
-use crate::values::{Operand, Value};
+use crate::values::{Operand, Value, handle_of};
+use ir_arena::handle::Handle;
 use ir_flags::{Capabilities, StorageAccess};
-use ir_kinds::{AddressSpace, Literal, Scalar, ScalarKind, VectorSize};
+use ir_items::Override;
+use ir_kinds::{AddressSpace, ImageClass, Literal, Scalar, ScalarKind, StorageFormat, VectorSize};
 use ir_types::ArraySize;
+use wgsl_builtins::{FunctionWord, RayWord, TextureKind, TypeWord, access_of, format_of, space_of};
 use wgsl_text::{Extent, WgslError};
 use wgsl_types::{Builder, Shape};
-use wgsl_words::{FunctionWord, TypeWord, access_of, space_of};
 
 impl<B: Builder> Lowering<B> {
-    /// A scalar of a width that an extension has to enable.
+    /// Checks that the extension for a scalar's width is enabled.
     pub fn check_scalar(&mut self, scalar: Option<Scalar>, extent: Extent) {
         let enabled = self.tree.enabled.0;
         match scalar {
@@ -28,14 +30,14 @@ impl<B: Builder> Lowering<B> {
         }
     }
 
-    /// The type that an expression is.
+    /// The type that an operand denotes.
     pub fn type_of(&mut self, operand: &Operand) -> Shape {
         let shape = self.named_type(operand);
         self.check_scalar(shape.scalar(), operand.extent);
         shape
     }
 
-    // The type that an expression names.
+    // The type of an operand that must denote a type.
     fn named_type(&mut self, operand: &Operand) -> Shape {
         let extent = operand.extent;
         match operand.value {
@@ -46,6 +48,14 @@ impl<B: Builder> Lowering<B> {
                 Shape::Matrix(columns, rows, scalar)
             }
             Value::Maker(TypeWord::Sampler(comparison)) => Shape::Sampler(comparison),
+            Value::Maker(TypeWord::Texture(dim, arrayed, kind)) => match kind.depth_class() {
+                Some(class) => Shape::Image(dim, arrayed, class),
+                None => {
+                    self.fail(WgslError::of_name("", extent, kind.wanted()));
+                    Shape::None
+                }
+            },
+            Value::Maker(TypeWord::Ray(word)) => self.ray_word(word, false, extent),
             Value::Maker(TypeWord::Other) => {
                 self.unsupported_name("the type ", extent);
                 Shape::None
@@ -66,7 +76,7 @@ impl<B: Builder> Lowering<B> {
         }
     }
 
-    // The scalar that an expression names.
+    // The scalar of an operand that must denote a scalar type.
     fn scalar_type(&mut self, operand: &Operand) -> Scalar {
         match self.type_of(operand) {
             Shape::Scalar(scalar) => scalar,
@@ -78,16 +88,13 @@ impl<B: Builder> Lowering<B> {
         }
     }
 
-    // How many elements an array has that an expression says.
+    // The size of an array, from its element count operand.
     fn array_size(&mut self, operand: &Operand) -> ArraySize {
         let count = match operand.value {
             Value::Literal(Literal::AbstractInt(count)) => u32::try_from(count).ok(),
             Value::Literal(Literal::I32(count)) => u32::try_from(count).ok(),
             Value::Literal(Literal::U32(count)) => Some(count),
-            _ => {
-                self.unsupported("an array of so many elements", operand.extent);
-                Some(1)
-            }
+            _ => return self.pending_size(operand),
         };
         match count {
             Some(count) if count > 0 => ArraySize::Constant(count),
@@ -96,6 +103,38 @@ impl<B: Builder> Lowering<B> {
                 ArraySize::Dynamic
             }
         }
+    }
+
+    // The size of an array from an override expression, which becomes an override of its own, named by its source text.
+    fn pending_size(&mut self, operand: &Operand) -> ArraySize {
+        let extent = operand.extent;
+        let scalar = self.scalar_of(operand);
+        if scalar != Some(Scalar::I32) && scalar != Some(Scalar::U32) {
+            self.wrong(
+                "must be a const-expression that resolves to a concrete integer scalar (`u32` or `i32`)",
+                extent,
+            );
+            return ArraySize::Dynamic;
+        }
+        let number = match operand.value {
+            Value::Override(number, _) => number,
+            _ if self.builder.is_global() => {
+                let (value, shape) = self.value(*operand);
+                let ty = self.type_handle(shape, extent);
+                let made = Override {
+                    name: self.words_at(extent),
+                    id: None,
+                    ty,
+                    init: Some(handle_of(value)),
+                };
+                self.builder.overridable(made, extent)
+            }
+            _ => {
+                self.unsupported("an array of so many elements", extent);
+                0
+            }
+        };
+        ArraySize::Pending(Handle::at(number.min(4_294_967_294) as usize))
     }
 
     // An array type.
@@ -111,7 +150,25 @@ impl<B: Builder> Lowering<B> {
         self.table.array(&mut self.builder, element, &size, extent)
     }
 
-    /// The address space that an expression names, with its access.
+    // A binding array type.
+    fn bindings_type(&mut self, arguments: &[Operand], extent: Extent) -> Shape {
+        if self.tree.enabled.0 & Capabilities::TEXTURE_AND_SAMPLER_BINDING_ARRAY.0 == 0 {
+            let text = "the `wgpu_binding_array` enable extension is not enabled";
+            self.wrong(text, extent);
+        }
+        let Some(element) = arguments.first() else {
+            return Shape::None;
+        };
+        let element = self.type_of(element);
+        let size = match arguments.get(1) {
+            Some(count) => self.array_size(count),
+            None => ArraySize::Dynamic,
+        };
+        self.table
+            .bindings(&mut self.builder, element, &size, extent)
+    }
+
+    /// The address space that an operand denotes, with its access mode.
     pub fn space(&mut self, operand: &Operand, access: Option<&Operand>) -> AddressSpace {
         let space = match operand.value {
             Value::Word(name) => space_of(self.tree.tokens.word(name)),
@@ -136,11 +193,11 @@ impl<B: Builder> Lowering<B> {
         }
     }
 
-    // The access that an expression names.
+    // The access mode that an operand denotes.
     fn access(&mut self, operand: &Operand) -> StorageAccess {
         let access = match operand.value {
             Value::Word(name) => access_of(self.tree.tokens.word(name)),
-            // its name is that of a type, too
+            // its name is also that of a type
             Value::Maker(TypeWord::Atomic) => access_of(b"atomic"),
             _ => None,
         };
@@ -167,17 +224,18 @@ impl<B: Builder> Lowering<B> {
         self.table.pointer(&mut self.builder, to, space, extent)
     }
 
-    // How many template arguments a maker takes at most.
+    // The maximum number of template arguments of a type generator.
     fn most(maker: TypeWord) -> usize {
         match maker {
-            TypeWord::Array => 2,
+            TypeWord::Array | TypeWord::BindingArray => 2,
             TypeWord::Pointer => 3,
+            TypeWord::Texture(_, _, TextureKind::Storage) => 2,
             TypeWord::Other => usize::MAX,
             _ => 1,
         }
     }
 
-    // The type that a maker makes of template arguments.
+    // The type that a type generator produces from template arguments.
     fn made(&mut self, maker: TypeWord, arguments: &[Operand], extent: Extent) -> Shape {
         let Some(first) = arguments.first() else {
             return Shape::None;
@@ -189,12 +247,18 @@ impl<B: Builder> Lowering<B> {
             TypeWord::Vector(size) => Shape::Vector(size, self.scalar_type(first)),
             TypeWord::Matrix(columns, rows) => self.matrix_type(columns, rows, first),
             TypeWord::Array => self.array_type(arguments, extent),
+            TypeWord::BindingArray => self.bindings_type(arguments, extent),
             TypeWord::Atomic => Shape::Atomic(self.scalar_type(first)),
             TypeWord::Pointer => self.pointer_type(arguments, extent),
+            TypeWord::Texture(dim, arrayed, kind) => {
+                let class = self.image_class(kind, arguments, extent);
+                Shape::Image(dim, arrayed, class)
+            }
             TypeWord::Other => {
                 self.unsupported_name("the type ", extent);
                 Shape::None
             }
+            TypeWord::Ray(word) => self.ray_template(word, first, extent),
             TypeWord::Scalar(_)
             | TypeWord::VectorOf(..)
             | TypeWord::MatrixOf(..)
@@ -203,6 +267,75 @@ impl<B: Builder> Lowering<B> {
                 Shape::None
             }
         }
+    }
+
+    // The image class of a texture type with these template arguments.
+    fn image_class(
+        &mut self,
+        kind: TextureKind,
+        arguments: &[Operand],
+        extent: Extent,
+    ) -> ImageClass {
+        match (kind, arguments.first()) {
+            (TextureKind::Sampled, Some(first)) => self.sampled_class(first, false),
+            (TextureKind::Multisampled, Some(first)) => self.sampled_class(first, true),
+            (TextureKind::Storage, Some(first)) => {
+                let format = self.format(first);
+                let access = match arguments.get(1) {
+                    Some(access) => self.access(access),
+                    None => {
+                        let text = " needs a template argument specified: `Access`, an access mode";
+                        self.fail(WgslError::of_name("", extent, text));
+                        StorageAccess(1)
+                    }
+                };
+                ImageClass::Storage { format, access }
+            }
+            _ => {
+                self.wrong("unexpected template", extent);
+                ImageClass::Depth { multi: false }
+            }
+        }
+    }
+
+    // The class of a sampled texture with this template argument.
+    fn sampled_class(&mut self, operand: &Operand, multi: bool) -> ImageClass {
+        let scalar = self.scalar_type(operand);
+        if scalar != Scalar::F32 && scalar != Scalar::I32 && scalar != Scalar::U32 {
+            let text = "texture sample type must be one of f32, i32 or u32, but found ";
+            self.fail(WgslError::of_name(text, operand.extent, ""));
+        }
+        let kind = scalar.kind;
+        ImageClass::Sampled { kind, multi }
+    }
+
+    // The storage format that an operand denotes.
+    fn format(&mut self, operand: &Operand) -> StorageFormat {
+        let format = match operand.value {
+            Value::Word(name) => format_of(self.tree.tokens.word(name)),
+            _ => None,
+        };
+        match format {
+            Some(format) => format,
+            None => {
+                self.fail(WgslError::of_name("unknown storage format: ", operand.extent, ""));
+                StorageFormat::R32Uint
+            }
+        }
+    }
+
+    // A ray query type with vertex positions.
+    fn ray_template(&mut self, word: RayWord, first: &Operand, extent: Extent) -> Shape {
+        let is_vertices = match first.value {
+            Value::Word(name) => self.tree.tokens.word(name) == b"vertex_return".as_slice(),
+            _ => false,
+        };
+        if matches!(word, RayWord::Descriptor | RayWord::Intersection) {
+            self.wrong("unexpected template", extent);
+        } else if !is_vertices {
+            self.fail(WgslError::of_name("unknown flag: ", first.extent, ""));
+        }
+        self.ray_word(word, true, extent)
     }
 
     // A matrix type.
@@ -215,7 +348,7 @@ impl<B: Builder> Lowering<B> {
         Shape::Matrix(columns, rows, scalar)
     }
 
-    /// What a name makes of so many template arguments.
+    /// Lowers an identifier with this many template arguments.
     pub fn template(&mut self, count: u32, token: u32) {
         let arguments = self.take(count);
         let base = self.pop();

@@ -1,4 +1,4 @@
-// Which items an item names.
+// The items that each item references.
 
 use crate::scopes::Scopes;
 use std::alloc::Global;
@@ -7,16 +7,16 @@ use wgsl_tokens::Mark;
 use wgsl_tree::{Item, ItemKind, Part, Step, StepKind, Tree};
 use wgsl_words::AttributeWord;
 
-// What is named, item by item.
+// The references between items.
 #[derive(Drop)]
 pub(crate) struct Edges {
-    // the items that are named
+    // the referenced items, item by item
     pub list: Vec<u32>,
-    // of each item
+    // the range of each item
     pub parts: Vec<Part>,
 }
 
-// The number of the word at a token.
+// The number of the identifier at a token.
 pub(crate) fn word_at(tree: &Tree, token: u32) -> u32 {
     match tree.tokens.mark(token as usize) {
         Mark::Name(number) => number,
@@ -24,14 +24,14 @@ pub(crate) fn word_at(tree: &Tree, token: u32) -> u32 {
     }
 }
 
-// The steps of a part.
+// The steps in this range.
 fn steps_of(tree: &Tree, part: Part) -> &[Step] {
     tree.steps
         .get(part.start as usize..part.end as usize)
         .unwrap_or(&[])
 }
 
-// Whether the arguments of an attribute are values.
+// Whether the arguments of an attribute are expressions.
 fn has_values(word: AttributeWord) -> bool {
     matches!(
         word,
@@ -46,7 +46,7 @@ fn has_values(word: AttributeWord) -> bool {
     )
 }
 
-// What is looked for.
+// The state of the search.
 #[derive(Clone, Copy)]
 struct Looking<'a> {
     tree: &'a Tree,
@@ -54,7 +54,7 @@ struct Looking<'a> {
 }
 
 impl Looking<'_> {
-    // The item that a name stands for, if it is none of a function's.
+    // The item that a name denotes, unless a function declares the name.
     fn item_of(&self, scopes: &Scopes<()>, name: u32) -> Option<u32> {
         if scopes.get(name).is_some() {
             return None;
@@ -65,7 +65,7 @@ impl Looking<'_> {
         }
     }
 
-    // The items that steps name.
+    // The items that steps reference.
     fn scan(&self, part: Part, scopes: &mut Scopes<()>, list: &mut Vec<u32>, failed: &mut Failure) {
         for step in steps_of(self.tree, part) {
             match step.kind {
@@ -82,7 +82,7 @@ impl Looking<'_> {
         }
     }
 
-    // The items that attributes name.
+    // The items that attributes reference.
     fn scan_attributes(
         &self,
         part: Part,
@@ -99,7 +99,7 @@ impl Looking<'_> {
         }
     }
 
-    // The items that an item names.
+    // The items that an item references.
     fn scan_item(
         &self,
         item: &Item,
@@ -127,7 +127,7 @@ impl Looking<'_> {
     }
 }
 
-// What each item names; `items` has for each word the place of the item that it names and one, or 0.
+// The references of each item; `items` has the item of each identifier plus one, or 0.
 pub(crate) fn edges_of(alloc: Global, tree: &Tree, items: &[u32], failed: &mut Failure) -> Edges {
     let mut scopes = Scopes::new(alloc, tree.tokens.names.len(), failed);
     let mut edges = Edges {

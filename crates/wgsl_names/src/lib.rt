@@ -1,4 +1,4 @@
-//! What the names of a text stand for: scopes, and the order in which items are read, so that each comes after those that it names.
+//! Name resolution: scopes, and the items in dependency order.
 #![tactic(auto)]
 
 mod edges;

@@ -1,19 +1,19 @@
-// The items by their names, and the order in which they are read.
+// The items by name, in dependency order.
 
 use crate::edges::{Edges, edges_of};
 use std::alloc::Global;
 use wgsl_text::{Failure, WgslError};
 use wgsl_tree::{Item, ItemKind, Part, Tree};
 
-/// What the names at module scope stand for.
+/// The declarations at module scope.
 pub struct Names {
-    /// For each word the place of the item that it names and one, or 0.
+    /// The item of each identifier plus one, or 0.
     pub items: Vec<u32>,
-    /// The places of all items, each after those that it names.
+    /// All items in dependency order.
     pub order: Vec<u32>,
 }
 
-// Written out, so that its lists are freed in a call of this crate wherever it is let go.
+// Written out, so that dropping it is one call of this crate.
 impl Drop for Names {
     fn drop(self) {
         let Names {
@@ -23,7 +23,7 @@ impl Drop for Names {
     }
 }
 
-// Whether something was done of an item.
+// The progress of an item.
 #[derive(Clone, Copy, PartialEq, Eq)]
 enum Colour {
     New,
@@ -31,14 +31,14 @@ enum Colour {
     Done,
 }
 
-// An item that is open, and how many of those that it names were looked at.
+// An item on the path, with the number of its references visited.
 #[derive(Clone, Copy)]
 struct Frame {
     item: u32,
     next: u32,
 }
 
-// A walk over items by what they name.
+// A depth-first walk over items by their references.
 #[derive(Drop)]
 struct Walk {
     colours: Vec<Colour>,
@@ -60,13 +60,13 @@ impl Walk {
         }
     }
 
-    // Opens an item.
+    // Enters an item.
     fn open(&mut self, item: u32, failed: &mut Failure) {
         self.paint(item, Colour::Open);
         failed.push(&mut self.frames, Frame { item, next: 0 });
     }
 
-    // Looks at the next item that the innermost one names, or closes that; answers whether there is one.
+    // Visits the next reference of the innermost item, or leaves the item. Returns whether there is one.
     fn step(&mut self, tree: &Tree, edges: &Edges, failed: &mut Failure) -> bool {
         let Some(frame) = self.frames.pop() else {
             return false;
@@ -100,7 +100,7 @@ impl Walk {
     }
 }
 
-// An item names itself, by others or not.
+// Reports a cyclic declaration.
 fn cyclic(tree: &Tree, from: u32, to: u32) -> WgslError {
     let token = match tree.items.get(to as usize) {
         Some(item) => item.token,
@@ -115,12 +115,12 @@ fn cyclic(tree: &Tree, from: u32, to: u32) -> WgslError {
     WgslError::of_name("declaration of ", extent, after)
 }
 
-// Whether an item has a name.
+// Whether an item declares a name.
 fn is_named(item: &Item) -> bool {
     !matches!(item.kind, ItemKind::ConstAssert)
 }
 
-// The items by their names: no two have one.
+// The items by name. The error is a redefinition.
 fn named_items(alloc: Global, tree: &Tree, failed: &mut Failure) -> Vec<u32> {
     let mut items: Vec<u32> = failed.table(alloc, 0, tree.tokens.names.len());
     let mut place: u32 = 0;
@@ -140,7 +140,7 @@ fn named_items(alloc: Global, tree: &Tree, failed: &mut Failure) -> Vec<u32> {
     items
 }
 
-// The items, each after those that it names.
+// The items in dependency order.
 fn order_of(alloc: Global, tree: &Tree, edges: &Edges, failed: &mut Failure) -> Vec<u32> {
     let mut walk = Walk {
         colours: failed.table(alloc, Colour::New, tree.items.len()),
@@ -175,8 +175,8 @@ fn order_of(alloc: Global, tree: &Tree, edges: &Edges, failed: &mut Failure) -> 
     order
 }
 
-/// What the names at module scope stand for. An error is out of memory, a name that two items have, or an item that names itself, by
-/// others or not.
+/// The declarations at module scope. The error is out of memory, a redefinition, or a cyclic
+/// declaration.
 pub fn names_of(alloc: Global, tree: &Tree) -> Result<Names, WgslError> {
     let mut failed = Failure::NONE;
     let items = named_items(alloc, tree, &mut failed);

@@ -1,32 +1,32 @@
-// Scopes: what each name stands for, and what it stood for before.
+// Scopes with an undo list.
 
 use std::alloc::Global;
 use wgsl_text::Failure;
 use wgsl_tree::StepKind;
 
-// What a name stood for, and in which scope it was declared.
+// The meaning of a name, and the scope that declares it.
 #[derive(Clone, Copy)]
 struct Known<T: Copy> {
     value: Option<T>,
     depth: u32,
 }
 
-// A name, and what it stood for before the innermost scope declared it.
+// A name with the meaning that the innermost scope shadows.
 #[derive(Clone, Copy)]
 struct Undo<T: Copy> {
     name: u32,
     before: Known<T>,
 }
 
-/// What the names of a function stand for, by the numbers of their words.
+/// The names that a function declares, by identifier number.
 pub struct Scopes<T: Copy> {
     known: Vec<Known<T>>,
     undo: Vec<Undo<T>>,
-    // for each scope that is open how many names were declared before
+    // the number of declarations before each open scope
     starts: Vec<usize>,
 }
 
-// Written out, so that its lists are freed in a call of this crate wherever it is let go.
+// Written out, so that dropping it is one call of this crate.
 impl<T: Copy> Drop for Scopes<T> {
     fn drop(self) {
         let Scopes {
@@ -38,7 +38,7 @@ impl<T: Copy> Drop for Scopes<T> {
 }
 
 impl<T: Copy> Scopes<T> {
-    /// In which so many words stand for nothing.
+    /// No names yet, for this number of identifiers.
     pub fn new(alloc: Global, words: usize, failed: &mut Failure) -> Scopes<T> {
         let nothing = Known {
             value: None,
@@ -55,7 +55,7 @@ impl<T: Copy> Scopes<T> {
         }
     }
 
-    /// What a name stands for.
+    /// The meaning of a name, if a function declares it.
     pub fn get(&self, name: u32) -> Option<T> {
         match self.known.get(name as usize) {
             Some(known) => known.value,
@@ -63,7 +63,7 @@ impl<T: Copy> Scopes<T> {
         }
     }
 
-    // How many scopes are open.
+    // The number of open scopes.
     fn depth(&self) -> u32 {
         u32::try_from(self.starts.len()).unwrap_or(u32::MAX)
     }
@@ -74,7 +74,7 @@ impl<T: Copy> Scopes<T> {
         failed.push(&mut self.starts, count);
     }
 
-    /// Closes the innermost scope: its names stand for what they stood for before.
+    /// Closes the innermost scope, and restores what it shadows.
     pub fn leave(&mut self) {
         let start = self.starts.pop().unwrap_or(0);
         for _ in start..self.undo.len() {
@@ -87,7 +87,7 @@ impl<T: Copy> Scopes<T> {
         }
     }
 
-    /// A name stands for this in the innermost scope. Answers whether that scope had not declared it before.
+    /// Declares a name in the innermost scope. Returns false on a redefinition.
     pub fn set(&mut self, name: u32, value: T, failed: &mut Failure) -> bool {
         let depth = self.depth();
         let Some(before) = self.known.get(name as usize).copied() else {
@@ -103,7 +103,7 @@ impl<T: Copy> Scopes<T> {
         before.value.is_none() || before.depth != depth
     }
 
-    /// Opens and closes the scopes that a step of a body does.
+    /// Opens and closes scopes as a step of a body requires.
     pub fn follow(&mut self, kind: StepKind, failed: &mut Failure) {
         match kind {
             StepKind::Block

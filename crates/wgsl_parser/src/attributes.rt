@@ -7,7 +7,7 @@ use wgsl_tokens::TokenKind;
 use wgsl_tree::{Attribute, Mode};
 use wgsl_words::{AttributeWord, attribute_of};
 
-// All attributes that stand next.
+// Reads all attributes.
 pub(crate) fn attributes(reading: &mut Reading) {
     let first = reading.attribute_count();
     for _ in 0..reading.parser.tokens.list.len() {
@@ -18,7 +18,7 @@ pub(crate) fn attributes(reading: &mut Reading) {
     }
 }
 
-// Whether one of the attributes from this one on is this.
+// Whether the attributes from an index on contain this one.
 fn is_repeated(reading: &Reading, first: u32, word: AttributeWord) -> bool {
     let part = part_from(first, &reading.attributes);
     let known = reading
@@ -77,7 +77,7 @@ fn attribute(reading: &mut Reading, first: u32) {
         .push(&mut reading.attributes, attribute);
 }
 
-// The arguments of an attribute; answers how many there are.
+// Reads the arguments of an attribute. Returns their number.
 fn arguments(reading: &mut Reading) -> u32 {
     reading.parser.expect(TokenKind::ParenOpen, "expected `(`");
     let mut count: u32 = 0;

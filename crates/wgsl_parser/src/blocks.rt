@@ -1,54 +1,41 @@
-// What is open around a statement.
+// Open blocks.
 
 use wgsl_tree::{Step, StepKind};
 
-// What is open around a statement.
+// Open blocks.
 #[derive(Clone, Copy, PartialEq, Eq)]
 pub(crate) enum Around {
-    // a function's body
+    // the body of a function
     Function,
-    // a block of its own
+    // a block statement
     Plain,
-    // what is done where a condition holds, of so many that were tested one after the other
+    // `if`, with the length of the `else if` chain so far
     If(u32),
-    // what is done where none of so many holds
+    // `else`, with the length of the chain
     Else(u32),
     Loop,
-    // the continuing part of a loop, which may end it
+    // `continuing`
     Continuing,
-    // a loop with a condition
+    // `while`
     While,
-    // one whose steps after each time are kept from this place on
+    // `for`, with the index from which the steps of its update are kept
     For(u32),
-    // a switch, between its cases
+    // a `switch`, between its cases
     Switch,
     Case,
 }
 
-// The blocks that are open, the innermost last, and the steps that belong after the bodies of loops.
+// The open blocks, innermost last, and the steps of updates, which belong after loop bodies.
 #[derive(Drop)]
 pub(crate) struct Blocks {
     pub open: Vec<Around>,
     pub kept: Vec<Step>,
-    // how many blocks of the IR are open
-    pub depth: u32,
 }
 
-// How many braces may be open.
+// The maximum nesting of braces.
 pub(crate) const MAX_BRACES: usize = 127;
 
-// How many blocks of the IR may be open.
-pub(crate) const MAX_DEPTH: u32 = 255;
-
-// How many blocks of the IR are around a statement in this.
-pub(crate) fn blocks_of(around: Around) -> u32 {
-    match around {
-        Around::If(count) | Around::Else(count) => count,
-        _ => 1,
-    }
-}
-
-// How many ends close this.
+// The number of `End` steps that close a block.
 pub(crate) fn ends_of(around: Around) -> u32 {
     match around {
         Around::If(count) | Around::Else(count) => count,
@@ -56,7 +43,7 @@ pub(crate) fn ends_of(around: Around) -> u32 {
     }
 }
 
-// A step that ends something at this token.
+// An `End` step at a token.
 pub(crate) fn end_at(token: u32) -> Step {
     Step {
         kind: StepKind::End,

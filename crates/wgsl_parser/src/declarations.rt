@@ -7,7 +7,7 @@ use wgsl_tokens::TokenKind;
 use wgsl_tree::{Item, ItemKind, Member, Mode, Part};
 use wgsl_words::Keyword;
 
-// What a declaration says beside its name.
+// A declaration, without its identifier.
 #[derive(Clone, Copy)]
 struct Said {
     kind: ItemKind,
@@ -15,7 +15,7 @@ struct Said {
     members: Part,
 }
 
-// A declaration with these attributes.
+// Reads a declaration after its attributes.
 pub(crate) fn declaration(reading: &mut Reading, attributes: Part) {
     let first = reading.parser.token();
     let keyword = reading.parser.keyword();
@@ -75,7 +75,7 @@ pub(crate) fn declaration(reading: &mut Reading, attributes: Part) {
     reading.parser.failed.push(&mut reading.items, item);
 }
 
-// What ends with a semicolon.
+// A declaration that ends with a semicolon.
 fn ended(reading: &mut Reading, kind: ItemKind) -> Said {
     reading.parser.expect(TokenKind::Semicolon, "expected `;`");
     Said {
@@ -85,7 +85,7 @@ fn ended(reading: &mut Reading, kind: ItemKind) -> Said {
     }
 }
 
-// The type after a colon, if one stands there.
+// Reads an optional type after a colon.
 fn typed(reading: &mut Reading) -> bool {
     let is_typed = reading.parser.skip(TokenKind::Colon);
     if is_typed {
@@ -94,7 +94,7 @@ fn typed(reading: &mut Reading) -> bool {
     is_typed
 }
 
-// The value after `=`, if one stands there.
+// Reads an optional initializer after `=`.
 fn initialized(reading: &mut Reading) -> bool {
     let is_initialized = reading.parser.skip(TokenKind::Equal);
     if is_initialized {
@@ -103,7 +103,7 @@ fn initialized(reading: &mut Reading) -> bool {
     is_initialized
 }
 
-// A `const` after its name.
+// A `const` after its identifier.
 fn constant(reading: &mut Reading) -> Said {
     let is_typed = typed(reading);
     reading
@@ -113,14 +113,14 @@ fn constant(reading: &mut Reading) -> Said {
     ended(reading, ItemKind::Const(is_typed))
 }
 
-// An `override` after its name.
+// An `override` after its identifier.
 fn overridable(reading: &mut Reading) -> Said {
     let typed = typed(reading);
     let init = initialized(reading);
     ended(reading, ItemKind::Override { typed, init })
 }
 
-// The template arguments of `var`; answers how many there are.
+// Reads the template arguments of `var`. Returns their number.
 fn templates(reading: &mut Reading) -> u16 {
     let mut count: u16 = 0;
     if !reading.parser.skip(TokenKind::TemplateOpen) {
@@ -145,7 +145,7 @@ fn templates(reading: &mut Reading) -> u16 {
     count
 }
 
-// A `var` after its name.
+// A `var` after its identifier.
 fn variable(reading: &mut Reading, templates: u16) -> Said {
     let typed = typed(reading);
     let init = initialized(reading);
@@ -157,7 +157,7 @@ fn variable(reading: &mut Reading, templates: u16) -> Said {
     ended(reading, kind)
 }
 
-// An `alias` after its name.
+// An `alias` after its identifier.
 fn alias(reading: &mut Reading) -> Said {
     reading
         .parser
@@ -172,7 +172,7 @@ fn assertion(reading: &mut Reading) -> Said {
     ended(reading, ItemKind::ConstAssert)
 }
 
-// A member or an argument with its attributes.
+// Reads a member or a parameter with its attributes.
 fn member(reading: &mut Reading) {
     let start = reading.attribute_count();
     attributes(reading);
@@ -183,7 +183,7 @@ fn member(reading: &mut Reading) {
     typed_member(reading, name, token, attributes);
 }
 
-// The type of a member, an argument or a result.
+// Reads the type of a member, a parameter or a result.
 fn typed_member(reading: &mut Reading, name: u32, token: u32, attributes: Part) {
     let start = reading.parser.count();
     reading.parser.expression(Mode::Type);
@@ -197,7 +197,7 @@ fn typed_member(reading: &mut Reading, name: u32, token: u32, attributes: Part) 
     reading.parser.failed.push(&mut reading.members, member);
 }
 
-// Members or arguments up to this.
+// Reads members or parameters up to a closing token.
 fn member_list(reading: &mut Reading, close: TokenKind, wanted: &'static str) {
     for _ in 0..reading.parser.tokens.list.len() {
         if reading.parser.has_failed() || reading.parser.kind() == close {
@@ -211,12 +211,12 @@ fn member_list(reading: &mut Reading, close: TokenKind, wanted: &'static str) {
     reading.parser.expect(close, wanted);
 }
 
-// How many members there are.
+// The number of members.
 fn member_count(reading: &Reading) -> u32 {
     u32::try_from(reading.members.len()).unwrap_or(u32::MAX)
 }
 
-// A `struct` after its name.
+// A `struct` after its identifier.
 fn members(reading: &mut Reading) -> Said {
     let start = member_count(reading);
     reading.parser.expect(TokenKind::BraceOpen, "expected `{`");
@@ -228,7 +228,7 @@ fn members(reading: &mut Reading) -> Said {
     }
 }
 
-// A `fn` after its name.
+// A `fn` after its identifier.
 fn function(reading: &mut Reading) -> Said {
     let start = member_count(reading);
     reading.parser.expect(TokenKind::ParenOpen, "expected `(`");

@@ -1,4 +1,4 @@
-// Directives, which stand before all declarations.
+// Directives, before all declarations.
 
 use crate::items::Reading;
 use ir_flags::Capabilities;
@@ -27,7 +27,7 @@ pub(crate) fn directives(reading: &mut Reading) {
     }
 }
 
-// The names of extensions or features that a directive lists.
+// Reads the names that a directive lists.
 fn names(reading: &mut Reading, extensions: bool) {
     reading.parser.advance();
     for count in 0..reading.parser.tokens.list.len() {
@@ -55,7 +55,7 @@ fn names(reading: &mut Reading, extensions: bool) {
     reading.parser.expect(TokenKind::Semicolon, "expected `;`");
 }
 
-// An extension.
+// An enable extension.
 fn enable(reading: &mut Reading, extent: Extent) {
     match enable_of(reading.parser.tokens.part(extent)) {
         Some(more) => reading.enabled = Capabilities(reading.enabled.0 | more.0),
@@ -66,7 +66,7 @@ fn enable(reading: &mut Reading, extent: Extent) {
     }
 }
 
-// A feature of the language.
+// A language extension.
 fn require(parser: &mut Parser, extent: Extent) {
     if !is_language_feature(parser.tokens.part(extent)) {
         let error = WgslError::of_name("unknown language extension ", extent, "");
@@ -74,7 +74,7 @@ fn require(parser: &mut Parser, extent: Extent) {
     }
 }
 
-// A diagnostic filter after its opening parenthesis: a severity, and a rule of one name or two.
+// A diagnostic filter after its opening parenthesis: severity, and a rule of one or two names.
 pub(crate) fn filter(parser: &mut Parser) {
     let extent = parser.extent();
     if parser.name().is_none() {

@@ -9,7 +9,7 @@ use wgsl_text::{WgslError, check_source};
 use wgsl_tokens::{TokenKind, tokenize};
 use wgsl_tree::{Attribute, Item, Member, Parser, Part, Tree};
 
-// A text that is read.
+// The parser's state for items.
 pub(crate) struct Reading {
     pub parser: Parser,
     pub items: Vec<Item>,
@@ -18,7 +18,7 @@ pub(crate) struct Reading {
     pub enabled: Capabilities,
 }
 
-// Written out, so that its lists are freed in one call.
+// Written out, so that dropping it is one call.
 impl Drop for Reading {
     fn drop(self) {
         let Reading {
@@ -31,7 +31,7 @@ impl Drop for Reading {
     }
 }
 
-// From a place of a table up to its end.
+// The range from an index to the end of a table.
 pub(crate) fn part_from<T>(start: u32, table: &[T]) -> Part {
     Part {
         start,
@@ -40,12 +40,12 @@ pub(crate) fn part_from<T>(start: u32, table: &[T]) -> Part {
 }
 
 impl Reading {
-    // How many attributes there are.
+    // The number of attributes.
     pub(crate) fn attribute_count(&self) -> u32 {
         u32::try_from(self.attributes.len()).unwrap_or(u32::MAX)
     }
 
-    // The steps from this one on.
+    // The steps from an index on.
     pub(crate) fn steps_from(&self, start: u32) -> Part {
         Part {
             start,
@@ -73,7 +73,7 @@ impl Reading {
         }
     }
 
-    // What was read.
+    // The parsed text.
     fn finish(self) -> Result<Tree, WgslError> {
         let Reading {
             parser,
@@ -96,7 +96,7 @@ impl Reading {
     }
 }
 
-/// The items and steps of the bytes of a text. An error is out of memory, that they are no WGSL, or that they pass a bound.
+/// Parses bytes. The error is out of memory, not WGSL, or past a bound.
 pub fn parse(alloc: Global, bytes: &[u8]) -> Result<Tree, WgslError> {
     check_source(bytes)?;
     let tokens = tokenize(alloc, bytes)?;

@@ -1,4 +1,4 @@
-//! From a text of WGSL to items and steps: directives, declarations, attributes and statements.
+//! Parser of WGSL: directives, declarations, attributes and statements.
 #![tactic(auto)]
 
 mod attributes;

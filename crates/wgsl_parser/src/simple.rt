@@ -5,7 +5,7 @@ use wgsl_tokens::TokenKind;
 use wgsl_tree::{Mode, Parser, StepKind, assigned_operator};
 use wgsl_words::Keyword;
 
-// A `let` or `const` after its keyword; `var` is one of its own.
+// A `let` or `const` after its keyword.
 fn constant(parser: &mut Parser, keyword: Keyword) {
     let token = parser.token();
     parser.new_name();
@@ -60,7 +60,7 @@ fn variable(parser: &mut Parser) {
     parser.push(kind, token);
 }
 
-// A declaration, if one stands next.
+// Reads a declaration, if there is one.
 fn declaration(parser: &mut Parser) -> bool {
     let keyword = parser.keyword();
     match keyword {
@@ -77,7 +77,7 @@ fn declaration(parser: &mut Parser) -> bool {
     true
 }
 
-// The number of arguments of the call that was read last, if the last step is one.
+// The number of arguments of the last step, if it is a call.
 fn last_call(parser: &Parser) -> Option<u32> {
     match parser.steps.last() {
         Some(step) => match step.kind {
@@ -88,7 +88,7 @@ fn last_call(parser: &Parser) -> Option<u32> {
     }
 }
 
-// A store or a call.
+// An assignment or a call.
 fn effect(parser: &mut Parser) {
     let token = parser.token();
     if parser.skip_keyword(Keyword::Underscore) {
@@ -110,7 +110,7 @@ fn effect(parser: &mut Parser) {
     store(parser);
 }
 
-// What is done with a place.
+// The operator after a left-hand side.
 fn store(parser: &mut Parser) {
     let token = parser.token();
     let kind = parser.kind();
@@ -141,7 +141,7 @@ fn store(parser: &mut Parser) {
     }
 }
 
-// A store or a call, or where `declares` a declaration, without a semicolon.
+// An assignment, a call or, if `declares`, a declaration, without its semicolon.
 pub(crate) fn simple(parser: &mut Parser, declares: bool) {
     if declares && declaration(parser) {
         return;
@@ -149,7 +149,7 @@ pub(crate) fn simple(parser: &mut Parser, declares: bool) {
     effect(parser);
 }
 
-// A statement of a keyword that has no block, with its semicolon; none where it is no such.
+// Reads a keyword statement without a block, with its semicolon. Returns whether there is one.
 pub(crate) fn jump(parser: &mut Parser, keyword: Keyword) -> bool {
     let token = parser.token();
     match keyword {

@@ -1,6 +1,6 @@
-// Statements, with a stack of the blocks that are open in place of recursion.
+// Statements, with an explicit stack of open blocks.
 
-use crate::blocks::{Around, Blocks, MAX_BRACES, MAX_DEPTH, blocks_of, end_at, ends_of};
+use crate::blocks::{Around, Blocks, MAX_BRACES, end_at, ends_of};
 use crate::simple::{jump, simple};
 use wgsl_text::WgslError;
 use wgsl_tokens::TokenKind;
@@ -12,7 +12,6 @@ pub(crate) fn body(parser: &mut Parser) {
     let mut blocks = Blocks {
         open: Vec::new(parser.alloc),
         kept: Vec::new(parser.alloc),
-        depth: 0,
     };
     blocks.enter(parser, Around::Function);
     for _ in parser.place..parser.tokens.list.len().saturating_add(1) {
@@ -24,13 +23,12 @@ pub(crate) fn body(parser: &mut Parser) {
 }
 
 impl Blocks {
-    // Opens a block at its brace.
+    // Enters a block at its brace.
     fn enter(&mut self, parser: &mut Parser, around: Around) {
         let extent = parser.extent();
         parser.expect(TokenKind::BraceOpen, "expected `{`");
-        self.depth = self.depth.saturating_add(blocks_of(around));
-        if self.open.len() >= MAX_BRACES || self.depth > MAX_DEPTH {
-            let error = WgslError::unsupported("blocks nested more than 255 deep", extent);
+        if self.open.len() >= MAX_BRACES {
+            let error = WgslError::unsupported("braces nested more than 127 deep", extent);
             parser.failed.fail(error);
         }
         parser.failed.push(&mut self.open, around);
@@ -41,7 +39,7 @@ impl Blocks {
         self.open.last().copied().unwrap_or(Around::Function)
     }
 
-    // A statement, or the end of a block.
+    // Reads a statement, or the end of a block.
     fn statement(&mut self, parser: &mut Parser) {
         let around = self.innermost();
         if parser.kind() == TokenKind::BraceClose {
@@ -68,19 +66,20 @@ impl Blocks {
         }
     }
 
-    // A statement that begins with a word.
+    // Reads a statement that begins with a word.
     fn word(&mut self, parser: &mut Parser, around: Around) {
         let keyword = parser.keyword();
+        let token = parser.token();
         match keyword {
             Keyword::If => {
                 parser.advance();
                 parser.expression(Mode::Value);
-                self.condition(parser, 1);
+                self.condition(parser, 1, token);
             }
             Keyword::Switch => {
                 parser.advance();
                 parser.expression(Mode::Value);
-                parser.push(StepKind::Switch, parser.token());
+                parser.push(StepKind::Switch, token);
                 self.enter(parser, Around::Switch);
             }
             Keyword::Loop => {
@@ -101,22 +100,23 @@ impl Blocks {
         }
     }
 
-    // The body of an `if` after its condition, the last of so many.
-    fn condition(&mut self, parser: &mut Parser, count: u32) {
-        parser.push(StepKind::If, parser.token());
+    // Enters the body of an `if` at this token after its condition.
+    fn condition(&mut self, parser: &mut Parser, count: u32, token: u32) {
+        parser.push(StepKind::If, token);
         self.enter(parser, Around::If(count));
     }
 
-    // A loop with a condition.
+    // Reads the head of a `while` loop.
     fn while_loop(&mut self, parser: &mut Parser) {
-        parser.push(StepKind::While, parser.token());
+        let token = parser.token();
+        parser.push(StepKind::While, token);
         parser.advance();
         parser.expression(Mode::Value);
-        parser.push(StepKind::WhileTest, parser.token());
+        parser.push(StepKind::WhileTest, token);
         self.enter(parser, Around::While);
     }
 
-    // A loop that begins with something, and does something after each time.
+    // Reads the head of a `for` loop.
     fn for_loop(&mut self, parser: &mut Parser) {
         parser.push(StepKind::For, parser.token());
         parser.advance();
@@ -126,11 +126,12 @@ impl Blocks {
         }
         parser.expect(TokenKind::Semicolon, "expected `;`");
         parser.push(StepKind::ForLoop, parser.token());
+        let token = parser.token();
         let has_test = parser.kind() != TokenKind::Semicolon;
         if has_test {
             parser.expression(Mode::Value);
         }
-        parser.push(StepKind::ForTest(has_test), parser.token());
+        parser.push(StepKind::ForTest(has_test), token);
         parser.expect(TokenKind::Semicolon, "expected `;`");
         let kept = u32::try_from(self.kept.len()).unwrap_or(u32::MAX);
         let start = parser.steps.len();
@@ -142,7 +143,7 @@ impl Blocks {
         self.enter(parser, Around::For(kept));
     }
 
-    // Keeps the steps from this place on for later.
+    // Moves the steps from an index on to the kept ones.
     fn keep(&mut self, parser: &mut Parser, start: usize) {
         for place in start..parser.steps.len() {
             if let Some(step) = parser.steps.get(place) {
@@ -152,7 +153,7 @@ impl Blocks {
         parser.steps.truncate(start);
     }
 
-    // Adds the steps that were kept from this place on.
+    // Appends the kept steps from an index on.
     fn restore(&mut self, parser: &mut Parser, start: usize) {
         for place in start..self.kept.len() {
             if let Some(step) = self.kept.get(place) {
@@ -162,14 +163,14 @@ impl Blocks {
         self.kept.truncate(start);
     }
 
-    // The continuing part of a loop.
+    // Reads the head of a continuing block.
     fn continuing(&mut self, parser: &mut Parser) {
         parser.push(StepKind::Continuing, parser.token());
         parser.advance();
         self.enter(parser, Around::Continuing);
     }
 
-    // A `break`, or in a continuing part what ends the loop.
+    // Reads `break`, or `break if` in a continuing block.
     fn leave_loop(&mut self, parser: &mut Parser, around: Around) {
         let token = parser.token();
         let extent = parser.extent();
@@ -200,7 +201,7 @@ impl Blocks {
         }
     }
 
-    // A case of a switch.
+    // Reads the head of a case.
     fn case(&mut self, parser: &mut Parser) {
         let token = parser.token();
         if parser.skip_keyword(Keyword::Default) {
@@ -216,12 +217,11 @@ impl Blocks {
         self.enter(parser, Around::Case);
     }
 
-    // The end of the innermost block.
+    // Leaves the innermost block.
     fn leave(&mut self, parser: &mut Parser, around: Around) {
         let token = parser.token();
         parser.advance();
         let _ = self.open.pop();
-        self.depth = self.depth.saturating_sub(blocks_of(around));
         match around {
             Around::Function => return,
             Around::If(count) if parser.keyword() == Keyword::Else => {
@@ -229,10 +229,9 @@ impl Blocks {
                 return;
             }
             Around::Continuing => {
-                // the loop ends with its continuing part
+                // the loop ends with its continuing block
                 parser.expect(TokenKind::BraceClose, "expected `}`");
                 let _ = self.open.pop();
-                self.depth = self.depth.saturating_sub(1);
             }
             Around::For(kept) => {
                 parser.push(StepKind::ForUpdate, token);
@@ -246,20 +245,21 @@ impl Blocks {
         }
     }
 
-    // What is done where none of so many conditions holds.
+    // Enters `else`.
     fn otherwise(&mut self, parser: &mut Parser, count: u32) {
         parser.push(StepKind::Else, parser.token());
         parser.advance();
+        let token = parser.token();
         if parser.skip_keyword(Keyword::If) {
             parser.expression(Mode::Value);
-            self.condition(parser, count.saturating_add(1));
+            self.condition(parser, count.saturating_add(1), token);
         } else {
             self.enter(parser, Around::Else(count));
         }
     }
 }
 
-// The values of a case.
+// Reads the selectors of a case.
 fn case_values(parser: &mut Parser) {
     for count in 0..parser.tokens.list.len() {
         if parser.has_failed() {
@@ -282,7 +282,7 @@ fn case_values(parser: &mut Parser) {
     }
 }
 
-// Attributes before a statement.
+// Reports attributes before a statement.
 fn filtered(parser: &mut Parser) {
     let extent = parser.extent();
     parser.advance();

@@ -1,4 +1,4 @@
-// A function's expressions, locals and statements, as they come.
+// A function under construction: its expressions, locals and statements.
 
 use ir_arena::arena::Arena;
 use ir_arena::range::Range;
@@ -10,23 +10,23 @@ use std::alloc::Global;
 use std::mem;
 use wgsl_types::{ExpressionHandle, no_expression};
 
-// What is written of the function that is open.
+// The state of the current function.
 #[derive(Drop)]
 pub(crate) struct Body {
     alloc: Global,
     expressions: Arena<Expression, key::Expression>,
     locals: Arena<LocalVariable, key::LocalVariable>,
-    // the blocks that are open, the innermost last
+    // the open blocks, the innermost last
     open: Vec<Block>,
-    // the first expression that no statement emits yet, and the spans from it on
+    // the first expression that no `Emit` covers yet, and the span of those from it on
     start: Option<u32>,
     span: Span,
-    // whether there was not enough memory
+    // whether it ran out of memory
     pub has_failed: bool,
 }
 
 impl Body {
-    // With nothing in it.
+    // An empty function.
     pub(crate) fn new(alloc: Global) -> Body {
         Body {
             alloc,
@@ -39,7 +39,7 @@ impl Body {
         }
     }
 
-    // An expression.
+    // Appends an expression.
     fn append(&mut self, expression: Expression, span: Span) -> ExpressionHandle {
         match self.expressions.append(expression, span) {
             Ok(handle) => handle,
@@ -54,7 +54,7 @@ impl Body {
         u32::try_from(self.expressions.len()).unwrap_or(u32::MAX)
     }
 
-    // A statement in the innermost block.
+    // Appends a statement to the innermost block.
     fn push(&mut self, statement: Statement, span: Span) {
         match self.open.last_mut() {
             Some(block) => {
@@ -66,7 +66,7 @@ impl Body {
         }
     }
 
-    // Emits what no statement emits yet.
+    // Appends an `Emit` of the pending expressions.
     fn flush(&mut self) {
         let Some(start) = self.start.take() else {
             return;
@@ -78,7 +78,7 @@ impl Body {
         }
     }
 
-    // An expression that is computed here.
+    // Adds an expression that an `Emit` statement has to cover.
     pub(crate) fn compute(&mut self, expression: Expression, span: Span) -> ExpressionHandle {
         match self.start {
             None => {
@@ -90,13 +90,13 @@ impl Body {
         self.append(expression, span)
     }
 
-    // An expression that is always there, or that a statement gives.
+    // Adds an expression that needs no `Emit`, or is the result of a statement.
     pub(crate) fn place(&mut self, expression: Expression, span: Span) -> ExpressionHandle {
         self.flush();
         self.append(expression, span)
     }
 
-    // A statement.
+    // Adds a statement, after an `Emit` of the pending expressions.
     pub(crate) fn statement(&mut self, statement: Statement, span: Span) {
         self.flush();
         self.push(statement, span);
@@ -119,7 +119,7 @@ impl Body {
         }
     }
 
-    // A local; answers the pointer to it.
+    // Adds a local variable; returns the pointer to it.
     pub(crate) fn local(&mut self, local: LocalVariable, span: Span) -> ExpressionHandle {
         match self.locals.append(local, span) {
             Ok(handle) => self.place(Expression::LocalVariable(handle), span),
@@ -130,7 +130,7 @@ impl Body {
         }
     }
 
-    // What was written, as a function whose body is the block that is open.
+    // The function, whose body is the open block.
     pub(crate) fn take(
         &mut self,
         name: Option<String>,

@@ -1,22 +1,22 @@
-// How much may be made of a text, so that work and memory are linear in it.
+// A budget for the IR built from a text, so that work and memory are linear in the text's size.
 
 use ir_types::{Expression, IrType, TypeInner};
 use wgsl_text::{Extent, WgslError};
 
-// How much for any text, however short: what is made of that is little.
+// The budget of any text, however short.
 const AT_LEAST: u64 = 65_536;
 
-// How much for each token.
-const A_TOKEN: u64 = 64;
+// The budget for each token.
+const A_TOKEN: u64 = 16;
 
-// How many expressions, types, members and statements may still be made.
+// The number of expressions, types, members and statements that may still be created.
 #[derive(Clone, Copy)]
 pub(crate) struct Budget {
     left: u64,
 }
 
 impl Budget {
-    // That of a text of so many tokens.
+    // The budget of a text with this many tokens.
     pub(crate) fn of(tokens: usize) -> Budget {
         let tokens = u64::try_from(tokens).unwrap_or(0);
         Budget {
@@ -24,7 +24,7 @@ impl Budget {
         }
     }
 
-    // So many are made. An error is that these are too many.
+    // Spends from the budget. It is an error if it is exceeded.
     pub(crate) fn spend(&mut self, count: u64, extent: Extent) -> Option<WgslError> {
         match self.left.checked_sub(count) {
             Some(left) => {
@@ -39,7 +39,7 @@ impl Budget {
     }
 }
 
-// How many parts an expression has.
+// The cost of an expression: 1, and 1 for each component.
 pub(crate) fn expression_size(expression: &Expression) -> u64 {
     match expression {
         Expression::Compose { components, .. } => {
@@ -51,7 +51,7 @@ pub(crate) fn expression_size(expression: &Expression) -> u64 {
     }
 }
 
-// How many parts a type has.
+// The cost of a type: 1, and 1 for each member.
 pub(crate) fn type_size(ty: &IrType) -> u64 {
     match &ty.inner {
         TypeInner::Struct { members, .. } => {

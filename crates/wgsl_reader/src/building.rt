@@ -1,19 +1,23 @@
-// A module as it comes.
+// A module under construction.
 
 use crate::body::Body;
 use crate::budget::{Budget, expression_size, type_size};
+use crate::required::required_by;
 use ir_arena::arena::Arena;
 use ir_flags::Capabilities;
 use ir_items::{
     Block, Constant, EntryPoint, Expression, Function, FunctionArgument, FunctionResult,
-    GlobalVariable, IrType, LocalVariable, Override, Statement, key,
+    GlobalVariable, IrType, LocalVariable, Override, SpecialTypes, Statement, key,
 };
+use ir_kinds::PredeclaredType;
 use ir_sets::keyed::KeyedState;
 use ir_sets::unique_arena::UniqueArena;
 use std::alloc::Global;
 use wgsl_declarations::{EntryHead, ModuleBuilder};
 use wgsl_text::{Extent, Failure, WgslError};
-use wgsl_types::{Builder, ExpressionHandle, TypeHandle, no_expression, no_type, span_of};
+use wgsl_types::{
+    Builder, ExpressionHandle, RayStruct, TypeHandle, no_expression, no_type, span_of,
+};
 
 // The parts of a module.
 #[derive(Drop)]
@@ -25,9 +29,28 @@ pub(crate) struct Parts {
     pub entries: Vec<EntryPoint>,
     pub constants: Arena<Constant, key::Constant>,
     pub overrides: Arena<Override, key::Override>,
+    pub special: SpecialTypes,
 }
 
-// A module as it comes.
+// Whether the expression is allowed in functions only.
+fn is_of_functions(expression: &Expression) -> bool {
+    !matches!(
+        expression,
+        Expression::Compose { .. }
+            | Expression::Splat { .. }
+            | Expression::Access { .. }
+            | Expression::AccessIndex { .. }
+            | Expression::Swizzle { .. }
+            | Expression::Unary { .. }
+            | Expression::Binary { .. }
+            | Expression::Select { .. }
+            | Expression::Relational { .. }
+            | Expression::Math { .. }
+            | Expression::As { .. }
+    )
+}
+
+// A module under construction.
 #[derive(Drop)]
 pub(crate) struct Building {
     pub alloc: Global,
@@ -36,18 +59,19 @@ pub(crate) struct Building {
     pub expressions: Arena<Expression, key::Expression>,
     pub functions: Arena<Function, key::Function>,
     pub entries: Vec<EntryPoint>,
+    special: SpecialTypes,
     body: Body,
     is_global: bool,
     budget: Budget,
     pub failed: Failure,
-    // the capabilities that it uses
+    // the capabilities that the module requires
     pub used: Capabilities,
     constants: Arena<Constant, key::Constant>,
     overrides: Arena<Override, key::Override>,
 }
 
 impl Building {
-    // With nothing in it, of a text of so many tokens.
+    // An empty module, for a text with this many tokens.
     pub(crate) fn new(alloc: Global, key: KeyedState, tokens: usize) -> Building {
         Building {
             alloc,
@@ -56,6 +80,7 @@ impl Building {
             expressions: Arena::new(alloc),
             functions: Arena::new(alloc),
             entries: Vec::new(alloc),
+            special: SpecialTypes::new(alloc),
             body: Body::new(alloc),
             is_global: true,
             budget: Budget::of(tokens),
@@ -75,6 +100,7 @@ impl Building {
             expressions,
             functions,
             entries,
+            special,
             body: _body,
             is_global: _,
             budget: _,
@@ -91,10 +117,11 @@ impl Building {
             entries,
             constants,
             overrides,
+            special,
         }
     }
 
-    // So many parts are made; answers whether they may be.
+    // Spends from the budget; returns whether it suffices.
     fn spend(&mut self, count: u64, extent: Extent) -> bool {
         if let Some(error) = self.budget.spend(count, extent) {
             self.failed.fail(error);
@@ -102,14 +129,14 @@ impl Building {
         !self.failed.is_some()
     }
 
-    // Tells where there was not enough memory.
+    // Reports that the function ran out of memory.
     fn check(&mut self) {
         if self.body.has_failed {
             self.failed.fail_memory();
         }
     }
 
-    // An expression of the module.
+    // Adds a global expression.
     fn global(&mut self, expression: Expression, extent: Extent) -> ExpressionHandle {
         match self.expressions.append(expression, span_of(extent)) {
             Ok(handle) => handle,
@@ -135,6 +162,7 @@ impl Builder for Building {
             drop(ty);
             return no_type();
         }
+        self.require(required_by(&ty.inner));
         match self.types.insert(ty, span_of(extent)) {
             Ok(handle) => handle,
             Err(_) => {
@@ -150,12 +178,9 @@ impl Builder for Building {
             return no_expression();
         }
         if self.is_global {
-            if !matches!(
-                expression,
-                Expression::Compose { .. } | Expression::Splat { .. }
-            ) {
-                let text = "such an operation on constants that are no numbers";
-                self.failed.fail(WgslError::unsupported(text, extent));
+            if is_of_functions(&expression) {
+                let text = "Unexpected runtime-expression";
+                self.failed.fail(WgslError::malformed(text, extent));
             }
             return self.global(expression, extent);
         }
@@ -204,8 +229,36 @@ impl Builder for Building {
         made
     }
 
+    fn overridable(&mut self, overridable: Override, extent: Extent) -> u32 {
+        match self.overrides.append(overridable, span_of(extent)) {
+            Ok(handle) => u32::try_from(handle.index()).unwrap_or(u32::MAX),
+            Err(_) => {
+                self.failed.fail_memory();
+                0
+            }
+        }
+    }
+
     fn is_global(&self) -> bool {
         self.is_global
+    }
+
+    fn require(&mut self, capability: Capabilities) {
+        self.used = Capabilities(self.used.0 | capability.0);
+    }
+
+    fn predeclare(&mut self, of: PredeclaredType, ty: TypeHandle) {
+        if self.special.predeclared_types.insert(of, ty).is_err() {
+            self.failed.fail_memory();
+        }
+    }
+
+    fn predeclare_rays(&mut self, of: RayStruct, ty: TypeHandle) {
+        match of {
+            RayStruct::Descriptor => self.special.ray_desc = Some(ty),
+            RayStruct::Intersection => self.special.ray_intersection = Some(ty),
+            RayStruct::Vertices => self.special.ray_vertex_return = Some(ty),
+        }
     }
 }
 
@@ -224,22 +277,8 @@ impl ModuleBuilder for Building {
         }
     }
 
-    fn require(&mut self, capability: Capabilities) {
-        self.used = Capabilities(self.used.0 | capability.0);
-    }
-
     fn constant(&mut self, constant: Constant, extent: Extent) -> u32 {
         match self.constants.append(constant, span_of(extent)) {
-            Ok(handle) => u32::try_from(handle.index()).unwrap_or(u32::MAX),
-            Err(_) => {
-                self.failed.fail_memory();
-                0
-            }
-        }
-    }
-
-    fn overridable(&mut self, overridable: Override, extent: Extent) -> u32 {
-        match self.overrides.append(overridable, span_of(extent)) {
             Ok(handle) => u32::try_from(handle.index()).unwrap_or(u32::MAX),
             Err(_) => {
                 self.failed.fail_memory();
@@ -279,7 +318,7 @@ impl ModuleBuilder for Building {
                 None => String::new(self.alloc),
             },
             stage: head.stage,
-            early_depth_test: None,
+            early_depth_test: head.depth_test,
             workgroup_size: head.size,
             mesh_info: None,
             task_payload: None,

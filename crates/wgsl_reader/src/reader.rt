@@ -1,4 +1,4 @@
-// From a text to a module of the IR.
+// From text to a module of the IR.
 ghost use Rattle.std.specs.Prelude.{IfOk};
 ghost use Rattle.wgsl_reader.specs.Checks.{MakesSixChecks};
 
@@ -6,7 +6,7 @@ use crate::building::Building;
 use document_reader::Document;
 use ir_arena::arena::Arena;
 use ir_flags::{Capabilities, Settings, ShaderStages, SubgroupOperationSet, ValidationFlags};
-use ir_items::{Module, SpecialTypes};
+use ir_items::Module;
 use ir_sets::keyed::KeyedState;
 use std::alloc::Global;
 use wgsl_declarations::lower_items;
@@ -15,9 +15,9 @@ use wgsl_names::names_of;
 use wgsl_parser::parse;
 use wgsl_text::{Failure, WgslError};
 
-/// The module that the bytes of a text of WGSL say, with the settings that it is to be judged by: all checks, the capabilities that it
-/// enables or uses, and returns put in. Its spans are in bytes. An error is out of memory, that the bytes are no WGSL, or what of it is
-/// not translated.
+/// The module in this WGSL text, with the settings for its validation: all checks, the capabilities that it enables or requires,
+/// and insertion of missing returns. Its spans are in bytes. The error is out of memory, that the text is not WGSL, or that a
+/// construct is unsupported.
 pub fn read_wgsl(alloc: Global, bytes: &[u8]) -> Result<Document, WgslError>
     ensures { IfOk result (λ d. MakesSixChecks d.settings.flags) }
 {
@@ -40,19 +40,36 @@ pub fn read_wgsl(alloc: Global, bytes: &[u8]) -> Result<Document, WgslError>
     failed.answer(document_of(built, enabled))
 }
 
-// The settings of a module that enables this.
+// The shader stages with subgroup operations, if a module requires them.
+const STAGES: ShaderStages = ShaderStages(
+    ShaderStages::VERTEX.0 | ShaderStages::FRAGMENT.0 | ShaderStages::COMPUTE.0,
+);
+
+// All subgroup operations.
+const OPERATIONS: SubgroupOperationSet = SubgroupOperationSet(0x7f);
+
+// The settings of a module with these capabilities.
 fn settings_of(enabled: Capabilities) -> Settings
     ensures { MakesSixChecks result.flags }
 {
+    let has_subgroups = enabled.0 & Capabilities::SUBGROUP.0 != 0;
     Settings {
         flags: ValidationFlags::default(),
         capabilities: enabled,
-        subgroup_stages: ShaderStages(0),
-        subgroup_operations: SubgroupOperationSet(0),
+        subgroup_stages: if has_subgroups {
+            STAGES
+        } else {
+            ShaderStages(0)
+        },
+        subgroup_operations: if has_subgroups {
+            OPERATIONS
+        } else {
+            SubgroupOperationSet(0)
+        },
     }
 }
 
-// The document of what was built.
+// The document of the module.
 fn document_of(built: Building, enabled: Capabilities) -> Document
     ensures { MakesSixChecks result.settings.flags }
 {
@@ -61,7 +78,7 @@ fn document_of(built: Building, enabled: Capabilities) -> Document
     let parts = built.into_parts();
     let module = Module {
         types: parts.types,
-        special_types: SpecialTypes::new(alloc),
+        special_types: parts.special,
         constants: parts.constants,
         overrides: parts.overrides,
         global_variables: parts.variables,

@@ -7,9 +7,8 @@ use ir_kinds::AddressSpace;
 use wgsl_expressions::{Lowering, Operand, Value, handle_of, number_of};
 use wgsl_text::{Extent, Failure, WgslError};
 use wgsl_types::{Builder, Shape};
-use wgsl_values::converted;
 
-// Whether a value of one type stands where the other is wanted, as far as shapes tell.
+// Whether a value's type is the expected type. Arrays, structs and pointers are not compared.
 fn agrees(wanted: Shape, found: Shape) -> bool {
     match (wanted, found) {
         (Shape::Row(_), _) | (_, Shape::Row(_)) => true,
@@ -17,7 +16,7 @@ fn agrees(wanted: Shape, found: Shape) -> bool {
     }
 }
 
-// A name stands for this from here on.
+// Declares an identifier from here on.
 pub(crate) fn declare<B: Builder>(lowering: &mut Lowering<B>, token: u32, value: Value) {
     let name = lowering.word_at(token);
     let extent = lowering.extent(token);
@@ -28,7 +27,7 @@ pub(crate) fn declare<B: Builder>(lowering: &mut Lowering<B>, token: u32, value:
     lowering.join(&failed);
 }
 
-// The value that a declaration gives a name, as one of the type that it says, if it says one.
+// The initializer of a declaration, converted to the declared type, if there is one.
 fn initial<B: Builder>(
     lowering: &mut Lowering<B>,
     wanted: Option<Shape>,
@@ -38,7 +37,7 @@ fn initial<B: Builder>(
     let Some(wanted) = wanted else {
         return lowering.value(operand);
     };
-    let (value, found) = match wanted.scalar() {
+    let (value, found) = match lowering.table.leaf(wanted) {
         Some(scalar) => lowering.value_as(operand, scalar),
         None => lowering.value(operand),
     };
@@ -49,7 +48,7 @@ fn initial<B: Builder>(
     (value, wanted)
 }
 
-// The type that a declaration says, before the value on the stack.
+// The declared type, below the initializer on the stack.
 fn typed<B: Builder>(lowering: &mut Lowering<B>, is_typed: bool) -> Option<Shape> {
     if !is_typed {
         return None;
@@ -58,7 +57,7 @@ fn typed<B: Builder>(lowering: &mut Lowering<B>, is_typed: bool) -> Option<Shape
     Some(lowering.type_of(&operand))
 }
 
-// A `let`.
+// Lowers a `let`.
 pub(crate) fn bind<B: Builder>(lowering: &mut Lowering<B>, is_typed: bool, token: u32) {
     let popped = lowering.pop();
     let operand = lowering.load(popped);
@@ -68,31 +67,38 @@ pub(crate) fn bind<B: Builder>(lowering: &mut Lowering<B>, is_typed: bool, token
     declare(lowering, token, Value::Computed(value, shape));
 }
 
-// A `const`.
+// Lowers a `const`.
 pub(crate) fn constant<B: Builder>(lowering: &mut Lowering<B>, is_typed: bool, token: u32) {
     let popped = lowering.pop();
     let operand = lowering.load(popped);
     let wanted = typed(lowering, is_typed);
     let extent = lowering.extent(token);
-    let value = match (operand.value, wanted) {
-        (Value::Literal(literal), Some(Shape::Scalar(scalar))) => match converted(literal, scalar) {
-            Some(literal) => Value::Literal(literal),
-            None => {
-                let text = " is expected to be of another type than its value";
-                lowering.fail(WgslError::of_name("the type of ", extent, text));
-                Value::Nothing
-            }
+    let known = match wanted {
+        Some(shape) => match lowering.known_for(&operand, shape) {
+            Some(place) => Some(lowering.store.known(place)),
+            None => None,
         },
-        (Value::Literal(_) | Value::Parts(..), None) => operand.value,
-        _ => {
-            lowering.unsupported("a constant that is no number", operand.extent);
+        None => lowering.known_of(&operand),
+    };
+    let value = match known {
+        Some(known) => lowering.value_of(known),
+        None if lowering.known_of(&operand).is_some() => {
+            let text = " is expected to be of another type than its value";
+            lowering.fail(WgslError::of_name("the type of ", extent, text));
+            Value::Nothing
+        }
+        None => {
+            lowering.unsupported(
+                "a constant that is computed when the shader runs",
+                operand.extent,
+            );
             Value::Nothing
         }
     };
     declare(lowering, token, value);
 }
 
-// A `var`.
+// Lowers a `var`.
 pub(crate) fn variable<B: Builder>(
     lowering: &mut Lowering<B>,
     flow: &Flow,
@@ -143,7 +149,7 @@ pub(crate) fn variable<B: Builder>(
     );
 }
 
-// A variable of a function lies in its own memory.
+// A function's variable must be in the `function` address space.
 fn check_space<B: Builder>(lowering: &mut Lowering<B>, space: &Operand) {
     let is_function = match space.value {
         Value::Word(name) => lowering.tree.tokens.word(name) == b"function".as_slice(),

@@ -1,13 +1,14 @@
-// Stores and calls.
+// Assignments, calls, `return` and `const_assert`.
 
 use ir_blocks::Statement;
 use ir_kinds::{BinaryOperator, Literal, Scalar};
+use wgsl_builtins::FunctionWord;
 use wgsl_expressions::{Lowering, Operand, Value, handle_of};
+use wgsl_functions::lower_call;
 use wgsl_text::Extent;
 use wgsl_types::{Builder, Shape};
-use wgsl_words::FunctionWord;
 
-// Stores a value into a variable or a part of one.
+// Stores a value to a reference.
 fn store<B: Builder>(lowering: &mut Lowering<B>, place: Operand, value: Operand) {
     let extent = place.extent.until(value.extent);
     let Value::Place(pointer, shape, _) = place.value else {
@@ -26,7 +27,7 @@ fn store<B: Builder>(lowering: &mut Lowering<B>, place: Operand, value: Operand)
     lowering.builder.statement(store, extent);
 }
 
-// A store.
+// Lowers a simple assignment.
 pub(crate) fn assign<B: Builder>(lowering: &mut Lowering<B>) {
     let popped = lowering.pop();
     let value = lowering.load(popped);
@@ -34,7 +35,7 @@ pub(crate) fn assign<B: Builder>(lowering: &mut Lowering<B>) {
     store(lowering, place, value);
 }
 
-// The place of a store that computes is known: what lies there is loaded.
+// The left-hand side of a compound assignment: its value is loaded.
 pub(crate) fn target<B: Builder>(lowering: &mut Lowering<B>) {
     let place = lowering.pop();
     if !matches!(place.value, Value::Place(..)) {
@@ -45,7 +46,7 @@ pub(crate) fn target<B: Builder>(lowering: &mut Lowering<B>) {
     lowering.push(loaded);
 }
 
-// A store of what an operation makes of what lies there and another value.
+// Lowers a compound assignment.
 pub(crate) fn compound<B: Builder>(lowering: &mut Lowering<B>, operator: BinaryOperator) {
     let popped = lowering.pop();
     let right = lowering.load(popped);
@@ -55,7 +56,7 @@ pub(crate) fn compound<B: Builder>(lowering: &mut Lowering<B>, operator: BinaryO
     store(lowering, place, made);
 }
 
-// One more, or one less.
+// Lowers an increment or a decrement.
 pub(crate) fn count<B: Builder>(lowering: &mut Lowering<B>, op: BinaryOperator, token: u32) {
     let place = lowering.pop();
     let extent = place.extent.until(lowering.extent(token));
@@ -83,23 +84,25 @@ pub(crate) fn count<B: Builder>(lowering: &mut Lowering<B>, op: BinaryOperator, 
     store(lowering, place, made);
 }
 
-// A value that is not used.
+// Lowers a phony assignment.
 pub(crate) fn phony<B: Builder>(lowering: &mut Lowering<B>) {
     let operand = lowering.pop();
     let _ = lowering.value(operand);
 }
 
-// Whether what a call gives may be left.
+// Whether the result of a call may be dropped.
 fn may_be_left(value: Value) -> bool {
     match value {
         Value::Function(entry) => !entry.must_use,
+        Value::BuiltIn(FunctionWord::Texture(word)) => !word.has_value(),
+        Value::BuiltIn(FunctionWord::Effect(word)) => word.may_be_dropped(),
         Value::BuiltIn(word) => matches!(word, FunctionWord::Barrier(_) | FunctionWord::Other),
         Value::Word(_) => true,
         _ => false,
     }
 }
 
-// A call that is a statement, with so many arguments.
+// Lowers a call statement with this many arguments.
 pub(crate) fn call<B: Builder>(lowering: &mut Lowering<B>, arguments: u32, token: u32) {
     let place = lowering
         .stack
@@ -111,17 +114,17 @@ pub(crate) fn call<B: Builder>(lowering: &mut Lowering<B>, arguments: u32, token
         .get(place)
         .copied()
         .unwrap_or(Operand::NOTHING);
+    lower_call(lowering, arguments, true, token);
+    let _ = lowering.pop();
     if !may_be_left(callee.value) {
         lowering.wrong(
             "unused return value from function annotated with @must_use",
             callee.extent,
         );
     }
-    lowering.call(arguments, token);
-    let _ = lowering.pop();
 }
 
-// Ends the function, with a value or not.
+// Lowers a `return`, with a value or not.
 pub(crate) fn give<B: Builder>(
     lowering: &mut Lowering<B>,
     gives: Shape,
@@ -140,7 +143,7 @@ pub(crate) fn give<B: Builder>(
         .statement(Statement::Return { value }, extent);
 }
 
-// A condition that has to hold when the text is read.
+// Lowers a `const_assert`.
 pub(crate) fn assertion<B: Builder>(lowering: &mut Lowering<B>) {
     let operand = lowering.pop();
     match operand.value {

@@ -1,10 +1,10 @@
-// What is open around a statement.
+// The statements that are open around the current one.
 
 use ir_kinds::SwitchValue;
 use wgsl_text::Extent;
 use wgsl_types::Shape;
 
-// What is open. The blocks are kept where the function is written.
+// The kind of an open statement. Its blocks are kept in the builder.
 #[derive(Clone, Copy)]
 pub(crate) enum Around {
     Block,
@@ -12,17 +12,17 @@ pub(crate) enum Around {
     If(u32),
     Else(u32),
     Loop,
-    // a loop in its continuing part, and what ends it
+    // a loop in its `continuing` block, and its `break if` condition
     Continuing(Option<u32>),
     While,
-    // a scope, and whether its loop is in its continuing part
+    // a `for` loop, and whether it is in its `continuing` block
     For(bool),
-    // the selector, and where its cases begin in the table
+    // the selector, and the start of its cases in the table
     Switch(Selector, u32),
     Case,
 }
 
-// What chooses among cases: the value, whether it is unsigned, and what it is where that is known.
+// The selector of a `switch`: its expression, whether it is `u32`, and its value if that is an abstract integer.
 #[derive(Clone, Copy)]
 pub(crate) struct Selector {
     pub value: u32,
@@ -30,37 +30,68 @@ pub(crate) struct Selector {
     pub known: Option<i64>,
 }
 
-// The same, and where it began.
+impl Around {
+    // The number of blocks that the statement nests: a loop with a condition has its body in a block of its own, and a switch
+    // counts as two.
+    fn levels(self) -> u32 {
+        match self {
+            Around::While | Around::For(_) => 2,
+            Around::Block
+            | Around::If(_)
+            | Around::Else(_)
+            | Around::Loop
+            | Around::Continuing(_)
+            | Around::Switch(..)
+            | Around::Case => 1,
+        }
+    }
+}
+
+// An open statement, its span, and the number of blocks around the statements in it.
 #[derive(Clone, Copy)]
 pub(crate) struct Open {
     pub around: Around,
     pub extent: Extent,
+    pub level: u32,
 }
 
-// A case of a switch that is open.
+// A case of an open `switch`.
 #[derive(Clone, Copy)]
 pub(crate) struct CaseEntry {
     pub value: SwitchValue,
-    // whether the value is of the selector's type, whichever that is
+    // whether the value is abstract and converts to the selector's type
     pub converts: bool,
     // whether the next value has the same body
     pub falls: bool,
 }
 
-// The statements of a function that is written.
+// The state of the function body that is lowered.
 #[derive(Drop)]
 pub(crate) struct Flow {
     pub open: Vec<Open>,
     pub cases: Vec<CaseEntry>,
-    // the type of what the function gives
+    // the result type of the function
     pub gives: Shape,
-    // how many loops are open
+    // the number of open loops
     pub loops: u32,
 }
 
 impl Flow {
-    // What is open last.
+    // Pops the innermost open statement.
     pub(crate) fn pop(&mut self) -> Option<Open> {
         self.open.pop()
+    }
+
+    // The number of blocks around the next statement.
+    pub(crate) fn level(&self) -> u32 {
+        match self.open.last() {
+            Some(open) => open.level,
+            None => 0,
+        }
+    }
+
+    // The number of blocks around the statements in this one, once it is opened.
+    pub(crate) fn level_in(&self, around: Around) -> u32 {
+        self.level().saturating_add(around.levels())
     }
 }

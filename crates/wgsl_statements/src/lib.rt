@@ -1,4 +1,4 @@
-//! The statements of a text of WGSL in the IR.
+//! Lowers WGSL statements to the IR.
 #![tactic(auto)]
 
 mod declarations;

@@ -1,4 +1,4 @@
-// Conditions and loops.
+// `if` statements and loops.
 
 use crate::flow::{Around, Flow, Open};
 use ir_blocks::Statement;
@@ -7,7 +7,7 @@ use wgsl_text::{Extent, Failure};
 use wgsl_types::Builder;
 
 impl Flow {
-    // Opens this.
+    // Pushes an open statement.
     pub(crate) fn push<B: Builder>(
         &mut self,
         lowering: &mut Lowering<B>,
@@ -15,7 +15,14 @@ impl Flow {
         extent: Extent,
     ) {
         let mut failed = Failure::NONE;
-        failed.push(&mut self.open, Open { around, extent });
+        let level = self.level_in(around);
+        lowering.set_level(level, extent);
+        let open = Open {
+            around,
+            extent,
+            level,
+        };
+        failed.push(&mut self.open, open);
         if matches!(around, Around::Loop | Around::While | Around::For(_)) {
             self.loops = self.loops.saturating_add(1);
         }
@@ -23,20 +30,20 @@ impl Flow {
     }
 }
 
-// The value on the stack, of a condition.
+// Pops the condition.
 pub(crate) fn condition<B: Builder>(lowering: &mut Lowering<B>) -> u32 {
     let operand = lowering.pop();
     lowering.value(operand).0
 }
 
-// A condition: what is done where it holds follows.
+// Opens an `if` and its accept block.
 pub(crate) fn choose<B: Builder>(lowering: &mut Lowering<B>, flow: &mut Flow, extent: Extent) {
     let condition = condition(lowering);
     flow.push(lowering, Around::If(condition), extent);
     lowering.builder.open();
 }
 
-// What is done where it doesn't follows.
+// Opens the reject block of an `if`.
 pub(crate) fn otherwise<B: Builder>(lowering: &mut Lowering<B>, flow: &mut Flow) {
     if let Some(open) = flow.pop() {
         if let Around::If(condition) = open.around {
@@ -46,7 +53,7 @@ pub(crate) fn otherwise<B: Builder>(lowering: &mut Lowering<B>, flow: &mut Flow)
     lowering.builder.open();
 }
 
-// The end of a condition, after both or one of its blocks.
+// Closes an `if`, with both blocks or only the first one open.
 pub(crate) fn end_choice<B: Builder>(
     lowering: &mut Lowering<B>,
     condition: u32,
@@ -66,13 +73,13 @@ pub(crate) fn end_choice<B: Builder>(
     lowering.builder.statement(chosen, extent);
 }
 
-// A block's end.
+// Closes a block statement.
 pub(crate) fn end_block<B: Builder>(lowering: &mut Lowering<B>, extent: Extent) {
     let block = lowering.builder.close();
     lowering.builder.statement(Statement::Block(block), extent);
 }
 
-// The end of a loop, after its body and its continuing part, or one of them.
+// Closes a loop, with both its body and its `continuing` block open, or only the body.
 pub(crate) fn end_loop<B: Builder>(
     lowering: &mut Lowering<B>,
     has_continuing: bool,
@@ -96,7 +103,7 @@ pub(crate) fn end_loop<B: Builder>(
     lowering.builder.statement(made, extent);
 }
 
-// Leaves the loop unless the condition on the stack holds; then a block opens.
+// Emits a break if the condition on the stack is false; then opens the body.
 pub(crate) fn test<B: Builder>(lowering: &mut Lowering<B>, has_test: bool, extent: Extent) {
     if has_test {
         let condition = condition(lowering);
@@ -108,7 +115,7 @@ pub(crate) fn test<B: Builder>(lowering: &mut Lowering<B>, has_test: bool, exten
     lowering.builder.open();
 }
 
-// The continuing part of a loop follows.
+// Opens the `continuing` block of a loop.
 pub(crate) fn continuing<B: Builder>(lowering: &mut Lowering<B>, flow: &mut Flow) {
     if let Some(open) = flow.pop() {
         flow.push(lowering, Around::Continuing(None), open.extent);
@@ -116,7 +123,7 @@ pub(crate) fn continuing<B: Builder>(lowering: &mut Lowering<B>, flow: &mut Flow
     lowering.builder.open();
 }
 
-// What ends the loop.
+// `break if`.
 pub(crate) fn ends_if<B: Builder>(lowering: &mut Lowering<B>, flow: &mut Flow) {
     let condition = condition(lowering);
     if let Some(open) = flow.pop() {
@@ -124,7 +131,7 @@ pub(crate) fn ends_if<B: Builder>(lowering: &mut Lowering<B>, flow: &mut Flow) {
     }
 }
 
-// What is done after the body each time follows.
+// Opens the `continuing` block of a `for` loop, for its update.
 pub(crate) fn update<B: Builder>(lowering: &mut Lowering<B>, flow: &mut Flow) {
     if let Some(open) = flow.pop() {
         end_block(lowering, open.extent);

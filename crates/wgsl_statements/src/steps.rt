@@ -10,12 +10,13 @@ use crate::switches;
 use ir_blocks::Statement;
 use ir_kinds::BinaryOperator;
 use wgsl_expressions::Lowering;
+use wgsl_functions::lower_step;
 use wgsl_text::Failure;
 use wgsl_tree::{Part, Step, StepKind};
 use wgsl_types::{Builder, Shape};
 
 impl Flow {
-    // A declaration, a store or a call; answers whether the step is one.
+    // Lowers a step if it is a declaration, an assignment or a call; returns whether it is.
     fn simple<B: Builder>(&mut self, lowering: &mut Lowering<B>, step: Step) -> bool {
         match step.kind {
             StepKind::Let(typed) => bind(lowering, typed, step.token),
@@ -38,7 +39,7 @@ impl Flow {
         true
     }
 
-    // What leaves; answers whether the step does.
+    // Lowers a step if it is `return`, `break`, `continue` or `discard`; returns whether it is.
     fn jump<B: Builder>(&mut self, lowering: &mut Lowering<B>, step: Step) -> bool {
         let extent = lowering.extent(step.token);
         match step.kind {
@@ -51,7 +52,7 @@ impl Flow {
         true
     }
 
-    // What opens or closes blocks.
+    // Lowers a step that opens or closes blocks.
     fn structured<B: Builder>(&mut self, lowering: &mut Lowering<B>, step: Step) {
         let extent = lowering.extent(step.token);
         match step.kind {
@@ -81,7 +82,7 @@ impl Flow {
         }
     }
 
-    // What belongs to a switch.
+    // Lowers a step of a `switch`.
     fn switching<B: Builder>(&mut self, lowering: &mut Lowering<B>, step: Step) {
         let extent = lowering.extent(step.token);
         match step.kind {
@@ -93,11 +94,12 @@ impl Flow {
         }
     }
 
-    // The end of what was opened last.
+    // Closes the innermost open statement.
     fn end<B: Builder>(&mut self, lowering: &mut Lowering<B>) {
-        let Some(Open { around, extent }) = self.pop() else {
+        let Some(Open { around, extent, .. }) = self.pop() else {
             return;
         };
+        lowering.level = self.level();
         match around {
             Around::Block => end_block(lowering, extent),
             Around::If(condition) => end_choice(lowering, condition, false, extent),
@@ -123,7 +125,7 @@ impl Flow {
     }
 }
 
-/// Writes the body that these steps are, of a function that gives this.
+/// Lowers the body of a function with this result type from its steps.
 pub fn lower_body<B: Builder>(lowering: &mut Lowering<B>, part: Part, gives: Shape) {
     let mut flow = Flow {
         open: Vec::new(lowering.alloc),
@@ -138,7 +140,7 @@ pub fn lower_body<B: Builder>(lowering: &mut Lowering<B>, part: Part, gives: Sha
         let Some(step) = lowering.step_at(place) else {
             break;
         };
-        if lowering.step(step) || flow.simple(lowering, step) || flow.jump(lowering, step) {
+        if lower_step(lowering, step) || flow.simple(lowering, step) || flow.jump(lowering, step) {
             continue;
         }
         flow.structured(lowering, step);

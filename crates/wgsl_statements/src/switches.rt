@@ -9,7 +9,7 @@ use wgsl_text::{Extent, Failure};
 use wgsl_types::{Builder, Shape};
 use wgsl_values::converted;
 
-// A value; its cases follow.
+// Opens a `switch` with the selector on the stack.
 pub(crate) fn select<B: Builder>(lowering: &mut Lowering<B>, flow: &mut Flow, extent: Extent) {
     let popped = lowering.pop();
     let operand = lowering.load(popped);
@@ -29,7 +29,7 @@ pub(crate) fn select<B: Builder>(lowering: &mut Lowering<B>, flow: &mut Flow, ex
     flow.push(lowering, Around::Switch(selector, start), extent);
 }
 
-// Another value may choose the same body as the one before.
+// Adds a case value, which falls through to the next one.
 fn add<B: Builder>(
     lowering: &mut Lowering<B>,
     flow: &mut Flow,
@@ -47,7 +47,7 @@ fn add<B: Builder>(
     lowering.builder.open();
 }
 
-// A value that chooses the next body.
+// Adds a case value.
 pub(crate) fn value<B: Builder>(lowering: &mut Lowering<B>, flow: &mut Flow) {
     let operand = lowering.pop();
     let converts = matches!(operand.value, Value::Literal(Literal::AbstractInt(_)));
@@ -65,12 +65,12 @@ pub(crate) fn value<B: Builder>(lowering: &mut Lowering<B>, flow: &mut Flow) {
     }
 }
 
-// Any other value chooses it.
+// Adds `default`.
 pub(crate) fn default<B: Builder>(lowering: &mut Lowering<B>, flow: &mut Flow) {
     add(lowering, flow, SwitchValue::Default, false);
 }
 
-// The body of the last values: the last of them does not go on to another one.
+// Opens the body of the last case values: the last of them does not fall through.
 pub(crate) fn body<B: Builder>(lowering: &mut Lowering<B>, flow: &mut Flow, extent: Extent) {
     if let Some(last) = flow.cases.last_mut() {
         last.falls = false;
@@ -78,7 +78,7 @@ pub(crate) fn body<B: Builder>(lowering: &mut Lowering<B>, flow: &mut Flow, exte
     flow.push(lowering, Around::Case, extent);
 }
 
-// A case's value, as one of the selector's type.
+// A case's value, converted to the selector's type.
 fn value_of(entry: &CaseEntry, unsigned: bool) -> SwitchValue {
     match entry.value {
         SwitchValue::I32(number) if unsigned && entry.converts => match u32::try_from(number) {
@@ -89,7 +89,7 @@ fn value_of(entry: &CaseEntry, unsigned: bool) -> SwitchValue {
     }
 }
 
-// Whether a case from this one on is unsigned.
+// Whether a case value from this index on is a `u32`.
 fn is_unsigned(flow: &Flow, start: u32) -> bool {
     for place in start as usize..flow.cases.len() {
         match flow.cases.get(place) {
@@ -100,7 +100,7 @@ fn is_unsigned(flow: &Flow, start: u32) -> bool {
     false
 }
 
-// The selector; one that is known is of the type of the cases.
+// The selector's expression; an abstract selector gets the type of the cases.
 fn selector_of<B: Builder>(
     lowering: &mut Lowering<B>,
     chosen: &Selector,
@@ -116,7 +116,7 @@ fn selector_of<B: Builder>(
     }
 }
 
-// The end of a switch: its bodies were opened one after the other.
+// Closes a `switch`: its cases' blocks were opened one after the other.
 pub(crate) fn end<B: Builder>(
     lowering: &mut Lowering<B>,
     flow: &mut Flow,

@@ -1,4 +1,4 @@
-// What is wrong with a text.
+// Errors of a text, with their location.
 
 /// A part of a text: the bytes from `start` on, before `end`.
 #[derive(Clone, Copy)]
@@ -22,40 +22,40 @@ impl Extent {
     }
 }
 
-/// Why a text was not read.
+/// Why no module was read.
 #[derive(Clone, Copy, PartialEq, Eq)]
 pub enum Cause {
     /// Out of memory.
     Memory,
-    /// It is no WGSL.
+    /// The text is not WGSL.
     Malformed,
-    /// It says what the IR can't say, or what is not translated.
+    /// The IR can't express it, or the translation does not support it.
     Unsupported,
 }
 
-/// How the part of the text where an error stands is told in its words.
+/// How the message quotes the part of the text that it is about.
 #[derive(Clone, Copy, PartialEq, Eq)]
 pub enum Quote {
-    /// It is not.
+    /// Not at all.
     Nothing,
-    /// As the name that is meant, between the words before and after.
+    /// As a name, between `before` and `after`.
     Name,
-    /// As what was found in place of what was expected.
+    /// As the token found in place of the expected one.
     Found,
 }
 
-/// Why a text was not read, and where.
+/// Why no module was read, and where.
 #[derive(Clone, Copy)]
 pub struct WgslError {
-    /// Why.
+    /// The cause.
     pub cause: Cause,
-    /// The words before the part of the text, or all.
+    /// The message, or the part of it before the quotation.
     pub before: &'static str,
-    /// How the part is told.
+    /// How the part is quoted.
     pub quote: Quote,
-    /// The words after the part.
+    /// The message after the quotation.
     pub after: &'static str,
-    /// The part of the text where it stands.
+    /// The part of the text.
     pub extent: Extent,
 }
 
@@ -69,7 +69,7 @@ impl WgslError {
         extent: Extent::NONE,
     };
 
-    /// It is no WGSL, in these words.
+    /// The text is not WGSL.
     pub fn malformed(before: &'static str, extent: Extent) -> WgslError {
         WgslError {
             cause: Cause::Malformed,
@@ -80,7 +80,7 @@ impl WgslError {
         }
     }
 
-    /// It is no WGSL, in these words around the name that stands there.
+    /// The text is not WGSL: the message quotes the name.
     pub fn of_name(before: &'static str, extent: Extent, after: &'static str) -> WgslError {
         WgslError {
             cause: Cause::Malformed,
@@ -91,7 +91,7 @@ impl WgslError {
         }
     }
 
-    /// Something else was expected than what stands there.
+    /// Another token was expected.
     pub fn expected(wanted: &'static str, extent: Extent) -> WgslError {
         WgslError {
             cause: Cause::Malformed,
@@ -102,7 +102,7 @@ impl WgslError {
         }
     }
 
-    /// It says what is not translated.
+    /// The translation does not support it.
     pub fn unsupported(what: &'static str, extent: Extent) -> WgslError {
         WgslError {
             cause: Cause::Unsupported,
@@ -113,7 +113,7 @@ impl WgslError {
         }
     }
 
-    /// What it names there is not translated.
+    /// The translation does not support what the name denotes.
     pub fn unsupported_name(what: &'static str, extent: Extent) -> WgslError {
         WgslError {
             cause: Cause::Unsupported,

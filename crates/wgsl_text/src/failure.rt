@@ -1,45 +1,45 @@
-// What was wrong first.
+// The first error.
 ghost use Rattle.std.specs.Prelude.{◌≡◌, IfOk, MatchResult, None, Some};
 
 use crate::error::WgslError;
 use std::alloc::Global;
 
-/// What was wrong first, if anything was. What is made after that is of no use.
+/// The first error, if any. What is built after it is discarded.
 #[derive(Clone, Copy)]
 pub struct Failure {
-    /// What was wrong.
+    /// The error.
     pub first: Option<WgslError>,
 }
 
 impl Failure {
-    /// Nothing was wrong so far.
+    /// No error yet.
     pub const NONE: Failure = Failure { first: None };
 
-    /// Whether something was wrong.
+    /// Whether there was an error.
     pub fn is_some(&self) -> bool {
         self.first.is_some()
     }
 
-    /// This is wrong. It is kept where nothing was before.
+    /// Records an error, unless there was one before.
     pub fn fail(&mut self, error: WgslError) {
         if self.first.is_none() {
             self.first = Some(error);
         }
     }
 
-    /// There is not enough memory.
+    /// Records that it is out of memory.
     pub fn fail_memory(&mut self) {
         self.fail(WgslError::MEMORY);
     }
 
-    /// One more in a list.
+    /// Appends an item to a list.
     pub fn push<T: Drop>(&mut self, list: &mut Vec<T>, item: T) {
         if list.push(item).is_err() {
             self.fail_memory();
         }
     }
 
-    /// A list with room for so many.
+    /// An empty list with this capacity.
     pub fn list<T: Drop>(&mut self, alloc: Global, count: usize) -> Vec<T> {
         match Vec::with_capacity(alloc, count) {
             Ok(list) => list,
@@ -50,7 +50,7 @@ impl Failure {
         }
     }
 
-    /// A table in which each of so many places has this; an empty one where there is no memory for it.
+    /// A table of `count` copies of an item; empty if out of memory.
     pub fn table<T: Clone + Drop>(&mut self, alloc: Global, item: T, count: usize) -> Vec<T> {
         match vec![in alloc; item; count] {
             Ok(table) => table,
@@ -61,7 +61,7 @@ impl Failure {
         }
     }
 
-    /// What was made, if nothing was wrong.
+    /// The result, unless there was an error.
     pub fn answer<T: Drop>(&self, made: T) -> Result<T, WgslError>
         ensures kept { IfOk result (λ kept. kept ≡ made) }
         ensures told { MatchResult result (λ _. self.now.first ≡ None) (λ e. self.now.first ≡ Some e) }

@@ -1,4 +1,4 @@
-//! What is wrong with a text of WGSL, in the words of naga's front end, and where it stands.
+//! Errors of WGSL texts, worded as naga's front end does, with their locations.
 #![tactic(auto)]
 
 mod error;

@@ -1,13 +1,13 @@
-// An error in words.
+// The message of an error.
 
 use crate::error::{Cause, Extent, Quote, WgslError};
 use crate::places::place_of;
 use std::alloc::{AllocError, Global};
 
-// How many bytes of the text are told at most.
+// The maximum number of bytes quoted.
 const MAX_QUOTE: usize = 80;
 
-// The part of the text, without what can't be printed.
+// The part of the text, with invalid UTF-8 replaced.
 fn quoted(alloc: Global, text: &[u8], extent: Extent) -> Result<String, AllocError> {
     let start = extent.start as usize;
     let end = (extent.end as usize).min(start.saturating_add(MAX_QUOTE));
@@ -15,7 +15,7 @@ fn quoted(alloc: Global, text: &[u8], extent: Extent) -> Result<String, AllocErr
     String::from_utf8_lossy(alloc, part)
 }
 
-// Why a text was not read, without where.
+// The message without the location.
 fn told(alloc: Global, text: &[u8], error: &WgslError) -> Result<String, AllocError> {
     let part = quoted(alloc, text, error.extent)?;
     let before = error.before;
@@ -27,7 +27,7 @@ fn told(alloc: Global, text: &[u8], error: &WgslError) -> Result<String, AllocEr
     }
 }
 
-/// Why a text was not read, and at which line and column.
+/// The message with the line and column, both counted from 1.
 pub fn message_of(alloc: Global, text: &[u8], error: &WgslError) -> Result<String, AllocError> {
     let what = told(alloc, text, error)?;
     let place = place_of(text, error.extent.start as usize);

@@ -1,13 +1,13 @@
-// Which bytes are a text.
+// Input checks.
 ghost use Rattle.std.specs.Prelude.{◌≤◌, length, IfOk};
 ghost use Rattle.std.specs.Str.{IsUtf8};
 
 use crate::error::{Extent, WgslError};
 
-/// How many bytes a text may have.
+/// The maximum length of a text, in bytes.
 pub const MAX_LEN: usize = 16777216;
 
-/// The bytes as a text, if they are one. An error says that there are too many, or that they are no UTF-8.
+/// Checks that bytes are a text. The error is that there are too many, or that they are not UTF-8.
 pub fn check_source(bytes: &[u8]) -> Result<(), WgslError>
     ensures few { IfOk result (λ _. length bytes.now ≤ 16777216) }
     ensures utf8 { IfOk result (λ _. IsUtf8 bytes.now) }

@@ -1,10 +1,10 @@
--- Tokens with what lies between them give the text.
+-- Tokens and the gaps between them give the text.
 use Rattle.std.proofs.Common.{◌≡◌, ℕ, ◌+◌, ◌-◌, ◌<◌, ◌≤◌, List, [], ◌∷◌, ◌++◌, length, take, drop, refl, sym, ap, arith, ◌∙◌}
 use Rattle.std.proofs.lemmas.List.{take-append-drop, drop-drop}
 use Rattle.wgsl_tokens.specs.declared.token.Token.{Token}
 use Rattle.wgsl_tokens.specs.Cut.{Covers, AreTokens, part, joined}
 
--- one more after
+-- one more token
 pub covers_more : (from at end : ℕ) (tokens : List Token) (token : Token) → Covers from at tokens → at ≤ token.start → token.start < token.end → token.end ≤ end → Covers from token.end (tokens ++ token ∷ [])
 covers_more from at end [] token c after some within = (omega (arith, c, after), some, omega arith)
 covers_more from at end (first ∷ rest) token c after some within = (c.0, c.1, covers_more first.end at end rest token c.2 after some within)

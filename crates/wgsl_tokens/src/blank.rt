@@ -1,7 +1,7 @@
-// What stands between tokens: blankspace and comments.
+// Blankspace and comments between tokens.
 ghost use Rattle.std.specs.Prelude.{◌≤◌, ◌<◌, ◌+◌, length, IfSome};
 
-// How many bytes the line break has that begins here; none where there is none.
+// The length of the line break that begins here, in bytes, or 0.
 fn break_length(text: &[u8], at: usize) -> usize
     requires { at ≤ length text.now }
     ensures { at + result ≤ length text.now }
@@ -14,7 +14,7 @@ fn break_length(text: &[u8], at: usize) -> usize
     }
 }
 
-// How many bytes the blank character has that begins here; none where there is none.
+// The length of the blankspace character that begins here, in bytes, or 0.
 fn blank_length(text: &[u8], at: usize) -> usize
     requires { at ≤ length text.now }
     ensures { at + result ≤ length text.now }
@@ -26,7 +26,7 @@ fn blank_length(text: &[u8], at: usize) -> usize
     }
 }
 
-// The end of the line that goes on here.
+// The end of the current line.
 fn line_end(text: &[u8], start: usize) -> usize
     requires { start ≤ length text.now }
     ensures more { start ≤ result }
@@ -40,7 +40,7 @@ fn line_end(text: &[u8], start: usize) -> usize
     text.len()
 }
 
-// The end of the comment that begins here, if it has one. Comments nest.
+// The end of the block comment that begins here, unless it is unterminated. Block comments nest.
 fn comment_end(text: &[u8], start: usize) -> Option<usize>
     requires { start + 2 ≤ length text.now }
     ensures { IfSome result (λ end. (start < end) × (end ≤ length text.now)) }
@@ -67,7 +67,7 @@ fn comment_end(text: &[u8], start: usize) -> Option<usize>
     None
 }
 
-// The byte after the comment that begins here, or this one where there is none.
+// The byte after the comment that begins here, or this byte if there is none.
 fn after_comment(text: &[u8], at: usize) -> usize
     requires { at ≤ length text.now }
     ensures more { at ≤ result }
@@ -80,7 +80,7 @@ fn after_comment(text: &[u8], at: usize) -> usize
     }
 }
 
-// The first byte that is not between tokens.
+// The first byte of the next token.
 pub(crate) fn after_blank(text: &[u8], start: usize) -> usize
     requires { start ≤ length text.now }
     ensures more { start ≤ result }

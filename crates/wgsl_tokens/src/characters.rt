@@ -1,17 +1,17 @@
-// Characters of a text in UTF-8.
+// Characters in UTF-8.
 ghost use Rattle.std.specs.Prelude.{◌≤◌, ◌<◌, ◌+◌, ◌≡◌, length};
 
 use unicode_ident::{is_xid_continue, is_xid_start};
 
-// A character, and the byte after it.
+// A character and the byte after it.
 #[derive(Clone, Copy)]
 pub(crate) struct Character {
-    // nothing where it is none
+    // none if the bytes are not UTF-8
     pub code: Option<char>,
     pub end: usize,
 }
 
-// How many bytes a character has that begins with this one, and what that one says of it.
+// The length of a character by its first byte, and the bits of it in that byte.
 fn lead(byte: u8) -> (usize, u32)
     ensures { 0 < result.0 }
 {
@@ -46,7 +46,7 @@ pub(crate) fn character_at(text: &[u8], at: usize) -> Character
     }
 }
 
-// Whether a name may begin with the character.
+// Whether an identifier may begin with the character.
 pub(crate) fn starts_name(character: Character) -> bool {
     match character.code {
         Some(code) => code == '_' || is_xid_start(code),
@@ -54,7 +54,7 @@ pub(crate) fn starts_name(character: Character) -> bool {
     }
 }
 
-// Whether a name may go on with the character.
+// Whether an identifier may continue with the character.
 fn continues_name(character: Character) -> bool {
     match character.code {
         Some(code) => is_xid_continue(code),
@@ -62,7 +62,7 @@ fn continues_name(character: Character) -> bool {
     }
 }
 
-// The byte after the name that goes on here.
+// The end of the identifier.
 pub(crate) fn name_end(text: &[u8], start: usize) -> usize
     requires { start ≤ length text.now }
     ensures more { start ≤ result }

@@ -1,7 +1,7 @@
-// How far a number goes, by the standard's and naga's rules, and what its parts are.
+// The extent of a number literal and its parts, by the rules of the standard and of naga.
 ghost use Rattle.std.specs.Prelude.{◌≤◌, ◌<◌, ◌+◌, length};
 
-// What stands after a number.
+// The suffix of a number literal.
 #[derive(Clone, Copy, PartialEq, Eq)]
 pub(crate) enum Suffix {
     None,
@@ -14,12 +14,12 @@ pub(crate) enum Suffix {
     Lf,
 }
 
-// Where the parts of a number end.
+// The ends of the parts of a number literal.
 #[derive(Clone, Copy)]
 pub(crate) struct NumberParts {
     // whether it is hexadecimal
     pub hexadecimal: bool,
-    // the digits before the point, after `0x`
+    // the digits before the point, after any `0x`
     pub whole: usize,
     // whether there is a point
     pub point: bool,
@@ -27,15 +27,15 @@ pub(crate) struct NumberParts {
     pub fraction: usize,
     // whether there is an exponent
     pub exponent: bool,
-    // all of it but the suffix
+    // all but the suffix
     pub digits: usize,
     // the suffix
     pub suffix: Suffix,
-    // all of it
+    // the whole literal
     pub end: usize,
 }
 
-// Whether it is a digit.
+// Whether a byte is a digit.
 fn is_digit(byte: u8, hexadecimal: bool) -> bool {
     if hexadecimal {
         byte.is_ascii_hexdigit()
@@ -44,7 +44,7 @@ fn is_digit(byte: u8, hexadecimal: bool) -> bool {
     }
 }
 
-// The byte after the digits that go on here.
+// The end of the digits.
 fn digits_end(text: &[u8], start: usize, hexadecimal: bool) -> usize
     requires { start ≤ length text.now }
     ensures more { start ≤ result }
@@ -58,7 +58,7 @@ fn digits_end(text: &[u8], start: usize, hexadecimal: bool) -> usize
     text.len()
 }
 
-// The byte after the exponent that begins here, or this one where there is none.
+// The end of the exponent that begins here, or this byte if there is none.
 fn exponent_end(text: &[u8], at: usize, hexadecimal: bool) -> usize
     requires { at ≤ length text.now }
     ensures more { at ≤ result }
@@ -82,7 +82,7 @@ fn exponent_end(text: &[u8], at: usize, hexadecimal: bool) -> usize
     digits_end(text, sign, false)
 }
 
-// The suffix of a whole number that begins here, and how long it is.
+// The suffix of an integer literal that begins here, and its length.
 fn whole_suffix(text: &[u8], at: usize) -> (Suffix, usize)
     requires { at ≤ length text.now }
     ensures { at + result.1 ≤ length text.now }
@@ -96,7 +96,7 @@ fn whole_suffix(text: &[u8], at: usize) -> (Suffix, usize)
     }
 }
 
-// The suffix of a float that begins here, and how long it is.
+// The suffix of a float literal that begins here, and its length.
 fn float_suffix(text: &[u8], at: usize) -> (Suffix, usize)
     requires { at ≤ length text.now }
     ensures { at + result.1 ≤ length text.now }
@@ -109,7 +109,7 @@ fn float_suffix(text: &[u8], at: usize) -> (Suffix, usize)
     }
 }
 
-// The suffix of a number with these parts.
+// The suffix of a literal with these parts.
 fn suffix_at(
     text: &[u8],
     at: usize,
@@ -138,7 +138,7 @@ fn suffix_at(
     }
 }
 
-// The byte after the `0x` that begins here, or this one where there is none.
+// The end of the `0x` that begins here, or this byte if there is none.
 fn prefix_end(text: &[u8], at: usize) -> usize
     requires { at ≤ length text.now }
     ensures more { at ≤ result }
@@ -150,7 +150,7 @@ fn prefix_end(text: &[u8], at: usize) -> usize
     }
 }
 
-// The parts of the number that begins here. It may have none.
+// The parts of the literal that begins here, possibly empty.
 pub(crate) fn parts_at(text: &[u8], start: usize) -> NumberParts
     requires { start ≤ length text.now }
     ensures more { start ≤ result.end }
@@ -183,14 +183,14 @@ pub(crate) fn parts_at(text: &[u8], start: usize) -> NumberParts
     }
 }
 
-// Whether a number begins here.
+// Whether a number literal begins here.
 pub(crate) fn starts_number(text: &[u8], at: usize) -> bool
     requires { at ≤ length text.now }
 {
     matches!(&text[at..], [b'0'..=b'9', ..] | [b'.', b'0'..=b'9', ..])
 }
 
-// The byte after the number that begins here.
+// The end of the number literal that begins here.
 pub(crate) fn number_end(text: &[u8], start: usize) -> usize
     requires { start < length text.now }
     ensures more { start < result }

@@ -1,9 +1,9 @@
-// Floats in digits, as bits.
+// Float literals as bits.
 
 use crate::extents::Suffix;
 use ir_kinds::Literal;
 
-// The nearest float of 64 bits to a decimal number, if it is finite.
+// The nearest `f64` to a decimal number, if it is finite.
 pub(crate) fn decimal_f64(digits: &[u8]) -> Option<u64> {
     let parsed: Result<f64, fast_float::Error> = fast_float::parse(digits);
     match parsed {
@@ -12,7 +12,7 @@ pub(crate) fn decimal_f64(digits: &[u8]) -> Option<u64> {
     }
 }
 
-// The nearest float of 32 bits to a decimal number, if it is finite.
+// The nearest `f32` to a decimal number, if it is finite.
 pub(crate) fn decimal_f32(digits: &[u8]) -> Option<u32> {
     let parsed: Result<f32, fast_float::Error> = fast_float::parse(digits);
     match parsed {
@@ -21,12 +21,12 @@ pub(crate) fn decimal_f32(digits: &[u8]) -> Option<u32> {
     }
 }
 
-// A decimal number as a float of 16 bits, rounded from 32.
+// A decimal number as an `f16`, rounded from `f32`.
 pub(crate) fn decimal_half(digits: &[u8]) -> Option<u16> {
     half_of(decimal_f32(digits)?)
 }
 
-// A number without its sign, divided by a power of two: the last bit of what is lost decides ties.
+// A magnitude divided by a power of two, rounded to nearest, ties to even.
 fn rounded(number: u32, shift: u32) -> u32 {
     let shift = shift.min(31);
     if shift == 0 {
@@ -42,11 +42,11 @@ fn rounded(number: u32, shift: u32) -> u32 {
     }
 }
 
-/// The nearest float of 16 bits to one of 32, the one with an even last bit where two are as near, if it is finite.
+/// The nearest `f16` to an `f32`, ties to even, if it is finite.
 pub fn half_of(bits: u32) -> Option<u16> {
     let sign = (bits >> 16) & 0x8000;
     let magnitude = bits & 0x7fff_ffff;
-    // 65520 and above round to infinity
+    // 65520 and larger round to infinity
     if magnitude >= 0x477f_f000 {
         return None;
     }
@@ -65,21 +65,21 @@ pub fn half_of(bits: u32) -> Option<u16> {
     u16::try_from(sign | half).ok()
 }
 
-// A number times a power of two, with its lowest bit set, or none.
+// An odd number times a power of two, or zero.
 #[derive(Clone, Copy)]
 struct Scaled {
     mantissa: u64,
     exponent: i64,
 }
 
-// What a float of some width is made of.
+// A float format.
 #[derive(Clone, Copy)]
 struct FloatWidth {
-    // bits of the mantissa, the hidden one included
+    // the bits of the mantissa, with the hidden one
     precision: u32,
-    // the greatest exponent of two
+    // the largest exponent of two
     greatest: i64,
-    // the least one of a number with a hidden bit
+    // the smallest exponent of a normal number
     least: i64,
 }
 
@@ -105,7 +105,7 @@ fn hexadecimal_digit(byte: u8) -> Option<u64> {
     }
 }
 
-// The exponent that digits with a sign say, kept within 1000000000 each way.
+// The exponent of signed digits, clamped to 1000000000 each way.
 fn exponent_of(digits: &[u8]) -> i64 {
     let mut number: i64 = 0;
     let mut negative = false;
@@ -129,7 +129,7 @@ fn exponent_of(digits: &[u8]) -> i64 {
     }
 }
 
-// The number that hexadecimal digits with a point and an exponent say, if its mantissa has 64 bits.
+// The value of a hexadecimal float literal, if its mantissa fits in 64 bits.
 fn scaled_of(digits: &[u8]) -> Option<Scaled> {
     let mut mantissa: u64 = 0;
     let mut exponent: i64 = 0;
@@ -164,7 +164,7 @@ fn scaled_of(digits: &[u8]) -> Option<Scaled> {
     Some(Scaled { mantissa, exponent })
 }
 
-// The bits of a number in a float of this width, if that has it exactly.
+// The bits of a number in a float format, if it is exactly representable.
 fn exact_bits(number: Scaled, width: FloatWidth) -> Option<u64> {
     if number.mantissa == 0 {
         return Some(0);
@@ -195,7 +195,7 @@ fn exact_bits(number: Scaled, width: FloatWidth) -> Option<u64> {
     Some((biased << stored) | fraction)
 }
 
-// A hexadecimal float of the type that its suffix says, which has to have it exactly.
+// A hexadecimal float literal of the type of its suffix, which must represent it exactly.
 pub(crate) fn hexadecimal_float(digits: &[u8], suffix: Suffix) -> Option<Literal> {
     let number = scaled_of(digits)?;
     match suffix {

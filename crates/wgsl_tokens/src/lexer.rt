@@ -1,4 +1,4 @@
-// From a text to tokens.
+// The lexer.
 ghost use Rattle.std.specs.Prelude.{◌≡◌, ◌≤◌, ◌<◌, length, IfOk};
 ghost use Rattle.wgsl_tokens.specs.Cut.{AreTokens, joined};
 
@@ -9,21 +9,21 @@ use crate::operators::operator_at;
 use crate::token::{Token, TokenKind};
 use std::alloc::{AllocError, Global};
 
-// What a token is, and the byte after it.
+// The kind of a token, and its end.
 #[derive(Clone, Copy)]
 struct Cut {
     kind: TokenKind,
     end: usize,
 }
 
-// Whether the token before this byte begins one of `>` and what follows without a gap: `>` or `=` after `>`.
+// Whether `>` or `=` may continue an operator that begins with the `>` before it.
 fn follows_greater(text: &[u8], at: usize, run: usize) -> bool
     requires { at < length text.now }
 {
     at == run && (text[at] == b'>' || text[at] == b'=')
 }
 
-// The token that begins here.
+// The token that begins here and its end.
 fn token_at(text: &[u8], at: usize, run: usize) -> Cut
     requires { at < length text.now }
     ensures more { at < result.end }
@@ -46,7 +46,7 @@ fn token_at(text: &[u8], at: usize, run: usize) -> Cut
     word_at(text, character)
 }
 
-// The word that begins with this character, or nothing that a text may have.
+// The word that begins with this character, or an invalid token.
 fn word_at(text: &[u8], character: Character) -> Cut
     requires { character.end ≤ length text.now }
     ensures more { character.end ≤ result.end }
@@ -65,7 +65,7 @@ fn word_at(text: &[u8], character: Character) -> Cut
     }
 }
 
-/// The tokens of a text in order: none is empty, none overlaps the one before, and all are within the text. With what lies between
+/// The tokens of a text in order: none is empty, none overlaps the one before, and all lie within the text. With the gaps between
 /// them they give the text.
 #[tactic(auto, using(crate::proofs::Joined::covers_more, crate::proofs::Joined::covers_all, crate::proofs::Joined::joined_is))]
 pub fn cut_tokens(alloc: Global, text: &[u8]) -> Result<Vec<Token>, AllocError>
@@ -75,7 +75,7 @@ pub fn cut_tokens(alloc: Global, text: &[u8]) -> Result<Vec<Token>, AllocError>
 {
     let mut tokens = Vec::new(alloc);
     let mut at = 0;
-    // the byte after the last token, where that is `>` or goes on with one
+    // the end of the last token, if it is `>` or continues one
     let mut run = text.len();
     while at < text.len() {
         let start = after_blank(text, at);
@@ -94,7 +94,7 @@ pub fn cut_tokens(alloc: Global, text: &[u8]) -> Result<Vec<Token>, AllocError>
     Ok(tokens)
 }
 
-// Up to where `>` and what follows go now.
+// The end of the current run of `>` and `=`.
 fn run_after(kind: TokenKind, end: usize, start: usize, run: usize) -> usize {
     match kind {
         TokenKind::Greater => end,

@@ -1,4 +1,4 @@
-//! The words of a text of WGSL, by the standard's lexical rules: tokens, template lists, numbers and names.
+//! Lexer of WGSL by the rules of the standard: tokens, template lists, literals and identifiers.
 #![tactic(auto)]
 
 mod blank;

@@ -1,4 +1,4 @@
-// What a number says.
+// Values of number literals.
 ghost use Rattle.std.specs.Prelude.{◌≤◌, ◌<◌, length};
 
 use crate::extents::{NumberParts, Suffix, parts_at};
@@ -6,7 +6,7 @@ use crate::floats::{decimal_f32, decimal_f64, decimal_half, hexadecimal_float};
 use ir_kinds::Literal;
 use wgsl_text::{Extent, WgslError};
 
-// What the digits of a whole number say, if that has 64 bits.
+// The value of integer digits, if it fits in 64 bits.
 fn whole_number(digits: &[u8], base: u64) -> Option<u64> {
     let mut number: u64 = 0;
     for byte in digits {
@@ -21,7 +21,7 @@ fn whole_number(digits: &[u8], base: u64) -> Option<u64> {
     Some(number)
 }
 
-// The same as a number of the type that its suffix says.
+// The value of an integer literal in the type of its suffix.
 fn whole_literal(number: u64, suffix: Suffix) -> Option<Literal> {
     match suffix {
         Suffix::None => Some(Literal::AbstractInt(i64::try_from(number).ok()?)),
@@ -33,7 +33,7 @@ fn whole_literal(number: u64, suffix: Suffix) -> Option<Literal> {
     }
 }
 
-// A decimal float of the type that its suffix says.
+// The value of a decimal float literal in the type of its suffix.
 fn decimal_literal(digits: &[u8], suffix: Suffix) -> Option<Literal> {
     match suffix {
         Suffix::None => Some(Literal::AbstractFloat(decimal_f64(digits)?)),
@@ -44,7 +44,7 @@ fn decimal_literal(digits: &[u8], suffix: Suffix) -> Option<Literal> {
     }
 }
 
-// Whether a number with these parts is one of the language.
+// Whether a literal with these parts is valid.
 fn is_number(text: &[u8], start: usize, parts: &NumberParts) -> bool {
     if parts.hexadecimal {
         let first = start.saturating_add(2);
@@ -59,7 +59,7 @@ fn is_number(text: &[u8], start: usize, parts: &NumberParts) -> bool {
     some && !zeros && has_exponent_digits(text, parts)
 }
 
-// Whether the exponent has digits, where there is one.
+// Whether an exponent, if any, has digits.
 fn has_exponent_digits(text: &[u8], parts: &NumberParts) -> bool {
     let last = text
         .get(parts.digits.saturating_sub(1))
@@ -68,7 +68,7 @@ fn has_exponent_digits(text: &[u8], parts: &NumberParts) -> bool {
     !parts.exponent || last.is_ascii_digit()
 }
 
-// The number with these parts.
+// The value of a literal with these parts.
 fn literal_of(text: &[u8], start: usize, parts: &NumberParts) -> Option<Literal> {
     let is_float = parts.point
         || parts.exponent
@@ -87,7 +87,7 @@ fn literal_of(text: &[u8], start: usize, parts: &NumberParts) -> Option<Literal>
     }
 }
 
-/// The number that stands there. An error says that it is none, or that its type does not have it.
+/// The value of a number literal. The error is that it is invalid, or not representable in its type.
 pub fn number_at(text: &[u8], extent: Extent) -> Result<Literal, WgslError> {
     let start = (extent.start as usize).min(text.len());
     let parts = parts_at(text, start);

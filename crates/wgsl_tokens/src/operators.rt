@@ -1,9 +1,9 @@
-// Tokens that are neither words nor numbers.
+// Punctuation and operators.
 ghost use Rattle.std.specs.Prelude.{◌≤◌, ◌<◌, ◌+◌, length};
 
 use crate::token::TokenKind;
 
-// The token of two or three characters that begins here, and how long it is; none of 0.
+// The token of two or three characters that begins here, and its length, or 0.
 fn long_operator(text: &[u8], at: usize) -> (TokenKind, usize)
     requires { at ≤ length text.now }
     ensures { at + result.1 ≤ length text.now }
@@ -23,7 +23,7 @@ fn long_operator(text: &[u8], at: usize) -> (TokenKind, usize)
     }
 }
 
-// The assignment with an operator that begins here, and how long it is; none of 0.
+// The compound assignment operator that begins here, and its length, or 0.
 fn assigning_operator(text: &[u8], at: usize) -> (TokenKind, usize)
     requires { at ≤ length text.now }
     ensures { at + result.1 ≤ length text.now }
@@ -42,7 +42,7 @@ fn assigning_operator(text: &[u8], at: usize) -> (TokenKind, usize)
     }
 }
 
-// The token of one character.
+// The token of a single character.
 fn short_operator(byte: u8) -> TokenKind {
     match byte {
         b'(' => TokenKind::ParenOpen,
@@ -61,7 +61,7 @@ fn short_operator(byte: u8) -> TokenKind {
     }
 }
 
-// The same of signs.
+// The token of a single operator character.
 fn sign(byte: u8) -> TokenKind {
     match byte {
         b'<' => TokenKind::Less,
@@ -80,7 +80,7 @@ fn sign(byte: u8) -> TokenKind {
     }
 }
 
-// The token that begins here, and how long it is, where it is of one character at least; one alone where `single`.
+// The token that begins here, and its length; if `single`, of one character only.
 pub(crate) fn operator_at(text: &[u8], at: usize, single: bool) -> (TokenKind, usize)
     requires { at < length text.now }
     ensures { at + result.1 ≤ length text.now }

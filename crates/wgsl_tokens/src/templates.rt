@@ -1,4 +1,4 @@
-// Which `<` and `>` are around a template list (section "Template Lists" of the standard).
+// Template list discovery (section "Template Lists" of the standard).
 
 use crate::token::{Token, TokenKind};
 use crate::words::Mark;
@@ -8,13 +8,13 @@ use wgsl_text::Failure;
 // A `<` that may open a template list.
 #[derive(Clone, Copy)]
 struct Pending {
-    // which token it is
+    // its index
     place: usize,
-    // how many parentheses and brackets are open around it
+    // the nesting of parentheses and brackets
     depth: u32,
 }
 
-// What may still open a template list, the innermost last.
+// The pending candidates, innermost last.
 #[derive(Drop)]
 struct Search {
     pending: Vec<Pending>,
@@ -22,7 +22,7 @@ struct Search {
 }
 
 impl Search {
-    // What is pending inside of as many parentheses and brackets as now, or more, opens none.
+    // Drops the candidates at this nesting or deeper.
     fn forget_inner(&mut self) {
         for _ in 0..self.pending.len() {
             match self.pending.last() {
@@ -33,13 +33,13 @@ impl Search {
         }
     }
 
-    // Nothing that is pending opens one.
+    // Drops all candidates.
     fn forget(&mut self) {
         self.pending.clear();
         self.depth = 0;
     }
 
-    // The `<` that a `>` closes, if it closes one.
+    // The candidate that a `>` closes, if any.
     fn close(&mut self) -> Option<usize> {
         match self.pending.last() {
             Some(last) if last.depth == self.depth => {
@@ -51,7 +51,7 @@ impl Search {
         }
     }
 
-    // Goes over a token that is neither a `<` after a word nor a `>`.
+    // Updates the state for a token other than `<` after a word and `>`.
     fn pass(&mut self, kind: TokenKind) {
         match kind {
             TokenKind::ParenOpen | TokenKind::BracketOpen => {
@@ -70,14 +70,14 @@ impl Search {
     }
 }
 
-// Sets a mark.
+// Marks a token.
 fn set_mark(marks: &mut Vec<Mark>, place: usize, mark: Mark) {
     if let Some(known) = marks.get_mut(place) {
         *known = mark;
     }
 }
 
-// Whether the token at this place is `=` and follows the one before without a gap.
+// Whether the token at an index is `=` right after the one before.
 fn is_joined_equal(tokens: &[Token], place: usize) -> bool {
     match (tokens.get(place.saturating_sub(1)), tokens.get(place)) {
         (Some(before), Some(token)) => {
@@ -87,7 +87,7 @@ fn is_joined_equal(tokens: &[Token], place: usize) -> bool {
     }
 }
 
-/// Marks what opens and closes template lists.
+/// Marks the delimiters of template lists.
 pub fn mark_templates(
     alloc: Global,
     tokens: &[Token],

@@ -2,11 +2,11 @@
 
 use wgsl_text::Extent;
 
-/// What a token is. A `>` and what follows it without a gap are tokens of one character each, since only what stands before says
+/// The kind of a token. `>` and an adjacent `>` or `=` are separate tokens, because only the context says
 /// whether a template list ends there.
 #[derive(Clone, Copy, PartialEq, Eq)]
 pub enum TokenKind {
-    /// A keyword or a name.
+    /// A keyword or an identifier.
     Word,
     /// A number.
     Number,
@@ -50,15 +50,15 @@ pub enum TokenKind {
     ShiftLeftEqual,
     /// `>`.
     Greater,
-    /// A `<` that opens a template list, where what stands around it is known.
+    /// A `<` that opens a template list, after template list discovery.
     TemplateOpen,
-    /// A `>` that closes one, likewise.
+    /// A `>` that closes a template list.
     TemplateClose,
-    /// `>=`: only what follows says that it is one.
+    /// `>=`, joined from adjacent tokens.
     GreaterEqual,
-    /// `>>`: likewise.
+    /// `>>`, joined from adjacent tokens.
     ShiftRight,
-    /// `>>=`: likewise.
+    /// `>>=`, joined from adjacent tokens.
     ShiftRightEqual,
     /// `+`.
     Plus,
@@ -104,9 +104,9 @@ pub enum TokenKind {
     Tilde,
     /// `!`.
     Bang,
-    /// A comment without an end.
+    /// An unterminated comment.
     OpenComment,
-    /// Nothing that a text may have.
+    /// An invalid character.
     Unknown,
     /// The end of the text.
     End,
@@ -115,7 +115,7 @@ pub enum TokenKind {
 /// A token: the bytes from `start` on, before `end`.
 #[derive(Clone, Copy)]
 pub struct Token {
-    /// What it is.
+    /// Its kind.
     pub kind: TokenKind,
     /// Its first byte.
     pub start: u32,
@@ -124,7 +124,7 @@ pub struct Token {
 }
 
 impl Token {
-    /// Where it stands.
+    /// Its extent.
     pub fn extent(self) -> Extent {
         Extent {
             start: self.start,

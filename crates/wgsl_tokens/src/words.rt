@@ -1,4 +1,4 @@
-// Tokens with what is known of each: which name it is, or whether it opens or closes a template list.
+// Tokens with their identifiers and template list marks.
 ghost use Rattle.std.specs.Prelude.{◌≡◌, ◌≤◌, length, IfOk};
 ghost use Rattle.wgsl_tokens.specs.Cut.{AreTokens, joined};
 
@@ -12,47 +12,47 @@ use std::alloc::Global;
 use std::collections::HashMap;
 use wgsl_text::{Extent, Failure, WgslError};
 
-/// What is known of a token beside what it is.
+/// The mark of a token.
 #[derive(Clone, Copy, PartialEq, Eq)]
 pub enum Mark {
-    /// Nothing.
+    /// No mark.
     None,
     /// It opens a template list.
     Open,
     /// It closes a template list.
     Close,
-    /// It is the word with this number: equal words have the same one.
+    /// It is the word with this number. Equal words have equal numbers.
     Name(u32),
 }
 
-/// What stands at a place: a token, or several that are one.
+/// A token joined from one or more adjacent tokens.
 #[derive(Clone, Copy)]
 pub struct Look {
-    /// What it is.
+    /// Its kind.
     pub kind: TokenKind,
-    /// How many tokens it is.
+    /// The number of tokens.
     pub count: usize,
 }
 
 impl Look {
-    // A token of this kind that is so many.
+    // A token of this kind from `count` tokens.
     fn of(kind: TokenKind, count: usize) -> Look {
         Look { kind, count }
     }
 }
 
-/// The tokens of a text in order, with what is known of each, and the words, each where it stands first.
+/// The tokens of a text with their marks, and the distinct words by their first occurrence.
 #[derive(Drop)]
 pub struct Tokens {
     /// The text.
     pub text: Vec<u8>,
     /// The tokens.
     pub list: Vec<Token>,
-    /// What is known of each.
+    /// The mark of each.
     pub marks: Vec<Mark>,
-    /// The words, by their numbers.
+    /// The first occurrence of each word, by number.
     pub names: Vec<Extent>,
-    /// How many bytes the text has.
+    /// The length of the text, in bytes.
     pub length: u32,
 }
 
@@ -72,12 +72,12 @@ impl Tokens {
         }
     }
 
-    /// The number that the token at this place is. An error says that it is none, or that its type does not have it.
+    /// The value of the literal at an index. The error is that it is invalid, or not representable in its type.
     pub fn number(&self, place: usize) -> Result<Literal, WgslError> {
         number_at(&self.text, self.at(place).extent())
     }
 
-    /// The token at this place, or the end of the text.
+    /// The token at an index, or the end of the text.
     pub fn at(&self, place: usize) -> Token {
         match self.list.get(place) {
             Some(token) => *token,
@@ -89,7 +89,7 @@ impl Tokens {
         }
     }
 
-    /// What the token at this place is, with what is known of it and what follows without a gap.
+    /// The joined token at an index, by its mark and the adjacent tokens.
     pub fn look(&self, place: usize) -> Look {
         let kind = self.at(place).kind;
         match (kind, self.mark(place)) {
@@ -103,7 +103,7 @@ impl Tokens {
         }
     }
 
-    // The same of a `>` that closes nothing.
+    // The joined token of a `>` that closes no template list.
     fn look_greater(&self, place: usize) -> Look {
         let next = place.saturating_add(1);
         if self.follows(place, TokenKind::Equal) {
@@ -118,19 +118,19 @@ impl Tokens {
         Look::of(TokenKind::ShiftRight, 2)
     }
 
-    // Whether a token of this kind follows without a gap.
+    // Whether a token of this kind is adjacent.
     fn follows(&self, place: usize, kind: TokenKind) -> bool {
         let next = self.at(place.saturating_add(1));
         next.kind == kind && next.start == self.at(place).end
     }
 
-    /// What is known of the token at this place.
+    /// The mark of the token at an index.
     pub fn mark(&self, place: usize) -> Mark {
         self.marks.get(place).copied().unwrap_or(Mark::None)
     }
 }
 
-// The words among tokens, and the number of each at its token.
+// Numbers the words, and marks their tokens.
 fn number_words(
     alloc: Global,
     text: &[u8],
@@ -167,8 +167,8 @@ fn number_words(
     names
 }
 
-/// The tokens of a text, in the standard's way: where a `<` after a word opens a template list, it and the `>` that closes it are
-/// marked. The error is out of memory.
+/// The tokens of a text: words are numbered, and the delimiters of template lists marked.
+/// The error is out of memory.
 pub fn tokenize(alloc: Global, text: &[u8]) -> Result<Tokens, WgslError>
     requires { length text.now ≤ 16777216 }
     ensures tokens { IfOk result (λ tokens. AreTokens text.now tokens.list.items) }

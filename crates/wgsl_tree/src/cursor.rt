@@ -1,4 +1,4 @@
-// Where a text is read, and what was read of it.
+// The parser's position and output.
 
 use crate::expressions::Open;
 use crate::steps::{Step, StepKind};
@@ -8,29 +8,29 @@ use wgsl_text::{Extent, Failure, WgslError};
 use wgsl_tokens::{Look, Mark, TokenKind, Tokens};
 use wgsl_words::{Keyword, keyword_of};
 
-/// What reads a text: the next token, and the steps that were made so far. After the first error nothing that is made is of use.
+/// The parser's state. After the first error its output is discarded.
 pub struct Parser {
     /// The allocator.
     pub alloc: Global,
     /// The tokens.
     pub tokens: Tokens,
-    /// What each word is to the language.
+    /// The keyword of each identifier number.
     pub keywords: Vec<Keyword>,
-    /// The place of the next token.
+    /// The index of the next token.
     pub place: usize,
     /// The steps so far.
     pub steps: Vec<Step>,
-    /// The numbers so far.
+    /// The literals so far.
     pub literals: Vec<Literal>,
-    /// What was wrong first.
+    /// The first error.
     pub failed: Failure,
-    // what is open around the next operand, the innermost last
+    // the open operators and brackets around the next operand, innermost last
     pub(crate) open: Vec<Open>,
-    // how many of these are brackets
+    // the number of open brackets
     pub(crate) brackets: u32,
 }
 
-// Written out, so that its lists are freed in a call of this crate wherever it is let go.
+// Written out, so that dropping it is one call of this crate.
 impl Drop for Parser {
     fn drop(self) {
         let Parser {
@@ -48,7 +48,7 @@ impl Drop for Parser {
 }
 
 impl Parser {
-    /// At the first of these tokens.
+    /// Starts at the first token.
     pub fn new(alloc: Global, tokens: Tokens) -> Parser {
         let mut failed = Failure::NONE;
         let mut keywords = Vec::new(alloc);
@@ -69,7 +69,7 @@ impl Parser {
         }
     }
 
-    /// The tokens, steps and numbers.
+    /// The tokens, steps and literals.
     pub fn into_parts(self) -> (Tokens, Vec<Step>, Vec<Literal>) {
         let Parser {
             alloc: _,
@@ -85,32 +85,32 @@ impl Parser {
         (tokens, steps, literals)
     }
 
-    /// Whether something was wrong.
+    /// Whether there was an error.
     pub fn has_failed(&self) -> bool {
         self.failed.is_some()
     }
 
-    /// What stands next.
+    /// The next token.
     pub fn look(&self) -> Look {
         self.tokens.look(self.place)
     }
 
-    /// What the next token is.
+    /// The kind of the next token.
     pub fn kind(&self) -> TokenKind {
         self.look().kind
     }
 
-    /// The place of the next token, as steps have it.
+    /// The index of the next token, as steps store it.
     pub fn token(&self) -> u32 {
         u32::try_from(self.place).unwrap_or(u32::MAX)
     }
 
-    /// How many steps there are.
+    /// The number of steps.
     pub fn count(&self) -> u32 {
         u32::try_from(self.steps.len()).unwrap_or(u32::MAX)
     }
 
-    /// Where the next token stands.
+    /// The extent of the next token.
     pub fn extent(&self) -> Extent {
         let count = self.look().count.max(1);
         let last = self.place.saturating_add(count).saturating_sub(1);
@@ -120,13 +120,13 @@ impl Parser {
             .until(self.tokens.at(last).extent())
     }
 
-    /// Goes on after what stands next.
+    /// Skips the next token.
     pub fn advance(&mut self) {
         let count = self.look().count;
         self.place = self.place.saturating_add(count.max(1));
     }
 
-    /// Whether this stands next; then goes on after it.
+    /// Skips the next token if it is of this kind. Returns whether it is.
     pub fn skip(&mut self, kind: TokenKind) -> bool {
         let is_next = self.kind() == kind;
         if is_next {
@@ -135,14 +135,14 @@ impl Parser {
         is_next
     }
 
-    /// Goes on after this, which has to stand next; else it is told in these words.
+    /// Skips the next token, which must be of this kind, or reports the error.
     pub fn expect(&mut self, kind: TokenKind, wanted: &'static str) {
         if !self.skip(kind) {
             self.refuse(wanted);
         }
     }
 
-    /// Something else was wanted than what stands next.
+    /// Reports an unexpected token.
     pub fn refuse(&mut self, wanted: &'static str) {
         let extent = self.extent();
         match self.kind() {
@@ -154,7 +154,7 @@ impl Parser {
         }
     }
 
-    /// The number of the word that stands next, if one does.
+    /// The identifier number of the next token, if it is a word.
     pub fn name(&self) -> Option<u32> {
         match self.tokens.mark(self.place) {
             Mark::Name(number) => Some(number),
@@ -162,7 +162,7 @@ impl Parser {
         }
     }
 
-    /// What the word that stands next is to the language; none where no word does.
+    /// The keyword of the next token, if any.
     pub fn keyword(&self) -> Keyword {
         match self.name() {
             Some(number) => self
@@ -174,7 +174,7 @@ impl Parser {
         }
     }
 
-    /// Whether this keyword stands next; then goes on after it.
+    /// Skips the next token if it is this keyword. Returns whether it is.
     pub fn skip_keyword(&mut self, keyword: Keyword) -> bool {
         let is_next = self.keyword() == keyword;
         if is_next {
@@ -183,7 +183,7 @@ impl Parser {
         is_next
     }
 
-    /// The number of the word that stands next, which has to name something new.
+    /// Reads the identifier of a declaration.
     pub fn new_name(&mut self) -> u32 {
         let extent = self.extent();
         let Some(number) = self.name() else {
@@ -213,7 +213,7 @@ impl Parser {
         number
     }
 
-    /// One more step, at this token.
+    /// Appends a step at a token.
     pub fn push(&mut self, kind: StepKind, token: u32) {
         self.failed.push(&mut self.steps, Step { kind, token });
     }

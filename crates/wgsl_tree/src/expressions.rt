@@ -1,4 +1,4 @@
-// The reading of expressions: operands and operators, with a stack of what is open in place of recursion.
+// Expressions, by operator precedence with an explicit stack.
 
 use crate::cursor::Parser;
 use crate::operators::{Operator, operator_of};
@@ -8,41 +8,41 @@ use wgsl_text::WgslError;
 use wgsl_tokens::TokenKind;
 use wgsl_words::Keyword;
 
-/// What is read.
+/// The grammar rule.
 #[derive(Clone, Copy, PartialEq, Eq)]
 pub enum Mode {
     /// A value.
     Value,
-    /// A type: a name, with template arguments or not.
+    /// A type: an identifier with optional template arguments.
     Type,
-    /// What stands before an assignment, or a call: no operator between two values, but in brackets.
+    /// The left-hand side of an assignment, or a call: no binary operator outside brackets.
     Place,
 }
 
-// What is open around an operand.
+// An open operator or bracket.
 #[derive(Clone, Copy)]
 pub(crate) enum Around {
-    // an operation on the operand
+    // a unary operator
     Unary(UnaryOperator),
     Deref,
     AddressOf,
-    // an operation on what was read before and the operand
+    // a binary operator with its left operand read
     Binary(Operator),
-    // brackets, with so many operands before the next one
+    // brackets, with the number of operands read
     Group,
     Index,
     Call(u32),
     Template(u32),
 }
 
-// The same, and the token where it stands.
+// An open operator or bracket at its token.
 #[derive(Clone, Copy)]
 pub(crate) struct Open {
     around: Around,
     token: u32,
 }
 
-// What is to be read next.
+// The parser's expectation.
 #[derive(Clone, Copy, PartialEq, Eq)]
 enum Next {
     Operand,
@@ -50,10 +50,10 @@ enum Next {
     Nothing,
 }
 
-// How much may be open around an operand.
+// The maximum number of operators and brackets open around an operand.
 const MAX_OPEN: usize = 255;
 
-// What an operation on one value is.
+// The unary operator of a token.
 fn unary_of(kind: TokenKind) -> Option<Around> {
     match kind {
         TokenKind::Minus => Some(Around::Unary(UnaryOperator::Negate)),
@@ -66,7 +66,7 @@ fn unary_of(kind: TokenKind) -> Option<Around> {
 }
 
 impl Parser {
-    /// Reads an expression: adds its steps, and goes on after it.
+    /// Reads an expression and appends its steps.
     pub fn expression(&mut self, mode: Mode) {
         let mut next = Next::Operand;
         self.open.clear();
@@ -86,7 +86,7 @@ impl Parser {
         }
     }
 
-    // Opens something around the next operand.
+    // Pushes an operator or bracket.
     fn begin(&mut self, around: Around, token: u32) {
         if self.open.len() >= MAX_OPEN {
             let extent = self.extent();
@@ -102,7 +102,7 @@ impl Parser {
         self.failed.push(&mut self.open, Open { around, token });
     }
 
-    // An operand, or what stands before one.
+    // An operand, or a prefix operator.
     fn operand(&mut self, mode: Mode) -> Next {
         let kind = self.kind();
         let token = self.token();
@@ -130,7 +130,7 @@ impl Parser {
         }
     }
 
-    // A number.
+    // A literal.
     fn number(&mut self) -> Next {
         match self.tokens.number(self.place) {
             Ok(literal) => {
@@ -144,7 +144,7 @@ impl Parser {
         Next::Operator
     }
 
-    // A name, and what opens after it.
+    // An identifier, with the brackets after it.
     fn word(&mut self, mode: Mode) -> Next {
         let token = self.token();
         let keyword = self.keyword();
@@ -171,7 +171,7 @@ impl Parser {
         self.after_name(mode)
     }
 
-    // What opens after a name with its template arguments.
+    // The brackets after a template list.
     fn after_name(&mut self, mode: Mode) -> Next {
         let open = self.token();
         let is_type = mode == Mode::Type && self.brackets == 0;
@@ -187,7 +187,7 @@ impl Parser {
         Next::Operand
     }
 
-    // What stands after an operand.
+    // A postfix or binary operator, or the end.
     fn operator(&mut self, mode: Mode) -> Next {
         let kind = self.kind();
         let token = self.token();
@@ -212,7 +212,7 @@ impl Parser {
         }
     }
 
-    // A member.
+    // A member access.
     fn member(&mut self) -> Next {
         self.advance();
         let token = self.token();
@@ -229,7 +229,7 @@ impl Parser {
         }
     }
 
-    // An operator between two values: what binds as strongly before it is done first.
+    // A binary operator, after those before it that bind at least as strongly.
     fn between(&mut self, operator: Operator) -> Next {
         let token = self.token();
         self.reduce(operator.strength());
@@ -241,7 +241,7 @@ impl Parser {
         Next::Operand
     }
 
-    // The operations around the operand that bind at least as strongly are done.
+    // Pops the operators that bind at least as strongly.
     fn reduce(&mut self, strength: u8) {
         for _ in 0..self.open.len() {
             let Some(open) = self.open.last().copied() else {
@@ -264,13 +264,13 @@ impl Parser {
         }
     }
 
-    // The brackets that are open, if the operand is the last one in them.
+    // The innermost open brackets, with the operators in them popped.
     fn innermost(&mut self) -> Option<Open> {
         self.reduce(0);
         self.open.last().copied()
     }
 
-    // A comma: one more operand follows, or the brackets close.
+    // A comma before a further operand or a closing bracket.
     fn comma(&mut self, mode: Mode) -> Next {
         let Some(open) = self.innermost() else {
             return Next::Nothing;
@@ -325,7 +325,7 @@ impl Parser {
         self.closed(open, mode)
     }
 
-    // These brackets close at the next token, after their last operand.
+    // Closes brackets at the next token.
     fn closed(&mut self, open: Open, mode: Mode) -> Next {
         let token = self.token();
         self.brackets = self.brackets.saturating_sub(1);
@@ -343,7 +343,7 @@ impl Parser {
         Next::Operator
     }
 
-    // The brackets that are open do not close here.
+    // Reports unbalanced brackets.
     fn refuse_open(&mut self, open: Open) {
         let wanted = match open.around {
             Around::Group | Around::Call(_) => "expected `)`",
@@ -353,7 +353,7 @@ impl Parser {
         self.refuse(wanted);
     }
 
-    // Nothing of the expression follows.
+    // The end of the expression.
     fn finish(&mut self) -> Next {
         if let Some(open) = self.innermost() {
             self.refuse_open(open);

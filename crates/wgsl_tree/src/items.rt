@@ -1,4 +1,4 @@
-// What a text declares.
+// Module-scope items.
 
 use crate::steps::Step;
 use ir_flags::Capabilities;
@@ -6,51 +6,51 @@ use ir_kinds::Literal;
 use wgsl_tokens::Tokens;
 use wgsl_words::AttributeWord;
 
-/// A part of a table: the places from `start` on, before `end`.
+/// A range of a table: the indices from `start` to before `end`.
 #[derive(Clone, Copy)]
 pub struct Part {
-    /// The first.
+    /// The first index.
     pub start: u32,
-    /// The one after the last.
+    /// The index after the last one.
     pub end: u32,
 }
 
 impl Part {
-    /// None.
+    /// The empty range.
     pub const NONE: Part = Part { start: 0, end: 0 };
 
-    /// How many there are.
+    /// Its length.
     pub fn count(self) -> u32 {
         self.end.saturating_sub(self.start)
     }
 }
 
-/// What an item is.
+/// The kind of an item.
 #[derive(Clone, Copy)]
 pub enum ItemKind {
-    /// `const`, with a type or not.
+    /// `const`, and whether it has a type.
     Const(bool),
-    /// `override`, with a type and a value or not.
+    /// `override`.
     Override {
         /// Whether it has a type.
         typed: bool,
-        /// Whether it has a value.
+        /// Whether it has an initializer.
         init: bool,
     },
-    /// `var`: so many template arguments, and a type and a value or not.
+    /// `var`.
     Variable {
-        /// How many template arguments.
+        /// The number of template arguments.
         templates: u16,
         /// Whether it has a type.
         typed: bool,
-        /// Whether it has a value.
+        /// Whether it has an initializer.
         init: bool,
     },
     /// `alias`.
     Alias,
     /// `struct`.
     Struct,
-    /// `fn`; with a result, as its last member, or not.
+    /// `fn`, and whether its last member is a result.
     Function(bool),
     /// `const_assert`.
     ConstAssert,
@@ -59,28 +59,28 @@ pub enum ItemKind {
 /// An item of a text.
 #[derive(Clone, Copy)]
 pub struct Item {
-    /// What it is.
+    /// Its kind.
     pub kind: ItemKind,
-    /// The number of the word that names it.
+    /// Its identifier number.
     pub name: u32,
-    /// The token of its name.
+    /// The token of its identifier.
     pub token: u32,
-    /// Its tokens, attributes apart.
+    /// Its tokens without the attributes.
     pub tokens: Part,
     /// Its attributes.
     pub attributes: Part,
-    /// The steps of its template arguments, type, value or body, in this order.
+    /// The steps of its template arguments, type, initializer or body, in this order.
     pub steps: Part,
-    /// The members of a struct; the arguments of a function, with its result.
+    /// The members of a struct; the parameters of a function, with its result.
     pub members: Part,
 }
 
-/// A member of a struct, an argument, or a result.
+/// A member of a struct, a parameter, or a result.
 #[derive(Clone, Copy)]
 pub struct Member {
-    /// The number of the word that names it.
+    /// Its identifier number.
     pub name: u32,
-    /// The token of its name, or of its type.
+    /// The token of its identifier, or of its type.
     pub token: u32,
     /// Its attributes.
     pub attributes: Part,
@@ -93,33 +93,33 @@ pub struct Member {
 pub struct Attribute {
     /// Which one.
     pub word: AttributeWord,
-    /// The token of its name.
+    /// The token of its identifier.
     pub token: u32,
-    /// How many arguments it has.
+    /// The number of its arguments.
     pub count: u32,
     /// Their steps.
     pub steps: Part,
 }
 
-/// A text as items and steps.
+/// A parsed text.
 pub struct Tree {
     /// Its tokens.
     pub tokens: Tokens,
     /// The steps of all items.
     pub steps: Vec<Step>,
-    /// Its numbers.
+    /// Its literals.
     pub literals: Vec<Literal>,
     /// The items, in order.
     pub items: Vec<Item>,
-    /// The members of its structs and functions.
+    /// The members of its structs, and the parameters of its functions.
     pub members: Vec<Member>,
     /// All attributes.
     pub attributes: Vec<Attribute>,
-    /// What it enables.
+    /// The capabilities of its enable directives.
     pub enabled: Capabilities,
 }
 
-// Written out, so that its lists are freed in a call of this crate wherever it is let go.
+// Written out, so that dropping it is one call of this crate.
 impl Drop for Tree {
     fn drop(self) {
         let Tree {

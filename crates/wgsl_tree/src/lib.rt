@@ -1,4 +1,4 @@
-//! A text of WGSL as items and steps, and the reading of its expressions: the tree in postfix form, without a tree.
+//! A parsed WGSL text: items, with expressions and statements as steps in postfix form.
 #![tactic(auto)]
 
 mod cursor;

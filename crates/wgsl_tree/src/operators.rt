@@ -1,9 +1,9 @@
-// Operators between two values. Those of bits bind less than comparisons, as in C and naga.
+// Binary operators. Bitwise ones bind less than comparisons, as in C and naga.
 
 use ir_kinds::BinaryOperator;
 use wgsl_tokens::TokenKind;
 
-// What an operator does, and how strongly it binds.
+// A binary operator with its precedence.
 #[derive(Clone, Copy)]
 pub(crate) enum Operator {
     Plain(BinaryOperator, u8),
@@ -12,7 +12,7 @@ pub(crate) enum Operator {
 }
 
 impl Operator {
-    // How strongly it binds.
+    // The precedence.
     pub(crate) fn strength(self) -> u8 {
         match self {
             Operator::Plain(_, strength) => strength,
@@ -22,7 +22,7 @@ impl Operator {
     }
 }
 
-// The operator that a token is.
+// The binary operator of a token.
 pub(crate) fn operator_of(kind: TokenKind) -> Option<Operator> {
     let (operator, strength) = match kind {
         TokenKind::OrOr => return Some(Operator::Logical(true)),
@@ -48,7 +48,7 @@ pub(crate) fn operator_of(kind: TokenKind) -> Option<Operator> {
     Some(Operator::Plain(operator, strength))
 }
 
-/// The operator of an assignment that computes.
+/// The operator of a compound assignment.
 pub fn assigned_operator(kind: TokenKind) -> Option<BinaryOperator> {
     match kind {
         TokenKind::PlusEqual => Some(BinaryOperator::Add),

@@ -2,115 +2,115 @@
 
 use ir_kinds::{BinaryOperator, UnaryOperator};
 
-/// What a step does. Those of expressions work on the values that the steps before made and did not use.
+/// The kind of a step. Steps of expressions pop their operands from a stack, and push their result.
 #[derive(Clone, Copy)]
 pub enum StepKind {
-    /// A number, by its place in the tree's table.
+    /// A literal, by its index in the table.
     Literal(u32),
-    /// A truth value.
+    /// `true` or `false`.
     Bool(bool),
-    /// What the word with this number names.
+    /// An identifier.
     Name(u32),
-    /// What a name makes of so many template arguments after it.
+    /// A template list with this number of arguments.
     Template(u32),
-    /// A call with so many arguments of the name or type before them.
+    /// A call with this number of arguments.
     Call(u32),
-    /// What stands in parentheses, which open at this token.
+    /// A parenthesized expression, from this token.
     Group(u32),
-    /// An element: what has it, and which.
+    /// An index access: base and index.
     Index,
-    /// A member or components, by the word with this number.
+    /// A member access or a swizzle.
     Member(u32),
-    /// An operation on one value.
+    /// A unary operator.
     Unary(UnaryOperator),
-    /// The variable that a pointer points to.
+    /// An indirection, `*`.
     Deref,
-    /// A pointer to a variable.
+    /// Address-of, `&`.
     AddressOf,
-    /// An operation on two values.
+    /// A binary operator.
     Binary(BinaryOperator),
-    /// Between the operands of `||`, or else of `&&`.
+    /// After the left operand of `||` (true) or `&&` (false).
     Between(bool),
-    /// After the second one.
+    /// After the right operand of `||` (true) or `&&` (false).
     Logical(bool),
-    /// `let`, with a type or not: the type and the value.
+    /// `let`, and whether it has a type: type and initializer.
     Let(bool),
-    /// `const`, likewise.
+    /// `const`, and whether it has a type: type and initializer.
     Const(bool),
-    /// `var`: so many template arguments, the type and the value, if it has them.
+    /// `var`: template arguments, type and initializer.
     Var {
-        /// How many template arguments.
+        /// The number of template arguments.
         templates: u16,
-        /// Whether a type stands there.
+        /// Whether it has a type.
         typed: bool,
-        /// Whether a value does.
+        /// Whether it has an initializer.
         init: bool,
     },
-    /// A condition that has to hold.
+    /// `const_assert`.
     ConstAssert,
-    /// A store: where, and what.
+    /// An assignment: left-hand and right-hand side.
     Assign,
-    /// The place of a store that computes is known.
+    /// After the left-hand side of a compound assignment.
     Target,
-    /// A store of what the operation makes of the place's value and one more.
+    /// A compound assignment, after its right-hand side.
     Compound(BinaryOperator),
-    /// One more.
+    /// An increment.
     Increase,
-    /// One less.
+    /// A decrement.
     Decrease,
-    /// A value that is not used.
+    /// A phony assignment, `_ =`.
     Phony,
-    /// A call that is a statement, with so many arguments.
+    /// A call statement with this number of arguments.
     CallStatement(u32),
-    /// A condition; what is done where it holds follows.
+    /// `if`, after its condition.
     If,
-    /// What is done where it doesn't.
+    /// `else`.
     Else,
-    /// The end of what was opened last.
+    /// The end of the innermost block.
     End,
-    /// Statements with a scope of their own.
+    /// A block.
     Block,
-    /// A loop's body.
+    /// `loop`.
     Loop,
-    /// What is done after it each time.
+    /// `continuing`.
     Continuing,
-    /// What ends the loop where it holds.
+    /// `break if`, after its condition.
     BreakIf,
-    /// A loop whose condition follows.
+    /// `while`, before its condition.
     While,
-    /// That condition; the body follows.
+    /// `while`, after its condition.
     WhileTest,
-    /// A loop with a scope of its own; what it begins with follows.
+    /// `for`, before its initializer.
     For,
-    /// Its condition follows.
+    /// `for`, before its condition.
     ForLoop,
-    /// That condition, if there is one; the body follows.
+    /// `for`, after its condition, if it has one.
     ForTest(bool),
-    /// What is done after the body each time follows.
+    /// `for`, before its update.
     ForUpdate,
-    /// A value; its cases follow.
+    /// `switch`, after its selector.
     Switch,
-    /// A value that chooses the next body.
+    /// A case selector.
     CaseValue,
-    /// Any other value chooses it.
+    /// `default`.
     CaseDefault,
-    /// A case's body.
+    /// The body of a case.
     CaseBody,
-    /// Leaves the nearest loop or switch.
+    /// `break`.
     Break,
-    /// Goes on with the nearest loop.
+    /// `continue`.
     Continue,
-    /// Ends the function, with a value or not.
+    /// `return`, and whether it has a value.
     Return(bool),
-    /// Ends the fragment.
+    /// `discard`.
     Discard,
 }
 
-/// A step, and the token where it stands.
+/// A step at its token.
 #[derive(Clone, Copy)]
 pub struct Step {
-    /// What it does.
+    /// Its kind.
     pub kind: StepKind,
-    /// The place of the token.
+    /// The index of the token.
     pub token: u32,
 }

@@ -1,24 +1,24 @@
-// How values lie in memory (section "Alignment and Size" of the standard).
+// Memory layout of types (section "Alignment and Size" of the WGSL specification).
 
 use ir_kinds::{Scalar, VectorSize};
 
-/// How a value lies in memory, in bytes.
+/// The memory layout of a type, in bytes.
 #[derive(Clone, Copy)]
 pub struct Layout {
-    /// How many bytes.
+    /// Its size.
     pub size: u64,
-    /// What its first byte is a multiple of.
+    /// Its alignment.
     pub alignment: u64,
 }
 
 impl Layout {
-    /// Of no bytes.
+    /// The layout of a type without a size.
     pub const NONE: Layout = Layout {
         size: 0,
         alignment: 1,
     };
 
-    /// Of a scalar.
+    /// The layout of a scalar.
     pub fn of_scalar(scalar: Scalar) -> Layout {
         let width = u64::from(scalar.width);
         Layout {
@@ -27,7 +27,7 @@ impl Layout {
         }
     }
 
-    /// Of a vector: one of three is aligned as one of four.
+    /// The layout of a vector: `vec3` is aligned like `vec4`.
     pub fn of_vector(size: VectorSize, scalar: Scalar) -> Layout {
         let width = Layout::of_scalar(scalar).size;
         let aligned = match size {
@@ -40,7 +40,7 @@ impl Layout {
         }
     }
 
-    /// Of a matrix.
+    /// The layout of a matrix.
     pub fn of_matrix(columns: VectorSize, rows: VectorSize, scalar: Scalar) -> Layout {
         let alignment = Layout::of_vector(rows, scalar).alignment;
         Layout {
@@ -49,7 +49,7 @@ impl Layout {
         }
     }
 
-    /// The least multiple of the alignment that is not below this.
+    /// The least multiple of the alignment that is not less than this.
     pub fn round(self, offset: u64) -> u64 {
         if self.alignment == 0 {
             return offset;
@@ -62,7 +62,7 @@ impl Layout {
         }
     }
 
-    /// From element to element of an array.
+    /// The stride of an array's elements.
     pub fn stride(self) -> u64 {
         self.round(self.size)
     }

@@ -1,12 +1,16 @@
-//! The types of a text of WGSL, and what they are in the IR.
+//! The types of a WGSL module and their lowering to the IR.
 #![tactic(auto)]
 
 mod builder;
 mod layout;
+mod operators;
 mod shapes;
 mod table;
 
-pub use builder::{Builder, ExpressionHandle, TypeHandle, no_expression, no_type, span_of};
+pub use builder::{
+    Builder, ExpressionHandle, RayStruct, TypeHandle, no_expression, no_type, span_of,
+};
 pub use layout::Layout;
+pub use operators::{result_of, splats};
 pub use shapes::{Shape, vector_size};
 pub use table::{Row, RowKind, TypeMember, TypeTable};

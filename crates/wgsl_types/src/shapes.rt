@@ -1,28 +1,34 @@
-// What types are.
+// Types without their memory layout.
 
-use ir_kinds::{Scalar, VectorSize};
+use ir_kinds::{ImageClass, ImageDimension, Scalar, VectorSize};
 
-/// What a type is.
+/// A type.
 #[derive(Clone, Copy, PartialEq, Eq)]
 pub enum Shape {
-    /// None.
+    /// No type.
     None,
     /// A scalar.
     Scalar(Scalar),
-    /// Scalars in a row.
+    /// A vector.
     Vector(VectorSize, Scalar),
-    /// Columns in a row: how many, and how many scalars each has.
+    /// A matrix: the number of columns, and of rows.
     Matrix(VectorSize, VectorSize, Scalar),
-    /// An atomic scalar.
+    /// An atomic.
     Atomic(Scalar),
-    /// A sampler, which compares depths or not.
+    /// A sampler, or a comparison sampler.
     Sampler(bool),
-    /// An array, a struct or a pointer, by its place in the table.
+    /// An image: its dimension, whether it is arrayed, and its class.
+    Image(ImageDimension, bool, ImageClass),
+    /// An acceleration structure, and whether its ray queries return vertex positions.
+    AccelerationStructure(bool),
+    /// A ray query, and whether it returns vertex positions.
+    RayQuery(bool),
+    /// An array, a struct or a pointer, by its index in the table.
     Row(u32),
 }
 
 impl Shape {
-    /// The scalar of a number, a vector or a matrix.
+    /// The scalar of a scalar, vector or matrix type.
     pub fn scalar(self) -> Option<Scalar> {
         match self {
             Shape::Scalar(scalar) | Shape::Vector(_, scalar) | Shape::Matrix(_, _, scalar) => Some(
@@ -32,7 +38,7 @@ impl Shape {
         }
     }
 
-    /// The same with other scalars.
+    /// The same type with another scalar.
     pub fn with_scalar(self, scalar: Scalar) -> Shape {
         match self {
             Shape::Scalar(_) => Shape::Scalar(scalar),
@@ -51,7 +57,7 @@ impl Shape {
     }
 }
 
-/// The size of a vector of so many components.
+/// The `VectorSize` of this many components.
 pub fn vector_size(count: u32) -> Option<VectorSize> {
     match count {
         2 => Some(VectorSize::Bi),

@@ -1,9 +1,9 @@
-// Arrays, structs and pointers, and the handles of all types.
+// The table of arrays, structs and pointers, and the handles of types.
 
-use crate::builder::{Builder, TypeHandle};
+use crate::builder::{Builder, RayStruct, TypeHandle};
 use crate::layout::Layout;
 use crate::shapes::Shape;
-use ir_kinds::AddressSpace;
+use ir_kinds::{AddressSpace, PredeclaredType, Scalar};
 use ir_types::{ArraySize, IrType, StructMember, TypeInner};
 use std::alloc::Global;
 use wgsl_text::{Extent, WgslError};
@@ -12,62 +12,92 @@ use wgsl_tree::Part;
 /// A member of a struct.
 #[derive(Clone, Copy)]
 pub struct TypeMember {
-    /// The number of the word that names it.
+    /// The index of its name among the words.
     pub name: u32,
     /// Its type.
     pub shape: Shape,
 }
 
-/// What an array, a struct or a pointer is.
+/// An array, a struct or a pointer.
 #[derive(Clone, Copy)]
 pub enum RowKind {
-    /// Elements: of which type, and how many.
+    /// An array: its element type and its size.
     Array(Shape, ArraySize),
-    /// Members, by their places in the table.
+    /// A struct: the range of its members in the table.
     Struct(Part),
-    /// A pointer to a type, in a space.
+    /// A binding array, with its element type.
+    Bindings(Shape),
+    /// A pointer to a type, in an address space.
     Pointer(Shape, AddressSpace),
 }
 
-/// An array, a struct or a pointer.
+/// An entry of the table.
 #[derive(Clone, Copy)]
 pub struct Row {
-    /// What it is.
+    /// The type.
     pub kind: RowKind,
     /// Its handle.
     pub handle: TypeHandle,
-    /// How a value lies in memory.
+    /// Its memory layout.
     pub layout: Layout,
 }
 
-/// The arrays, structs and pointers of a text, as they come.
+/// The arrays, structs and pointers of a module, in order of creation.
 pub struct TypeTable {
-    /// These.
+    /// The entries.
     pub rows: Vec<Row>,
-    /// The members of structs.
+    /// The members of all structs.
     pub members: Vec<TypeMember>,
+    /// The result structs of the built-in functions that the module calls.
+    pub predeclared: Vec<(PredeclaredType, Shape)>,
+    /// The special types for ray queries that it uses.
+    pub rays: Vec<(RayStruct, Shape)>,
 }
 
-// Written out, so that its lists are freed in a call of this crate wherever it is let go.
+// Defined explicitly, so that its vectors are freed in a function of this crate wherever it is dropped.
 impl Drop for TypeTable {
     fn drop(self) {
         let TypeTable {
             rows: _rows,
             members: _members,
+            predeclared: _predeclared,
+            rays: _rays,
         } = self;
     }
 }
 
 impl TypeTable {
-    /// With nothing in it.
+    /// An empty table.
     pub fn new(alloc: Global) -> TypeTable {
         TypeTable {
             rows: Vec::new(alloc),
             members: Vec::new(alloc),
+            predeclared: Vec::new(alloc),
+            rays: Vec::new(alloc),
         }
     }
 
-    /// The array, struct or pointer that a type is.
+    /// The special type for ray queries, if it was created.
+    pub fn ray_type(&self, of: RayStruct) -> Option<Shape> {
+        for entry in &self.rays {
+            if entry.0 == of {
+                return Some(entry.1);
+            }
+        }
+        None
+    }
+
+    /// The result struct of a built-in function, if it was created.
+    pub fn result_struct(&self, of: PredeclaredType) -> Option<Shape> {
+        for entry in &self.predeclared {
+            if entry.0 == of {
+                return Some(entry.1);
+            }
+        }
+        None
+    }
+
+    /// The table entry of a type.
     pub fn row(&self, shape: Shape) -> Option<Row> {
         match shape {
             Shape::Row(place) => self.rows.get(place as usize).copied(),
@@ -75,7 +105,7 @@ impl TypeTable {
         }
     }
 
-    /// How a value lies in memory.
+    /// The memory layout of a type.
     pub fn layout(&self, shape: Shape) -> Layout {
         match shape {
             Shape::Scalar(scalar) | Shape::Atomic(scalar) => Layout::of_scalar(scalar),
@@ -85,7 +115,11 @@ impl TypeTable {
                 Some(row) => row.layout,
                 None => Layout::NONE,
             },
-            Shape::None | Shape::Sampler(_) => Layout::NONE,
+            Shape::None
+            | Shape::Sampler(_)
+            | Shape::Image(..)
+            | Shape::AccelerationStructure(_)
+            | Shape::RayQuery(_) => Layout::NONE,
         }
     }
 
@@ -101,6 +135,15 @@ impl TypeTable {
             },
             Shape::Atomic(scalar) => TypeInner::Atomic(scalar),
             Shape::Sampler(comparison) => TypeInner::Sampler { comparison },
+            Shape::Image(dim, arrayed, class) => TypeInner::Image {
+                dim,
+                arrayed,
+                class,
+            },
+            Shape::AccelerationStructure(vertex_return) => {
+                TypeInner::AccelerationStructure { vertex_return }
+            }
+            Shape::RayQuery(vertex_return) => TypeInner::RayQuery { vertex_return },
             Shape::None | Shape::Row(_) => {
                 return match self.row(shape) {
                     Some(row) => row.handle,
@@ -114,7 +157,39 @@ impl TypeTable {
         builder.insert(IrType { name: None, inner }, extent)
     }
 
-    // One more array, struct or pointer.
+    /// The leaf scalar of a type: of arrays, that of the innermost elements.
+    pub fn leaf(&self, shape: Shape) -> Option<Scalar> {
+        let mut inner = shape;
+        for _ in 0..256_u32 {
+            match self.row(inner) {
+                Some(row) => match row.kind {
+                    RowKind::Array(element, _) => inner = element,
+                    RowKind::Struct(_) | RowKind::Bindings(_) | RowKind::Pointer(..) => return None,
+                },
+                None => return inner.scalar(),
+            }
+        }
+        None
+    }
+
+    /// Whether two types are the same.
+    pub fn is_same(&self, left: Shape, right: Shape) -> bool {
+        match (self.row(left), self.row(right)) {
+            (Some(left), Some(right)) => left.handle.index() == right.handle.index(),
+            (None, None) => left == right,
+            _ => false,
+        }
+    }
+
+    // Whether a type is abstract, so that no IR type denotes it.
+    fn is_abstract(&self, shape: Shape) -> bool {
+        match self.leaf(shape) {
+            Some(scalar) => scalar.is_abstract(),
+            None => false,
+        }
+    }
+
+    // Adds an array, struct or pointer.
     fn add<B: Builder>(&mut self, builder: &mut B, row: Row) -> Shape {
         let place = u32::try_from(self.rows.len()).unwrap_or(u32::MAX);
         if self.rows.push(row).is_err() {
@@ -123,7 +198,7 @@ impl TypeTable {
         Shape::Row(place)
     }
 
-    /// An array.
+    /// Adds an array type.
     pub fn array<B: Builder>(
         &mut self,
         builder: &mut B,
@@ -141,6 +216,18 @@ impl TypeTable {
             size: stride.saturating_mul(u64::from(count)),
             alignment: of_element.alignment,
         };
+        let kind = RowKind::Array(element, *size);
+        if self.is_abstract(element) {
+            let handle = crate::builder::no_type();
+            return self.add(
+                builder,
+                Row {
+                    kind,
+                    handle,
+                    layout,
+                },
+            );
+        }
         check_size(builder, layout, extent);
         let base = self.handle(builder, element, extent);
         let stride = u32::try_from(stride).unwrap_or(u32::MAX);
@@ -150,7 +237,6 @@ impl TypeTable {
             stride,
         };
         let handle = builder.insert(IrType { name: None, inner }, extent);
-        let kind = RowKind::Array(element, *size);
         self.add(
             builder,
             Row {
@@ -161,7 +247,30 @@ impl TypeTable {
         )
     }
 
-    /// A pointer.
+    /// Adds a binding array type.
+    pub fn bindings<B: Builder>(
+        &mut self,
+        builder: &mut B,
+        element: Shape,
+        size: &ArraySize,
+        extent: Extent,
+    ) -> Shape {
+        let layout = self.layout(element);
+        let base = self.handle(builder, element, extent);
+        let inner = TypeInner::BindingArray { base, size: *size };
+        let handle = builder.insert(IrType { name: None, inner }, extent);
+        let kind = RowKind::Bindings(element);
+        self.add(
+            builder,
+            Row {
+                kind,
+                handle,
+                layout,
+            },
+        )
+    }
+
+    /// Adds a pointer type.
     pub fn pointer<B: Builder>(
         &mut self,
         builder: &mut B,
@@ -184,7 +293,7 @@ impl TypeTable {
         )
     }
 
-    /// A struct with this name, these members in the IR and in the table, and this layout.
+    /// Adds a struct type with this name, these members in the IR and in the table, and this layout.
     pub fn structure<B: Builder>(
         &mut self,
         builder: &mut B,
@@ -211,7 +320,7 @@ impl TypeTable {
         )
     }
 
-    /// The member with this name: its place and its type.
+    /// The member with this name: its index and its type.
     pub fn member(&self, members: Part, name: u32) -> Option<(u32, Shape)> {
         for place in 0..members.count() {
             let at = members.start.saturating_add(place) as usize;
@@ -224,10 +333,10 @@ impl TypeTable {
     }
 }
 
-// The greatest size of a type.
+// The maximum size of a type in bytes.
 const MAX_SIZE: u64 = 2_147_483_647;
 
-// A type may not be too large.
+// It is an error if a type exceeds the maximum size.
 fn check_size<B: Builder>(builder: &mut B, layout: Layout, extent: Extent) {
     if layout.size > MAX_SIZE {
         builder.fail(WgslError::malformed("type is too large", extent));

@@ -1,10 +1,12 @@
-// From one scalar type to another.
+// Conversions between scalar types.
 
+use crate::floats::number_of;
 use crate::rounding::{f32_of_f64, f64_of_integer};
 use ir_kinds::{Literal, Scalar, ScalarKind};
+use std::num::{f64_to_bits_with_nan, saturating_f64_to_i32, saturating_f64_to_u32};
 use wgsl_tokens::half_of;
 
-// A whole number of a type.
+// An integer as a value of an integer type, if it is in range.
 fn whole(number: i64, to: Scalar) -> Option<Literal> {
     match (to.kind, to.width) {
         (ScalarKind::AbstractInt, _) => Some(Literal::AbstractInt(number)),
@@ -18,7 +20,7 @@ fn whole(number: i64, to: Scalar) -> Option<Literal> {
     }
 }
 
-// A float of a type, from one of 64 bits.
+// A value of a float type, rounded from an `f64`.
 fn float(bits: u64, to: Scalar) -> Option<Literal> {
     match (to.kind, to.width) {
         (ScalarKind::AbstractFloat, _) => Some(Literal::AbstractFloat(bits)),
@@ -29,7 +31,7 @@ fn float(bits: u64, to: Scalar) -> Option<Literal> {
     }
 }
 
-/// The value in a type that it converts to by itself, if it does and the type has it.
+/// Automatic conversion of a value to this type, if there is one and the result is representable.
 pub fn converted(literal: Literal, to: Scalar) -> Option<Literal> {
     if literal.scalar() == to {
         return Some(literal);
@@ -41,7 +43,7 @@ pub fn converted(literal: Literal, to: Scalar) -> Option<Literal> {
     }
 }
 
-/// The type that a value has where none is wanted: `i32` or else `u32` of an abstract integer, or else `f32`.
+/// The type that a value is concretized to without an expected type: `i32` or else `u32` for abstract integers, else `f32`.
 pub fn concrete_scalar(literal: Literal) -> Scalar {
     match literal {
         Literal::AbstractInt(number) if i32::try_from(number).is_ok() => Scalar::I32,
@@ -51,7 +53,37 @@ pub fn concrete_scalar(literal: Literal) -> Scalar {
     }
 }
 
-/// The value that a type's name makes of a whole number or a truth value, if that is known.
+/// The zero value of a scalar type.
+pub fn zero_of(scalar: Scalar) -> Option<Literal> {
+    match scalar.kind {
+        ScalarKind::Bool => Some(Literal::Bool(false)),
+        _ => whole(0, scalar),
+    }
+}
+
+// A float converted to another float type, or truncated to an integer.
+fn cast_float(literal: Literal, number: f64, to: Scalar) -> Option<Literal> {
+    // the greatest `f32` values in the range of the integer types
+    let (most_i32, most_u32) = match literal {
+        Literal::F32(_) => (2147483520.0, 4294967040.0),
+        _ => (2147483647.0, 4294967295.0),
+    };
+    match (to.kind, to.width) {
+        (ScalarKind::Sint, 4) => {
+            let number = if number > most_i32 { most_i32 } else { number };
+            Some(Literal::I32(saturating_f64_to_i32(number)))
+        }
+        (ScalarKind::Uint, 4) => {
+            let number = if number > most_u32 { most_u32 } else { number };
+            Some(Literal::U32(saturating_f64_to_u32(number)))
+        }
+        (ScalarKind::Bool, _) => Some(Literal::Bool(number != 0.0)),
+        (ScalarKind::Float, _) => float(f64_to_bits_with_nan(number), to),
+        _ => None,
+    }
+}
+
+/// The result of a scalar type's constructor applied to a constant, if it can be evaluated.
 pub fn cast(literal: Literal, to: Scalar) -> Option<Literal> {
     if let Some(same) = converted(literal, to) {
         return Some(same);
@@ -71,6 +103,10 @@ pub fn cast(literal: Literal, to: Scalar) -> Option<Literal> {
         (Literal::I32(number), ScalarKind::Bool, _) => Some(Literal::Bool(number != 0)),
         (Literal::U32(number), ScalarKind::Bool, _) => Some(Literal::Bool(number != 0)),
         (Literal::AbstractInt(number), ScalarKind::Bool, _) => Some(Literal::Bool(number != 0)),
-        _ => None,
+        (Literal::F64(_), _, _) => None,
+        _ => match number_of(literal) {
+            Some(number) => cast_float(literal, number, to),
+            None => None,
+        },
     }
 }

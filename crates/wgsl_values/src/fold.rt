@@ -1,21 +1,22 @@
-// What operators make of values that are known.
+// Constant evaluation of operators on scalars.
 
+use crate::floats::floats;
 use crate::integers::{abstracts, shifted, signed, unsigned};
 use ir_kinds::{BinaryOperator, Literal, UnaryOperator};
 
-/// What is known of an operation on values that are known.
+/// The result of evaluating an operation on constants.
 #[derive(Clone, Copy)]
 pub enum Folded {
-    /// This value.
+    /// The operation has this value.
     Made(Literal),
-    /// It can't be, in these words.
+    /// A constant expression error, with this message.
     Wrong(&'static str),
-    /// Nothing: it is computed when it runs.
+    /// The operation is not evaluated: it is computed at run time.
     Open,
 }
 
 impl Folded {
-    // An unsigned integer, if there is one.
+    // The `u32` result, or an error if there is none.
     pub(crate) fn of_u32(number: Option<u32>) -> Folded {
         match number {
             Some(number) => Folded::Made(Literal::U32(number)),
@@ -23,7 +24,15 @@ impl Folded {
         }
     }
 
-    // An abstract integer, if there is one.
+    // The `i32` result, or an error if there is none.
+    pub(crate) fn of_i32(number: Option<i32>) -> Folded {
+        match number {
+            Some(number) => Folded::Made(Literal::I32(number)),
+            None => Folded::Wrong("<< operation overflowed"),
+        }
+    }
+
+    // The abstract integer result, or an error if there is none.
     pub(crate) fn of_i64(number: Option<i64>) -> Folded {
         match number {
             Some(number) => Folded::Made(Literal::AbstractInt(number)),
@@ -32,7 +41,7 @@ impl Folded {
     }
 }
 
-// The value with the other sign.
+// The negated value.
 fn negated(literal: Literal) -> Folded {
     match literal {
         Literal::AbstractInt(number) => match number.checked_neg() {
@@ -48,7 +57,7 @@ fn negated(literal: Literal) -> Folded {
     }
 }
 
-/// What an operator makes of a value.
+/// Evaluates a unary operator.
 pub fn fold_unary(operator: UnaryOperator, literal: Literal) -> Folded {
     match (operator, literal) {
         (UnaryOperator::Negate, _) => negated(literal),
@@ -62,7 +71,7 @@ pub fn fold_unary(operator: UnaryOperator, literal: Literal) -> Folded {
     }
 }
 
-// Of truth values.
+// A binary operator on two bools.
 fn truths(operator: BinaryOperator, left: bool, right: bool) -> Folded {
     let holds = match operator {
         BinaryOperator::And | BinaryOperator::LogicalAnd => left && right,
@@ -74,7 +83,7 @@ fn truths(operator: BinaryOperator, left: bool, right: bool) -> Folded {
     Folded::Made(Literal::Bool(holds))
 }
 
-/// What an operator makes of two values of one type, or for shifts of a value and an unsigned integer.
+/// Evaluates a binary operator on two values of the same type; the right operand of a shift is a `u32`.
 pub fn fold_binary(operator: BinaryOperator, left: Literal, right: Literal) -> Folded {
     match (operator, right) {
         (BinaryOperator::ShiftLeft | BinaryOperator::ShiftRight, Literal::U32(count)) => {
@@ -89,6 +98,7 @@ pub fn fold_binary(operator: BinaryOperator, left: Literal, right: Literal) -> F
         (Literal::I32(left), Literal::I32(right)) => signed(operator, left, right),
         (Literal::U32(left), Literal::U32(right)) => unsigned(operator, left, right),
         (Literal::Bool(left), Literal::Bool(right)) => truths(operator, left, right),
+        _ if left.scalar() == right.scalar() => floats(operator, left, right),
         _ => Folded::Open,
     }
 }

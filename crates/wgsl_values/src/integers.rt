@@ -1,9 +1,9 @@
-// What operators make of whole numbers, by their types.
+// Operators on integers, by type.
 
 use crate::fold::Folded;
 use ir_kinds::{BinaryOperator, Literal};
 
-// What a comparison of two numbers gives, if it is one.
+// The result of an operator on two integers, if it is a comparison.
 fn compared(operator: BinaryOperator, left: i64, right: i64) -> Option<bool> {
     match operator {
         BinaryOperator::Equal => Some(left == right),
@@ -16,7 +16,7 @@ fn compared(operator: BinaryOperator, left: i64, right: i64) -> Option<bool> {
     }
 }
 
-// An abstract integer, if it has 64 bits.
+// The abstract integer, if it fits into 64 bits.
 fn abstract_or(number: Option<i64>, wrong: &'static str) -> Folded {
     match number {
         Some(number) => Folded::Made(Literal::AbstractInt(number)),
@@ -24,7 +24,7 @@ fn abstract_or(number: Option<i64>, wrong: &'static str) -> Folded {
     }
 }
 
-// Of abstract integers.
+// A binary operator on two abstract integers.
 pub(crate) fn abstracts(operator: BinaryOperator, left: i64, right: i64) -> Folded {
     if let Some(holds) = compared(operator, left, right) {
         return Folded::Made(Literal::Bool(holds));
@@ -57,7 +57,7 @@ pub(crate) fn abstracts(operator: BinaryOperator, left: i64, right: i64) -> Fold
     }
 }
 
-// A signed integer, if it has 32 bits.
+// The `i32`, if it fits into 32 bits.
 fn signed_or(number: Option<i32>, wrong: &'static str) -> Folded {
     match number {
         Some(number) => Folded::Made(Literal::I32(number)),
@@ -65,7 +65,7 @@ fn signed_or(number: Option<i32>, wrong: &'static str) -> Folded {
     }
 }
 
-// Of signed integers.
+// A binary operator on two `i32` values.
 pub(crate) fn signed(operator: BinaryOperator, left: i32, right: i32) -> Folded {
     if let Some(holds) = compared(operator, i64::from(left), i64::from(right)) {
         return Folded::Made(Literal::Bool(holds));
@@ -89,7 +89,7 @@ pub(crate) fn signed(operator: BinaryOperator, left: i32, right: i32) -> Folded 
     }
 }
 
-// Of unsigned integers.
+// A binary operator on two `u32` values.
 pub(crate) fn unsigned(operator: BinaryOperator, left: u32, right: u32) -> Folded {
     if let Some(holds) = compared(operator, i64::from(left), i64::from(right)) {
         return Folded::Made(Literal::Bool(holds));
@@ -113,43 +113,53 @@ pub(crate) fn unsigned(operator: BinaryOperator, left: u32, right: u32) -> Folde
     }
 }
 
-// A number with its bits moved up: none may be lost.
-fn moved_up(number: u64, count: u32, top: u32) -> Option<u64> {
-    if count >= top || count > 63 {
+// An integer shifted left; it is an error if the result overflows.
+fn moved_up(number: i64, count: u32) -> Option<i64> {
+    if number == 0 {
+        return Some(0);
+    }
+    if count > 62 {
         return None;
     }
-    let moved = number << count;
-    if moved >> count == number && (top > 63 || moved >> top == 0) {
-        Some(moved)
-    } else {
-        None
-    }
+    number.checked_mul(i64::try_from(1_u64 << count).ok()?)
 }
 
-// Of an unsigned integer and how far its bits move.
+// An integer shifted right by fewer than 64 bits.
+fn moved_down(number: i64, count: u32) -> i64 {
+    if count > 63 {
+        return 0;
+    }
+    let magnitude = if number < 0 { !number } else { number };
+    let moved = i64::try_from(magnitude.unsigned_abs() >> count).unwrap_or(0);
+    if number < 0 { !moved } else { moved }
+}
+
+// A shift of an unsigned integer.
 pub(crate) fn shifted(operator: BinaryOperator, left: Literal, count: u32) -> Folded {
-    let is_wide = matches!(left, Literal::AbstractInt(_));
-    if count >= 32 && !is_wide {
+    if count >= 32 && !matches!(left, Literal::AbstractInt(_)) {
         return Folded::Wrong("RHS of shift operation is greater than or equal to 32");
     }
-    match (operator, left) {
-        (BinaryOperator::ShiftLeft, Literal::U32(number)) => {
-            match moved_up(u64::from(number), count, 32) {
-                Some(moved) => Folded::of_u32(u32::try_from(moved).ok()),
-                None => Folded::Wrong("<< operation overflowed"),
-            }
-        }
-        (BinaryOperator::ShiftRight, Literal::U32(number)) if count < 32 => {
-            Folded::Made(Literal::U32(number >> count))
-        }
-        (BinaryOperator::ShiftLeft, Literal::AbstractInt(number)) if number >= 0 => {
-            match moved_up(number.unsigned_abs(), count, 63) {
-                Some(moved) => Folded::of_i64(i64::try_from(moved).ok()),
-                None => Folded::Wrong("<< operation overflowed"),
-            }
-        }
-        (BinaryOperator::ShiftRight, Literal::AbstractInt(number)) if number >= 0 && count < 63 => {
-            Folded::Made(Literal::AbstractInt(number >> count))
+    let is_up = operator == BinaryOperator::ShiftLeft;
+    match left {
+        Literal::U32(number) if is_up => match moved_up(i64::from(number), count) {
+            Some(moved) => Folded::of_u32(u32::try_from(moved).ok()),
+            None => Folded::Wrong("<< operation overflowed"),
+        },
+        Literal::U32(number) => Folded::of_u32(u32::try_from(moved_down(
+            i64::from(number),
+            count,
+        )).ok()),
+        Literal::I32(number) if is_up => match moved_up(i64::from(number), count) {
+            Some(moved) => Folded::of_i32(i32::try_from(moved).ok()),
+            None => Folded::Wrong("<< operation overflowed"),
+        },
+        Literal::I32(number) => Folded::of_i32(i32::try_from(moved_down(
+            i64::from(number),
+            count,
+        )).ok()),
+        Literal::AbstractInt(number) if is_up => Folded::of_i64(moved_up(number, count)),
+        Literal::AbstractInt(number) if count < 64 => {
+            Folded::Made(Literal::AbstractInt(moved_down(number, count)))
         }
         _ => Folded::Open,
     }

@@ -1,11 +1,14 @@
-//! Numbers and truth values that are known while a text is read: conversions, and what operators make of them.
+//! Constant evaluation of scalars: conversions, operators and built-in functions.
 #![tactic(auto)]
 
 mod convert;
+mod floats;
 mod fold;
+mod functions;
 mod integers;
 mod rounding;
 
-pub use convert::{cast, concrete_scalar, converted};
+pub use convert::{cast, concrete_scalar, converted, zero_of};
 pub use fold::{Folded, fold_binary, fold_unary};
+pub use functions::fold_math;
 pub use rounding::{f32_of_f64, f64_of_integer};

@@ -1,6 +1,6 @@
-// Floats as bits, rounded to nearest, to even where two are as near.
+// Rounding of floats on their bits: to nearest, ties to even.
 
-// A number divided by a power of two.
+// An integer divided by a power of two, rounded to nearest, ties to even.
 fn rounded(number: u64, shift: u32) -> u64 {
     if shift == 0 {
         return number;
@@ -18,7 +18,7 @@ fn rounded(number: u64, shift: u32) -> u64 {
     }
 }
 
-/// The nearest float of 64 bits to a whole number.
+/// The nearest `f64` to an integer.
 pub fn f64_of_integer(number: i64) -> u64 {
     let sign = if number < 0 { 1_u64 << 63 } else { 0 };
     let magnitude = number.unsigned_abs();
@@ -26,7 +26,7 @@ pub fn f64_of_integer(number: i64) -> u64 {
         return 0;
     }
     let top = 63_u32.saturating_sub(magnitude.leading_zeros());
-    // the hidden bit is one of the exponent, too
+    // the hidden bit adds one to the exponent
     let mantissa = if top > 52 {
         rounded(magnitude, top - 52)
     } else {
@@ -37,7 +37,7 @@ pub fn f64_of_integer(number: i64) -> u64 {
     sign | exponent.saturating_add(mantissa)
 }
 
-/// The nearest float of 32 bits to one of 64, if it is finite.
+/// The nearest `f32` to an `f64`, if it is finite.
 pub fn f32_of_f64(bits: u64) -> Option<u32> {
     let sign = if bits >> 63 == 1 { 1_u64 << 31 } else { 0 };
     let exponent = (bits >> 52) & 0x7ff;

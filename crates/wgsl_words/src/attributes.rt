@@ -1,9 +1,9 @@
-// Attributes, and the words that stand in them.
+// Attributes and the enumerants of their arguments.
 
 use crate::lookup::find;
-use ir_kinds::{BuiltIn, Interpolation, Sampling};
+use ir_kinds::{BuiltIn, ConservativeDepth, EarlyDepthTest, Interpolation, Sampling};
 
-/// An attribute, by its name.
+/// An attribute.
 #[derive(Clone, Copy, PartialEq, Eq)]
 pub enum AttributeWord {
     /// `@binding`.
@@ -65,7 +65,7 @@ pub enum AttributeWord {
 }
 
 impl AttributeWord {
-    /// Whether arguments stand after it.
+    /// Whether the attribute takes arguments.
     pub fn has_arguments(self) -> bool {
         !matches!(
             self,
@@ -178,4 +178,31 @@ static SAMPLINGS: [(&str, Sampling); 5] = [
 /// The sampling with this name.
 pub fn sampling_of(word: &[u8]) -> Option<Sampling> {
     find(&SAMPLINGS, word)
+}
+
+static DEPTH_TESTS: [(&str, EarlyDepthTest); 4] = [
+    ("force", EarlyDepthTest::Force),
+    (
+        "greater_equal",
+        EarlyDepthTest::Allow {
+            conservative: ConservativeDepth::GreaterEqual,
+        },
+    ),
+    (
+        "less_equal",
+        EarlyDepthTest::Allow {
+            conservative: ConservativeDepth::LessEqual,
+        },
+    ),
+    (
+        "unchanged",
+        EarlyDepthTest::Allow {
+            conservative: ConservativeDepth::Unchanged,
+        },
+    ),
+];
+
+/// The early depth test with this name.
+pub fn depth_test_of(word: &[u8]) -> Option<EarlyDepthTest> {
+    find(&DEPTH_TESTS, word)
 }

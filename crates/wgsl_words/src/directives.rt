@@ -1,10 +1,10 @@
-// The words of directives.
+// Names in directives: enable-extensions, language extensions and severities.
 
 use crate::lookup::find;
 use ir_flags::Capabilities;
 use ir_kinds::Severity;
 
-/// What an extension lets a text use.
+/// The effect of an enable-extension.
 pub type Enabled = Capabilities;
 
 static EXTENSIONS: [(&str, Enabled); 14] = [
@@ -24,7 +24,7 @@ static EXTENSIONS: [(&str, Enabled); 14] = [
     ("subgroups", Capabilities(524288)),
 ];
 
-/// What the extension with this name lets a text use.
+/// The effect of the enable-extension with this name.
 pub fn enable_of(word: &[u8]) -> Option<Enabled> {
     find(&EXTENSIONS, word)
 }
@@ -35,7 +35,7 @@ static FEATURES: [(&str, ()); 3] = [
     ("pointer_composite_access", ()),
 ];
 
-/// Whether there is a feature of the language with this name.
+/// Whether there is a language extension with this name.
 pub fn is_language_feature(word: &[u8]) -> bool {
     find(&FEATURES, word).is_some()
 }

@@ -2,16 +2,16 @@
 
 use crate::lookup::find;
 
-/// What a word is to the language.
+/// The lexical class of a word.
 #[derive(Clone, Copy, PartialEq, Eq)]
 pub enum Keyword {
-    /// It may name something.
+    /// An identifier.
     None,
-    /// It may name nothing.
+    /// A reserved word.
     Reserved,
-    /// It is `_`.
+    /// `_`.
     Underscore,
-    /// It begins with `__`.
+    /// A word that begins with `__`.
     ReservedPrefix,
     /// `alias`.
     Alias,
@@ -245,7 +245,7 @@ static RESERVED: [(&str, ()); 146] = [
     ("yield", ()),
 ];
 
-/// What a word is to the language.
+/// The lexical class of a word.
 pub fn keyword_of(word: &[u8]) -> Keyword {
     match word {
         [b'_'] => return Keyword::Underscore,

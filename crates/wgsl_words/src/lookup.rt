@@ -1,6 +1,6 @@
-// Tables.
+// Lookup of words in tables.
 
-/// What the word denotes in a table, or `None` where it is none of its words.
+/// The entry of a word in a table, or `None` if the table does not contain the word.
 pub fn find<T: Copy>(table: &[(&'static str, T)], word: &[u8]) -> Option<T> {
     for entry in table {
         if entry.0.as_bytes() == word {

@@ -1,4 +1,4 @@
--- How expressions are found, and that they are found exactly where they are written.
+-- Decoding functions of expressions, which agree with the encoding relations.
 use Rattle.std.specs.Prelude.{◌≡◌, ◌≤◌, ℕ, true, List, [], ◌∷◌, Option, Some, None, map, length, option_map, ◌==◌, nat_eq, if◌then◌else◌, codes, refl}
 use Rattle.std.proofs.Common.{inl, inr, ap, sym, subst, ◌∙◌}
 use Rattle.std.specs.Str.{bytes_eq}
@@ -108,7 +108,7 @@ literal_complete (literal.AbstractFloat v) = kind_complete literal_kinds literal
 abbrev pub a_literal : RowOf Literal
 a_literal = row_by_kind literal_kinds literal_with ALiteral literal_sound literal_complete
 
--- ---- levels of detail, and what is required of an image
+-- ---- sample levels and image queries
 
 unfoldable pub level_with : LevelKind → Items → Option SampleLevel
 level_with level_kind.Auto ds = option_map (λ t. level.Auto) (ends.find ds)
@@ -179,7 +179,7 @@ query_complete query.NumSamples = tagged_complete query_kinds query_with ends (�
 abbrev pub a_query : FormOf ImageQuery
 a_query = by_kind query_kinds query_with AnImageQuery query_sound query_complete
 
--- ---- the pattern of a swizzle
+-- ---- swizzle patterns
 
 abbrev pub letter_code : SwizzleComponent → ℕ
 letter_code X = 120
@@ -190,7 +190,7 @@ letter_code W = 119
 abbrev pub letter_in : ℕ → Option SwizzleComponent
 letter_in n = if n == 120 then Some X else (if n == 121 then Some Y else (if n == 122 then Some Z else (if n == 119 then Some W else None)))
 
--- the first letter, with the text after it
+-- the first letter, followed by the rest of the string
 abbrev pub next_letter : List ℕ → Option (SwizzleComponent × List ℕ)
 next_letter [] = None
 next_letter (n ∷ ns) = option_map (λ c. (c, ns)) (letter_in n)

@@ -1,4 +1,4 @@
--- The kinds of expressions and of their parts, by their words.
+-- The kinds of expressions and of their parts, with their tags.
 use Rattle.std.specs.Prelude.{ℕ, List, [], ◌∷◌, codes}
 use Rattle.document_expressions.specs.declared.kinds.ExpressionKind.{ExpressionKind}
 use Rattle.document_expressions.specs.declared.kinds.ExpressionKind.TheVariants as expression_kind
@@ -48,7 +48,7 @@ expression_kinds =
     (codes "CooperativeMultiplyAdd", expression_kind.CooperativeMultiplyAdd) ∷
     []
 
--- the scalars of literals
+-- the scalar types of literals
 abbrev pub literal_kinds : List (List ℕ × LiteralKind)
 literal_kinds =
     (codes "f32", literal_kind.F32) ∷
@@ -65,7 +65,7 @@ literal_kinds =
     (codes "u16", literal_kind.U16) ∷
     []
 
--- the kinds of levels of detail
+-- the kinds of sample levels
 abbrev pub level_kinds : List (List ℕ × LevelKind)
 level_kinds =
     (codes "Auto", level_kind.Auto) ∷
@@ -75,7 +75,7 @@ level_kinds =
     (codes "Gradient", level_kind.Gradient) ∷
     []
 
--- what can be queried of an image
+-- the kinds of image queries
 abbrev pub query_kinds : List (List ℕ × QueryKind)
 query_kinds =
     (codes "Size", query_kind.Size) ∷

@@ -1,4 +1,4 @@
--- How expressions are written: each kind by its word and the parts after it.
+-- The encoding relations of expressions: each kind by its tag and the elements after it.
 use Rattle.std.specs.Prelude.{◌≡◌, List, [], ◌∷◌, Some, map, length, codes}
 use Rattle.serde_json.specs.Data.{Data, string, Items}
 use Rattle.ir_kinds.specs.declared.values.Literal.{Literal}
@@ -17,7 +17,7 @@ use Rattle.document_forms.specs.declared.limits.TheConstants.{MAX_U8, MAX_U16, M
 
 -- ---- literals
 
--- a literal: the word of its scalar, then a truth value, an integer, or the bits of a float
+-- a literal: the word of its scalar type, then a bool, an integer, or the bits of a float
 abbrev pub ALiteral : Literal → Items → Type 0
 ALiteral (literal.Bool v) = AText (codes "bool") ▸ ABool v ▸ Ends
 ALiteral (literal.I16 v) = AText (codes "i16") ▸ ASigned MAX_I16 v ▸ Ends
@@ -32,7 +32,7 @@ ALiteral (literal.F64 v) = AText (codes "f64") ▸ ANumber MAX_U64 v ▸ Ends
 ALiteral (literal.AbstractInt v) = AText (codes "aint") ▸ ASigned MAX_I64 v ▸ Ends
 ALiteral (literal.AbstractFloat v) = AText (codes "afloat") ▸ ANumber MAX_U64 v ▸ Ends
 
--- ---- levels of detail, and what is required of an image
+-- ---- sample levels and image queries
 
 abbrev pub ASampleLevel : SampleLevel → Data → Type 0
 ASampleLevel level.Auto = "Auto" with Ends
@@ -47,9 +47,9 @@ AnImageQuery query.NumLevels = "NumLevels" with Ends
 AnImageQuery query.NumLayers = "NumLayers" with Ends
 AnImageQuery query.NumSamples = "NumSamples" with Ends
 
--- ---- the pattern of a swizzle
+-- ---- swizzle patterns
 
--- a text of four letters
+-- a string of four letters
 abbrev pub APattern : List SwizzleComponent → Data → Type 0
 APattern cs (string w) = (map (λ l. lookup (l ∷ []) letters) w ≡ map Some cs) × (length cs ≡ 4)
 APattern cs _ = ⊥

@@ -1,4 +1,4 @@
--- What a value is written for, found step by step; `Form` says what that means.
+-- Decoding functions; `Form` has the encoding relations that they decide.
 use Rattle.std.specs.Prelude.{ℕ, ℤ, pos, negsuc, Bool, true, false, ◌&&◌, List, [], ◌∷◌, Option, Some, None, option_map, option_and_then, if◌then◌else◌, nat_le, int_lt, int_le, ◌==◌}
 use Rattle.serde_json.specs.Data.{Data, null, Items, no_items, item}
 use Rattle.serde_json.specs.Find.{as_array, as_str, as_number, as_u64, as_i64}
@@ -28,7 +28,7 @@ small high n = if nat_le n high then Some (pos n) else None
 abbrev pub below_zero : ℕ → ℤ → Option ℤ
 below_zero high z = if int_lt z (pos 0) && int_le (negsuc high) z then Some z else None
 
--- what f makes of the number, or d where there is none
+-- f applied to the number, or d if there is none
 abbrev pub or_else : {A B : Type 0} → Option A → (A → Option B) → Option B → Option B
 or_else None f d = d
 or_else (Some x) f d = f x
@@ -53,7 +53,7 @@ side_of d = whole_of d >>= side_in
 abbrev pub word_in : {A : Type 0} → List (List ℕ × A) → Data → Option A
 word_in table d = as_str d >>= (λ w. lookup w table)
 
--- ---- what may be missing
+-- ---- options
 
 abbrev pub is_null : Data → Bool
 is_null null = true
@@ -74,7 +74,7 @@ each f (item d ds) = do
 abbrev pub all_of : {A : Type 0} → (Data → Option A) → Data → Option (List A)
 all_of f d = as_array d >>= each f
 
--- x with what the words denote joined to it
+-- x joined with the sets of the words
 abbrev pub joins : {A : Type 0} → List (List ℕ × A) → (A → A → A) → A → Items → Option A
 joins table union x no_items = Some x
 joins table union x (item d ds) = do
@@ -84,18 +84,18 @@ joins table union x (item d ds) = do
 abbrev pub set_of : {A : Type 0} → List (List ℕ × A) → A → (A → A → A) → Data → Option A
 set_of table none union d = as_array d >>= joins table union none
 
--- ---- parts in a row
+-- ---- rows
 
 abbrev pub first : Items → Option (Data × Items)
 first no_items = None
 first (item d ds) = Some (d, ds)
 
--- nothing, where nothing more is written
+-- the end of the elements
 abbrev pub end : Items → Option (Unit {0})
 end no_items = Some tt
 end (item d ds) = None
 
--- the first part, and what is found after it
+-- the first element, and the result for those after it
 abbrev pub behind : {A B : Type 0} → (Data → Option A) → (Items → Option B) → Items → Option (A × B)
 behind f g ds = do
   t ← first ds
@@ -103,24 +103,24 @@ behind f g ds = do
   y ← g t.1
   Some (x, y)
 
--- an array of such items
+-- an array with the elements of a row
 abbrev pub array_of : {A : Type 0} → (Items → Option A) → Data → Option A
 array_of f d = as_array d >>= f
 
--- what the word that comes first denotes, and what comes after it
+-- the tag, and the elements after it
 abbrev pub tag_of : {K : Type 0} → List (List ℕ × K) → Items → Option (K × Items)
 tag_of table ds = do
   t ← first ds
   k ← word_in table t.0
   Some (k, t.1)
 
--- the parts after the word that comes first, by the kind that the word denotes
+-- the result for the elements after the tag, by the kind that the tag denotes
 abbrev pub of_kind : {A K : Type 0} → List (List ℕ × K) → (K → Items → Option A) → Items → Option A
 of_kind table f ds = do
   t ← tag_of table ds
   f t.0 t.1
 
--- the same of an array
+-- the same for an array
 abbrev pub tag_in : {K : Type 0} → List (List ℕ × K) → Data → Option (K × Items)
 tag_in table d = as_array d >>= tag_of table
 

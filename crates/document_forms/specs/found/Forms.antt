@@ -1,4 +1,4 @@
--- The written forms that all others are made of.
+-- The basic forms, from which all others are built.
 use Rattle.std.specs.Prelude.{◌≡◌, ◌≤◌, ℕ, ℤ, Bool, List, Option, Some, None, option_map, refl}
 use Rattle.serde_json.specs.Data.{Data, null, array, Items, depth, items_depth}
 use Rattle.serde_json.specs.Find.{as_bool, as_str}
@@ -61,7 +61,7 @@ a_word table = record { find = word_in table; Written = AWord table; exact = wor
 abbrev pub a_set : {A : Type 0} → List (List ℕ × A) → A → (A → A → A) → FormOf A
 a_set table none union = record { find = set_of table none union; Written = ASet table none union; exact = set_exact table union none }
 
--- this or null; where null is of this form, too, what is found
+-- the item or null; if null encodes an item itself, the relation is what is decoded
 abbrev pub maybe_written : {A : Type 0} → FormOf A → Option A → Option A → Data → Type 0
 maybe_written f None = Maybe f.Written
 maybe_written f (Some y) = λ o d. optional f.find d ≡ Some o
@@ -85,12 +85,12 @@ infixr 10 ◌▹◌
 abbrev pub ◌▹◌ : {A B : Type 0} → FormOf A → RowOf B → RowOf (A × B)
 f ▹ g = record { find = behind f.find g.find; Written = λ t. f.Written t.0 ▸ g.Written t.1; exact = behind_exact f.find f.Written f.exact g.find g.Written g.exact }
 
--- what is made of a row
+-- a row with its result mapped
 abbrev pub row_made : {A B : Type 0} (f : RowOf A) (make : A → B) (parts : B → A) (R : B → Items → Type 0) → ((x : B) → make (parts x) ≡ x)
     → ((t : A) (ds : Items) → f.Written t ds → R (make t) ds) → ((x : B) (ds : Items) → R x ds → f.Written (parts x) ds) → RowOf B
 row_made f make parts R again to from = record { find = λ ds. option_map make (f.find ds); Written = R; exact = made_row f.find f.Written f.exact make parts R again to from }
 
--- what the words in front say, where each kind is found where it is written
+-- a tagged row, if each kind's decoder is sound and all encodings are decoded
 abbrev pub row_by_kind : {A K : Type 0} (table : List (List ℕ × K)) (f : K → Items → Option A) (R : A → Items → Type 0) → AreSound f R table
     → ((x : A) (ds : Items) → R x ds → items_depth ds ≤ deepest → of_kind table f ds ≡ Some x) → RowOf A
 row_by_kind table f R sound complete = record { find = of_kind table f; Written = R; exact = kinds_exact table f R sound complete }
@@ -100,12 +100,12 @@ row_by_kind table f R sound complete = record { find = of_kind table f; Written 
 abbrev pub an_array : {A : Type 0} → RowOf A → FormOf A
 an_array f = record { find = array_of f.find; Written = λ x. AnArray (f.Written x); exact = array_exact f.find f.Written f.exact }
 
--- what is made of a value
+-- a form with its result mapped
 abbrev pub made : {A B : Type 0} (f : FormOf A) (make : A → B) (parts : B → A) (R : B → Data → Type 0) → ((x : B) → make (parts x) ≡ x)
     → ((t : A) (d : Data) → f.Written t d → R (make t) d) → ((x : B) (d : Data) → R x d → f.Written (parts x) d) → FormOf B
 made f make parts R again to from = record { find = λ d. option_map make (f.find d); Written = R; exact = made_exact f.find f.Written f.exact make parts R again to from }
 
--- an array that begins with a word, where each kind is found where it is written
+-- a tagged array, if each kind's decoder is sound and all encodings are decoded
 abbrev pub by_kind : {A K : Type 0} (table : List (List ℕ × K)) (f : K → Items → Option A) (R : A → Data → Type 0) → AreSound f (λ x ds. R x (array ds)) table
     → ((x : A) (d : Data) → R x d → depth d ≤ deepest → tagged_of table f d ≡ Some x) → FormOf A
 by_kind table f R sound complete = record { find = tagged_of table f; Written = R; exact = tagged_exact table f R sound complete }

@@ -1,4 +1,4 @@
--- What a step of `Find` that found something says of the value.
+-- What the success of a step of decoding implies for the value.
 use Rattle.std.proofs.Common.{◌≡◌, ◌⊎◌, inl, inr, ℕ, List, Option, Some, None, option_map, option_and_then, Bool, true, false, ◌&&◌, cond, refl, ap, subst, ◌∙◌}
 use Rattle.std.specs.Str.{bytes_eq}
 use Rattle.std.proofs.lemmas.Slice.Eq.{bytes_eq-Decides}

@@ -1,4 +1,4 @@
--- What is found after a word is what its form says.
+-- Decoding after a tag agrees with the encoding relation.
 use Rattle.std.specs.Prelude.{◌≡◌, ◌≤◌, ℕ, List, [], ◌∷◌, Option, Some, option_map}
 use Rattle.std.proofs.Common.{inl, inr, arith, sym, ap, subst, ◌∙◌}
 use Rattle.std.specs.List.{AllByRecursion}
@@ -11,15 +11,15 @@ use Rattle.document_forms.specs.judged.Form.{AText, AnArray, ◌▸◌}
 use Rattle.document_forms.specs.found.Decide.{word_in, first, tag_of, of_kind, tag_in, tagged_of}
 use Rattle.document_forms.specs.found.Inverse.{bind_some, map_some, chosen, some_is, is_word, as_str_some, as_array_some, first_some}
 
--- an array of this word and the parts that belong to it
+-- an array of this tag and the elements of its kind
 abbrev pub Tagged : List ℕ → (Items → Type 0) → Data → Type 0
 Tagged w q = AnArray (AText w ▸ q)
 
--- what is found by the kind of each entry is written with that entry's word in front
+-- the decoder of each table entry's kind is sound for that entry's tag
 abbrev pub AreSound : {A K : Type 0} → (K → Items → Option A) → (A → Items → Type 0) → List (List ℕ × K) → Type 0
 AreSound f R table = AllByRecursion (λ e. (ds : Items) (x : _) → f e.1 ds ≡ Some x → R x (item (string e.0) ds)) table
 
--- a kind that is made of a row
+-- a kind that is a mapped row
 pub kind_sound : {A T : Type 0} (row : RowOf T) (make : T → A) (w : List ℕ) (R : A → Items → Type 0) → ((t : T) (ds : Items) → row.Written t ds → R (make t) (item (string w) ds))
     → (ds : Items) (x : A) → option_map make (row.find ds) ≡ Some x → R x (item (string w) ds)
 kind_sound row make w R to ds x e =
@@ -64,12 +64,12 @@ module _ {A K : Type 0} (table : List (List ℕ × K)) (f : K → Items → Opti
       let ds_is : ds ≡ item one.0.0 one.0.1 = first_some ds one.0 one.1 in
       subst (R x) (sym (ds_is ∙ ap (λ y. item y one.0.1) d_is)) (kinds_sound R table right w.0 k.0 w.2 one.0.1 x last)
 
-  -- what is found by its kind is found exactly where it is written, if each kind is
+  -- decoding by the kind agrees with the encoding relation, if each kind does
   pub kinds_exact : (R : A → Items → Type 0) → AreSound f R table → ((x : A) (ds : Items) → R x ds → items_depth ds ≤ deepest → of_kind table f ds ≡ Some x)
       → IsExactRow (of_kind table f) R
   kinds_exact R right there = record { sound = λ ds x e. let t = bind_some _ (tag_of table ds) x e in kind_found R right ds t.0 x t.1 t.2; complete = λ ds x h le. there x ds h le }
 
-  -- the same of arrays
+  -- the same for arrays
   pub tagged_sound : (R : A → Data → Type 0) → AreSound f (λ x ds. R x (array ds)) table → (d : Data) (x : A) → tagged_of table f d ≡ Some x → R x d
   tagged_sound R right d x e =
       let t = bind_some _ (tag_in table d) x e in
@@ -80,7 +80,7 @@ module _ {A K : Type 0} (table : List (List ℕ × K)) (f : K → Items → Opti
       → IsExact (tagged_of table f) R
   tagged_exact R right there = record { sound = tagged_sound R right; complete = λ d x h le. there x d h le }
 
--- what holds of each entry of a table holds of what a word denotes
+-- a property of each entry of a table holds of the result of a lookup
 pub lookup_keeps : {A : Type 0} (P : A → Type 0) (table : List (List ℕ × A)) → AllByRecursion (λ e. P e.1) table → (w : List ℕ) (x : A) → lookup w table ≡ Some x → P x
 lookup_keeps P [] all w x e = cc
 lookup_keeps P (t ∷ ts) all w x e =

@@ -1,4 +1,4 @@
--- What `Find` finds is what `Form` says: lists, and sets of words.
+-- Decoding agrees with the encoding relation: lists and sets of words.
 use Rattle.std.proofs.Common.{◌≡◌, ◌≤◌, ℕ, List, [], ◌∷◌, Option, Some, refl, sym, ap, subst, ◌∙◌, arith}
 use Rattle.std.specs.Prelude.{fold}
 use Rattle.serde_json.specs.Data.{Data, null, boolean, number, string, array, object, Items, no_items, item, depth, items_depth}

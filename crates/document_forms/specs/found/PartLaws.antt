@@ -1,4 +1,4 @@
--- What `Find` finds is what `Form` says: numbers, words, and what may be missing.
+-- Decoding agrees with the encoding relation: numbers, words and options.
 use Rattle.std.proofs.Common.{◌≡◌, ◌⊎◌, inl, inr, ◌≤◌, ◌<◌, ℕ, ℤ, pos, negsuc, List, Option, Some, None, option_map, option_and_then, ◌&&◌, nat_le, nat_eq, int_lt, int_le, refl, sym, ap, subst, ◌∙◌, arith}
 use borrow.Author.Tests.{ltb-true, leb-true, le-leb, eqb-true}
 use Rattle.serde_json.specs.Data.{Num, unsigned, negative, float, Data, null, boolean, number, string, array, object, depth}
@@ -46,7 +46,7 @@ signed_written : (high : ℕ) (z : ℤ) (d : Data) → d ≡ number (of_integer 
 signed_written high (pos n) d e f = (e, f)
 signed_written high (negsuc n) d e f = (e, f)
 
--- a number below zero: its form, and its range
+-- a negative number: its form and its range
 below_some : (high : ℕ) (m : Num) (z : ℤ) → option_and_then (below_zero high) (as_i64 m) ≡ Some z → as_u64 m ≡ None → (m ≡ of_integer z) × Fits high z
 below_some high (unsigned n) z e f = cc
 below_some high (negative (pos n)) z e f =
@@ -121,7 +121,7 @@ side_exact = record { sound = found; complete = there }
     there d Eight h le = rw h refl
     there d Sixteen h le = rw h refl
 
--- ---- truth values, texts, words
+-- ---- bools, strings, words
 
 pub bool_exact : IsExact as_bool ABool
 bool_exact = record { sound = as_bool_some; complete = λ d b h le. rw h refl }
@@ -148,7 +148,7 @@ word_exact {A} table = record { sound = found; complete = there }
     there (array xs) x h le = absurd h
     there (object ms) x h le = absurd h
 
--- ---- what may be missing, lists and sets
+-- ---- options, lists and sets
 
 pub optional_exact : {A : Type 0} (f : Data → Option A) (P : A → Data → Type 0) → f null ≡ None → IsExact f P → IsExact (optional f) (Maybe P)
 optional_exact {A} f P not_null exact = record { sound = found; complete = there }

@@ -1,7 +1,7 @@
--- Lists of which what takes them refuses an item.
+-- Lists of which a collection rejects an item.
 use Rattle.std.specs.Prelude.{◌≡◌, List, ◌∷◌, ◌++◌, map, Option, Some, None}
 
--- The list begins with what was taken, and after that with an item that is refused.
+-- The list begins with the items that were appended, followed by an item that is rejected.
 pub record IsRefused {T A : Type 0} (refuses : List T → T → Type 0) (view : T → A) (xs : List A) : Type 0 where
   pub taken : List T
   pub item : T
@@ -9,7 +9,7 @@ pub record IsRefused {T A : Type 0} (refuses : List T → T → Type 0) (view : 
   pub is : xs ≡ map view taken ++ view item ∷ rest
   pub refused : refuses taken item
 
--- no list is found, or one of which an item is refused
+-- no list is decoded, or one of which an item is rejected
 abbrev pub NoneTaken : {T A : Type 0} → (List T → T → Type 0) → (T → A) → Option (List A) → Type 0
 NoneTaken refuses view None = Unit {0}
 NoneTaken refuses view (Some xs) = IsRefused refuses view xs

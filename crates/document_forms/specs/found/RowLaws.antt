@@ -1,4 +1,4 @@
--- What `Find` finds is what `Form` says: parts in a row, and what is made of them.
+-- Decoding agrees with the encoding relation: rows and mapped forms.
 use Rattle.std.proofs.Common.{◌≡◌, ◌≤◌, Option, Some, option_map, refl, sym, ap, subst, ◌∙◌, arith}
 use Rattle.serde_json.specs.Data.{Data, null, boolean, number, string, array, object, Items, no_items, item, depth, items_depth}
 use Rattle.serde_json.specs.Find.{as_array}
@@ -33,7 +33,7 @@ behind_exact {A} {B} f P fx g Q gx = record { sound = found; complete = there }
     there no_items t h le = absurd h
     there (item d ds) t h le = rw (fx.complete d t.0 h.0 (omega arith)) (rw (gx.complete ds t.1 h.1 (omega arith)) refl)
 
--- what is made of a row
+-- a mapped row
 pub made_row : {A B : Type 0} (f : Items → Option A) (Q : A → Items → Type 0) → IsExactRow f Q
     → (make : A → B) (parts : B → A) (R : B → Items → Type 0) → ((x : B) → make (parts x) ≡ x)
     → ((t : A) (ds : Items) → Q t ds → R (make t) ds) → ((x : B) (ds : Items) → R x ds → Q (parts x) ds)
@@ -48,7 +48,7 @@ made_row {A} {B} f Q exact make parts R again to from = record { sound = found; 
     there : (ds : Items) (x : B) → R x ds → items_depth ds ≤ deepest → option_map make (f ds) ≡ Some x
     there ds x h le = ap (option_map make) (exact.complete ds (parts x) (from x ds h) le) ∙ ap Some (again x)
 
--- an array of such items
+-- an array with the elements of a row
 pub array_exact : {A : Type 0} (f : Items → Option A) (Q : A → Items → Type 0) → IsExactRow f Q → IsExact (array_of f) (λ x. AnArray (Q x))
 array_exact {A} f Q exact = record { sound = found; complete = there }
   where
@@ -65,7 +65,7 @@ array_exact {A} f Q exact = record { sound = found; complete = there }
     there (array ds) x h le = exact.complete ds x h (omega arith)
     there (object ms) x h le = absurd h
 
--- what is made of a value
+-- a mapped form
 pub made_exact : {A B : Type 0} (f : Data → Option A) (P : A → Data → Type 0) → IsExact f P
     → (make : A → B) (parts : B → A) (R : B → Data → Type 0) → ((x : B) → make (parts x) ≡ x)
     → ((t : A) (d : Data) → P t d → R (make t) d) → ((x : B) (d : Data) → R x d → P (parts x) d)

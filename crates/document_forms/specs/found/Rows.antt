@@ -1,4 +1,4 @@
--- Forms in a row.
+-- Row forms of several elements.
 use Rattle.std.specs.Prelude.{refl}
 use Rattle.document_forms.specs.found.Exact.{FormOf, RowOf}
 use Rattle.document_forms.specs.judged.Form.{Ends, ◌▸◌}

@@ -1,4 +1,4 @@
--- How the other items are found, and that they are found exactly where they are written.
+-- Decoding functions of the other items, which agree with the encoding relations.
 use Rattle.std.specs.Prelude.{◌≡◌, ◌≤◌, ℕ, List, [], ◌∷◌, Option, Some, option_map, codes, refl}
 use Rattle.std.proofs.Common.{subst, ap}
 use Rattle.serde_json.specs.Data.{Data, array, Items, depth}
@@ -35,7 +35,7 @@ an_override = made (an_array (row4 (maybe a_text) (maybe a_u16) a_handle (maybe 
 abbrev pub a_global : FormOf PlainGlobal
 a_global = made (an_array (row6 (maybe a_text) a_space (maybe a_resource) a_handle (maybe a_handle) (a_set memory_decorations (record { 0 = 0 }) decoration_union))) (λ t. record { name = t.0; space = t.1; binding = t.2; ty = t.3; init = t.4; decorations = t.5 }) (λ g. (g.name, g.space, g.binding, g.ty, g.init, g.decorations)) AGlobal (λ g. refl) (λ t d h. h) (λ g d h. h)
 
--- ---- filters
+-- ---- diagnostic filters
 
 unfoldable pub rule_with : RuleKind → Items → Option PlainRule
 rule_with rule_kind.Standard ds = option_map (λ t. standard t) ((row1 (a_word standard_rules)).find ds)
@@ -67,14 +67,14 @@ a_rule = by_kind rule_kinds rule_with ARule rule_sound rule_complete
 abbrev pub a_filter : FormOf PlainFilterNode
 a_filter = made (an_array (row3 (a_word severities) a_rule (maybe a_handle))) (λ t. record { severity = t.0; rule = t.1; parent = t.2 }) (λ n. (n.severity, n.rule, n.parent)) AFilter (λ n. refl) (λ t d h. h) (λ n d h. h)
 
--- the filters, and the one that counts in the whole module
+-- the filters, with the innermost filter of the module
 abbrev pub AllFilters : List PlainFilterNode × Option ℕ → Data → Type 0
 AllFilters t = AnArray (AList AFilter t.0 ▸ Maybe AHandle t.1 ▸ Ends)
 
 abbrev pub the_filters : FormOf (List PlainFilterNode × Option ℕ)
 the_filters = made (an_array (row2 (a_list a_filter) (maybe a_handle))) (λ t. t) (λ t. t) AllFilters (λ t. refl) (λ t d h. h) (λ t d h. h)
 
--- ---- what an entry point has beside its function
+-- ---- what an entry point has besides its function
 
 abbrev pub a_stage : FormOf ShaderStage
 a_stage = a_word entry_stages

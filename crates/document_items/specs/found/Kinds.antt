@@ -1,4 +1,4 @@
--- The kinds of types, of their parts and of other items, by their words.
+-- The kinds of types, of their parts and of other items, with their tags.
 use Rattle.std.specs.Prelude.{ℕ, List, [], ◌∷◌, codes}
 use Rattle.document_items.specs.declared.kinds.StorageKind.{StorageKind}
 use Rattle.document_items.specs.declared.kinds.StorageKind.TheVariants as storage_kind
@@ -17,11 +17,11 @@ use Rattle.document_items.specs.declared.kinds.PredeclaredKind.TheVariants as pr
 use Rattle.document_items.specs.declared.kinds.EarlyKind.{EarlyKind}
 use Rattle.document_items.specs.declared.kinds.EarlyKind.TheVariants as early_kind
 
--- the address spaces that are more than a word
+-- the address spaces with operands
 abbrev pub storage_kinds : List (List ℕ × StorageKind)
 storage_kinds = (codes "Storage", storage_kind.Storage) ∷ []
 
--- the kinds of sizes of arrays
+-- the kinds of array sizes
 abbrev pub array_size_kinds : List (List ℕ × SizeKind)
 array_size_kinds =
     (codes "Constant", size_kind.Constant) ∷
@@ -29,7 +29,7 @@ array_size_kinds =
     (codes "Dynamic", size_kind.Dynamic) ∷
     []
 
--- the kinds of images
+-- the classes of images
 abbrev pub class_kinds : List (List ℕ × ClassKind)
 class_kinds =
     (codes "Sampled", class_kind.Sampled) ∷
@@ -64,7 +64,7 @@ inner_kinds =
     (codes "BindingArray", inner_kind.BindingArray) ∷
     []
 
--- the kinds of rules that filters name
+-- the kinds of triggering rules of filters
 abbrev pub rule_kinds : List (List ℕ × RuleKind)
 rule_kinds =
     (codes "Standard", rule_kind.Standard) ∷

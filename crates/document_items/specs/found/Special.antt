@@ -1,4 +1,4 @@
--- How the special types are found, and that they are found exactly where they are written.
+-- Decoding functions of the special types, which agree with the encoding relations.
 use Rattle.std.specs.Prelude.{codes}
 use Rattle.std.proofs.Common.{◌≡◌, ◌≤◌, inl, inr, ◌++◌, ℕ, Bool, true, false, List, [], ◌∷◌, Option, Some, None, is_some, option_map, cond, if◌then◌else◌, refl, sym, ap, subst, ◌∙◌, rules}
 use Rattle.std.specs.Bool.{Decides}
@@ -69,7 +69,7 @@ pair_exact : IsExact pair_of APair
 unfolding pair_of
 pair_exact = a_pair.exact
 
--- these pairs, and after them those of the items, unless one is of a predeclared type that has a pair already
+-- these pairs followed by those of the elements, unless an element's predeclared type has a pair already
 abbrev pub pairs_with : List (PredeclaredType × ℕ) → Items → Option (List (PredeclaredType × ℕ))
 pairs_with es no_items = Some es
 pairs_with es (item d ds) = do
@@ -118,7 +118,7 @@ found_with es (item x ds) ys d e =
           (a.0 ∷ more.0, each_more x ds a.0 more.0 a.1 more.1, sym (append_assoc es (a.0 ∷ []) more.0) ∙ more.2, more.3)
     ]
 
--- a key before a pair is another one
+-- a key before a pair that differs from it
 one_of : (p : PredeclaredType → Type 0) (fs : Pairs) (e : PredeclaredType × ℕ) (xs : Pairs) → AllByRecursion p (keys_of (fs ++ e ∷ xs)) → p e.0
 one_of p [] e xs all = all.0
 one_of p (f ∷ fs) e xs all = one_of p fs e xs all.1

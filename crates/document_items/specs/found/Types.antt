@@ -1,4 +1,4 @@
--- How types and their parts are found, and that they are found exactly where they are written.
+-- Decoding functions of types and their parts, which agree with the encoding relations.
 use Rattle.std.specs.Prelude.{◌≡◌, ◌≤◌, ℕ, Bool, true, false, List, Option, Some, None, option_map, nat_le, if◌then◌else◌, codes, refl}
 use Rattle.std.proofs.Common.{inl, inr, sym, ap, subst, ◌∙◌, true≢false, rules}
 use borrow.Author.Tests.{leb-true, le-leb}
@@ -72,12 +72,12 @@ a_positive = record { find = positive_of; Written = APositive; exact = positive_
 
 -- ---- built-ins
 
--- a built-in that has a truth value after its word
+-- a built-in that has a bool after its word
 abbrev pub marked_of : List ℕ → Items → Option BuiltIn
 marked_of w rest =
     if bytes_eq w (codes "Position") then option_map built_in_kinds.Position ((row1 a_bool).find rest) else (if bytes_eq w (codes "Barycentric") then option_map built_in_kinds.Barycentric ((row1 a_bool).find rest) else None)
 
--- a built-in, where nothing more is written
+-- a built-in without a further element
 abbrev pub alone_of : BuiltIn → Items → Option BuiltIn
 alone_of x rest = option_map (λ t. x) (end rest)
 
@@ -87,7 +87,7 @@ built_in_of ds = do
   w ← as_str t.0
   or_else (lookup w built_ins) (λ x. alone_of x t.1) (marked_of w t.1)
 
--- whether it is a word alone
+-- whether the built-in is a word alone
 is_alone : BuiltIn → Bool
 is_alone (built_in_kinds.Position invariant) = false
 is_alone (built_in_kinds.Barycentric perspective) = false
@@ -190,7 +190,7 @@ a_resource = made (an_array (row2 a_u32 a_u32)) (λ t. record { group = t.0; bin
 
 -- ---- address spaces
 
--- a storage buffer, by how it may be accessed
+-- a storage buffer with its access mode
 abbrev pub AStorage : StorageAccess → Data → Type 0
 AStorage access = Tagged (codes "Storage") (ASet storage_access (record { 0 = 0 }) access_union access ▸ Ends)
 
@@ -214,7 +214,7 @@ a_storage = by_kind storage_kinds storage_with AStorage storage_sound storage_co
 unfoldable pub space_of : Data → Option AddressSpace
 space_of d = or_else (word_in spaces d) Some (option_map space.Storage (a_storage.find d))
 
--- whether it is a word alone
+-- whether the address space is a word alone
 is_plain : AddressSpace → Bool
 is_plain (space.Storage access) = false
 is_plain other = true
@@ -264,7 +264,7 @@ space_exact = record { sound = found; complete = there }
 abbrev pub a_space : FormOf AddressSpace
 a_space = record { find = space_of; Written = ASpace; exact = space_exact }
 
--- ---- sizes of arrays, and classes of images
+-- ---- array sizes and image classes
 
 unfoldable pub array_size_with : SizeKind → Items → Option ArraySize
 array_size_with size_kind.Constant ds = option_map array_sizes.Constant ((row1 a_positive).find ds)

@@ -1,4 +1,4 @@
--- How types and their parts are written.
+-- The encoding relations of types and their parts.
 use Rattle.std.specs.Prelude.{◌≤◌, codes}
 use Rattle.std.specs.Int.RustNames.{bit_or}
 use Rattle.serde_json.specs.Data.{Data, Items}
@@ -21,7 +21,7 @@ use Rattle.document_forms.specs.judged.Form.{AHandle, AU32, AVectorSize, ACooper
 
 -- ---- bindings
 
--- a built-in by its word; two of them with a truth value after it
+-- a built-in by its word; two of them with a bool after it
 unfoldable pub ABuiltIn : BuiltIn → Items → Type 0
 ABuiltIn (built_in_kinds.Position invariant) = AText (codes "Position") ▸ ABool invariant ▸ Ends
 ABuiltIn (built_in_kinds.Barycentric perspective) = AText (codes "Barycentric") ▸ ABool perspective ▸ Ends
@@ -32,22 +32,22 @@ ABinding (bindings.BuiltIn built_in) = "BuiltIn" with ABuiltIn built_in
 ABinding (bindings.Location location interpolation sampling blend per_primitive) = "Location" with AU32 location ▸
     Maybe (AWord interpolations) interpolation ▸ Maybe (AWord samplings) sampling ▸ Maybe AU32 blend ▸ ABool per_primitive ▸ Ends
 
--- the group and the place in it
+-- the group and the binding number
 abbrev pub AResource : ResourceBinding → Data → Type 0
 AResource r = AnArray (AU32 r.group ▸ AU32 r.binding ▸ Ends)
 
 -- ---- types
 
--- how a storage buffer or a storage texture may be accessed
+-- the access mode of a storage buffer or a storage texture
 abbrev pub AnAccess : StorageAccess → Data → Type 0
 AnAccess = ASet storage_access (record { 0 = 0 }) (λ a b. record { 0 = bit_or a.0 b.0 })
 
--- an address space by its word; a storage with how it may be accessed
+-- an address space by its word; a storage buffer with its access mode
 unfoldable pub ASpace : AddressSpace → Data → Type 0
 ASpace (space.Storage access) = "Storage" with AnAccess access ▸ Ends
 ASpace other = AWord spaces other
 
--- a size that is constant is not 0
+-- a constant size is not 0
 unfoldable pub AnArraySize : ArraySize → Data → Type 0
 AnArraySize (array_sizes.Constant count) = "Constant" with (λ d. AU32 count d × (1 ≤ count)) ▸ Ends
 AnArraySize (array_sizes.Pending length) = "Pending" with AHandle length ▸ Ends

@@ -1,4 +1,4 @@
--- How the parts of a document are written that are not types, expressions, statements or functions.
+-- The encoding relations of a document's items other than types, expressions, statements and functions.
 use Rattle.std.specs.Prelude.{◌≢◌, ℕ, List, [], ◌∷◌, AllPairs}
 use Rattle.std.specs.Map.{keys_of}
 use Rattle.std.specs.Int.RustNames.{bit_or}
@@ -19,7 +19,7 @@ use Rattle.document_items.specs.judged.Form.{ASpace, AResource}
 abbrev pub AConstant : PlainConstant → Data → Type 0
 AConstant c = AnArray (Maybe AText c.name ▸ AHandle c.ty ▸ AHandle c.init ▸ Ends)
 
--- an override, with the number that a pipeline calls it by
+-- an override, with its pipeline constant ID
 abbrev pub AnOverride : PlainOverride → Data → Type 0
 AnOverride o = AnArray (Maybe AText o.name ▸ Maybe (ANumber MAX_U16) o.id ▸ AHandle o.ty ▸ Maybe AHandle o.init ▸ Ends)
 
@@ -27,7 +27,7 @@ abbrev pub AGlobal : PlainGlobal → Data → Type 0
 AGlobal g = AnArray (Maybe AText g.name ▸ ASpace g.space ▸ Maybe AResource g.binding ▸ AHandle g.ty ▸ Maybe AHandle g.init ▸
     ASet memory_decorations (record { 0 = 0 }) (λ a b. record { 0 = bit_or a.0 b.0 }) g.decorations ▸ Ends)
 
--- ---- filters
+-- ---- diagnostic filters
 
 unfoldable pub ARule : PlainRule → Data → Type 0
 ARule (standard rule) = "Standard" with AWord standard_rules rule ▸ Ends
@@ -44,24 +44,24 @@ APredeclared (predeclared_types.AtomicCompareExchangeWeakResult scalar) = "Atomi
 APredeclared (predeclared_types.ModfResult size scalar) = "ModfResult" with Maybe AVectorSize size ▸ AWord scalars scalar ▸ Ends
 APredeclared (predeclared_types.FrexpResult size scalar) = "FrexpResult" with Maybe AVectorSize size ▸ AWord scalars scalar ▸ Ends
 
--- a predeclared type, and the handle of the type that the module has for it
+-- a predeclared type, and the handle of that type in the module
 abbrev pub APair : PredeclaredType × ℕ → Data → Type 0
 APair e = AnArray (APredeclared e.0 ▸ AHandle e.1 ▸ Ends)
 
--- pairs of which no two are of one predeclared type
+-- pairs with distinct predeclared types
 abbrev pub ThePairs : List (PredeclaredType × ℕ) → Data → Type 0
 ThePairs es d = AList APair es d × AllPairs (λ k l. k ≢ l) (keys_of es)
 
 abbrev pub ASpecial : PlainSpecialTypes → Data → Type 0
 ASpecial s = AnArray (Maybe AHandle s.ray_desc ▸ Maybe AHandle s.ray_intersection ▸ Maybe AHandle s.ray_vertex_return ▸ ThePairs s.predeclared ▸ Ends)
 
--- ---- what an entry point has beside its function
+-- ---- what an entry point has besides its function
 
 unfoldable pub AnEarlyDepthTest : EarlyDepthTest → Data → Type 0
 AnEarlyDepthTest early.Force = "Force" with Ends
 AnEarlyDepthTest (early.Allow conservative) = "Allow" with AWord conservative_depths conservative ▸ Ends
 
--- the size of a workgroup in its three dimensions
+-- the workgroup size in three dimensions
 abbrev pub TheSizes : List ℕ → Data → Type 0
 TheSizes (x ∷ y ∷ z ∷ []) = AnArray (AU32 x ▸ AU32 y ▸ AU32 z ▸ Ends)
 TheSizes _ = λ d. ⊥

@@ -1,4 +1,4 @@
--- How documents are found, and that they are found exactly where they are written.
+-- Decoding functions of documents, which agree with the encoding relation.
 use Rattle.std.specs.Prelude.{◌≡◌, ℕ, Bool, List, Option, Some, None, ◌==◌, nat_eq, if◌then◌else◌, refl}
 use borrow.Author.Tests.{eqb-true}
 use Rattle.std.proofs.Common.{ap, ◌∙◌}
@@ -96,20 +96,20 @@ document_made t = made_of t.1.0 t.1.1.0 t.1.1.1.0 t.1.1.1.1.0 (content_of t.1.1.
 abbrev pub parts_of : PlainDocument → Parts
 parts_of d = (tt, (d.settings.flags, (d.settings.capabilities, ((d.settings.subgroup_stages, d.settings.subgroup_operations), (d.returns, (d.content.types, lists_of d.content))))))
 
--- the document that a value spells, but that its types may repeat
+-- the document that a value encodes, except that its types may repeat
 abbrev pub a_document : FormOf PlainDocument
 a_document = made (an_array the_parts) document_made parts_of ADocument (λ d. refl) (λ t d h. h) (λ x d h. h)
 
--- ---- the same, as it is read part by part
+-- ---- the same, decoded element by element
 
--- what the first part is written for, and the parts after it
+-- the first element decoded, and the elements after it
 abbrev pub first_part : {A : Type 0} → (Data → Option A) → Items → Option (A × Items)
 first_part f ds = do
   t ← first ds
   x ← f t.0
   Some (x, t.1)
 
--- the module, of the parts after the settings
+-- the module, from the elements after the settings
 abbrev pub content_in : Items → Option PlainModule
 content_in ds = do
   t ← first ds

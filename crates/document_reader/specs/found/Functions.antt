@@ -1,4 +1,4 @@
--- How functions and entry points are found, and that they are found exactly where they are written.
+-- Decoding functions of functions and entry points, which agree with the encoding relations.
 use Rattle.std.specs.Prelude.{refl}
 use Rattle.ir_items.specs.judged.Plain.{PlainArgument, PlainLocal, PlainFunction, PlainEntry}
 use Rattle.ir_items.specs.declared.functions.FunctionResult.{FunctionResult}

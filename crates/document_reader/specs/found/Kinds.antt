@@ -1,4 +1,4 @@
--- The kinds of statements and of their parts, by their words.
+-- The kinds of statements and of their parts, with their tags.
 use Rattle.std.specs.Prelude.{ℕ, List, [], ◌∷◌, codes}
 use Rattle.document_reader.specs.declared.kinds.ValueKind.{ValueKind}
 use Rattle.document_reader.specs.declared.kinds.ValueKind.TheVariants as value_kind
@@ -13,7 +13,7 @@ use Rattle.document_reader.specs.declared.kinds.PipelineKind.TheVariants as pipe
 use Rattle.document_reader.specs.declared.kinds.StatementKind.{StatementKind}
 use Rattle.document_reader.specs.declared.kinds.StatementKind.TheVariants as statement_kind
 
--- the kinds of values of a switch
+-- the kinds of switch values
 abbrev pub value_kinds : List (List ℕ × ValueKind)
 value_kinds =
     (codes "I32", value_kind.I32) ∷
@@ -34,7 +34,7 @@ atomic_kinds =
     (codes "Exchange", atomic_kind.Exchange) ∷
     []
 
--- the kinds of gathers
+-- the gather modes
 abbrev pub gather_kinds : List (List ℕ × GatherKind)
 gather_kinds =
     (codes "BroadcastFirst", gather_kind.BroadcastFirst) ∷
@@ -47,7 +47,7 @@ gather_kinds =
     (codes "QuadSwap", gather_kind.QuadSwap) ∷
     []
 
--- what may be done with a ray query
+-- the ray query functions
 abbrev pub ray_query_kinds : List (List ℕ × RayQueryKind)
 ray_query_kinds =
     (codes "Initialize", ray_query_kind.Initialize) ∷
@@ -57,7 +57,7 @@ ray_query_kinds =
     (codes "Terminate", ray_query_kind.Terminate) ∷
     []
 
--- what a ray pipeline may do
+-- the ray pipeline functions
 abbrev pub pipeline_kinds : List (List ℕ × PipelineKind)
 pipeline_kinds =
     (codes "TraceRay", pipeline_kind.TraceRay) ∷

@@ -1,4 +1,4 @@
--- Why bytes spell no document: what each error says of them.
+-- Why bytes are no document: what each error guarantees.
 use Rattle.std.specs.Prelude.{◌≡◌, ℕ, ◌≤◌, ◌<◌, List, length, Some, None, IsUtf8}
 use Rattle.serde_json.specs.Data.{Data}
 use Rattle.serde_json.specs.Read.{read}
@@ -11,7 +11,7 @@ use Rattle.document_reader.specs.judged.Distinct.{AreDistinct}
 use Rattle.document_reader.specs.judged.Form.{ADocument}
 use Rattle.document_reader.specs.judged.Plain.{PlainDocument}
 
--- The bytes are a value, and one that is written for no document, but for such as have two equal types.
+-- The bytes are a JSON value, which encodes no document with distinct types.
 pub record IsMalformed (bytes : List ℕ) : Type 0 where
   pub short : length bytes ≤ MAX_LEN
   pub utf8 : IsUtf8 bytes
@@ -19,14 +19,14 @@ pub record IsMalformed (bytes : List ℕ) : Type 0 where
   pub value_is : read bytes ≡ Some value
   pub none : (d : PlainDocument) → ADocument d value → ¬ AreDistinct d.content.types
 
--- The error is the bytes' own. Memory says nothing of them.
+-- The error is right about the bytes. Out of memory says nothing about them.
 abbrev pub IsReason : List ℕ → DocumentError → Type 0
 IsReason bytes whole.Memory = Unit {0}
 IsReason bytes whole.TooLong = MAX_LEN < length bytes
 IsReason bytes (whole.NotJson line column) = (length bytes ≤ MAX_LEN) × (IsUtf8 bytes → read bytes ≡ None)
 IsReason bytes (whole.Malformed place wanted) = IsMalformed bytes
 
--- the same error, of the whole
+-- the document error of a decoder's error
 abbrev pub of_part : ReadError → DocumentError
 of_part part.Memory = whole.Memory
 of_part (part.Malformed place wanted) = whole.Malformed place wanted

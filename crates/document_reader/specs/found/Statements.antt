@@ -1,4 +1,4 @@
--- How statements are found, and that they are found exactly where they are written.
+-- Decoding functions of statements, which agree with the encoding relations.
 use Rattle.std.specs.Prelude.{◌≡◌, ◌≤◌, ℕ, zero, suc, Bool, List, [], ◌∷◌, Option, Some, None, option_map, codes, refl}
 use Rattle.std.proofs.Common.{ap, subst, ◌∙◌, arith}
 use Rattle.serde_json.specs.Data.{Data, null, boolean, number, string, array, object, Items, no_items, item, depth, items_depth}
@@ -38,7 +38,7 @@ use Rattle.document_reader.specs.declared.kinds.PipelineKind.TheVariants as pipe
 use Rattle.document_reader.specs.declared.kinds.StatementKind.{StatementKind}
 use Rattle.document_reader.specs.declared.kinds.StatementKind.TheVariants as statement_kind
 
--- ---- the parts of statements that are tagged themselves
+-- ---- the tagged parts of statements
 
 unfoldable pub value_with : ValueKind → Items → Option SwitchValue
 value_with value_kind.I32 ds = option_map (λ t. switch_values.I32 t) ((row1 a_i32).find ds)
@@ -225,12 +225,12 @@ pipeline_complete (pipeline_functions.TraceRay a b c) = tagged_complete pipeline
 abbrev pub a_pipeline : FormOf RayPipelineFunction
 a_pipeline = by_kind pipeline_kinds pipeline_with ARayPipelineFunction pipeline_sound pipeline_complete
 
--- ---- statements, where `inside` finds the blocks inside
+-- ---- statements, whose nested blocks `inside` decodes
 
 abbrev pub Found : {A : Type 0} → (Data → Option A) → A → Data → Type 0
 Found f x d = f d ≡ Some x
 
--- what is found, as a form
+-- the result, as a form
 abbrev pub a_found : {A : Type 0} → (Data → Option A) → FormOf A
 a_found f = record { find = f; Written = Found f; exact = record { sound = λ d x e. e; complete = λ d x e le. e } }
 
@@ -265,11 +265,11 @@ statement_with inside statement_kind.SubgroupGather ds = option_map (λ t. opera
 statement_with inside statement_kind.CooperativeStore ds = option_map (λ t. operation (cooperative_store t.0 (record { pointer = t.1; stride = t.2; row_major = t.3 }))) ((row4 a_handle a_handle a_handle a_bool).find ds)
 statement_with inside statement_kind.RayPipelineFunction ds = option_map (λ t. operation (ray_pipeline t)) ((row1 a_pipeline).find ds)
 
--- where no block is found
+-- the decoder of blocks that always fails
 abbrev pub no_blocks : Data → Option PlainBlock
 no_blocks d = None
 
--- n bounds how deep statements nest
+-- n bounds the nesting depth of statements
 unfoldable pub statement_at : ℕ → Data → Option PlainStatement
 statement_at zero d = None
 statement_at (suc n) d = tagged_of statement_kinds (statement_with (λ b. option_map block_of (all_of (statement_at n) b))) d
@@ -283,7 +283,7 @@ ABody b = AnArray (TheStatements b)
 abbrev pub ACase : PlainCase → Data → Type 0
 ACase c = AnArray (ASwitchValue c.value ▸ AnArray (TheStatements c.body) ▸ ABool c.falls ▸ Ends)
 
--- ---- what holds of other parts of an array
+-- ---- laws of other elements of an array
 
 starts_map : (p r : Data → Type 0) (q s : Items → Type 0) (n : ℕ) (ds : Items) → items_depth ds ≤ n → (p ▸ q) ds → ((d : Data) → depth d ≤ n → p d → r d) → ((es : Items) → items_depth es ≤ n → q es → s es) → (r ▸ s) ds
 starts_map p r q s n no_items le h f g = absurd h
@@ -312,7 +312,7 @@ array_within q s n (object ms) le h g = absurd h
 tagged_within : (w : List ℕ) (q s : Items → Type 0) (n : ℕ) (d : Data) → depth d ≤ suc n → Tagged w q d → ((es : Items) → items_depth es ≤ n → q es → s es) → Tagged w s d
 tagged_within w q s n d le h g = array_within _ _ n d le h (λ es l row. starts_map _ _ q s n es l row (λ x m e. e) g)
 
--- ---- what is found is what the form says
+-- ---- soundness: what is decoded is encoded
 
 module _ (inside : Data → Option PlainBlock) (sound : (d : Data) (b : PlainBlock) → inside d ≡ Some b → ABody b d) where
   case_sound : (d : Data) (c : PlainCase) → case_with inside d ≡ Some c → ACase c d
@@ -421,7 +421,7 @@ statement_sound (suc n) d s e = tagged_sound statement_kinds (statement_with (bl
 pub block_sound : (n : ℕ) (d : Data) (b : PlainBlock) → block_at n d ≡ Some b → AnArray (TheStatements b) d
 block_sound n = block_sound-of n (statement_sound n)
 
--- ---- what the form says is found
+-- ---- completeness: what is encoded is decoded
 
 tagged_deep : (w : List ℕ) (q : Items → Type 0) (d : Data) → Tagged w q d → depth d ≤ 0 → ⊥
 tagged_deep w q null h le = h

@@ -1,4 +1,4 @@
--- The plain document that a `Document` holds.
+-- The view of a `Document` as plain data.
 use Rattle.ir_items.specs.found.View.{module_view}
 use Rattle.document_reader.specs.judged.Plain.{PlainDocument}
 use Rattle.document_reader.specs.declared.model.Document.{Document}

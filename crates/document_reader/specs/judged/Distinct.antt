@@ -1,4 +1,4 @@
--- Lists that repeat nothing.
+-- Lists of distinct elements.
 use Rattle.std.specs.Prelude.{◌≢◌, List}
 use Rattle.std.specs.List.{AllPairs}
 

@@ -1,4 +1,4 @@
--- How entry points are written.
+-- The encoding relation of entry points.
 use Rattle.serde_json.specs.Data.{Data}
 use Rattle.ir_items.specs.judged.Plain.{PlainEntry}
 use Rattle.document_words.specs.Tables.{entry_stages}

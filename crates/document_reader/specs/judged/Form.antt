@@ -1,4 +1,4 @@
--- How a document is written, and when bytes spell it.
+-- The encoding relation of documents, and when bytes encode one.
 use Rattle.std.specs.Prelude.{◌≡◌, ℕ, ◌≤◌, List, length, Some, IsUtf8}
 use Rattle.std.specs.Int.RustNames.{bit_or}
 use Rattle.serde_json.specs.Data.{Data, number, unsigned}
@@ -14,8 +14,8 @@ use Rattle.document_reader.specs.declared.reading.TheConstants.{MAX_LEN}
 use Rattle.document_reader.specs.judged.Distinct.{AreDistinct}
 use Rattle.document_reader.specs.judged.Plain.{PlainDocument}
 
--- the version of the format, 1; flags, capabilities, the stages and the subgroup operations that may stand there, returns; types, special types, filters
--- and the one that counts in the whole module, constants, overrides, global expressions, globals, functions, entries
+-- the version of the format, 1; flags, capabilities, the subgroup stages and operations, returns; types, special types, filters
+-- with the innermost filter of the module, constants, overrides, global expressions, globals, functions, entries
 abbrev pub ADocument : PlainDocument → Data → Type 0
 ADocument d = AnArray ((λ v. v ≡ number (unsigned 1)) ▸ ASet flags (record { 0 = 0 }) (λ a b. record { 0 = bit_or a.0 b.0 }) d.settings.flags ▸
     ASet capabilities (record { 0 = 0 }) (λ a b. record { 0 = bit_or a.0 b.0 }) d.settings.capabilities ▸
@@ -25,14 +25,14 @@ ADocument d = AnArray ((λ v. v ≡ number (unsigned 1)) ▸ ASet flags (record 
     AList AConstant d.content.constants ▸ AList AnOverride d.content.overrides ▸ AList AnExpression d.content.global_expressions ▸
     AList AGlobal d.content.globals ▸ AList AFunction d.content.functions ▸ AList AnEntry d.content.entries ▸ Ends)
 
--- The bytes are few enough, and the JSON reader reads them as this value.
+-- The bytes are not too many, and the JSON reader reads them as this value.
 pub record IsValueOf (bytes : List ℕ) (value : Data) : Type 0 where
   pub short : length bytes ≤ MAX_LEN
   pub utf8 : IsUtf8 bytes
   pub value_is : read bytes ≡ Some value
 
--- The bytes are few enough, the JSON reader reads them as a value, that value is written for the document, and no two
--- of its types are equal.
+-- The bytes are not too many, the JSON reader reads them as a value, that value encodes the document, and
+-- its types are distinct.
 pub record Reads (bytes : List ℕ) (d : PlainDocument) : Type 0 where
   pub short : length bytes ≤ MAX_LEN
   pub utf8 : IsUtf8 bytes
@@ -41,6 +41,6 @@ pub record Reads (bytes : List ℕ) (d : PlainDocument) : Type 0 where
   pub form : ADocument d value
   pub distinct : AreDistinct d.content.types
 
--- bytes spell one document at most
+-- bytes encode at most one document
 abbrev pub OneDocument : Type 0
 OneDocument = (bytes : List ℕ) (d e : PlainDocument) → Reads bytes d → Reads bytes e → d ≡ e

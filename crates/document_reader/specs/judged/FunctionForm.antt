@@ -1,4 +1,4 @@
--- How functions are written.
+-- The encoding relation of functions.
 use Rattle.serde_json.specs.Data.{Data}
 use Rattle.ir_items.specs.judged.Plain.{PlainArgument, PlainLocal, PlainFunction}
 use Rattle.ir_items.specs.declared.functions.FunctionResult.{FunctionResult}

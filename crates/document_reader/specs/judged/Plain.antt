@@ -3,7 +3,7 @@ use Rattle.std.specs.Prelude.{Bool}
 use Rattle.ir_flags.specs.declared.settings.Settings.{Settings}
 use Rattle.ir_items.specs.judged.Plain.{PlainModule}
 
--- The settings, whether missing returns are put in before the checks, and the module whose lists the document writes.
+-- The settings, whether missing returns are added before the validation, and the module.
 pub record PlainDocument : Type 0 where
   pub settings : Settings
   pub returns : Bool

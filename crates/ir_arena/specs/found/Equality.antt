@@ -4,14 +4,14 @@ use Rattle.std.specs.Cmp.{IsPartialEquivalence, IsEquivalence, on_per, on_equiv,
 use Rattle.std.specs.Cmp.Lexicographic.{pointwise, lists_per, lists_equiv}
 use Rattle.ir_arena.specs.declared.span.Span.{Span}
 
--- from the same byte on, and below the same byte
+-- equal start and end
 abbrev pub same_span : Span → Span → Bool
 same_span x y = (x.start == y.start) && (x.end == y.end)
 
 same_span_equiv : IsEquivalence same_span
 same_span_equiv = and_equiv (on_equiv (λ s. s.start) nat_eq_equiv) (on_equiv (λ s. s.end) nat_eq_equiv)
 
--- as many entries, and at each place values that are equal by `eq`, and the same span
+-- equally many entries, and at each index values that are equal by `eq`, and equal spans
 abbrev pub same_entries : {T : Type 0} → (T → T → Bool) → List (T × Span) → List (T × Span) → Bool
 same_entries eq xs ys = pointwise (λ x y. eq x.0 y.0 && same_span x.1 y.1) xs ys
 

@@ -1,4 +1,4 @@
--- What an iterator over an arena that may be changed gives.
+-- The items of an iterator over an arena with mutable references.
 use Rattle.std.specs.Prelude.{ℕ, List}
 use Rattle.std.specs.Borrow.{GName, MutBor}
 use Rattle.std.specs.List.{enumerate_from}
@@ -6,14 +6,14 @@ use Rattle.std.specs.Slice.Iter.{iter_mut_rest, iter_mut_name}
 use Rattle.ir_arena.specs.declared.iter_mut.IterMut.{IterMut}
 
 module _ {T K : Type 0} where
-  -- the values that are still to come, with their handles
+  -- the remaining values, with their handles
   abbrev pub values_to_come : IterMut T K → List (ℕ × T)
   values_to_come it = enumerate_from it.place (iter_mut_rest it.values)
 
-  -- the name of its loan
+  -- the identifier of its loan
   abbrev pub loan_name : IterMut T K → GName
   loan_name it = iter_mut_name it.values
 
--- a handle with the value after a `&mut`
+-- a handle with a mutable reference
 abbrev pub handle_with_value_to_change : {T : Type 0} → ℕ × MutBor T → ℕ × T
 handle_with_value_to_change p = (p.0, p.1.now)

@@ -1,4 +1,4 @@
--- What becomes of a block whose statements were lent to be changed.
+-- A block after a mutable borrow of its statements.
 use Rattle.std.specs.Prelude.{List}
 use Rattle.std.specs.Borrow.{Lends, MutBor, Fml, Array}
 use Rattle.std.specs.Vec.{with_items}
@@ -8,10 +8,10 @@ use Rattle.ir_blocks.specs.declared.statements.Statement.TheViews.{roll-Block}
 use Rattle.ir_blocks.specs.contracts.statements.Block as block
 use Rattle.ir_blocks.specs.contracts.statements.Statement as statement
 
--- the block with these statements in place of its own, as many, and its spans
+-- the block with its statements replaced by as many others; its spans stay
 abbrev pub with_statements : Block → List Statement → Block
 with_statements b statements = roll-Block (record (out-Block b) { body = with_items (out-Block b).body statements })
 
--- once the borrow r ends, the block has the statements that were last written through r
+-- once the borrow r ends, the block has the statements last written through r
 abbrev pub LendsStatements : MutBor Block → MutBor (List Statement) → Fml
 LendsStatements b r = Lends block.the_row (Array statement.the_row 0) b r (with_statements b.now)

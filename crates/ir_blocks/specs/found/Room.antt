@@ -1,4 +1,4 @@
--- Room for the returns that complete a body.
+-- Capacity for the returns that complete a body.
 use Rattle.std.specs.Prelude.{List, [], ◌∷◌, Bool, true, false, ◌&&◌, ◌||◌, if◌then◌else◌, IsTrue, map, Vec, nat_lt, vec_len, vec_capacity}
 use Rattle.ir_blocks.specs.declared.statements.Statement.{Statement}
 use Rattle.ir_blocks.specs.declared.statements.Statement.TheOpen.{Statement-F, Block-F, SwitchCase-F}
@@ -6,17 +6,17 @@ use Rattle.ir_blocks.specs.declared.statements.Statement.TheFolds.{fold-Statemen
 use Rattle.ir_blocks.specs.declared.statements.Block.{Block, out-Block}
 use Rattle.ir_blocks.specs.declared.statements.SwitchCase.{SwitchCase}
 
--- of a statement: whether control goes on after it, and whether its tail parts have room
+-- of a statement: whether control continues after it, and whether its tail blocks have room
 pub record EndRoom : Type 0 where
   pub on : Bool
   pub parts : Bool
 
--- whether each of these has room
+-- whether all of these have room
 abbrev pub each_room : List Bool → Bool
 each_room [] = true
 each_room (r ∷ rs) = r && each_room rs
 
--- one level, with what is inside already seen as room
+-- one layer, whose nested blocks are already replaced by whether they have room
 abbrev pub statement_room_step : Statement-F EndRoom Bool Bool → EndRoom
 statement_room_step (Statement-F.Block b) = record { on = false; parts = b }
 statement_room_step (Statement-F.If condition accept reject) = record { on = false; parts = accept && reject }
@@ -27,14 +27,14 @@ statement_room_step (Statement-F.Return value) = record { on = false; parts = tr
 statement_room_step Statement-F.Kill = record { on = false; parts = true }
 statement_room_step _ = record { on = true; parts = true }
 
--- of a block with these statements, which has room for one more or not: where it is open it needs that room, and else
--- its last statement's tail parts need theirs
+-- of a block, by whether it has room for one more itself: at an open end it needs that room, and otherwise the
+-- tail blocks of its last statement need theirs
 abbrev pub end_room : Bool → List EndRoom → Bool
 end_room own [] = own
 end_room own (s ∷ []) = if s.on then own else s.parts
 end_room own (s ∷ t ∷ rest) = end_room own (t ∷ rest)
 
--- whether a vector holds one more before it has to grow
+-- whether a vector has spare capacity
 abbrev pub has_spare : {A Z : Type 0} → Vec A Z → Bool
 has_spare v = nat_lt (vec_len v) (vec_capacity v)
 
@@ -64,7 +64,7 @@ HasOwnRoom b = IsTrue (own_room b)
 abbrev pub HasRoom : Block → Type 0
 HasRoom b = IsTrue (block_room b)
 
--- the same of the tail parts of a statement, of a case, and of each of these cases
+-- the same for the tail blocks of a statement, for a case, and for a list of cases
 abbrev pub HasRoomWithin : Statement → Type 0
 HasRoomWithin s = IsTrue (statement_room s).parts
 

@@ -1,4 +1,4 @@
--- The spans in a body: those of a block's statements, and those of the blocks inside them.
+-- The spans in a body: those of a block's statements, and those of nested blocks.
 use Rattle.std.specs.Prelude.{◌≡◌, ℕ, zero, suc, List, [], ◌∷◌, Option, Some, None}
 use Rattle.ir_arena.specs.declared.span.Span.{Span}
 use Rattle.ir_blocks.specs.judged.Plain.{PlainStatement, PlainBlock}
@@ -6,16 +6,16 @@ use Rattle.ir_blocks.specs.judged.Shapes.{Part, inner, accepting, rejecting, cas
 use Rattle.ir_blocks.specs.judged.Places.{Place, here, later, inside, condition, OccursAt}
 
 mutual
-  -- a block's own spans in order, and what lies inside its statements
+  -- a block's own spans in order, and the spans nested in its statements
   pub data BlockSpans : Type 0 where
     spans : (own : List Span) → (within : InnerSpans) → BlockSpans
 
-  -- what lies inside each statement of a block, in order
+  -- the spans nested in each statement of a block, in order
   pub data InnerSpans : Type 0 where
     no_statement : InnerSpans
     in_next : StatementSpans → InnerSpans → InnerSpans
 
-  -- the spans of the blocks that a statement has
+  -- the spans of the nested blocks of a statement
   pub data StatementSpans : Type 0 where
     no_block : StatementSpans
     in_block : BlockSpans → StatementSpans
@@ -38,7 +38,7 @@ own_spans (spans own within) = own
 abbrev pub within_spans : BlockSpans → InnerSpans
 within_spans (spans own within) = within
 
--- what lies inside the first statement
+-- the spans nested in the first statement
 abbrev pub first_of : InnerSpans → StatementSpans
 first_of no_statement = no_block
 first_of (in_next s rest) = s
@@ -67,7 +67,7 @@ case_spans no_more k = no_spans
 case_spans (in_case b rest) zero = b
 case_spans (in_case b rest) (suc k) = case_spans rest k
 
--- the spans of the block in a part, none where there is no such part
+-- the spans of the nested block at a part, empty if there is none
 abbrev pub spans_in : StatementSpans → Part → BlockSpans
 spans_in (in_block b) inner = b
 spans_in (in_sides accept reject) accepting = accept
@@ -77,15 +77,15 @@ spans_in (in_loop body continuing) loop_body = body
 spans_in (in_loop body continuing) loop_continuing = continuing
 spans_in _ _ = no_spans
 
--- the span at a place, if one is kept for it
+-- the span stored for a place, if any
 abbrev pub span_at : Place → BlockSpans → Option Span
 span_at here b = first_span b
 span_at (later p) b = span_at p (after_first b)
 span_at (inside part p) b = span_at p (spans_in (first_within b) part)
 span_at condition b = None
 
--- The spans are in step with the body at every depth: one is kept for each place where a statement stands, and for no
--- other place.
+-- The spans are in step with the body at every depth: each place of a statement has a span, and no
+-- other place has one.
 pub record InStep (b : PlainBlock) (kept : BlockSpans) : Type 0 where
   pub spanned : (p : Place) (s : PlainStatement) → OccursAt b p s → (x : Span) × (span_at p kept ≡ Some x)
   pub only : (p : Place) (x : Span) → span_at p kept ≡ Some x → (s : PlainStatement) × OccursAt b p s

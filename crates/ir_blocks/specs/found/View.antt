@@ -1,4 +1,4 @@
--- The plain data and the spans that blocks hold.
+-- The plain data and the spans of blocks.
 use Rattle.std.specs.Prelude.{◌≡◌, ℕ, Bool, List, [], ◌∷◌, map, length, vec_capacity}
 use Rattle.ir_arena.specs.declared.span.Span.{Span}
 use Rattle.ir_kinds.specs.declared.values.SwitchValue.{SwitchValue}
@@ -16,7 +16,7 @@ abbrev pub block_of : List PlainStatement → PlainBlock
 block_of [] = stop
 block_of (s ∷ ss) = next s (block_of ss)
 
--- a case of a switch
+-- a switch case
 pub record PlainCase : Type 0 where
   pub value : SwitchValue
   pub body : PlainBlock
@@ -27,7 +27,7 @@ abbrev pub cases_of : List PlainCase → PlainCases
 cases_of [] = no_case
 cases_of (c ∷ cs) = case c.value c.body c.falls (cases_of cs)
 
--- one level, with what is inside already seen as plain
+-- one layer, whose nested blocks are already replaced by their plain data
 abbrev pub statement_step : Statement-F PlainStatement PlainBlock PlainCase → PlainStatement
 statement_step (Statement-F.Emit range) = emit range.0 range.1
 statement_step (Statement-F.Block b) = block b
@@ -68,21 +68,21 @@ block_view = fold-Block PlainStatement PlainBlock PlainCase statement_step block
 abbrev pub case_view : SwitchCase → PlainCase
 case_view = fold-SwitchCase PlainStatement PlainBlock PlainCase statement_step block_step case_step
 
--- statements that stand in a row, as a block
+-- a list of statements, as a block
 abbrev pub statements_view : List Statement → PlainBlock
 statements_view statements = block_of (map statement_view statements)
 
--- what lies inside these statements, as inside those of a block
+-- the spans nested in these statements, as those nested in a block
 abbrev pub within_of : List StatementSpans → InnerSpans
 within_of [] = no_statement
 within_of (s ∷ ss) = in_next s (within_of ss)
 
--- the spans of these cases' blocks, as of those of a switch
+-- the spans of these cases' blocks, as those of a switch
 abbrev pub case_spans_of : List BlockSpans → CaseSpans
 case_spans_of [] = no_more
 case_spans_of (b ∷ bs) = in_case b (case_spans_of bs)
 
--- one level, with what is inside already seen as spans: a statement without blocks has none
+-- one layer, whose nested blocks are already replaced by their spans: a statement without blocks has none
 abbrev pub statement_spans_step : Statement-F StatementSpans BlockSpans BlockSpans → StatementSpans
 statement_spans_step (Statement-F.Block b) = in_block b
 statement_spans_step (Statement-F.If condition accept reject) = in_sides accept reject
@@ -90,7 +90,7 @@ statement_spans_step (Statement-F.Switch selector cases) = in_cases (case_spans_
 statement_spans_step (Statement-F.Loop body continuing break_if) = in_loop body continuing
 statement_spans_step _ = no_block
 
--- these kept spans, as those of a block with this inside its statements
+-- these stored spans, as those of a block with these nested spans
 abbrev pub spans_over : List Span → List StatementSpans → BlockSpans
 spans_over kept within = spans (padded (length within) kept) (within_of within)
 
@@ -100,7 +100,7 @@ block_spans_step b = spans_over b.span_info b.body.items
 abbrev pub case_spans_step : SwitchCase-F StatementSpans BlockSpans BlockSpans → BlockSpans
 case_spans_step c = c.body
 
--- the spans inside a statement, in a block and in a case, at every depth
+-- the spans nested in a statement, a block and a case, at every depth
 abbrev pub statement_spans : Statement → StatementSpans
 statement_spans = fold-Statement StatementSpans BlockSpans BlockSpans statement_spans_step block_spans_step case_spans_step
 
@@ -117,16 +117,16 @@ statements_of b = (out-Block b).body.items
 abbrev pub spans_of : Block → List Span
 spans_of b = padded (length (statements_of b)) (out-Block b).span_info
 
--- how many statements a block holds before it has to grow
+-- the statement capacity of a block
 abbrev pub room_for_statements : Block → ℕ
 room_for_statements b = vec_capacity (out-Block b).body
 
--- a block has as many spans as statements, and at every depth a span for each place where a statement stands, and for
--- no other place
+-- a block has as many spans as statements, and at every depth each place of a statement has a span, and no
+-- other place has one
 abbrev pub AlwaysInStep : Type 0
 AlwaysInStep = (b : Block) → (length (spans_of b) ≡ length (statements_of b)) × InStep (block_view b) (block_spans b)
 
--- no block lies inside the statement
+-- the statement has no nested block
 abbrev pub HoldsNoBlock : PlainStatement → Type 0
 HoldsNoBlock (block body) = ⊥
 HoldsNoBlock (if_ condition accept reject) = ⊥
@@ -134,12 +134,12 @@ HoldsNoBlock (switch selector cases) = ⊥
 HoldsNoBlock (loop body continuing break_if) = ⊥
 HoldsNoBlock _ = Unit {0}
 
--- the statement steers nothing, computes no range and calls nothing
+-- the statement is a plain operation: no control flow, no `Emit`, no call
 abbrev pub IsAct : PlainStatement → Type 0
 IsAct (operation a) = Unit {0}
 IsAct _ = ⊥
 
--- the statement is an act of rays, of subgroups or of cooperative matrices
+-- the statement is of ray queries, subgroups, cooperative matrices or ray tracing pipelines
 abbrev pub IsSharedAct : PlainStatement → Type 0
 IsSharedAct (operation (ray_query query fun)) = Unit {0}
 IsSharedAct (operation (ballot result predicate)) = Unit {0}

@@ -1,4 +1,4 @@
--- Statements as plain data, without the memory and the spans that they have.
+-- Statements as plain data, without their memory and spans.
 use Rattle.std.specs.Prelude.{ℕ, Bool, List, Option}
 use Rattle.ir_flags.specs.declared.memory.Barrier.{Barrier}
 use Rattle.ir_kinds.specs.declared.subgroups.SubgroupOperation.{SubgroupOperation}
@@ -10,7 +10,7 @@ use Rattle.ir_blocks.specs.declared.operations.GatherMode.{GatherMode}
 use Rattle.ir_blocks.specs.declared.operations.RayQueryFunction.{RayQueryFunction}
 use Rattle.ir_blocks.specs.declared.operations.RayPipelineFunction.{RayPipelineFunction}
 
--- what a statement does that steers nothing and computes no range
+-- a plain operation: no control flow, no `Emit`, no call
 pub data PlainOperation : Type 0 where
   control_barrier : Barrier → PlainOperation
   memory_barrier : Barrier → PlainOperation
@@ -26,7 +26,7 @@ pub data PlainOperation : Type 0 where
   cooperative_store : (target : ℕ) → CooperativeData → PlainOperation
   ray_pipeline : RayPipelineFunction → PlainOperation
 
--- statements, each with what it names by handles, blocks of them, and the cases of a switch
+-- statements (with what they reference as handles), blocks, and the cases of a switch
 mutual
   pub data PlainStatement : Type 0 where
     emit : (first end : ℕ) → PlainStatement

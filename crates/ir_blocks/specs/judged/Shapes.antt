@@ -1,8 +1,8 @@
--- The shape of a statement: what steers, and nothing of what it computes.
+-- The shape of a statement: its control flow, without its operands.
 use Rattle.std.specs.Prelude.{ℕ, zero, suc, Option, Some, None}
 use Rattle.ir_blocks.specs.judged.Plain.{PlainStatement, emit, block, if_, switch, loop, break, continue, return, kill, operation, call, PlainBlock, stop, PlainCases, no_case, case}
 
--- how a statement leaves the block that it stands in
+-- how a statement leaves its block
 pub data Exit : Type 0 where
   breaks : Exit
   continues : Exit
@@ -36,7 +36,7 @@ shape_of (call function arguments result) = calls function
 abbrev pub exit_of : Shape → Option Exit
 exit_of s = elim s [ leaves exit ↦ Some exit | _ ↦ None ]
 
--- The parts that a statement may have: blocks inside it.
+-- The parts that a statement may have: its nested blocks.
 pub data Part : Type 0 where
   inner : Part
   accepting : Part
@@ -50,7 +50,7 @@ case_body no_case k = stop
 case_body (case value body falls rest) zero = body
 case_body (case value body falls rest) (suc k) = case_body rest k
 
--- the block in a part, empty where there is no such part
+-- the nested block at a part, empty if there is none
 abbrev pub part_of : Shape → Part → PlainBlock
 part_of (nests b) inner = b
 part_of (chooses accept reject) accepting = accept

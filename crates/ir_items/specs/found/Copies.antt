@@ -1,4 +1,4 @@
--- What items hold, with the spans of what is inside them.
+-- Views of items with the nested spans.
 use Rattle.std.specs.Prelude.{List, map}
 use Rattle.ir_arena.specs.declared.span.Span.{Span}
 use Rattle.ir_types.specs.judged.Plain.{PlainType, type_view}

@@ -1,4 +1,4 @@
--- What an emitter gives.
+-- The `Emit` statements that an emitter returns.
 use Rattle.std.specs.Prelude.{◌↔◌, ◌⊎◌, ℕ, ◌<◌, ◌≤◌, List, [], ◌∷◌, length, map, slice_range, if◌then◌else◌, ◌==◌, Option, Some, None}
 use Rattle.std.specs.List.{All, AllPairs, cons_option}
 use Rattle.ir_arena.specs.declared.span.Span.{Span}
@@ -7,31 +7,31 @@ use Rattle.ir_arena.specs.found.Spans.{total_span}
 use Rattle.ir_types.specs.declared.expressions.Expression.{Expression}
 use Rattle.ir_blocks.specs.judged.Plain.{PlainStatement, emit}
 
--- the statement and the span of what was appended from a count on, if anything was
+-- the `Emit` statement and the span of the expressions appended since there were `start`, if any
 abbrev pub emitted : ℕ → List (Expression × Span) → Option (PlainStatement × Span)
 emitted start entries =
     if start == length entries then None else Some (emit start (length entries), total_span (map span_of_entry (slice_range entries start (length entries))))
 
--- A run of an emitter: the expressions with which it was started, and those with which it was finished.
+-- A run of an emitter: the expressions at its start, and those at its finish.
 pub record Run : Type 0 where
   pub started : List (Expression × Span)
   pub finished : List (Expression × Span)
 
--- what the call that finishes the run answers
+-- the result of the call of `finish`
 abbrev pub answer_of : Run → Option (PlainStatement × Span)
 answer_of run = emitted (length run.started) run.finished
 
--- the runs follow one another, on expressions that only grow and are at least so many at first
+-- the runs follow one another, on expressions that are only appended, at least `count` at first
 abbrev pub AreRuns : ℕ → List Run → Type 0
 AreRuns count [] = Unit {0}
 AreRuns count (run ∷ runs) = (count ≤ length run.started) × ((length run.started ≤ length run.finished) × AreRuns (length run.finished) runs)
 
--- the range of an answer: its first place and its end, if it is an `Emit`
+-- the bounds of the range of an `Emit`
 abbrev pub range_of : Option (PlainStatement × Span) → Option (ℕ × ℕ)
 range_of (Some (emit first end, span)) = Some (first, end)
 range_of _ = None
 
--- the ranges of the answers that are an `Emit`
+-- the ranges of the `Emit` statements
 abbrev pub ranges_of : List (Option (PlainStatement × Span)) → List (ℕ × ℕ)
 ranges_of [] = []
 ranges_of (answer ∷ answers) = cons_option (range_of answer) (ranges_of answers)
@@ -46,12 +46,12 @@ abbrev pub Holds : List (ℕ × ℕ) → ℕ → Type 0
 Holds [] e = ⊥
 Holds (range ∷ ranges) e = ((range.0 ≤ e) × (e < range.1)) ⊎ Holds ranges e
 
--- The ranges are not empty, are apart, each before those after it, and hold just what was appended during the runs.
+-- The ranges are not empty, are disjoint and ascending, and contain exactly the expressions appended during the runs.
 pub record ArePartition (runs : List Run) (ranges : List (ℕ × ℕ)) : Type 0 where
   pub apart : AllPairs (λ r s. r.1 ≤ s.0) ranges
   pub filled : All (λ r. r.0 < r.1) ranges
   pub hold : (e : ℕ) → IsAppended runs e ↔ Holds ranges e
 
--- The `Emit` statements that the runs of an emitter answer: their ranges are a partition of what was appended.
+-- The `Emit` statements that an emitter returns: their ranges are a partition of the appended expressions.
 abbrev pub Partition : Type 0
 Partition = (count : ℕ) (runs : List Run) → AreRuns count runs → ArePartition runs (ranges_of (map answer_of runs))

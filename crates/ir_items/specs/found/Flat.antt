@@ -1,4 +1,4 @@
--- What a composition of a vector comes to, once the compositions inside it are taken apart.
+-- The flattened components of a vector composition.
 use Rattle.std.specs.Prelude.{◌≡◌, ℕ, ◌<◌, List, [], ◌∷◌, ◌++◌, map, take, replicate, Option, Some, None, slice_get, MatchOption}
 use Rattle.std.specs.List.{All}
 use Rattle.std.specs.Option.{option_and_then}
@@ -15,18 +15,18 @@ use Rattle.ir_items.specs.found.GlobalView.{values_of}
 abbrev pub types_of : List (IrType × Span) → List PlainType
 types_of entries = map type_view (values_of entries)
 
--- what an expression is put together from: a composition from its components, a splat from its scalar so many times
+-- the operands of a composition (its components) and of a splat (its scalar, repeated)
 abbrev pub parts_of : PlainExpression → Option (List ℕ)
 parts_of (compose type components) = Some components
 parts_of (plain (Splat size value)) = Some (replicate (component_count size) value)
 parts_of _ = None
 
--- the parts of each expression come before it
+-- the operands of each expression precede it
 abbrev pub PartsPrecede : List PlainExpression → Type 0
 PartsPrecede expressions = (handle : ℕ) (e : PlainExpression) (parts : List ℕ) → slice_get expressions handle ≡ Some e → parts_of e ≡ Some parts → All (λ part. part < handle) parts
 
--- The leaves of the expressions at these handles, one after the other: an expression without parts is a leaf itself, and
--- those of any other are the leaves of its parts.
+-- The leaves of the expressions at these handles, concatenated: an expression without operands is a leaf itself, and
+-- the leaves of any other are those of its operands.
 pub data AreLeaves (expressions : List PlainExpression) : List ℕ → List ℕ → Type 0 where
   none : AreLeaves expressions [] []
   leaf : {handle : ℕ} {rest leaves : List ℕ} {e : PlainExpression}
@@ -34,21 +34,21 @@ pub data AreLeaves (expressions : List PlainExpression) : List ℕ → List ℕ 
   taken_apart : {handle : ℕ} {rest parts inside leaves : List ℕ} {e : PlainExpression}
       → slice_get expressions handle ≡ Some e → parts_of e ≡ Some parts → AreLeaves expressions parts inside → AreLeaves expressions rest leaves → AreLeaves expressions (handle ∷ rest) (inside ++ leaves)
 
--- how many components a vector has
+-- the number of components of a vector
 abbrev pub vector_size : PlainInner → Option ℕ
 vector_size (other (Vector size scalar)) = Some (component_count size)
 vector_size _ = None
 
--- how many components a value of the type at a handle has, if that is a vector
+-- the number of components of the type at a handle, if that is a vector
 abbrev pub size_at : List PlainType → ℕ → Option ℕ
 size_at types handle = option_and_then (λ (t : PlainType). vector_size t.inner) (slice_get types handle)
 
--- what these components come to: those of a vector to their leaves, as many as it has components at most, and any others
--- to themselves
+-- the flattened components: for a vector the leaves, at most as many as it has components, and otherwise the
+-- components unchanged
 abbrev pub IsFlattened : List PlainExpression → Option ℕ → List ℕ → List ℕ → Type 0
 IsFlattened expressions size components flat =
     MatchOption size (flat ≡ components) (λ n. (leaves : List ℕ) × AreLeaves expressions components leaves × (flat ≡ take n leaves))
 
--- components come to one list at most
+-- a composition has at most one flattened list
 abbrev pub OneFlattening : Type 0
 OneFlattening = (expressions : List PlainExpression) (size : Option ℕ) (components a b : List ℕ) → IsFlattened expressions size components a → IsFlattened expressions size components b → a ≡ b

@@ -1,4 +1,4 @@
--- The plain data that the items of a module beside its functions hold.
+-- The plain data of a module's items other than functions.
 use Rattle.std.specs.Prelude.{List, [], None, option_map, string_bytes, map}
 use Rattle.ir_arena.specs.declared.span.Span.{Span}
 use Rattle.ir_items.specs.judged.GlobalPlain.{PlainConstant, PlainOverride, PlainGlobal, PlainRule, standard, unknown, user, PlainFilterNode, PlainSpecialTypes}

@@ -1,4 +1,4 @@
--- The module of lists that were copied.
+-- The module of arenas and lists that were copied.
 use Rattle.std.specs.Prelude.{ℕ, Option}
 use Rattle.ir_items.specs.declared.module.Module.{Module}
 use Rattle.ir_items.specs.declared.module_lists.TypeLists.{TypeLists}

@@ -1,4 +1,4 @@
--- The plain data that functions, entry points and the module hold.
+-- The plain data of functions, entry points and the module.
 use Rattle.std.specs.Prelude.{[], None, option_map, string_bytes, map}
 use Rattle.ir_types.specs.judged.Plain.{type_view}
 use Rattle.ir_types.specs.judged.ExpressionPlain.{expression_view}
@@ -29,7 +29,7 @@ function_view f = record {
   leaf = f.diagnostic_filter_leaf;
 }
 
--- a function that is given nothing, answers nothing and does nothing
+-- a function without arguments, result and statements
 abbrev pub empty_function : PlainFunction
 empty_function = record { name = None; arguments = []; result = None; locals = []; expressions = []; body = stop; leaf = None }
 
@@ -58,7 +58,7 @@ module_view m = record {
   entries = map entry_view m.entry_points.items;
 }
 
--- a module without items
+-- an empty module
 abbrev pub empty_module : PlainModule
 empty_module = record {
   types = [];

@@ -1,4 +1,4 @@
--- The items of a module beside its functions as plain data, without the memory and the spans that they have.
+-- The items of a module other than functions as plain data, without their memory and spans.
 use Rattle.std.specs.Prelude.{ℕ, List, Option}
 use Rattle.ir_flags.specs.declared.memory.MemoryDecorations.{MemoryDecorations}
 use Rattle.ir_kinds.specs.declared.bindings.ResourceBinding.{ResourceBinding}
@@ -31,13 +31,13 @@ pub data PlainRule : Type 0 where
   unknown : (name : List ℕ) → PlainRule
   user : (tool name : List ℕ) → PlainRule
 
--- A diagnostic filter, and the one around it.
+-- A diagnostic filter, and its parent.
 pub record PlainFilterNode : Type 0 where
   pub severity : Severity
   pub rule : PlainRule
   pub parent : Option ℕ
 
--- The types that a module keeps for ray queries, and for results of built-in functions.
+-- The special types: for ray queries, and for results of built-in functions.
 pub record PlainSpecialTypes : Type 0 where
   pub ray_desc : Option ℕ
   pub ray_intersection : Option ℕ

@@ -1,4 +1,4 @@
--- Functions, entry points and the module as plain data, without the memory and the spans that they have.
+-- Functions, entry points and the module as plain data, without their memory and spans.
 use Rattle.std.specs.Prelude.{ℕ, List, Option}
 use Rattle.ir_kinds.specs.declared.bindings.Binding.{Binding}
 use Rattle.ir_kinds.specs.declared.stages.ShaderStage.{ShaderStage}

@@ -11,18 +11,18 @@ use Rattle.ir_items.specs.found.Copies.{SpannedFunction, SpannedEntry, SpannedMo
 use Rattle.ir_items.specs.declared.functions.Function.{Function}
 use Rattle.ir_items.specs.declared.entries.EntryPoint.{EntryPoint}
 
--- The function g is f but for its body, which is f's completed with returns.
+-- The function g is f except for its body, which is f's completed with returns.
 pub record IsReturnedFunction (f g : PlainFunction) : Type 0 where
   pub body : IsCompleted f.body g.body
   pub rest : g ≡ record f { body = g.body }
 
--- The entry point e is d but for the body of its function, in the same way.
+-- The entry point e is d except for the body of its function, in the same way.
 pub record IsReturnedEntry (d e : PlainEntry) : Type 0 where
   pub function : IsReturnedFunction d.function e.function
   pub rest : e ≡ record d { function = e.function }
 
--- The module n is m with returns put in: it has as many functions and entry points, each of them is m's at its place
--- but for its body, which is completed with returns, and all else is m's.
+-- The module n is m with missing returns added: it has as many functions and entry points, each of them is m's at its place
+-- except for its body, which is completed with returns, and all else is m's.
 pub record IsReturned (m n : PlainModule) : Type 0 where
   pub functions : AllZip IsReturnedFunction m.functions n.functions
   pub entries : AllZip IsReturnedEntry m.entries n.entries
@@ -30,28 +30,28 @@ pub record IsReturned (m n : PlainModule) : Type 0 where
 
 -- ---- with spans
 
--- The spans of the body are those of the completed body, and the function's others stay.
+-- The spans of the body are those of the completed body, and the function's other spans stay.
 pub record KeepsFunctionSpans (f g : SpannedFunction) : Type 0 where
   pub body : SpansCompleted f.plain.body g.plain.body f.body g.body
   pub rest : g ≡ record f { plain = g.plain; body = g.body }
 
--- the same of the function of an entry point
+-- the same for the function of an entry point
 pub record KeepsEntrySpans (d e : SpannedEntry) : Type 0 where
   pub function : KeepsFunctionSpans d.function e.function
   pub rest : e ≡ record d { plain = e.plain; function = e.function }
 
--- the same of a function of the module, whose own span stays
+-- the same for a function of the module, whose own span stays
 abbrev pub KeepsSpansAt : SpannedFunction × Span → SpannedFunction × Span → Type 0
 KeepsSpansAt f g = KeepsFunctionSpans f.0 g.0 × (g.1 ≡ f.1)
 
--- The spans of the module n, which is m with returns put in: those of its bodies are those of the completed bodies, and
+-- The spans of the module n, which is m with missing returns added: those of its bodies are those of the completed bodies, and
 -- all others are m's.
 pub record KeepsModuleSpans (m n : SpannedModule) : Type 0 where
   pub functions : AllZip KeepsSpansAt m.functions n.functions
   pub entries : AllZip KeepsEntrySpans m.entries n.entries
   pub rest : n ≡ record m { plain = n.plain; functions = n.functions; entries = n.entries }
 
--- ---- the module with returns put in, found item by item
+-- ---- the module with missing returns added, as a function on each item
 
 abbrev pub returned_function : PlainFunction → PlainFunction
 returned_function f = record f { body = completed f.body }
@@ -75,17 +75,17 @@ returned_module_spans m = record m {
   entries = map returned_entry_spans m.entries;
 }
 
--- what is found is the module with returns put in
+-- the function satisfies the specification
 abbrev pub ReturnedByBodies : Type 0
 ReturnedByBodies = (m : PlainModule) → IsReturned m (returned_module m)
 
--- there is one module that is a given one with returns put in
+-- a module has only one completion with returns
 abbrev pub OneReturned : Type 0
 OneReturned = (m n : PlainModule) → IsReturned m n → n ≡ returned_module m
 
--- ---- room for the returns
+-- ---- capacity for the returns
 
--- the body has room for the returns that it wants
+-- the body has room for its missing returns
 abbrev pub FunctionHasRoom : Function → Type 0
 FunctionHasRoom f = HasRoom f.body
 

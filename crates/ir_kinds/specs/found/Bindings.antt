@@ -1,4 +1,4 @@
--- What is bound.
+-- Views of bindings, and the built-in with a primitive's vertex indices.
 use Rattle.std.specs.Prelude.{Option, Some, None}
 use Rattle.ir_kinds.specs.declared.bindings.Binding.{Binding}
 use Rattle.ir_kinds.specs.declared.bindings.Binding.TheVariants.{BuiltIn as built_in, Location}
@@ -11,7 +11,7 @@ abbrev pub built_in_of : Binding → Option BuiltIn
 built_in_of (built_in b) = Some b
 built_in_of (Location location interpolation sampling blend_src per_primitive) = None
 
--- the built-in by which a primitive names its vertices
+-- the built-in with the vertex indices of a primitive
 abbrev pub index_built_in : MeshOutputTopology → BuiltIn
 index_built_in Points = PointIndex
 index_built_in Lines = LineIndices

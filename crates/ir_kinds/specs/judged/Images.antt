@@ -1,4 +1,4 @@
--- What the texels of images are.
+-- Storage formats and image classes.
 use Rattle.std.specs.Prelude.{Bool, true, false, not}
 use Rattle.ir_kinds.specs.declared.scalars.Scalar.{Scalar}
 use Rattle.ir_kinds.specs.declared.images.StorageFormat.{StorageFormat}
@@ -7,8 +7,8 @@ use Rattle.ir_kinds.specs.declared.images.ImageClass.{ImageClass}
 use Rattle.ir_kinds.specs.declared.images.ImageClass.TheVariants.{Sampled, Depth, External, Storage}
 use Rattle.ir_kinds.specs.judged.Scalars.{signed, unsigned, floating}
 
--- What a format is: the scalar as which a shader reads and writes a component, and whether it has 16 bits a channel that denote
--- numbers from 0 to 1 or from -1 to 1.
+-- A storage format: the scalar type of a component in a shader, and whether it is a 16-bit normalised
+-- format.
 pub record FormatRow : Type 0 where
   pub scalar : Scalar
   pub norm_16 : Bool
@@ -65,11 +65,11 @@ format_scalar format = (format_row format).scalar
 abbrev pub is_norm_16 : StorageFormat → Bool
 is_norm_16 format = (format_row format).norm_16
 
--- whether a texel has several samples
+-- whether the image is multisampled
 abbrev pub is_multisampled : ImageClass → Bool
 is_multisampled c = elim c [ Sampled kind multi ↦ multi | Depth multi ↦ multi | External ↦ false | Storage format access ↦ false ]
 
--- whether an image has several levels of detail
+-- whether the image has mip levels
 abbrev pub is_mipmapped : ImageClass → Bool
 is_mipmapped c = elim c [ Sampled kind multi ↦ not multi | Depth multi ↦ not multi | External ↦ false | Storage format access ↦ false ]
 

@@ -1,4 +1,4 @@
--- How many arguments the math functions take.
+-- The number of arguments of each math function.
 use Rattle.std.specs.Prelude.{ℕ}
 use Rattle.ir_kinds.specs.declared.maths.MathFunction.{MathFunction}
 use Rattle.ir_kinds.specs.declared.maths.MathFunction.TheVariants.{Min, Max, Clamp, Atan2, Ldexp, Pow, Dot, Dot4I8Packed, Dot4U8Packed, Outer, Cross, Distance, FaceForward, Reflect, Refract, Fma, Mix, Step, SmoothStep, ExtractBits, InsertBits}

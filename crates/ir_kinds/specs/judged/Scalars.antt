@@ -1,4 +1,4 @@
--- Scalars, and how many there are of what is built of them.
+-- Scalar types, and the sizes of vectors and matrices.
 use Rattle.std.specs.Prelude.{ℕ, Bool, ◌==◌, ◌&&◌}
 use Rattle.ir_kinds.specs.declared.scalars.Scalar.{Scalar}
 use Rattle.ir_kinds.specs.declared.scalars.ScalarKind.{ScalarKind}
@@ -10,7 +10,7 @@ use Rattle.ir_kinds.specs.declared.scalars.CooperativeSize.TheVariants.{Eight, S
 use Rattle.ir_kinds.specs.declared.scalars.SwizzleComponent.{SwizzleComponent}
 use Rattle.ir_kinds.specs.declared.scalars.SwizzleComponent.TheVariants.{X, Y, Z, W}
 
--- ---- the twelve scalars that a value may have
+-- ---- the twelve scalar types
 
 abbrev pub signed : ℕ → Scalar
 signed width = record { kind = kind.Sint; width = width }
@@ -45,14 +45,14 @@ same_scalar a b = (kind_place a.kind == kind_place b.kind) && (a.width == b.widt
 
 -- ---- vectors
 
--- how many components a vector of this size has
+-- the number of components of a vector of this size
 abbrev pub component_count : VectorSize → ℕ
 component_count n = elim n [ Bi ↦ 2 | Tri ↦ 3 | Quad ↦ 4 ]
 
--- how many columns or rows a cooperative matrix has
+-- the number of columns or rows of a cooperative matrix
 abbrev pub cooperative_count : CooperativeSize → ℕ
 cooperative_count o = elim o [ Eight ↦ 8 | Sixteen ↦ 16 ]
 
--- a component's place in its vector
+-- the index of a component in its vector
 abbrev pub component_place : SwizzleComponent → ℕ
 component_place letter = elim letter [ X ↦ 0 | Y ↦ 1 | Z ↦ 2 | W ↦ 3 ]

@@ -1,4 +1,4 @@
--- What may be done with the memory of an address space.
+-- The access that each address space allows.
 use Rattle.ir_flags.specs.declared.memory.StorageAccess.{StorageAccess}
 use Rattle.ir_kinds.specs.declared.spaces.AddressSpace.{AddressSpace}
 use Rattle.ir_kinds.specs.declared.spaces.AddressSpace.TheVariants.{Function, Private, WorkGroup, Uniform, Storage, Handle, Immediate, TaskPayload, RayPayload, IncomingRayPayload}
@@ -11,7 +11,7 @@ read_only = record { 0 = 1 }
 abbrev pub reads_and_writes : StorageAccess
 reads_and_writes = record { 0 = 3 }
 
--- what may be done with the memory of a space
+-- the access that an address space allows
 abbrev pub access_of : AddressSpace → StorageAccess
 access_of Function = reads_and_writes
 access_of Private = reads_and_writes

@@ -1,11 +1,11 @@
--- The scalars of literals, and the literals of scalars.
+-- The scalar type of each literal, and the literals 0, 1 and -1 of each scalar type.
 use Rattle.std.specs.Prelude.{ℕ, pos, negsuc, ◌+◌, ◌-◌, ◌*◌, ◌^◌, List, [], ◌∷◌, Option, Some, None, true, false, if◌then◌else◌}
 use Rattle.ir_kinds.specs.declared.scalars.Scalar.{Scalar}
 use Rattle.ir_kinds.specs.declared.values.Literal.{Literal}
 use Rattle.ir_kinds.specs.declared.values.Literal.TheVariants as literal
 use Rattle.ir_kinds.specs.judged.Scalars.{signed, unsigned, floating, boolean, abstract_int, abstract_float, same_scalar}
 
--- the scalar of a literal
+-- the scalar type of a literal
 abbrev pub literal_scalar : Literal → Scalar
 literal_scalar (literal.F64 bits) = floating 8
 literal_scalar (literal.F32 bits) = floating 4
@@ -20,9 +20,9 @@ literal_scalar (literal.Bool b) = boolean
 literal_scalar (literal.AbstractInt z) = abstract_int
 literal_scalar (literal.AbstractFloat bits) = abstract_float
 
--- ---- the bits of 1 and of -1 as a float of so many bits, with so many bits of them for the fraction
+-- ---- the bits of 1 and of -1 as a float of a given width, with a given number of fraction bits
 
--- the exponent of 1, which is half of the greatest
+-- the biased exponent of 1, which is half of the greatest
 abbrev pub bias : ℕ → ℕ → ℕ
 bias bits fraction = 2 ^ (bits - fraction - 2) - 1
 
@@ -40,7 +40,7 @@ pub record Units : Type 0 where
   pub as_one : Literal
   pub as_minus_one : Option Literal
 
--- the row of a scalar: what 0, 1 and -1 are there
+-- the row of a scalar type: its literals 0, 1 and -1
 abbrev pub units : Scalar → Literal → Literal → Option Literal → Units
 units scalar as_zero as_one as_minus_one = record { scalar = scalar; as_zero = as_zero; as_one = as_one; as_minus_one = as_minus_one }
 
@@ -56,7 +56,7 @@ all_units = units (signed 2) (literal.I16 (pos 0)) (literal.I16 (pos 1)) (Some (
     ∷ units abstract_int (literal.AbstractInt (pos 0)) (literal.AbstractInt (pos 1)) (Some (literal.AbstractInt (negsuc 0)))
     ∷ units abstract_float (literal.AbstractFloat 0) (literal.AbstractFloat (one_bits 64 52)) (Some (literal.AbstractFloat (minus_one_bits 64 52))) ∷ []
 
--- the row of this scalar among these, if there is one
+-- the row of this scalar type in a table, if it has one
 abbrev pub units_in : List Units → Scalar → Option Units
 units_in [] scalar = None
 units_in (row ∷ rows) scalar = if same_scalar row.scalar scalar then Some row else units_in rows scalar

@@ -1,4 +1,4 @@
--- A struct is seen by its members: no view holds one as it is.
+-- No view of an inner type is a `Struct` as it is.
 use Rattle.ir_types.specs.declared.types.TypeInner.{TypeInner}
 use Rattle.ir_types.specs.declared.types.TypeInner.TheVariants as inner
 use Rattle.ir_types.specs.judged.Plain.{PlainInner, struct, plain, inner_view}

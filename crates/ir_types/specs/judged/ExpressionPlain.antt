@@ -1,11 +1,11 @@
--- Expressions as plain data, without the memory that lists lie in.
+-- Expressions as plain data, without the memory of their lists.
 use Rattle.std.specs.Prelude.{ℕ, List, Bool, true, false}
 use Rattle.ir_types.specs.declared.expressions.SampleLevel.{SampleLevel}
 use Rattle.ir_types.specs.declared.expressions.SampleLevel.TheVariants.{Auto, Zero, Exact, Bias, Gradient}
 use Rattle.ir_types.specs.declared.expressions.Expression.{Expression}
 use Rattle.ir_types.specs.declared.expressions.Expression.TheVariants.{Literal, Constant, Override, ZeroValue, Compose, FunctionArgument, GlobalVariable, LocalVariable, Access, AccessIndex, Splat, Swizzle, Load, ArrayLength, Unary, Binary, Select, Derivative, Relational, Math, As, ImageSample, ImageLoad, ImageQuery, CallResult, AtomicResult, WorkGroupUniformLoadResult, RayQueryVertexPositions, RayQueryProceedResult, RayQueryGetIntersection, SubgroupBallotResult, SubgroupOperationResult, CooperativeLoad, CooperativeMultiplyAdd}
 
--- a composition by its type and its components, and any other expression as it is
+-- a `Compose` by its type and its components, and any other expression as it is
 pub data PlainExpression : Type 0 where
   compose : (type : ℕ) → (components : List ℕ) → PlainExpression
   plain : Expression → PlainExpression
@@ -14,12 +14,12 @@ abbrev pub expression_view : Expression → PlainExpression
 expression_view (Compose type components) = compose type components.items
 expression_view other = plain other
 
--- the expression holds no list
+-- the expression is no `Compose`
 abbrev pub IsPlain : PlainExpression → Type 0
 IsPlain (compose type components) = ⊥
 IsPlain (plain other) = Unit {0}
 
--- it is neither a value that is always in scope or lies in another, nor made of parts, nor the length of an array
+-- the expression is none of the kinds that `copy_plain` copies itself: it computes on its operands, or is one of those below
 abbrev pub IsComputed : Expression → Type 0
 IsComputed (Literal value) = ⊥
 IsComputed (Constant handle) = ⊥
@@ -37,7 +37,7 @@ IsComputed (Load pointer) = ⊥
 IsComputed (ArrayLength array) = ⊥
 IsComputed _ = Unit {0}
 
--- it denotes what a statement answered, or is of rays or of cooperative matrices
+-- the expression is the result of a statement, or is of ray queries or cooperative matrices
 abbrev pub IsResult : Expression → Type 0
 IsResult (CallResult function) = Unit {0}
 IsResult (AtomicResult type comparison) = Unit {0}
@@ -51,14 +51,14 @@ IsResult (CooperativeLoad columns rows role block) = Unit {0}
 IsResult (CooperativeMultiplyAdd a b c) = Unit {0}
 IsResult _ = ⊥
 
--- it is found in an image, or is one of the results below
+-- the expression is on an image, or is one of the results above
 abbrev pub IsImageOrResult : Expression → Type 0
 IsImageOrResult (ImageSample image sampler gather coordinate array_index offset level depth_ref clamp_to_edge) = Unit {0}
 IsImageOrResult (ImageLoad image coordinate array_index sample level) = Unit {0}
 IsImageOrResult (ImageQuery image query) = Unit {0}
 IsImageOrResult other = IsResult other
 
--- the level is found from neighbouring fragments
+-- whether the level requires implicit derivatives
 abbrev pub implicit_derivatives : SampleLevel → Bool
 implicit_derivatives Auto = true
 implicit_derivatives Zero = false
@@ -66,7 +66,7 @@ implicit_derivatives (Exact level) = false
 implicit_derivatives (Bias bias) = true
 implicit_derivatives (Gradient x y) = false
 
--- expressions that are in scope everywhere in their function
+-- whether the expression is in scope in its whole function
 abbrev pub always_in_scope : Expression → Bool
 always_in_scope (Literal value) = true
 always_in_scope (Constant handle) = true
@@ -77,7 +77,7 @@ always_in_scope (GlobalVariable handle) = true
 always_in_scope (LocalVariable handle) = true
 always_in_scope _ = false
 
--- an index that is not known before the shader runs
+-- whether an access with this index is dynamic
 abbrev pub is_dynamic : Expression → Bool
 is_dynamic (Literal value) = false
 is_dynamic (Constant handle) = false

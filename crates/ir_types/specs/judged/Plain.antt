@@ -1,4 +1,4 @@
--- The types of a module as plain data, without the memory that texts and lists lie in.
+-- The types of a module as plain data, without the memory of strings and lists.
 use Rattle.std.specs.Prelude.{ℕ, List, Option, option_map, string_bytes, map}
 use Rattle.ir_kinds.specs.declared.bindings.Binding.{Binding}
 use Rattle.ir_types.specs.declared.types.StructMember.{StructMember}
@@ -6,19 +6,19 @@ use Rattle.ir_types.specs.declared.types.TypeInner.{TypeInner}
 use Rattle.ir_types.specs.declared.types.TypeInner.TheVariants as inner
 use Rattle.ir_types.specs.declared.types.IrType.{IrType}
 
--- A member of a struct.
+-- A struct member.
 pub record PlainMember : Type 0 where
   pub name : Option (List ℕ)
   pub ty : ℕ
   pub binding : Option Binding
   pub offset : ℕ
 
--- a struct by its members, and any other type as it is
+-- A struct by its members, and any other inner type as it is.
 pub data PlainInner : Type 0 where
   struct : (members : List PlainMember) → (span : ℕ) → PlainInner
   plain : TypeInner → PlainInner
 
--- A type with its name.
+-- A type with an optional name.
 pub record PlainType : Type 0 where
   pub name : Option (List ℕ)
   pub inner : PlainInner

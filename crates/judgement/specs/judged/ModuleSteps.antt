@@ -15,8 +15,8 @@ use Rattle.typing_layout.specs.judged.View.{type_tree}
 use Rattle.typing_forms.specs.declared.form.Form.{Form}
 use Rattle.spec_expressions.specs.judged.Firsts.{FailsFirst}
 
--- The steps after that of the handles: types are laid out and judged, global expressions are given types and judged, and
--- then constants and overrides are.
+-- The steps after the check of handles: types are laid out and checked, the types of global expressions are inferred, and global
+-- expressions, constants and overrides are checked.
 pub data ModuleStep : Type 0 where
   layout : ModuleStep
   type : ModuleStep
@@ -34,7 +34,7 @@ step_rank expression = 3
 step_rank constant = 4
 step_rank override = 5
 
--- how many items a step checks
+-- the number of items that a step checks
 abbrev pub item_count : PlainModule → ModuleStep → ℕ
 item_count m layout = length m.types
 item_count m type = length m.types
@@ -43,7 +43,7 @@ item_count m expression = length m.global_expressions
 item_count m constant = length m.constants
 item_count m override = length m.overrides
 
--- what is required of the item at an index, where all overrides have their values or not
+-- the requirement of the item at an index, with overrides resolved or not
 abbrev pub StepOK : Settings → (resolved : Bool) → PlainModule → ModuleStep → (index : ℕ) → Type 0
 StepOK s resolved m layout index = LayoutOK (type_tree m.types index)
 StepOK s resolved m type index = TypeOK s.capabilities resolved m.types index
@@ -52,21 +52,21 @@ StepOK s resolved m expression index = Has s.flags.0 CONSTANTS.0 → GlobalExpre
 StepOK s resolved m constant index = Has s.flags.0 CONSTANTS.0 → ConstantOK m index
 StepOK s resolved m override index = Has s.flags.0 CONSTANTS.0 → OverrideOK resolved m index
 
--- each item passes
+-- each item is valid
 pub record StepPasses (s : Settings) (resolved : Bool) (m : PlainModule) (step : ModuleStep) : Type 0 where
   pub each : (index : ℕ) → index < item_count m step → StepOK s resolved m step index
 
--- The handles are in order, and each item passes each step.
+-- The handles are valid, and each item passes each step.
 pub record ModuleOK (s : Settings) (resolved : Bool) (m : PlainModule) : Type 0 where
   pub handles : HandlesOK m
   pub steps : (step : ModuleStep) → StepPasses s resolved m step
 
--- The handles are in order, and each item passes the steps before one.
+-- The handles are valid, and each item passes the steps before one.
 pub record IsReached (s : Settings) (resolved : Bool) (m : PlainModule) (step : ModuleStep) : Type 0 where
   pub handles : HandlesOK m
   pub earlier : (other : ModuleStep) → step_rank other < step_rank step → StepPasses s resolved m other
 
--- The first step that not all items pass, and the first of them that doesn't.
+-- The first failing step, and the first item that fails it.
 pub record IsFirstFailing (s : Settings) (resolved : Bool) (m : PlainModule) (step : ModuleStep) (index : ℕ) : Type 0 where
   pub reached : IsReached s resolved m step
   pub item : FailsFirst (item_count m step) (StepOK s resolved m step) index

@@ -1,4 +1,4 @@
--- Which text is the report of an accepted module: all lines after the first one, which says that it is accepted.
+-- The report of a valid module: all lines after the first one, which says that it is valid.
 use Rattle.std.specs.Prelude.{◌≡◌, ◌<◌, ◌↔◌, ℕ, List, ◌++◌, false, Some, length, slice_get, flat_map}
 use Rattle.std.specs.List.Sorted.{IsStrictlySortedBy}
 use Rattle.std.specs.Ordering.{nat_cmp, ordering_then}
@@ -11,23 +11,23 @@ use Rattle.spec_expressions.specs.judged.CallChains.{HasUse, HasPair}
 use Rattle.spec_expressions.specs.judged.Summaries.{HasUseBit}
 use Rattle.judgement.specs.judged.Lines.{buffers, is_own, entry_lines}
 
--- These are the uses of the module's global variables by what is reached from the entry point, one for each in order. Of the
--- entry point's payload and mesh output they may say anything.
+-- The uses of the module's global variables by all functions reachable from the entry point, one entry for each in order. The
+-- entries of the entry point's payload and mesh output are arbitrary.
 pub record AreUses (m : PlainModule) (e : PlainEntry) (uses : List GlobalUse) : Type 0 where
   pub many : length uses ≡ length m.globals
   pub exact : (g k : ℕ) → g < length m.globals → is_own e g ≡ false → HasUseBit uses g k ↔ HasUse m e.function g k
 
--- by the image, and then by the sampler
+-- ordered by the image, and then by the sampler
 abbrev pub pair_cmp : ℕ × ℕ → ℕ × ℕ → Ordering
 pair_cmp p q = ordering_then (nat_cmp p.0 q.0) (nat_cmp p.1 q.1)
 
--- These are the images and samplers among global variables that are sampled together at the end of a chain from the entry
--- point, each pair once, in order.
+-- The global images and samplers that are sampled together in a function reachable from the entry point, each pair once, in
+-- order.
 pub record ArePairs (m : PlainModule) (e : PlainEntry) (pairs : List (ℕ × ℕ)) : Type 0 where
   pub ordered : IsStrictlySortedBy pair_cmp pairs
   pub exact : (image sampler : ℕ) → IsAmong (image, sampler) pairs ↔ HasPair m e.function (Global image, Global sampler)
 
--- The lines are of the entry point, which has this number.
+-- The lines are those of the entry point at this index.
 pub record IsEntryReport (m : PlainModule) (number : ℕ) (e : PlainEntry) (lines : List ℕ) : Type 0 where
   pub uses : List GlobalUse
   pub pairs : List (ℕ × ℕ)
@@ -40,7 +40,7 @@ pub record AreEntryReports (m : PlainModule) (entries : List (List ℕ)) : Type 
   pub many : length entries ≡ length m.entries
   pub each : (number : ℕ) (e : PlainEntry) (lines : List ℕ) → slice_get m.entries number ≡ Some e → slice_get entries number ≡ Some lines → IsEntryReport m number e lines
 
--- The text has the module's buffers, and then its entry points.
+-- The text lists the module's buffers, and then its entry points.
 pub record IsReport (m : PlainModule) (text : List ℕ) : Type 0 where
   pub entries : List (List ℕ)
   pub are_entries : AreEntryReports m entries

@@ -1,4 +1,4 @@
--- The steps of the judgement over a module, and what is found by them.
+-- The steps of the validation of a module, and its result.
 use Rattle.std.specs.Prelude.{◌≡◌, ◌↔◌, Bool, true, false, IsTrue, length}
 use Rattle.ir_flags.specs.Sets.{Has}
 use Rattle.ir_flags.specs.declared.settings.ValidationFlags.{ValidationFlags}
@@ -17,16 +17,16 @@ use Rattle.judgement.specs.declared.finding.Finding.{Finding}
 use Rattle.judgement.specs.declared.finding.Finding.TheVariants.{Accepted, RefusedDocument, RefusedHandles, Refused}
 use Rattle.spec_expressions.specs.judged.Firsts.{FailsFirst}
 
--- The module n that is judged is m, with returns put in first where that is wanted.
+-- The module n that is validated is m, with missing returns inserted first if that is requested.
 abbrev pub IsPrepared : (returns : Bool) → PlainModule → PlainModule → Type 0
 IsPrepared returns m n = elim returns [ true ↦ IsReturned m n | false ↦ n ≡ m ]
 
--- Scope is checked strictly where the flags require it and for the checks of bodies, under which it acts.
+-- Strict scope is checked if the flags include `STRICT_SCOPE` and `BLOCKS`, without which it has no effect.
 abbrev pub IsScopeStrict : ValidationFlags → Type 0
 IsScopeStrict flags = Has flags.0 BLOCKS.0 × Has flags.0 STRICT_SCOPE.0
 
--- What is found of the module that is judged, under the settings and with overrides that have no values given to them: the first
--- step that fails, and the least index that fails it. Global variables come after all steps up to overrides, then functions, and then
+-- The result for the module that is validated, under the settings and with overrides not resolved: the first
+-- failing step, and the least index that fails it. Global variables come after all steps up to overrides, then functions, and then
 -- entry points.
 abbrev pub IsFinding : Settings → PlainModule → Finding → Type 0
 IsFinding s m (Accepted strict) =

@@ -1,4 +1,4 @@
--- What is known of the runs of an entry point that is accepted.
+-- Laws of the runs of a valid entry point.
 use Rattle.std.specs.Prelude.{◌≡◌, ℕ, length, Some, slice_get}
 use Rattle.ir_flags.specs.Sets.{Has}
 use Rattle.ir_flags.specs.declared.settings.TheConstants.ValidationFlags.{BLOCKS, EXPRESSIONS, STRICT_SCOPE}
@@ -14,7 +14,7 @@ use Rattle.spec_runs.specs.judged.Good.{DepthOK, TypesOK, LiveOK, SurelyLiveOK, 
 use Rattle.spec_runs.specs.judged.Laws.{OnEveryRun, OnEveryRunOf}
 use Rattle.spec_runs.specs.judged.Scoping.{UsedOperands, all_operands}
 
--- The entry point with a number is accepted, with the functions of its module, where bodies and expressions are checked.
+-- The entry point at an index is valid, with the functions of its module, and bodies and expressions are checked.
 pub record IsAcceptedEntry (s : Settings) (m : PlainModule) (number : ℕ) : Type 0 where
   pub handles : HandlesOK m
   pub functions : FunctionsOK s m
@@ -22,52 +22,52 @@ pub record IsAcceptedEntry (s : Settings) (m : PlainModule) (number : ℕ) : Typ
   pub blocks : Has s.flags.0 BLOCKS.0
   pub expressions : Has s.flags.0 EXPRESSIONS.0
 
--- calls are nested no deeper than there are functions, whatever operands are reported as used
+-- calls nest no deeper than the number of functions, whichever operands count as used
 abbrev pub RunsNest : Type 0
 RunsNest = (s : Settings) (m : PlainModule) (number : ℕ) (a : IsAcceptedEntry s m number) → (u : UsedOperands) → OnEveryRunOf u m a.entry.entry (DepthOK (length m.functions))
 
--- what is passed and returned is of the declared types
+-- arguments and return values have the declared types
 abbrev pub RunsPassTypes : Type 0
 RunsPassTypes = (s : Settings) (m : PlainModule) (number : ℕ) (a : IsAcceptedEntry s m number) → (u : UsedOperands) → OnEveryRunOf u m a.entry.entry (TypesOK m)
 
--- what has to be in scope is live where it is used, apart from what a continue skipped
+-- what must be in scope is live where it is used, except for what a continue skipped
 abbrev pub RunsUseLive : Type 0
 RunsUseLive = (s : Settings) (m : PlainModule) (number : ℕ) (a : IsAcceptedEntry s m number) → OnEveryRun m a.entry.entry LiveOK
 
--- where strict scope is required, every operand of what is executed, of loops' conditions and of what is introduced
--- is live where it is used, and so are those that have to be in scope without that check, whatever a continue skips
+-- if strict scope is required, every operand of executed statements, of `break_if` conditions and of emitted expressions
+-- is live where it is used, and so is everything that must be in scope without that check, whatever a continue skips
 abbrev pub StrictRunsUseLive : Type 0
 StrictRunsUseLive =
     (s : Settings) (m : PlainModule) (number : ℕ) (a : IsAcceptedEntry s m number) → Has s.flags.0 STRICT_SCOPE.0
     → OnEveryRunOf all_operands m a.entry.entry SurelyLiveOK × OnEveryRun m a.entry.entry SurelyLiveOK
 
--- the global variables that are named are those that something reached from the entry point names
+-- the referenced global variables are those that a function reachable from the entry point references
 abbrev pub RunsNameReached : Type 0
 RunsNameReached = (s : Settings) (m : PlainModule) (number : ℕ) (a : IsAcceptedEntry s m number) → (u : UsedOperands) → OnEveryRunOf u m a.entry.entry (NamedOK m a.entry.entry.function)
 
--- the pairs that are sampled are those of the entry point
+-- the sampled pairs are those of the entry point
 abbrev pub RunsSamplePairs : Type 0
 RunsSamplePairs = (s : Settings) (m : PlainModule) (number : ℕ) (a : IsAcceptedEntry s m number) → (u : UsedOperands) → OnEveryRunOf u m a.entry.entry (SampledOK m a.entry.entry.function)
 
--- nothing is executed that the entry point's stage may not run
+-- nothing is executed that the entry point's stage forbids
 abbrev pub RunsKeepStage : Type 0
 RunsKeepStage =
     (s : Settings) (m : PlainModule) (number : ℕ) (a : IsAcceptedEntry s m number) → (u : UsedOperands)
     → OnEveryRunOf u m a.entry.entry (StagesOK s.subgroup_stages a.entry.stages (stage_set a.entry.entry.stage).0)
 
--- nothing escapes
+-- no break or continue escapes its function
 abbrev pub RunsNeverEscape : Type 0
 RunsNeverEscape = (s : Settings) (m : PlainModule) (number : ℕ) (a : IsAcceptedEntry s m number) → (u : UsedOperands) → OnEveryRunOf u m a.entry.entry NoEscape
 
--- the body is one completed with returns
+-- the body has missing returns inserted
 abbrev pub HasReturns : PlainFunction → Type 0
 HasReturns f = (b : PlainBlock) × IsCompleted b f.body
 
--- so are the bodies of all functions and entry points
+-- so have the bodies of all functions and entry points
 pub record HaveReturns (m : PlainModule) : Type 0 where
   pub functions : (index : ℕ) (f : PlainFunction) → slice_get m.functions index ≡ Some f → HasReturns f
   pub entries : (number : ℕ) (e : PlainEntry) → slice_get m.entries number ≡ Some e → HasReturns e.function
 
--- where returns are put in, a function with a result falls off only by a break out of a final switch
+-- if missing returns are inserted, a function with a result falls off its end only by a break out of a final switch
 abbrev pub RunsFallByBreaks : Type 0
 RunsFallByBreaks = (s : Settings) (m : PlainModule) (number : ℕ) (a : IsAcceptedEntry s m number) → HaveReturns m → (u : UsedOperands) → OnEveryRunOf u m a.entry.entry FallsOK

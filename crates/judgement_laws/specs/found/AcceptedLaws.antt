@@ -1,4 +1,4 @@
--- What is known of every module that is accepted.
+-- Laws of every valid module.
 use Rattle.std.specs.Prelude.{◌≡◌, ◌<◌, ◌++◌, ℕ, [], ◌∷◌, Bool, false, IsTrue, List, Option, Some, is_some, length, slice_get, slice_index_or}
 use Rattle.ir_blocks.specs.judged.Places.{Place, OccursAt}
 use Rattle.ir_blocks.specs.judged.Plain.{PlainBlock, PlainStatement, atomic, call, operation}
@@ -22,27 +22,27 @@ use Rattle.judgement.specs.judged.Lines.{is_own, is_used}
 use Rattle.judgement.specs.judged.Reports.{IsEntryReport}
 use Rattle.spec_expressions.specs.judged.Operands.{comparand}
 
--- ---- chains of calls
+-- ---- call chains
 
--- a chain may begin at this function, which is at this index, or is an entry point's and comes after all functions
+-- a chain may begin at this function, which has this index, or is an entry point's and comes after all functions
 pub data BeginsAt (m : PlainModule) : PlainFunction → ℕ → Type 0 where
   at_function : {f : PlainFunction} {index : ℕ} → slice_get m.functions index ≡ Some f → BeginsAt m f index
   at_entry : (k : ℕ) {e : PlainEntry} → slice_get m.entries k ≡ Some e → BeginsAt m e.function (length m.functions)
 
--- these are the indexes of the functions that a chain from f runs, of the last one first
+-- the indices of the functions that a chain from f calls, the last one first
 abbrev pub AreRun : PlainModule → PlainFunction → List Step → List ℕ → Type 0
 AreRun m f [] [] = Unit {0}
 AreRun m f [] (i ∷ earlier) = ⊥
 AreRun m f (s ∷ before) [] = ⊥
 AreRun m f (s ∷ before) (i ∷ earlier) = (slice_get (effects_of (chain_end f before)) s.at ≡ Some (runs i s.arguments)) × (slice_get m.functions i ≡ Some s.function) × AreRun m f before earlier
 
--- each is below the one that stands next
+-- each is less than the next one in the list
 abbrev pub Rise : List ℕ → Type 0
 Rise [] = Unit {0}
 Rise (i ∷ []) = Unit {0}
 Rise (i ∷ j ∷ rest) = (i < j) × Rise (j ∷ rest)
 
--- the functions that a chain runs, and after them the one where it begins: from the last one back their indexes rise
+-- the functions that a chain calls, followed by its first caller: from the last one back their indices increase
 pub record Falls (m : PlainModule) (f : PlainFunction) (index : ℕ) (chain : List Step) : Type 0 where
   pub indexes : List ℕ
   pub are : AreRun m f chain indexes
@@ -53,7 +53,7 @@ CallsFall = (m : PlainModule) → HandlesOK m → (f : PlainFunction) (index : �
 
 -- ---- bindings
 
--- the report of the entry point has a line of the variable, which is its payload, its mesh output or another one
+-- the report of the entry point has a line for the variable: its payload, its mesh output or another one
 pub data IsReported (m : PlainModule) (number : ℕ) (e : PlainEntry) (lines : List ℕ) (r : IsEntryReport m number e lines) (g : ℕ) : Type 0 where
   as_payload : e.payload ≡ Some g → IsReported m number e lines r g
   as_output : mesh_output e ≡ Some g → IsReported m number e lines r g
@@ -64,18 +64,18 @@ BindingsDiffer =
     (s : Settings) (m : PlainModule) → EntriesOK s m → Has s.flags.0 BINDINGS.0 → (number : ℕ) (e : PlainEntry) → slice_get m.entries number ≡ Some e → (lines : List ℕ) (r : IsEntryReport m number e lines)
     → (g h : ℕ) (b : ResourceBinding) → IsReported m number e lines r g → IsReported m number e lines r h → binding_at m g ≡ Some b → binding_at m h ≡ Some b → g ≡ h
 
--- ---- answers
+-- ---- results of statements
 
--- the statement is a call of this function that answers by the expression
+-- the statement is a call of this function whose result is the expression
 abbrev pub IsCallOf : (function : ℕ) → (e : ℕ) → PlainStatement → Type 0
 IsCallOf function e s = (arguments : List ℕ) × (s ≡ call function arguments (Some e))
 
--- it is an atomic operation that does, which compares what was there or does not
+-- it is an atomic operation whose result is the expression, and is a compare-exchange or not
 abbrev pub IsAtomicOf : (comparison : Bool) → (e : ℕ) → PlainStatement → Type 0
 IsAtomicOf comparison e s =
     (pointer : ℕ) × (done : AtomicFunction) × (value : ℕ) × (s ≡ operation (atomic pointer done value (Some e))) × (is_some (comparand done) ≡ comparison)
 
--- such a statement stands at one place of the body
+-- exactly one statement of the body is such
 pub record OccursOnce (body : PlainBlock) (IsOne : PlainStatement → Type 0) : Type 0 where
   pub place : Place
   pub statement : PlainStatement
@@ -91,7 +91,7 @@ abbrev pub AnsweredByOne : Type 0
 AnsweredByOne =
     (s : Settings) (m : PlainModule) → FunctionsOK s m → Has s.flags.0 BLOCKS.0 → Has s.flags.0 EXPRESSIONS.0 → (index : ℕ) (f : PlainFunction) → slice_get m.functions index ≡ Some f → EachAnswered f
 
--- and in the functions of entry points
+-- and for the functions of entry points
 abbrev pub AnsweredByOneInEntries : Type 0
 AnsweredByOneInEntries =
     (s : Settings) (m : PlainModule) → EntriesOK s m → Has s.flags.0 BLOCKS.0 → Has s.flags.0 EXPRESSIONS.0 → (number : ℕ) (e : PlainEntry) → slice_get m.entries number ≡ Some e → EachAnswered e.function

@@ -1,4 +1,4 @@
--- Small functions whose runs tell apart what a continue skips.
+-- Small functions whose runs show what a continue skips.
 use Rattle.std.specs.Prelude.{[], ◌∷◌, Some, None, true, List}
 use Rattle.ir_kinds.specs.declared.operators.UnaryOperator.TheVariants.{LogicalNot}
 use Rattle.ir_kinds.specs.declared.values.Literal.TheVariants.{Bool as Truth}
@@ -8,19 +8,19 @@ use Rattle.ir_blocks.specs.judged.Plain.{emit, if_, loop, continue, call, stop, 
 use Rattle.ir_items.specs.judged.Plain.{PlainFunction}
 use Rattle.spec_runs.specs.found.Worked.{of_body}
 
--- a truth value, and twice its opposite
+-- a bool, and its negation twice
 abbrev pub truths : List PlainExpression
 truths = plain (x.Literal (Truth true)) ∷ plain (x.Unary LogicalNot 0) ∷ plain (x.Unary LogicalNot 0) ∷ []
 
--- a loop that a continue may go on with before the last statement of its body; what stands after the continue in its own block is
--- never reached
+-- a loop whose body may continue before its last statement; what follows the continue in its own block is
+-- unreachable
 abbrev pub continuing : PlainFunction
 continuing = of_body None truths (next (loop (next (if_ 0 (next continue (next (emit 1 2) stop)) stop) (next (emit 2 3) stop)) stop (Some 2)) stop)
 
--- a continue goes on with the inner loop, and skips nothing of the outer one's body
+-- a continue continues the inner loop, and skips nothing of the outer loop's body
 abbrev pub nested : PlainFunction
 nested = of_body None truths (next (loop (next (loop (next continue stop) stop (Some 0)) (next (emit 1 2) stop)) stop (Some 1)) stop)
 
--- it calls the first function, and what denotes the answer is live then
+-- it calls the first function, and the call result is live then
 abbrev pub answered : PlainFunction
 answered = of_body None (plain (x.CallResult 0) ∷ []) (next (call 0 [] (Some 0)) stop)

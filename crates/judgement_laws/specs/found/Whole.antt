@@ -1,6 +1,6 @@
 -- Whole lines.
 use Rattle.std.specs.Prelude.{◌≡◌, ◌⊎◌, ◌++◌, ℕ, List, [], codes}
 
--- it is nothing, or ends with a line feed
+-- it is empty, or ends with a line feed
 abbrev pub AreWhole : List ℕ → Type 0
 AreWhole text = (text ≡ []) ⊎ ((front : List ℕ) × (text ≡ front ++ codes "\n"))

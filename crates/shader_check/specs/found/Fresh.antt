@@ -1,4 +1,4 @@
--- What validators with the same settings answer of one module.
+-- The results of validators with the same settings for one module.
 use Rattle.std.specs.Prelude.{◌≡◌, Bool}
 use Rattle.ir_flags.specs.declared.settings.Settings.{Settings}
 use Rattle.ir_items.specs.judged.Plain.{PlainModule}
@@ -7,7 +7,7 @@ use Rattle.shader_check.specs.found.Examined.{refused_by}
 use Rattle.function_modules.specs.Validated.{IsValidated, IsValidationFault}
 use Rattle.function_errors.specs.declared.error.ValidationError.{ValidationError}
 
--- no module is accepted and refused, and all its faults are at one step and one item
+-- no module is valid and invalid, and all its errors are at one step and one item
 pub record AreAlike (resolved : Bool) (s : Settings) (m : PlainModule) : Type 0 where
   pub one_verdict : (info : ModuleInfo) (e : ValidationError) → IsValidated s resolved m info → IsValidationFault s resolved m e → ⊥
   pub one_item : (d e : ValidationError) → IsValidationFault s resolved m d → IsValidationFault s resolved m e → refused_by d ≡ refused_by e

@@ -1,4 +1,4 @@
--- What is kept of a module that all steps accept.
+-- The `ModuleInfo` of a valid module.
 use Rattle.std.specs.Prelude.{Bool}
 use Rattle.ir_flags.specs.declared.settings.Settings.{Settings}
 use Rattle.ir_items.specs.judged.Plain.{PlainModule}
@@ -6,6 +6,6 @@ use Rattle.typing_infos.specs.declared.info.ModuleInfo.{ModuleInfo}
 use Rattle.judgement_report.specs.Reported.{IsReported}
 use Rattle.function_modules.specs.Validated.{IsValidated}
 
--- it is what the report on the module requires
+-- it is what the report of the module requires
 abbrev pub ValidatedIsReported : Type 0
 ValidatedIsReported = (s : Settings) (resolved : Bool) (m : PlainModule) (info : ModuleInfo) → IsValidated s resolved m info → IsReported m info

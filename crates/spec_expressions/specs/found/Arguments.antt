@@ -1,4 +1,4 @@
--- What arguments mean.
+-- Denotations of arguments.
 use Rattle.std.specs.Prelude.{ℕ, Option, Some, None}
 use Rattle.spec_expressions.specs.declared.sampling.GlobalOrArgument.{GlobalOrArgument}
 

@@ -1,19 +1,19 @@
--- A test of statements that is made at every place of a body.
+-- A test of statements at every place of a body.
 use Rattle.std.specs.Prelude.{◌≡◌, Bool, true, ◌&&◌}
 use Rattle.ir_blocks.specs.judged.Plain.{PlainStatement, emit, block, if_, switch, loop, break, continue, return, kill, operation, call, PlainBlock, stop, next, PlainCases, no_case, case}
 use Rattle.ir_blocks.specs.judged.Places.{Place, OccursAt}
 
--- each statement of the body passes, at whatever place it stands
+-- each statement of the body passes, at its place
 abbrev pub PassesAtPlaces : (PlainStatement → Bool) → PlainBlock → Type 0
 PassesAtPlaces ok b = (p : Place) (s : PlainStatement) → OccursAt b p s → ok s ≡ true
 
--- the same, found step by step
+-- each statement of a body passes, computed step by step
 abbrev mutual
   pub everywhere : (PlainStatement → Bool) → PlainBlock → Bool
   everywhere ok stop = true
   everywhere ok (next s rest) = in_statement ok s && everywhere ok rest
 
-  -- the statement and what stands inside it
+  -- the statement and its nested statements
   pub in_statement : (PlainStatement → Bool) → PlainStatement → Bool
   in_statement ok (emit first end) = ok (emit first end)
   in_statement ok (block b) = ok (block b) && everywhere ok b

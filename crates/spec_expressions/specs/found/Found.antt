@@ -1,4 +1,4 @@
--- What requires all invocations where they may differ, found step by step.
+-- Requirements in non-uniform control flow, computed step by step.
 use Rattle.std.specs.Prelude.{◌≡◌, ℕ, Bool, true, false, ◌||◌, Option, Some, None}
 use Rattle.ir_kinds.specs.declared.diagnostics.Severity.{Severity}
 use Rattle.ir_blocks.specs.judged.Plain.{PlainOperation, control_barrier, memory_barrier, store, image_store, atomic, image_atomic, uniform_load, ray_query, ballot, collective, gather, cooperative_store, ray_pipeline, PlainStatement, emit, block, if_, switch, loop, break, continue, return, kill, operation, call, PlainBlock, stop, next, PlainCases, no_case, case}
@@ -29,8 +29,8 @@ operation_required (gather mode argument result) = None
 operation_required (cooperative_store target place) = None
 operation_required (ray_pipeline fun) = None
 
--- The first that is required at a disrupted place of a body, which is disrupted itself or is not; `look` finds what the
--- expressions of a range require.
+-- The first requirement at a disrupted place of a body, which may be disrupted as a whole; `look` looks up the
+-- requirements of the expressions of a range.
 abbrev mutual
   pub required_in : (varies : ℕ → Bool) → (look : ℕ → ℕ → Option Required) → Bool → PlainBlock → Option Required
   required_in varies look d stop = None
@@ -55,7 +55,7 @@ abbrev mutual
   required_in_cases varies look d no_case = None
   required_in_cases varies look d (case value body falls rest) = first_required (required_in varies look d body) (required_in_cases varies look d rest)
 
--- The look-up finds one of those that require something, and finds one wherever there is one.
+-- The look-up returns one of the requirements, and returns one wherever there is one.
 pub record IsLook (severity : Severity) (required : ℕ → ℕ) (look : ℕ → ℕ → Option Required) : Type 0 where
   pub found : (first end : ℕ) (x : Required) → look first end ≡ Some x → EmitRequires severity required first end x
   pub none : (first end : ℕ) (x : Required) → look first end ≡ None → EmitRequires severity required first end x → ⊥

@@ -1,4 +1,4 @@
--- What holds of all types of expressions.
+-- Laws of the types of expressions.
 use Rattle.std.specs.Prelude.{◌≡◌, ℕ, List, Some, Err, slice_get}
 use Rattle.ir_types.specs.judged.ExpressionPlain.{PlainExpression}
 use Rattle.typing_forms.specs.declared.form.Form.{Form}
@@ -10,12 +10,12 @@ use Rattle.spec_expressions.specs.judged.Context.{Context}
 use Rattle.spec_expressions.specs.judged.Typing.{typing_operands, rule_at, HasTypeAmong}
 use Rattle.spec_expressions.specs.declared.faults.TypingFault.{TypingFault}
 
--- an expression has one type at most
+-- an expression has at most one type
 abbrev pub OneType : Type 0
 OneType = (context : Context) (expressions : List PlainExpression) (place : ℕ) (s t : Form)
     → HasTypeAmong context expressions place s → HasTypeAmong context expressions place t → s ≡ t
 
--- An expression has a fault: its operands have types, for which the rule of its kind gives no type.
+-- An expression has a fault: its operands have types, for which the rule of its kind gives an error.
 pub record IsFaulty (context : Context) (expressions : List PlainExpression) (place : ℕ) (fault : TypingFault) : Type 0 where
   pub expression : PlainExpression
   pub past : ℕ → Form
@@ -23,18 +23,18 @@ pub record IsFaulty (context : Context) (expressions : List PlainExpression) (pl
   pub operands : (operand : ℕ) → IsAmong operand (typing_operands expression) → HasTypeAmong context expressions operand (past operand)
   pub refused : rule_at context expression past ≡ Err fault
 
--- what has a fault has no type
+-- an expression with a fault has no type
 abbrev pub FaultyHasNone : Type 0
 FaultyHasNone = (context : Context) (expressions : List PlainExpression) (place : ℕ) (fault : TypingFault)
     → IsFaulty context expressions place fault → (t : Form) → HasTypeAmong context expressions place t → ⊥
 
--- operands of the same forms give one form, or one fault
+-- operands of the same forms give the same form, or the same fault
 abbrev pub OperandsDecide : Type 0
 OperandsDecide = (context : Context) (expression : PlainExpression) (p q : ℕ → Form)
     → ((operand : ℕ) → IsAmong operand (typing_operands expression) → p operand ≡ q operand)
     → rule_at context expression p ≡ rule_at context expression q
 
--- operands of equivalent types give equivalent types, or are refused alike, in every kind of expression
+-- for every kind of expression, operands of equivalent types give equivalent types, or the same fault
 abbrev pub EquivalentOperandsDecide : Type 0
 EquivalentOperandsDecide = (context : Context) (expression : PlainExpression) (p q : ℕ → PlainResolution)
     → ((operand : ℕ) → IsAmong operand (typing_operands expression) → AreEquivalent context.types (p operand) (q operand))

@@ -1,4 +1,4 @@
--- The variable of what a mesh stage gives.
+-- The output variable of a mesh shader.
 use Rattle.std.specs.Prelude.{ℕ, List, [], ◌∷◌, Option, Some, None}
 use Rattle.ir_items.specs.declared.entries.MeshStageInfo.{MeshStageInfo}
 

@@ -1,4 +1,4 @@
--- The names of the bits.
+-- The names of the flags.
 use Rattle.std.specs.Prelude.{List, [], ◌∷◌}
 use Rattle.ir_flags.specs.Words.{Row, numbered}
 

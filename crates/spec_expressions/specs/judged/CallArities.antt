@@ -1,10 +1,10 @@
--- When the calls of a function pass as many arguments as the functions that they name have.
+-- When the calls of a function pass as many arguments as their callees have.
 use Rattle.std.specs.Prelude.{◌≡◌, ℕ, List, length, Option, Some, slice_get}
 use Rattle.ir_blocks.specs.judged.Places.{Place, OccursAt}
 use Rattle.ir_blocks.specs.judged.Plain.{call}
 use Rattle.ir_items.specs.judged.Plain.{PlainFunction, PlainModule}
 
--- each function that is called is there and has as many arguments as it is passed
+-- each callee exists and has as many arguments as are passed
 abbrev pub AritiesMatch : PlainModule → PlainFunction → Type 0
 AritiesMatch m f = (p : Place) (callee : ℕ) (arguments : List ℕ) (result : Option ℕ) → OccursAt f.body p (call callee arguments result)
     → (g : PlainFunction) × (slice_get m.functions callee ≡ Some g) × (length arguments ≡ length g.arguments)

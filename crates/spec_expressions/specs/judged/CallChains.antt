@@ -1,4 +1,4 @@
--- Chains of call statements, what expressions denote at their ends, and what a function has over all of them.
+-- Call chains, what expressions denote through them, and a function's effects over all of them.
 use Rattle.std.specs.Prelude.{◌≡◌, ◌⊎◌, ℕ, List, [], ◌∷◌, Option, Some, None, slice_get, ⊤, option_and_then}
 use Rattle.std.specs.Int.{bit_at}
 use Rattle.ir_types.specs.judged.ExpressionPlain.{PlainExpression, plain}
@@ -13,9 +13,9 @@ use Rattle.spec_expressions.specs.judged.OperandUses.{Operand}
 use Rattle.spec_expressions.specs.judged.Effects.{takes, samples, runs, discards, effects_of}
 use Rattle.spec_expressions.specs.judged.Values.{StartsAt}
 
--- ---- what an expression denotes
+-- ---- denotations of expressions
 
--- what the base of an access denotes
+-- the denotation of the base of an access
 abbrev pub base_denotes : Option PlainExpression → Option GlobalOrArgument
 base_denotes o = elim o [ Some (plain (GlobalVariable g)) ↦ Some (Global g) | _ ↦ None ]
 
@@ -26,26 +26,26 @@ denotes expressions (Some (plain (Access base index))) = base_denotes (slice_get
 denotes expressions (Some (plain (AccessIndex base index))) = base_denotes (slice_get expressions base)
 denotes expressions _ = None
 
--- what the expression at a place denotes in its function: a global variable, where it is one or an access directly on
+-- what the expression at an index denotes in its function: a global variable, if it is one or an access directly on
 -- one, or an argument
 abbrev pub global_or_argument : List PlainExpression → ℕ → Option GlobalOrArgument
 global_or_argument expressions e = denotes expressions (slice_get expressions e)
 
--- ---- chains
+-- ---- call chains
 
--- A step of a chain: which effect of the function reached is the call, what it passes, and the function that it runs.
+-- A step of a call chain: which effect of the current function is the call, its arguments, and its callee.
 pub record Step : Type 0 where
   pub at : ℕ
   pub arguments : List ℕ
   pub function : PlainFunction
 
--- the effect of f at that place is a call that passes these arguments to that function
+-- the effect of f at that index is a call of that function with these arguments
 pub record Calls (m : PlainModule) (f : PlainFunction) (s : Step) : Type 0 where
   pub callee : ℕ
   pub call : slice_get (effects_of f) s.at ≡ Some (runs callee s.arguments)
   pub found : slice_get m.functions callee ≡ Some s.function
 
--- the function that a chain from f has reached; the last step stands first
+-- the function that a call chain from f reaches; the last step is first in the list
 abbrev pub chain_end : PlainFunction → List Step → PlainFunction
 chain_end f [] = f
 chain_end f (s ∷ before) = s.function
@@ -55,18 +55,18 @@ abbrev pub IsChain : PlainModule → PlainFunction → List Step → Type 0
 IsChain m f [] = ⊤
 IsChain m f (s ∷ before) = Calls m (chain_end f before) s × IsChain m f before
 
--- what denotes something in the callee, seen from a caller that passes these arguments
+-- the denotation of a callee's part in a caller, with these arguments
 abbrev pub seen_through : (meaning : ℕ → Option GlobalOrArgument) → (arguments : List ℕ) → Option GlobalOrArgument → Option GlobalOrArgument
 seen_through meaning arguments None = None
 seen_through meaning arguments (Some (Global g)) = Some (Global g)
 seen_through meaning arguments (Some (Argument number)) = option_and_then meaning (slice_get arguments number)
 
--- what expression e of the function reached denotes where the chain began
+-- what expression e of the function reached denotes at the start of the chain
 abbrev pub meaning_at_start : PlainFunction → List Step → ℕ → Option GlobalOrArgument
 meaning_at_start f [] e = global_or_argument f.expressions e
 meaning_at_start f (s ∷ before) e = seen_through (meaning_at_start f before) s.arguments (global_or_argument s.function.expressions e)
 
--- some function on a chain from f is such
+-- some function reachable from f satisfies it
 pub record Reaches (m : PlainModule) (f : PlainFunction) (P : PlainFunction → Type 0) : Type 0 where
   pub chain : List Step
   pub is_chain : IsChain m f chain
@@ -74,7 +74,7 @@ pub record Reaches (m : PlainModule) (f : PlainFunction) (P : PlainFunction → 
 
 -- ---- uses
 
--- an operand of the function uses the global variable, with this bit
+-- an operand of the function uses the global variable, with this flag
 pub record UsesDirectly (g k : ℕ) (f : PlainFunction) : Type 0 where
   pub operand : Operand
   pub taken : IsAmong (takes operand) (effects_of f)
@@ -85,18 +85,18 @@ pub record UsesDirectly (g k : ℕ) (f : PlainFunction) : Type 0 where
 abbrev pub NamesGlobal : ℕ → PlainFunction → Type 0
 NamesGlobal g f = (e : ℕ) × (slice_get f.expressions e ≡ Some (plain (GlobalVariable g)))
 
--- nothing reached from the function uses the global variable directly
+-- no function reachable from it uses the global variable directly
 abbrev pub IsUnusedFrom : PlainModule → ℕ → PlainFunction → Type 0
 IsUnusedFrom m g f = (k : ℕ) → Reaches m f (UsesDirectly g k) → ⊥
 
--- The function uses the global variable with this bit: something reached from it does so directly, or, for QUERY, something
--- reached names it while nothing reached from there uses it directly.
+-- The function uses the global variable with this bit: a function reachable from it does so directly, or, for QUERY, one reachable
+-- refers to it and no function reachable from that one uses it directly.
 abbrev pub HasUse : PlainModule → PlainFunction → (g k : ℕ) → Type 0
 HasUse m f g k = Reaches m f (UsesDirectly g k) ⊎ ((bit_at QUERY.0 k ≡ 1) × Reaches m f (λ h. NamesGlobal g h × IsUnusedFrom m g h))
 
--- ---- pairs
+-- ---- sampling pairs
 
--- an expression of the function samples an image by a sampler that denote these, where its expressions mean this
+-- an expression of the function samples an image with a sampler that denote these, given the denotations of its expressions
 pub record Samples (meaning : ℕ → Option GlobalOrArgument) (f : PlainFunction) (p : SamplingPair) : Type 0 where
   pub expression : ℕ
   pub image : ℕ
@@ -105,13 +105,13 @@ pub record Samples (meaning : ℕ → Option GlobalOrArgument) (f : PlainFunctio
   pub image_means : meaning image ≡ Some p.0
   pub sampler_means : meaning sampler ≡ Some p.1
 
--- the pair is sampled at the end of a chain from f
+-- the pair is sampled by a function at the end of a call chain from f
 pub record HasPair (m : PlainModule) (f : PlainFunction) (p : SamplingPair) : Type 0 where
   pub chain : List Step
   pub is_chain : IsChain m f chain
   pub sampled : Samples (meaning_at_start f chain) (chain_end f chain) p
 
--- ---- ends of the fragment
+-- ---- discards
 
 abbrev pub Discards : PlainFunction → Type 0
 Discards f = IsAmong discards (effects_of f)

@@ -1,4 +1,4 @@
--- Values that are put together: compositions, one scalar all over a vector, components of a vector.
+-- Compositions, splats and swizzles.
 use Rattle.std.specs.Prelude.{ℕ, Result, Ok, Err}
 use Rattle.ir_kinds.specs.declared.scalars.VectorSize.{VectorSize}
 use Rattle.typing_forms.specs.declared.form.Form.{Form}
@@ -6,10 +6,10 @@ use Rattle.typing_forms.specs.declared.form.Form.TheVariants as form
 use Rattle.spec_expressions.specs.declared.faults.TypingFault.{TypingFault}
 use Rattle.spec_expressions.specs.declared.faults.TypingFault.TheVariants.{InvalidScalar, InvalidVector}
 
--- a scalar all over a vector of this size; value is the scalar's expression
+-- a splat over a vector of this size; value is the scalar's expression
 abbrev pub splat_type : VectorSize → (value : ℕ) → (of : Form) → Result Form TypingFault
 splat_type size value of = elim of [ form.Scalar s ↦ Ok (form.Vector size s) | _ ↦ Err (InvalidScalar value) ]
 
--- so many components of a vector, in any order; vector is the vector's expression
+-- a swizzle with this many components; vector is the vector's expression
 abbrev pub swizzle_type : VectorSize → (vector : ℕ) → (of : Form) → Result Form TypingFault
 swizzle_type size vector of = elim of [ form.Vector n s ↦ Ok (form.Vector size s) | _ ↦ Err (InvalidVector vector) ]

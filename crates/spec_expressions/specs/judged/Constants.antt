@@ -1,4 +1,4 @@
--- Which constants there are.
+-- Which constants are valid.
 use Rattle.std.specs.Prelude.{◌≡◌, ℕ, Some, slice_get}
 use Rattle.ir_items.specs.judged.GlobalPlain.{PlainConstant}
 use Rattle.ir_items.specs.judged.Plain.{PlainModule}
@@ -9,8 +9,8 @@ use Rattle.typing_forms.specs.judged.Forms.{form_of_type}
 use Rattle.typing_layout.specs.judged.Constness.{IsOfKind}
 use Rattle.typing_layout.specs.declared.constness.ExpressionKind.TheVariants.{Const}
 
--- The constant at a handle: its value is known as the module is written, and of the type that it says, which can be
--- composed.
+-- The constant at a handle: its initializer is const, and of its declared type, which can be
+-- constructed.
 pub record ConstantOK (m : PlainModule) (handle : ℕ) : Type 0 where
   pub constant : PlainConstant
   pub at : slice_get m.constants handle ≡ Some constant

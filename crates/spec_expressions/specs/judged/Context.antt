@@ -1,4 +1,4 @@
--- What expressions may name: the items of a module, and a function's arguments and variables.
+-- What expressions may refer to: the items of a module, and a function's arguments and variables.
 use Rattle.std.specs.Prelude.{◌<◌, ℕ, List, [], Option, Some, None, length}
 use Rattle.ir_types.specs.judged.Plain.{PlainType}
 use Rattle.ir_types.specs.judged.ExpressionPlain.{PlainExpression, compose, plain}
@@ -20,7 +20,7 @@ pub record Context : Type 0 where
   pub locals : List PlainLocal
   pub arguments : List PlainArgument
 
--- the items of a module, with these variables and arguments
+-- the items of a module, with these local variables and arguments
 abbrev pub context_with : PlainModule → List PlainLocal → List PlainArgument → Context
 context_with m locals arguments = record {
   types = m.types;
@@ -37,15 +37,15 @@ context_with m locals arguments = record {
 abbrev pub inside : PlainModule → PlainFunction → Context
 inside m f = context_with m f.locals f.arguments
 
--- at the module's top
+-- for global expressions
 abbrev pub outside : PlainModule → Context
 outside m = context_with m [] []
 
--- the form of a type by a handle that may not be there
+-- the form of the type at an optional handle
 abbrev pub form_if : List PlainType → Option ℕ → Form
 form_if types o = elim o [ Some type ↦ form_of_type types type | None ↦ form.Nothing ]
 
--- the item that an expression names is there; of the number of an argument nothing is required
+-- the item that an expression refers to exists; argument indices are not checked here
 abbrev pub NamesItemOf : Context → Expression → Type 0
 NamesItemOf c (x.Literal value) = Unit {0}
 NamesItemOf c (x.Constant constant) = constant < length c.constants

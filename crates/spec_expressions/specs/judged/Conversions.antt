@@ -1,4 +1,4 @@
--- A value as another kind of scalar.
+-- `As`: casts and bit casts.
 use Rattle.std.specs.Prelude.{ℕ, Option, Result, Ok, Err, unwrap_or}
 use Rattle.ir_kinds.specs.declared.scalars.Scalar.{Scalar}
 use Rattle.ir_kinds.specs.declared.scalars.ScalarKind.{ScalarKind}
@@ -7,7 +7,7 @@ use Rattle.typing_forms.specs.declared.form.Form.TheVariants as form
 use Rattle.spec_expressions.specs.declared.faults.TypingFault.{TypingFault}
 use Rattle.spec_expressions.specs.declared.faults.TypingFault.TheVariants.{IncompatibleOperands}
 
--- the scalar of this kind, as wide as is said or else as it was
+-- the scalar of this kind, with the given width or else its own
 abbrev pub converted : ScalarKind → (convert : Option ℕ) → Scalar → Scalar
 converted kind convert s = record { kind = kind; width = unwrap_or convert s.width }
 

@@ -1,4 +1,4 @@
--- Matrices that invocations work on together.
+-- Cooperative matrices.
 use Rattle.std.specs.Prelude.{ℕ, List, Option, Some, None, Result, option_map, option_and_then, ok_or}
 use Rattle.ir_kinds.specs.declared.scalars.CooperativeRole.{CooperativeRole}
 use Rattle.ir_kinds.specs.declared.scalars.CooperativeSize.{CooperativeSize}
@@ -11,13 +11,13 @@ use Rattle.typing_forms.specs.judged.Parts.{scalar_of}
 use Rattle.spec_expressions.specs.declared.faults.TypingFault.{TypingFault}
 use Rattle.spec_expressions.specs.declared.faults.TypingFault.TheVariants.{InvalidPointer}
 
--- the scalar of the scalar, the vector or the matrix that a pointer leads to
+-- the scalar of the scalar, vector or matrix that a pointer points to
 abbrev pub pointed_scalar : List PlainType → Form → Option Scalar
 pointed_scalar types (form.Pointer base space) = option_and_then scalar_of (inner_at types base)
 pointed_scalar types (form.ValuePointer n s space) = Some s
 pointed_scalar types _ = None
 
--- a matrix of the scalars that a pointer leads to; pointer is the pointer's expression
+-- a cooperative matrix of the scalars that a pointer points to; pointer is the pointer's expression
 abbrev pub cooperative_load_type : List PlainType → CooperativeSize → CooperativeSize → CooperativeRole → (pointer : ℕ) → (of : Form) → Result Form TypingFault
 cooperative_load_type types columns rows role pointer of =
     ok_or (option_map (λ s. form.CooperativeMatrix columns rows s role) (pointed_scalar types of)) (InvalidPointer pointer)

@@ -1,4 +1,4 @@
--- Where control flow may differ between invocations.
+-- Non-uniform control flow.
 use Rattle.std.specs.Prelude.{◌≡◌, ℕ, Bool, false, ◌||◌, IsTrue, Option, Some, is_some}
 use Rattle.ir_blocks.specs.judged.Plain.{PlainStatement, emit, block, if_, switch, loop, break, continue, return, kill, operation, call, PlainBlock, stop, next, PlainCases, no_case, case}
 use Rattle.ir_blocks.specs.judged.Shapes.{Part, loop_continuing, shape_of, part_of}
@@ -6,15 +6,15 @@ use Rattle.ir_blocks.specs.judged.Places.{Place, here, later, inside, condition,
 use Rattle.spec_expressions.specs.judged.Kinds.{statement_row}
 use Rattle.spec_expressions.specs.judged.Positions.{Holds, Around}
 
--- the value that chooses which of a statement's parts is run
+-- the value that selects which of a statement's parts runs
 abbrev pub chosen_by : PlainStatement → Option ℕ
 chosen_by s = (statement_row s).chosen
 
--- the statement ends the function or the fragment
+-- the statement is a return or a discard
 abbrev pub is_end : PlainStatement → Bool
 is_end s = is_some (statement_row s).ends
 
--- At r stands a statement that ends the function or the fragment, and it is or stands inside one that comes before p.
+-- At r is a return or a discard, in a statement that comes before p, or as that statement.
 pub record IsEndBefore (body : PlainBlock) (p r : Place) : Type 0 where
   pub end : PlainStatement
   pub stands : OccursAt body r end
@@ -23,18 +23,18 @@ pub record IsEndBefore (body : PlainBlock) (p r : Place) : Type 0 where
   pub holds : Holds earlier r
   pub before : Before earlier p
 
--- A place is disrupted in a part of a statement that chooses by a value that varies, and after an earlier statement that
--- holds a disrupted end: one in a block that holds the place or something around it, a loop's body being earlier than its
--- continuing part. `outer` says that the whole body stands at a disrupted place.
+-- A place is disrupted inside a branch on a non-uniform value, and after an earlier statement that
+-- contains a disrupted return or discard: one in a block that contains the place or an enclosing statement, where a loop's body
+-- comes before its continuing block. `outer`: the whole body is disrupted.
 pub data Disrupted (varies : ℕ → Type 0) (outer : Bool) (body : PlainBlock) : Place → Type 0 where
   already : {p : Place} → IsTrue outer → Disrupted varies outer body p
   chosen : {p a : Place} (s : PlainStatement) (h : ℕ) → Around a p → OccursAt body a s → chosen_by s ≡ Some h → varies h → Disrupted varies outer body p
   after : {p r : Place} → IsEndBefore body p r → Disrupted varies outer body r → Disrupted varies outer body p
 
--- ---- the same, found step by step
+-- ---- the same, computed step by step
 
 abbrev mutual
-  -- the body holds a disrupted end, where it is disrupted itself or is not
+  -- the body contains a disrupted return or discard, given whether it is disrupted as a whole
   pub ends_in : (ℕ → Bool) → Bool → PlainBlock → Bool
   ends_in varies d stop = false
   ends_in varies d (next s rest) = ends_at varies d s || ends_in varies (d || ends_at varies d s) rest
@@ -56,7 +56,7 @@ abbrev mutual
   ends_in_cases varies d no_case = false
   ends_in_cases varies d (case value body falls rest) = ends_in varies d body || ends_in_cases varies d rest
 
--- whether a part of a statement is disrupted where it begins
+-- whether a part of a statement is disrupted at its start
 abbrev pub enter : (ℕ → Bool) → Bool → PlainStatement → Part → Bool
 enter varies d (if_ h accept reject) part = d || varies h
 enter varies d (switch h cases) part = d || varies h
@@ -71,7 +71,7 @@ enter varies d kill part = d
 enter varies d (operation a) part = d
 enter varies d (call function arguments result) part = d
 
--- whether a loop's condition is
+-- whether a loop's condition is disrupted
 abbrev pub at_condition : (ℕ → Bool) → Bool → PlainStatement → Bool
 at_condition varies d (loop body continuing break_if) = d || ends_at varies d (loop body continuing break_if)
 at_condition varies d (emit first end) = d

@@ -1,4 +1,4 @@
--- What a function does that its summary tells, in the order of its text.
+-- The effects of a function that its summary records, in program order.
 use Rattle.std.specs.Prelude.{ℕ, ◌+◌, List, ◌∷◌, ◌++◌, map, ◌==◌, if◌then◌else◌, option_to_list, [], Option, Some}
 use Rattle.ir_types.specs.judged.ExpressionPlain.{PlainExpression, plain}
 use Rattle.ir_types.specs.declared.expressions.Expression.TheVariants.{ImageSample}
@@ -8,23 +8,23 @@ use Rattle.ir_items.specs.judged.Plain.{PlainFunction}
 use Rattle.spec_expressions.specs.judged.Kinds.{statement_row}
 use Rattle.spec_expressions.specs.judged.OperandUses.{Operand, expression_uses, statement_uses}
 
--- It takes an operand, samples an image in an expression, runs a function with these arguments, or ends the fragment.
+-- An effect: an operand is used, an expression samples an image, a function is called with these arguments, or a discard.
 pub data Effect : Type 0 where
   takes : Operand → Effect
   samples : (expression image sampler : ℕ) → Effect
   runs : (function : ℕ) → (arguments : List ℕ) → Effect
   discards : Effect
 
--- the sampling that the expression at a place is, if it is one
+-- the sample that the expression at an index is, if it is one
 abbrev pub sampling_at : ℕ → PlainExpression → List Effect
 sampling_at e (plain (ImageSample image sampler gathers coordinate array_index offset level depth_ref clamp_to_edge)) = samples e image sampler ∷ []
 sampling_at e _ = []
 
--- of the expression at a place
+-- the effects of the expression at an index
 abbrev pub expression_effects : ℕ → PlainExpression → List Effect
 expression_effects e expression = map takes (expression_uses expression) ++ sampling_at e expression
 
--- of these expressions, the first of which has this place
+-- the effects of these expressions, the first of which has this index
 abbrev pub expressions_effects : ℕ → List PlainExpression → List Effect
 expressions_effects e [] = []
 expressions_effects e (expression ∷ rest) = expression_effects e expression ++ expressions_effects (e + 1) rest
@@ -32,15 +32,15 @@ expressions_effects e (expression ∷ rest) = expression_effects e expression ++
 abbrev pub ending_effects : Option Exit → List Effect
 ending_effects o = elim o [ Some kills ↦ discards ∷ [] | _ ↦ [] ]
 
--- whether the statement runs a function or ends the fragment
+-- a statement's call or discard
 abbrev pub leaving_effects : PlainStatement → List Effect
 leaving_effects s = map (λ (c : ℕ × List ℕ). runs c.0 c.1) (option_to_list (statement_row s).calls) ++ ending_effects (statement_row s).ends
 
--- of the statement itself, and not of the statements inside it
+-- the effects of the statement itself, without its nested statements
 abbrev pub statement_effects : PlainStatement → List Effect
 statement_effects s = map takes (statement_uses s) ++ leaving_effects s
 
--- of all statements of a block, at any depth
+-- the effects of all statements of a block, at any depth
 abbrev mutual
   pub effects_in : PlainBlock → List Effect
   effects_in stop = []
@@ -63,11 +63,11 @@ abbrev mutual
   effects_in_cases no_case = []
   effects_in_cases (case value body falls rest) = effects_in body ++ effects_in_cases rest
 
--- All expressions count, emitted or not; what a local variable begins as is no operand.
+-- All expressions count, emitted or not; initializers of local variables are no operands.
 abbrev pub effects_of : PlainFunction → List Effect
 effects_of f = expressions_effects 0 f.expressions ++ effects_in f.body
 
--- at how many places an expression is an operand
+-- the number of places where an expression is an operand
 abbrev pub places_of : ℕ → List Effect → ℕ
 places_of e [] = 0
 places_of e (takes operand ∷ rest) = (if operand.handle == e then 1 else 0) + places_of e rest

@@ -1,4 +1,4 @@
--- What expressions name.
+-- What expressions refer to.
 use Rattle.std.specs.Prelude.{ℕ, List, Option}
 use Rattle.ir_types.specs.judged.ExpressionPlain.{PlainExpression}
 use Rattle.spec_expressions.specs.judged.Kinds.{row_of_expression, expression_slots}
@@ -9,6 +9,6 @@ use Rattle.spec_expressions.specs.declared.target.Target.{Target}
 abbrev pub expression_operands : PlainExpression → List ℕ
 expression_operands x = handles_of (expression_slots x)
 
--- the item that an expression names, if it names one
+-- the item that an expression refers to, if any
 abbrev pub expression_item : PlainExpression → Option Target
 expression_item x = (row_of_expression x).item

@@ -1,4 +1,4 @@
--- Faults of uniformity of a function.
+-- Uniformity faults of a function.
 use Rattle.std.specs.Prelude.{ℕ, List, Option, Some, None, slice_get}
 use Rattle.ir_flags.specs.declared.settings.ValidationFlags.{ValidationFlags}
 use Rattle.ir_kinds.specs.declared.diagnostics.Severity.{Severity}
@@ -12,12 +12,12 @@ use Rattle.spec_expressions.specs.judged.Uniformity.{Required, UniformityFault}
 abbrev pub requirement_in : Option PlainExpression → ℕ
 requirement_in o = elim o [ None ↦ 0 | Some x ↦ requirements_of x ]
 
--- the bits of what the expression at a place requires
+-- the bits of the requirements of the expression at an index
 abbrev pub requirement_at : List PlainExpression → ℕ → ℕ
 requirement_at expressions e = requirement_in (slice_get expressions e)
 
--- A fault of uniformity of a function, by the severity of derivatives in it, the values that may differ and what its
--- expressions require.
+-- A uniformity fault of a function, given the severity of derivatives, which values are non-uniform, and the requirements of
+-- its expressions.
 pub record FunctionFault (flags : ValidationFlags) (m : PlainModule) (f : PlainFunction) (x : Required) : Type 0 where
   pub severity : Severity
   pub severe : HasSeverity m f DerivativeUniformity severity

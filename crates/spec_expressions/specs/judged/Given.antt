@@ -1,4 +1,4 @@
--- The type that a conclusion gives in a module.
+-- The type of a conclusion in a module.
 use Rattle.std.specs.Prelude.{ℕ, List, [], ◌∷◌, Option, Some, None, Bool, true, false, ◌&&◌, ◌==◌, option_map, if◌then◌else◌}
 use Rattle.ir_kinds.specs.declared.predeclared.PredeclaredType.{PredeclaredType}
 use Rattle.ir_kinds.specs.declared.predeclared.PredeclaredType.TheVariants.{AtomicCompareExchangeWeakResult, ModfResult, FrexpResult}
@@ -15,19 +15,19 @@ is_size None None = true
 is_size (Some n) (Some m) = component_count n == component_count m
 is_size _ _ = false
 
--- whether two keys are one
+-- whether two keys are equal
 abbrev pub predeclared_matches : PredeclaredType → PredeclaredType → Bool
 predeclared_matches (AtomicCompareExchangeWeakResult s) (AtomicCompareExchangeWeakResult t) = same_scalar s t
 predeclared_matches (ModfResult n s) (ModfResult m t) = is_size n m && same_scalar s t
 predeclared_matches (FrexpResult n s) (FrexpResult m t) = is_size n m && same_scalar s t
 predeclared_matches _ _ = false
 
--- the handle of the type that a module has for a key
+-- the module's handle of the type for a key
 abbrev pub handle_for : PredeclaredType → List (PredeclaredType × ℕ) → Option ℕ
 handle_for key [] = None
 handle_for key (entry ∷ more) = if predeclared_matches key entry.0 then Some entry.1 else handle_for key more
 
--- a value's type by what it is made of, and a predeclared struct by its handle, if the module has it
+-- an inner type for a value, and the module's handle for a predeclared struct, if it has one
 abbrev pub given_type : Conclusion → List (PredeclaredType × ℕ) → Option PlainResolution
 given_type (Value v) types = Some (by_value (plain (inner_of v.size v.scalar)))
 given_type (Predeclared key) types = option_map by_handle (handle_for key types)

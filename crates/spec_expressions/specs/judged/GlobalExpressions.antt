@@ -1,4 +1,4 @@
--- Which global expressions there are under capabilities, once each has a type.
+-- Which global expressions are valid under given capabilities, if each has a type.
 use Rattle.std.specs.Prelude.{◌≡◌, ◌≢◌, ℕ, List, Some, Bool, false, slice_get}
 use Rattle.ir_types.specs.judged.ExpressionPlain.{PlainExpression, compose, plain}
 use Rattle.ir_types.specs.declared.expressions.Expression.TheVariants as x
@@ -12,15 +12,15 @@ use Rattle.typing_layout.specs.judged.Constness.{IsOfKind}
 use Rattle.typing_layout.specs.declared.constness.ExpressionKind.{ExpressionKind}
 use Rattle.typing_layout.specs.declared.constness.ExpressionKind.TheVariants.{Const, Override, Runtime}
 
--- What is required of a global expression beside its type.
+-- The requirements of a global expression besides its type.
 pub data GlobalRequirement : Type 0 where
-  -- the literal may be used
+  -- the literal is valid
   of_literal : Literal → GlobalRequirement
-  -- the components make the value
+  -- the components make a value of the type
   of_composition : (type : ℕ) → (components : List ℕ) → GlobalRequirement
-  -- nothing
+  -- no requirement
   of_value : GlobalRequirement
-  -- it should have been folded to another expression as soon as its operands were known
+  -- it must be evaluated as soon as its operands are const
   must_be_folded : GlobalRequirement
 
 abbrev pub required_of : PlainExpression → GlobalRequirement
@@ -33,7 +33,7 @@ required_of (plain (x.Compose type components)) = of_composition type components
 required_of (plain (x.Splat size value)) = of_value
 required_of _ = must_be_folded
 
--- what has to be worked out may still stand: it waits for the values of overrides, and they are not resolved
+-- an unevaluated expression is allowed if it is override and overrides are not yet resolved
 abbrev pub MayWait : (resolved : Bool) → ExpressionKind → Type 0
 MayWait resolved k = elim k [ Const ↦ ⊥ | Override ↦ resolved ≡ false | Runtime ↦ ⊥ ]
 
@@ -43,7 +43,7 @@ IsMet capabilities resolved m kind (of_composition type components) = Components
 IsMet capabilities resolved m kind of_value = Unit {0}
 IsMet capabilities resolved m kind must_be_folded = MayWait resolved kind
 
--- The global expression at a handle: its value is known before a shader runs, and what is required of its kind is met.
+-- The global expression at a handle: it is const or override, and its requirement is met.
 pub record GlobalExpressionOK (capabilities : Capabilities) (resolved : Bool) (m : PlainModule) (handle : ℕ) : Type 0 where
   pub expression : PlainExpression
   pub at : slice_get m.global_expressions handle ≡ Some expression

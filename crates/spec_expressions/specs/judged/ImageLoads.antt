@@ -1,4 +1,4 @@
--- The types of texels of images, and of what images are queried for.
+-- The types of image loads and image queries.
 use Rattle.std.specs.Prelude.{ℕ, Result, Ok, Err}
 use Rattle.ir_kinds.specs.declared.images.ImageClass.{ImageClass}
 use Rattle.ir_kinds.specs.declared.images.ImageClass.TheVariants.{Sampled, Depth, External, Storage}
@@ -15,7 +15,7 @@ use Rattle.spec_expressions.specs.judged.ImageSamples.{texel_scalar, texel}
 use Rattle.spec_expressions.specs.declared.faults.TypingFault.{TypingFault}
 use Rattle.spec_expressions.specs.declared.faults.TypingFault.TheVariants.{InvalidImage}
 
--- one texel
+-- the type of a texel
 abbrev pub loaded_texel : ImageClass → Form
 loaded_texel (Sampled kind multi) = texel (texel_scalar kind)
 loaded_texel (Depth multi) = form.Scalar (floating 4)
@@ -28,7 +28,7 @@ image_load_type image of = elim of [ form.Image dim arrayed class ↦ Ok (loaded
 
 -- ---- queries
 
--- how many texels an image has each way
+-- the number of texels in each dimension
 abbrev pub extent : ImageDimension → Form
 extent D1 = form.Scalar (unsigned 4)
 extent D2 = form.Vector Bi (unsigned 4)
@@ -38,7 +38,7 @@ extent Cube = form.Vector Bi (unsigned 4)
 abbrev pub size_type : (image : ℕ) → (of : Form) → Result Form TypingFault
 size_type image of = elim of [ form.Image dim arrayed class ↦ Ok (extent dim) | _ ↦ Err (InvalidImage image) ]
 
--- the size by the dimension, and any other number by itself
+-- the size by the dimension, and any other query an unsigned integer
 abbrev pub image_query_type : (image : ℕ) → ImageQuery → (of : Form) → Result Form TypingFault
 image_query_type image (Size level) of = size_type image of
 image_query_type image NumLevels of = Ok (form.Scalar (unsigned 4))

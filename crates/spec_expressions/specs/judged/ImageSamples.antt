@@ -1,4 +1,4 @@
--- Samples of images.
+-- Image samples and gathers.
 use Rattle.std.specs.Prelude.{ℕ, Option, Some, None, Result, Ok, Err}
 use Rattle.ir_kinds.specs.declared.images.ImageClass.{ImageClass}
 use Rattle.ir_kinds.specs.declared.images.ImageClass.TheVariants.{Sampled, Depth, External, Storage}
@@ -12,19 +12,19 @@ use Rattle.typing_forms.specs.declared.form.Form.TheVariants as form
 use Rattle.spec_expressions.specs.declared.faults.TypingFault.{TypingFault}
 use Rattle.spec_expressions.specs.declared.faults.TypingFault.TheVariants.{InvalidImage}
 
--- a texel of this kind has 32-bit components
+-- a texel of this scalar kind has 32-bit components
 abbrev pub texel_scalar : ScalarKind → Scalar
 texel_scalar kind = record { kind = kind; width = 4 }
 
--- four components of a scalar
+-- a vector of four components
 abbrev pub texel : Scalar → Form
 texel s = form.Vector Quad s
 
--- a depth, or four of them where they are gathered
+-- a depth, or a vector of four of them if it is a gather
 abbrev pub depth_sample : Option SwizzleComponent → Form
 depth_sample o = elim o [ None ↦ form.Scalar (floating 4) | Some component ↦ texel (floating 4) ]
 
--- image is the image's expression; storage images are not sampled
+-- image is the image's expression; storage images can't be sampled
 abbrev pub sample_of : (image : ℕ) → Option SwizzleComponent → ImageClass → Result Form TypingFault
 sample_of image gather (Sampled kind multi) = Ok (texel (texel_scalar kind))
 sample_of image gather (Depth multi) = Ok (depth_sample gather)

@@ -1,5 +1,5 @@
--- What each kind of expression and of statement is: what it names, its operands, its result, what it requires of control flow,
--- and which stages may run it. A row a kind; all that is said of a kind apart from its type and its checks is read off its row.
+-- The row of each kind of expression and of statement: the item referred to, its operands, its result, its uniformity requirements,
+-- and the stages that may run it. All properties of a kind except its type and its checks are derived from its row.
 use Rattle.std.specs.Prelude.{ℕ, Bool, true, false, List, ◌∷◌, Option, Some, None, []}
 use Rattle.ir_flags.specs.declared.stages.ShaderStages.{ShaderStages}
 use Rattle.ir_flags.specs.declared.stages.TheConstants.ShaderStages.{FRAGMENT, COMPUTE, COMPUTE_LIKE}
@@ -20,8 +20,8 @@ use Rattle.spec_expressions.specs.declared.uniformity.TheConstants.UniformityReq
 use Rattle.spec_expressions.specs.judged.Maths.{math_operands}
 use Rattle.spec_expressions.specs.judged.Operands.{Operands, these, each_of, used, reads, reads_if, scoped, level_first, level_second, query_level, comparand, where_answered, gather_index, of_query, of_pipeline, all_strictly}
 
--- Which stages may run it: any, these, those that find the level of detail, those of the function that is called, or those that
--- have operations of subgroups.
+-- The stages that may run it: any, these, those allowed for the sample level, those of the callee, or those that
+-- support subgroup operations.
 pub data StageRule : Type 0 where
   any_stage : StageRule
   only : ShaderStages → StageRule
@@ -31,16 +31,16 @@ pub data StageRule : Type 0 where
 
 -- ---- expressions
 
--- Whether its own value may differ between invocations, whatever its operands are: it doesn't, it may, or as that argument or
--- that global variable does.
+-- Whether an expression is a source of non-uniformity, whatever its operands are: no, yes, or as the argument or
+-- the global variable is.
 pub data Variation : Type 0 where
   uniform : Variation
   varying : Variation
   as_argument : (number : ℕ) → Variation
   as_global : (global : ℕ) → Variation
 
--- What an expression names, its operands, in order those of them whose types make its own, the bits of what it requires of
--- control flow, and whether it is emitted: what denotes the result of a statement is not.
+-- The item that an expression refers to, its operands, in order those of them whose types determine its type, the bits of its
+-- uniformity requirements, and whether it is emitted: result expressions of statements are not.
 pub record ExpressionRow : Type 0 where
   pub item : Option Target
   pub slots : Operands
@@ -50,15 +50,15 @@ pub record ExpressionRow : Type 0 where
   pub stages : StageRule
   pub emitted : Bool
 
--- it computes a value of its operands
+-- it computes a value from its operands
 abbrev pub computes : List Slot → (typed : List ℕ) → ExpressionRow
 computes slots typed = record { item = None; slots = these slots; typed = typed; requirement = 0; variation = uniform; stages = any_stage; emitted = true }
 
--- it has no operands, and names an item
+-- it has no operands, and refers to an item
 abbrev pub names_item : Target → ExpressionRow
 names_item t = record (computes [] []) { item = Some t }
 
--- it denotes the result of a statement
+-- it is the result of a statement
 abbrev pub denotes_result : Option Target → ExpressionRow
 denotes_result t = record (computes [] []) { item = t; variation = varying; emitted = false }
 
@@ -107,19 +107,19 @@ expression_row (x.CooperativeLoad columns rows role place) =
 expression_row (x.CooperativeMultiplyAdd a b c) =
     record (computes (reads a ∷ reads b ∷ reads c ∷ []) (c ∷ [])) { requirement = COOP_OPS.0; stages = only COMPUTE }
 
--- the same of an expression whose components are a list
+-- the row of an expression with a list of components
 abbrev pub row_of_expression : PlainExpression → ExpressionRow
 row_of_expression (compose type components) = record (names_item (target.Type type)) { slots = each_of Strictly components }
 row_of_expression (plain expression) = expression_row expression
 
--- its operands are expressions of the list that it stands in, and have to be in scope where it is emitted and scope is strict
+-- its operands are expressions of the same list, and must be in scope where it is emitted under strict scope
 abbrev pub expression_slots : PlainExpression → Operands
 expression_slots x = all_strictly (row_of_expression x).slots
 
 -- ---- statements
 
--- What an operation's operands are, what denotes its result, where a result answers it alone (an atomic operation's), and the
--- result for which it waits for the workgroup.
+-- An operation's operands, its result expression, whether the result is exclusive to it (an atomic operation's), and the
+-- result of a workgroup barrier, if it contains one.
 pub record OperationRow : Type 0 where
   pub slots : List Slot
   pub result : Option ℕ
@@ -130,7 +130,7 @@ pub record OperationRow : Type 0 where
 abbrev pub operates : List Slot → (result : Option ℕ) → OperationRow
 operates slots result = record { slots = slots; result = result; answer = None; waits = None; stages = any_stage }
 
--- what a ray query's step puts its answer into
+-- the result expression of a ray query statement
 abbrev pub ray_result : RayQueryFunction → Option ℕ
 ray_result (ray.Initialize acceleration_structure descriptor) = None
 ray_result (ray.Proceed result) = Some result
@@ -158,13 +158,13 @@ operation_row (cooperative_store target place) =
     record (operates (reads target ∷ scoped Strictly (used Write place.pointer) ∷ scoped Strictly (reads place.stride) ∷ []) None) { stages = only COMPUTE }
 operation_row (ray_pipeline fun) = operates (of_pipeline fun) None
 
--- The range of expressions that a statement emits: from the first up to the end.
+-- The range of expressions that a statement emits: from the first up to, excluding, the end.
 pub record Emitted : Type 0 where
   pub first : ℕ
   pub end : ℕ
 
--- What a statement is itself, and not by the statements inside it: as an operation, the range that it emits, the function that it
--- calls and its arguments, the value that chooses which of its parts is run, and how it ends the function or the fragment.
+-- A statement without its nested statements: its operation, the range that it emits, its
+-- callee and arguments, the value that selects which of its parts runs, and whether it is a return or a discard.
 pub record StatementRow : Type 0 where
   pub slots : Operands
   pub result : Option ℕ
@@ -183,7 +183,7 @@ acts slots =
 abbrev pub operates_as : OperationRow → StatementRow
 operates_as row = record (acts row.slots) { result = row.result; answer = row.answer; waits = row.waits; stages = row.stages }
 
--- a loop's condition is an operand of the loop, and its result is no operand of a statement
+-- a loop's condition is an operand of the loop, and a call's result is no operand of the statement
 abbrev pub statement_row : PlainStatement → StatementRow
 statement_row (emit first end) = record (acts []) { emits = Some (record { first = first; end = end }) }
 statement_row (block b) = acts []

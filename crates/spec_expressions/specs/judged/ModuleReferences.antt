@@ -1,5 +1,5 @@
--- The references of a module: which part of it names what, and when what is named is there. What is inside a function is
--- reported by the references of the function.
+-- The references of a module: which part of it refers to what, and when it exists. The references inside a function are
+-- defined with those of functions.
 use Rattle.std.specs.Prelude.{◌≡◌, ℕ, ◌<◌, length, Some, Contains, slice_get}
 use Rattle.ir_types.specs.judged.ExpressionPlain.{PlainExpression}
 use Rattle.ir_items.specs.judged.GlobalPlain.{PlainConstant, PlainOverride, PlainGlobal, PlainFilterNode}
@@ -12,8 +12,8 @@ use Rattle.spec_expressions.specs.declared.target.Target.{Target}
 use Rattle.spec_expressions.specs.declared.target.Target.TheVariants as target
 use Rattle.typing_forms.specs.judged.Order.{named_types}
 
--- A part of a module that may name something, functions aside: an item of one of its lists, its special types, or the
--- leaf of its filters. An entry point is meant without its function.
+-- A part of a module that may have references, functions excluded: an item of one of its arenas, its special types, or the
+-- leaf of its filters. An entry point is taken without its function.
 pub data ModulePart : Type 0 where
   a_type : ℕ → ModulePart
   special : ModulePart
@@ -25,7 +25,7 @@ pub data ModulePart : Type 0 where
   variable : ℕ → ModulePart
   entry : ℕ → ModulePart
 
--- The part of the module names it; an operand is a global expression.
+-- The part of the module refers to it; an operand is a global expression.
 pub data NamesIn (m : PlainModule) : ModulePart → Named → Type 0 where
   type_names : {i t : ℕ} {x : PlainType} → slice_get m.types i ≡ Some x → Contains (named_types x.inner) t → NamesIn m (a_type i) (item (target.Type t))
   type_counts : {i o : ℕ} {x : PlainType} → slice_get m.types i ≡ Some x → pending_of x.inner ≡ Some o → NamesIn m (a_type i) (item (target.Override o))
@@ -47,7 +47,7 @@ pub data NamesIn (m : PlainModule) : ModulePart → Named → Type 0 where
   entry_variable : {k v : ℕ} {x : PlainEntry} → slice_get m.entries k ≡ Some x → Contains (entry_variables x) v
       → NamesIn m (entry k) (item (target.GlobalVariable v))
 
--- What is named is there: outside functions there are no local variables, and no ranges.
+-- The item exists: outside functions there are no local variables, and no ranges.
 abbrev pub IsThereIn : PlainModule → Named → Type 0
 IsThereIn m (item (target.Type handle)) = handle < length m.types
 IsThereIn m (item (target.Constant handle)) = handle < length m.constants

@@ -1,4 +1,4 @@
--- The operands of expressions and of statements, each with the use that it makes of a global variable.
+-- The operands of expressions and statements, each with its use of a global variable.
 use Rattle.std.specs.Prelude.{ℕ, List, map, filter_map, option_map, bit_or}
 use Rattle.ir_types.specs.judged.ExpressionPlain.{PlainExpression}
 use Rattle.ir_blocks.specs.judged.Plain.{PlainStatement}
@@ -9,13 +9,13 @@ use Rattle.spec_expressions.specs.declared.operand.Usage.{Usage}
 use Rattle.spec_expressions.specs.declared.operand.Usage.TheVariants.{Base, Read, Write, ReadWrite, Query, Atomic}
 use Rattle.spec_expressions.specs.declared.global_use.TheConstants.GlobalUse.{READ, WRITE, QUERY, ATOMIC}
 
--- An expression as an operand, and the bits of the use that is made there of the global variable that its chain of
--- accesses starts at, if it starts at one.
+-- An operand expression, and the bits of its use of the global variable at the root of its access
+-- chain, if there is one.
 pub record Operand : Type 0 where
   pub handle : ℕ
   pub use_bits : ℕ
 
--- the bits of a way of use; the base of an access has none, since what uses the access counts
+-- the bits of a use; the base of an access has none, since the uses of the access count
 abbrev pub bits_of : Usage → ℕ
 bits_of Base = 0
 bits_of Read = READ.0
@@ -27,7 +27,7 @@ bits_of Atomic = ATOMIC.0
 abbrev pub operand : Usage → ℕ → Operand
 operand usage h = record { handle = h; use_bits = bits_of usage }
 
--- those that are given
+-- the optional operands that are present
 abbrev pub operands_in : Operands → List Operand
 operands_in (these slots) = filter_map (λ (slot : Slot). option_map (operand slot.usage) slot.handle) slots
 operands_in (each_of when handles) = map (operand Read) handles
@@ -35,6 +35,6 @@ operands_in (each_of when handles) = map (operand Read) handles
 abbrev pub expression_uses : PlainExpression → List Operand
 expression_uses x = operands_in (expression_slots x)
 
--- Those of the statement itself, and not of the statements inside it.
+-- The operands of the statement itself, without its nested statements.
 abbrev pub statement_uses : PlainStatement → List Operand
 statement_uses s = operands_in (statement_slots s)

@@ -1,5 +1,5 @@
--- What an operand is, how it is used and when it has to be in scope, and what is read off the operands of a kind. The rows of
--- kinds stand in `Kinds.antt`.
+-- Operands: how they are used and when they must be in scope, and functions of the operands of a kind. The rows of
+-- kinds are in `Kinds.antt`.
 use Rattle.std.specs.Prelude.{ℕ, Bool, true, false, if◌then◌else◌, List, ◌∷◌, map, filter, filter_map, Option, Some, None, []}
 use Rattle.ir_types.specs.declared.expressions.ImageQuery.{ImageQuery}
 use Rattle.ir_types.specs.declared.expressions.ImageQuery.TheVariants.{Size, NumLevels, NumLayers, NumSamples}
@@ -21,7 +21,7 @@ use Rattle.spec_expressions.specs.declared.operand.Slot.{Slot}
 use Rattle.spec_expressions.specs.declared.operand.Usage.{Usage}
 use Rattle.spec_expressions.specs.declared.operand.Usage.TheVariants.{Read}
 
--- The operands of a kind: a few, each of which may be missing, or a list, each of which is read and has to be in scope then.
+-- The operands of a kind: a few optional ones, or a list, each of which is read and must be in scope then.
 pub data Operands : Type 0 where
   these : List Slot → Operands
   each_of : Scoping → List ℕ → Operands
@@ -42,7 +42,7 @@ scoped when slot = record { handle = slot.handle; usage = slot.usage; scoping = 
 
 -- ---- expressions
 
--- the expressions that a level of detail is found from, the first and the second
+-- the operands of a sample level, the first and the second
 abbrev pub level_first : SampleLevel → Option ℕ
 level_first Auto = None
 level_first Zero = None
@@ -57,7 +57,7 @@ level_second (Exact level) = None
 level_second (Bias bias) = None
 level_second (Gradient x y) = Some y
 
--- the level of detail at which the size of an image is queried
+-- the level at which the size of an image is queried
 abbrev pub query_level : ImageQuery → Option ℕ
 query_level (Size level) = level
 query_level NumLevels = None
@@ -69,7 +69,7 @@ all_strictly operands = elim operands [ these slots ↦ these (map (scoped Stric
 
 -- ---- statements
 
--- what an atomic function compares with
+-- the comparand of an atomic function
 abbrev pub comparand : AtomicFunction → Option ℕ
 comparand does.Add = None
 comparand does.Subtract = None
@@ -80,11 +80,11 @@ comparand does.Min = None
 comparand does.Max = None
 comparand (does.Exchange compare) = compare
 
--- when the comparand of an atomic operation has to be in scope: always where it has a result, else where scope is strict
+-- when the comparand of an atomic operation must be in scope: always if it has a result, otherwise under strict scope
 abbrev pub where_answered : (result : Option ℕ) → Scoping
 where_answered o = elim o [ Some result ↦ Always | None ↦ Strictly ]
 
--- What a gather takes: its index, the operations that the subgroup has to support, and the index if it has to be a constant.
+-- A gather mode's row: its index, the required subgroup operations, and the index if it must be const.
 pub record GatherRow : Type 0 where
   pub index : Option ℕ
   pub needs : SubgroupOperationSet
@@ -103,11 +103,11 @@ gather_row (mode.ShuffleXor index) = gathers_by index SHUFFLE
 gather_row (mode.QuadBroadcast index) = record (gathers_by index QUAD) { constant = Some index }
 gather_row (mode.QuadSwap direction) = record { index = None; needs = QUAD; constant = None }
 
--- the index that a gather is made by
+-- the index of a gather
 abbrev pub gather_index : GatherMode → Option ℕ
 gather_index mode = (gather_row mode).index
 
--- the expressions that what is done with a ray query reads, after the query
+-- the operands of a ray query function, after the query
 abbrev pub of_query : RayQueryFunction → List Slot
 of_query (ray.Initialize acceleration_structure descriptor) = reads acceleration_structure ∷ reads descriptor ∷ []
 of_query (ray.Proceed result) = []
@@ -118,23 +118,23 @@ of_query ray.Terminate = []
 abbrev pub of_pipeline : RayPipelineFunction → List Slot
 of_pipeline (pipeline.TraceRay acceleration_structure descriptor payload) = reads acceleration_structure ∷ reads descriptor ∷ reads payload ∷ []
 
--- ---- what is read off
+-- ---- derived from rows
 
--- those of these handles that are given
+-- the handles that are present
 abbrev pub given : List (Option ℕ) → List ℕ
 given [] = []
 given (None ∷ rest) = given rest
 given (Some handle ∷ rest) = handle ∷ given rest
 
--- all of them
+-- all operands
 abbrev pub handles_of : Operands → List ℕ
 handles_of operands = elim operands [ these slots ↦ filter_map (λ (slot : Slot). slot.handle) slots | each_of when handles ↦ handles ]
 
--- whether an operand is looked up in the scope at the place of its statement, where scope is strict or isn't
+-- whether an operand is checked for scope at its statement's place, with or without strict scope
 abbrev pub is_looked_up : (strict : Bool) → Scoping → Bool
 is_looked_up strict when = elim when [ Always ↦ true | Strictly ↦ strict | Apart ↦ false ]
 
--- those that are
+-- the operands that are checked
 abbrev pub looked_up : (strict : Bool) → Operands → List ℕ
 looked_up strict (these slots) = handles_of (these (filter (λ (slot : Slot). is_looked_up strict slot.scoping) slots))
 looked_up strict (each_of when handles) = if is_looked_up strict when then handles else []

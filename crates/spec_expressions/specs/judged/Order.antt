@@ -1,4 +1,4 @@
--- Which items have to come after others, and when they do.
+-- Which items must come after others, and when they do.
 use Rattle.std.specs.Prelude.{◌≡◌, ℕ, ◌<◌, ◌≤◌, Some, Contains, slice_get}
 use Rattle.ir_types.specs.judged.ExpressionPlain.{PlainExpression}
 use Rattle.ir_items.specs.judged.GlobalPlain.{PlainConstant, PlainOverride, PlainFilterNode}
@@ -12,7 +12,7 @@ use Rattle.spec_expressions.specs.declared.item.ItemKind.TheVariants as kind
 use Rattle.spec_expressions.specs.declared.target.Target.TheVariants as target
 use Rattle.typing_forms.specs.judged.Order.{named_types}
 
--- An item that others of its list come before: a type, a filter, a function, a global expression, an expression of a
+-- An item that must come after others of its arena: a type, a filter, a function, a global expression, an expression of a
 -- function, or one of the function of an entry point.
 pub data Ordered : Type 0 where
   a_type : ℕ → Ordered
@@ -22,7 +22,7 @@ pub data Ordered : Type 0 where
   of_function : (function expression : ℕ) → Ordered
   of_entry : (entry expression : ℕ) → Ordered
 
--- what it is, and its place in its list
+-- its kind, and its index
 abbrev pub kind_of : Ordered → ItemKind
 kind_of (a_type i) = kind.Type
 kind_of (a_filter i) = kind.DiagnosticFilter
@@ -39,7 +39,7 @@ place_of (an_expression i) = i
 place_of (of_function f i) = i
 place_of (of_entry k i) = i
 
--- The expression names the type: by itself, or as that of a constant or of an override which it names.
+-- The expression refers to the type: directly, or as the type of a constant or override that it refers to.
 pub data NamesType (m : PlainModule) (x : PlainExpression) : ℕ → Type 0 where
   by_itself : {t : ℕ} → expression_item x ≡ Some (target.Type t) → NamesType m x t
   by_constant : {c : ℕ} {constant : PlainConstant} → expression_item x ≡ Some (target.Constant c) → slice_get m.constants c ≡ Some constant
@@ -47,8 +47,8 @@ pub data NamesType (m : PlainModule) (x : PlainExpression) : ℕ → Type 0 wher
   by_override : {o : ℕ} {override : PlainOverride} → expression_item x ≡ Some (target.Override o) → slice_get m.overrides o ≡ Some override
       → NamesType m x override.ty
 
--- The first item depends on the second. A type with as many elements as an override says depends on the override's type
--- and on each type that a global expression names, up to the one that the override begins as.
+-- The first item depends on the second. A type whose array size is an override depends on the override's type
+-- and on each type that the global expressions up to the override's initializer refer to.
 pub data DependsOn (m : PlainModule) : Ordered → Ordered → Type 0 where
   type_on_named : {i t : ℕ} {x : PlainType} → slice_get m.types i ≡ Some x → Contains (named_types x.inner) t → DependsOn m (a_type i) (a_type t)
   type_on_override : {i o : ℕ} {x : PlainType} {override : PlainOverride} → slice_get m.types i ≡ Some x → pending_of x.inner ≡ Some o
@@ -71,6 +71,6 @@ pub data DependsOn (m : PlainModule) : Ordered → Ordered → Type 0 where
   inside_entry : {k e o : ℕ} {entry : PlainEntry} {x : PlainExpression} → slice_get m.entries k ≡ Some entry → slice_get entry.function.expressions e ≡ Some x
       → Contains (expression_operands x) o → DependsOn m (of_entry k e) (of_entry k o)
 
--- Items that depend on one another are of one list, in which the first comes before the second.
+-- If one item depends on another, both are in the same arena, and the dependency comes first.
 abbrev pub IsBefore : Ordered → Ordered → Type 0
 IsBefore first second = place_of first < place_of second

@@ -1,4 +1,4 @@
--- Which overrides there are.
+-- Which overrides are valid.
 use Rattle.std.specs.Prelude.{◌≡◌, ◌<◌, ◌⊎◌, ℕ, List, [], ◌∷◌, Option, Some, None, Bool, false, Contains, IsSome, slice_get}
 use Rattle.ir_items.specs.judged.GlobalPlain.{PlainOverride}
 use Rattle.ir_items.specs.judged.Plain.{PlainModule}
@@ -12,17 +12,17 @@ use Rattle.typing_forms.specs.judged.Resolutions.{inner_at}
 use Rattle.typing_layout.specs.judged.Constness.{IsOfKind}
 use Rattle.typing_layout.specs.declared.constness.ExpressionKind.TheVariants as kind
 
--- the scalars that a pipeline may give
+-- the scalars that a pipeline may supply
 abbrev pub override_scalars : List Scalar
 override_scalars = boolean ∷ signed 4 ∷ unsigned 4 ∷ floating 2 ∷ floating 4 ∷ floating 8 ∷ []
 
--- the type at a handle is one of them
+-- the type at a handle is one of these scalars
 pub record IsOverrideType (types : List PlainType) (type : ℕ) : Type 0 where
   pub scalar : Scalar
   pub at : inner_at types type ≡ Some (plain (inner.Scalar scalar))
   pub among : Contains override_scalars scalar
 
--- an override before this place has this id
+-- an earlier override has this id
 pub record IsTaken (overrides : List PlainOverride) (place id : ℕ) : Type 0 where
   pub earlier : ℕ
   pub before : earlier < place
@@ -30,17 +30,17 @@ pub record IsTaken (overrides : List PlainOverride) (place id : ℕ) : Type 0 wh
   pub at : slice_get overrides earlier ≡ Some override
   pub has : override.id ≡ Some id
 
--- a global expression whose value is known once overrides are resolved
+-- a global expression that is const or override
 abbrev pub IsKnownByOverrides : PlainModule → (handle : ℕ) → Type 0
 IsKnownByOverrides m handle = IsOfKind m.global_expressions handle kind.Const ⊎ IsOfKind m.global_expressions handle kind.Override
 
--- what an override of a type has where the pipeline gives it no value; overrides that are resolved all have one
+-- the initializer of an override of a type is valid; if overrides are resolved, each has one
 abbrev pub DefaultOK : (resolved : Bool) → PlainModule → (type : ℕ) → Option ℕ → Type 0
 DefaultOK resolved m type None = resolved ≡ false
 DefaultOK resolved m type (Some init) = IsKnownByOverrides m init × HasGlobalType m init (form_of_type m.types type)
 
--- The override at a handle: a pipeline can name it, by a name or by an id that none before it has, and it is of a scalar that
--- a pipeline may give.
+-- The override at a handle: it can be identified by a name, or by an id that none before it has, and it has a scalar type that
+-- a pipeline may supply.
 pub record OverrideOK (resolved : Bool) (m : PlainModule) (handle : ℕ) : Type 0 where
   pub override : PlainOverride
   pub at : slice_get m.overrides handle ≡ Some override

@@ -1,4 +1,4 @@
--- Pairs of an image and a sampler.
+-- Sampled pairs of an image and a sampler.
 use Rattle.std.specs.Prelude.{Bool, ◌&&◌}
 use Rattle.spec_expressions.specs.declared.sampling.GlobalOrArgument.{GlobalOrArgument}
 use Rattle.spec_expressions.specs.contracts.sampling.GlobalOrArgumentPartialEq as each

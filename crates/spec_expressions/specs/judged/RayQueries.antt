@@ -1,4 +1,4 @@
--- What ray queries answer.
+-- Results of ray queries.
 use Rattle.std.specs.Prelude.{ℕ, Option, option_map, Result, ok_or}
 use Rattle.typing_forms.specs.declared.form.Form.{Form}
 use Rattle.typing_forms.specs.judged.Forms.{form_of_type}
@@ -6,6 +6,6 @@ use Rattle.spec_expressions.specs.judged.Context.{Context}
 use Rattle.spec_expressions.specs.declared.faults.TypingFault.{TypingFault}
 use Rattle.spec_expressions.specs.declared.faults.TypingFault.TheVariants.{MissingSpecialType}
 
--- a type that the module has, if it has it
+-- a special type, if the module has it
 abbrev pub special_type : Context → Option ℕ → Result Form TypingFault
 special_type c type = ok_or (option_map (form_of_type c.types) type) MissingSpecialType

@@ -1,4 +1,4 @@
--- The references of a function: which part of it names what, and when what is named is there.
+-- The references of a function: which part of it refers to what, and when it exists.
 use Rattle.std.specs.Prelude.{◌≡◌, ℕ, ◌<◌, ◌≤◌, length, Some, Contains, slice_get}
 use Rattle.ir_blocks.specs.judged.Places.{Place, OccursAt}
 use Rattle.ir_blocks.specs.judged.Plain.{PlainStatement}
@@ -11,7 +11,7 @@ use Rattle.spec_expressions.specs.judged.Kinds.{Emitted}
 use Rattle.spec_expressions.specs.declared.target.Target.{Target}
 use Rattle.spec_expressions.specs.declared.target.Target.TheVariants as target
 
--- A part of a function that may name something.
+-- A part of a function that may have references.
 pub data Site : Type 0 where
   argument : ℕ → Site
   answer : Site
@@ -20,13 +20,13 @@ pub data Site : Type 0 where
   computed : ℕ → Site
   done : Place → Site
 
--- What a part of a function names: an item, an expression of the function, or a range of its expressions.
+-- What a part of a function refers to: an item, an expression of the function, or a range of its expressions.
 pub data Named : Type 0 where
   item : Target → Named
   operand : ℕ → Named
   range : Emitted → Named
 
--- The part of the function names it.
+-- The part of the function refers to it.
 pub data Names (f : PlainFunction) : Site → Named → Type 0 where
   argument_type : {i : ℕ} {a : PlainArgument} → slice_get f.arguments i ≡ Some a → Names f (argument i) (item (target.Type a.ty))
   answer_type : {r : FunctionResult} → f.result ≡ Some r → Names f answer (item (target.Type r.ty))
@@ -52,7 +52,7 @@ ItemExists m f (target.LocalVariable handle) = handle < length f.locals
 ItemExists m f (target.Function handle) = handle < length m.functions
 ItemExists m f (target.DiagnosticFilter handle) = handle < length m.filters
 
--- what is named exists, and a range is in order
+-- the item or expression exists, and a range is in bounds
 abbrev pub IsThere : PlainModule → PlainFunction → Named → Type 0
 IsThere m f (item t) = ItemExists m f t
 IsThere m f (operand e) = e < length f.expressions

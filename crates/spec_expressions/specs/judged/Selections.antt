@@ -1,4 +1,4 @@
--- Selections and relational functions.
+-- Types of `Select` and `Relational`.
 use Rattle.std.specs.Prelude.{Result, Ok}
 use Rattle.ir_kinds.specs.declared.operators.RelationalFunction.{RelationalFunction}
 use Rattle.ir_kinds.specs.declared.operators.RelationalFunction.TheVariants.{All, Any, IsNan, IsInf}
@@ -8,7 +8,7 @@ use Rattle.typing_forms.specs.declared.form.Form.TheVariants as form
 use Rattle.spec_expressions.specs.judged.Operators.{truth_of}
 use Rattle.spec_expressions.specs.declared.faults.TypingFault.{TypingFault}
 
--- all or any of the components: one truth value; about numbers: one for each
+-- `All` and `Any` give one bool; `IsNan` and `IsInf` one per component
 abbrev pub relational_type : RelationalFunction → (of : Form) → Result Form TypingFault
 relational_type All of = Ok (form.Scalar boolean)
 relational_type Any of = Ok (form.Scalar boolean)

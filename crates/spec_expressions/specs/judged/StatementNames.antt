@@ -1,4 +1,4 @@
--- What statements name. What stands inside a statement names for itself.
+-- What statements refer to. Nested statements have their own references.
 use Rattle.std.specs.Prelude.{ℕ, List, Option, option_map}
 use Rattle.ir_blocks.specs.judged.Plain.{PlainStatement}
 use Rattle.spec_expressions.specs.judged.Kinds.{Emitted, statement_row, statement_slots}
@@ -8,7 +8,7 @@ use Rattle.spec_expressions.specs.judged.Operands.{handles_of}
 abbrev pub statement_operands : PlainStatement → List ℕ
 statement_operands s = handles_of (statement_slots s)
 
--- what denotes the result of a statement
+-- the result expression of a statement
 abbrev pub statement_result : PlainStatement → Option ℕ
 statement_result s = (statement_row s).result
 
@@ -16,6 +16,6 @@ statement_result s = (statement_row s).result
 abbrev pub statement_range : PlainStatement → Option Emitted
 statement_range s = (statement_row s).emits
 
--- the function that a statement calls, if it calls one
+-- the callee of a statement, if it is a call
 abbrev pub statement_callee : PlainStatement → Option ℕ
 statement_callee s = option_map (λ (c : ℕ × List ℕ). c.0) (statement_row s).calls

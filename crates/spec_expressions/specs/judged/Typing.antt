@@ -1,4 +1,4 @@
--- The type of an expression by the types of its operands: a rule for each kind, and the relation that the rules give.
+-- The type of an expression from the types of its operands: a rule for each kind, and the relation that the rules define.
 use Rattle.std.specs.Prelude.{◌≡◌, ℕ, List, Option, Some, None, Result, Ok, slice_get, option_map}
 use Rattle.ir_types.specs.judged.ExpressionPlain.{PlainExpression, compose, plain}
 use Rattle.ir_types.specs.declared.expressions.Expression.{Expression}
@@ -27,15 +27,15 @@ use Rattle.ir_kinds.specs.declared.scalars.VectorSize.TheVariants.{Quad}
 use Rattle.ir_kinds.specs.judged.Scalars.{boolean, unsigned}
 use Rattle.ir_kinds.specs.judged.Values.{literal_scalar}
 
--- the operands whose types make that of the expression, in order
+-- the operands whose types determine that of the expression, in order
 abbrev pub typing_operands : PlainExpression → List ℕ
 typing_operands x = (row_of_expression x).typed
 
--- ---- one rule a kind
+-- ---- one rule for each kind
 
--- The type of an expression, or why it has none, where its operands have the forms a, b, c and d, in order. What is written,
--- declared or answered has the type that is said; a choice, an operation on one value, a derivative and a product with a third
--- matrix added have that of an operand; a ballot has a bit for each invocation.
+-- The type of an expression, or why it has none, if its operands have the forms a, b, c and d, in order. Literals, declared items
+-- and results have the type they declare; selects, unary operations, derivatives and cooperative multiply-adds that of an
+-- operand; a ballot has a bit for each invocation.
 abbrev pub rule_of : Context → Expression → (a b c d : Form) → Result Form TypingFault
 rule_of context (x.Literal value) a b c d = Ok (form.Scalar (literal_scalar value))
 rule_of context (x.Constant constant) a b c d = Ok (form_if context.types (option_map (λ k. k.ty) (slice_get context.constants constant)))
@@ -76,22 +76,22 @@ abbrev pub expression_rule : Context → PlainExpression → (a b c d : Form) �
 expression_rule context (compose type components) a b c d = Ok (form_of_type context.types type)
 expression_rule context (plain expression) a b c d = rule_of context expression a b c d
 
--- the form of an operand, where there is one
+-- the form of an operand, if it exists
 abbrev pub form_read : (ℕ → Form) → Option ℕ → Form
 form_read past o = elim o [ Some operand ↦ past operand | None ↦ form.Nothing ]
 
 abbrev pub operand_form : (ℕ → Form) → List ℕ → (place : ℕ) → Form
 operand_form past operands place = form_read past (slice_get operands place)
 
--- the rule of an expression, where each of its operands has the form that past gives
+-- the rule of an expression, if each of its operands has the form that past gives
 abbrev pub rule_at : Context → PlainExpression → (past : ℕ → Form) → Result Form TypingFault
 rule_at context expression past =
     expression_rule context expression (operand_form past (typing_operands expression) 0) (operand_form past (typing_operands expression) 1)
     (operand_form past (typing_operands expression) 2) (operand_form past (typing_operands expression) 3)
 
--- ---- the relation
+-- ---- the typing relation
 
--- An expression has a type of a form where its operands have types, and the rule of its kind gives the form for theirs.
+-- An expression has a type of a form if its operands have types, and the rule of its kind gives the form for theirs.
 pub data HasTypeAmong (context : Context) (expressions : List PlainExpression) : ℕ → Form → Type 0 where
   has : {place : ℕ} {t : Form} (expression : PlainExpression) (past : ℕ → Form) → slice_get expressions place ≡ Some expression
       → ((operand : ℕ) → IsAmong operand (typing_operands expression) → HasTypeAmong context expressions operand (past operand))
@@ -101,6 +101,6 @@ pub data HasTypeAmong (context : Context) (expressions : List PlainExpression) :
 abbrev pub HasType : PlainModule → PlainFunction → ℕ → Form → Type 0
 HasType m f = HasTypeAmong (inside m f) f.expressions
 
--- the same of a global expression
+-- a global expression has a type of this form
 abbrev pub HasGlobalType : PlainModule → ℕ → Form → Type 0
 HasGlobalType m = HasTypeAmong (outside m) m.global_expressions

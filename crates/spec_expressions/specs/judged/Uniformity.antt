@@ -1,4 +1,4 @@
--- What requires that all invocations arrive at it together, and stands where they may not.
+-- Requirements of uniform control flow, in non-uniform control flow.
 use Rattle.std.specs.Prelude.{◌≡◌, ℕ, ◌<◌, ◌≤◌, false, Option, Some, None}
 use Rattle.ir_flags.specs.Sets.{Has}
 use Rattle.ir_flags.specs.declared.settings.ValidationFlags.{ValidationFlags}
@@ -11,26 +11,26 @@ use Rattle.spec_expressions.specs.judged.Kinds.{Emitted, statement_row}
 use Rattle.spec_expressions.specs.declared.uniformity.TheConstants.UniformityRequirements.{WORK_GROUP_BARRIER, DERIVATIVE, IMPLICIT_LEVEL, COOP_OPS}
 use Rattle.spec_expressions.specs.judged.Disruption.{Disrupted}
 
--- What an expression requires counts: for cooperative matrices always, for derivatives where the rule of derivatives is that
--- severe. These are the bits of `UniformityRequirements`.
+-- A requirement of an expression counts: for cooperative matrices always, for derivatives if the derivative rule has that
+-- severity. These are the bits of `UniformityRequirements`.
 pub data Counts (severity : Severity) : ℕ → Type 0 where
   cooperative : Counts severity COOP_OPS.0
   derivative : severity ≡ Error → Counts severity DERIVATIVE.0
   implicit_level : severity ≡ Error → Counts severity IMPLICIT_LEVEL.0
 
--- What is required, and by which expression.
+-- The requirement, and the expression that has it.
 pub record Required : Type 0 where
   pub requirement : ℕ
   pub expression : ℕ
 
--- what an expression of a range requires, where each expression requires what `required` says
+-- the requirement of an expression of a range, given the requirements of expressions by `required`
 pub record EmitRequires (severity : Severity) (required : ℕ → ℕ) (first end : ℕ) (x : Required) : Type 0 where
   pub from_first : first ≤ x.expression
   pub below_end : x.expression < end
   pub requirement : x.requirement ≡ required x.expression
   pub counts : Counts severity x.requirement
 
--- what waits for the workgroup requires that by the expression that denotes its result
+-- a workgroup barrier with a result is required by the result expression
 abbrev pub WaitRequires : (waits : Option ℕ) → Required → Type 0
 WaitRequires waits x = elim waits [ None ↦ ⊥ | Some result ↦ (x.requirement ≡ WORK_GROUP_BARRIER.0) × (x.expression ≡ result) ]
 
@@ -38,11 +38,11 @@ abbrev pub RowRequires : Severity → (ℕ → ℕ) → (emits : Option Emitted)
 RowRequires severity required (Some range) waits x = EmitRequires severity required range.first range.end x
 RowRequires severity required None waits x = WaitRequires waits x
 
--- what a statement requires itself, and not by what stands inside it
+-- the requirement of a statement itself, without its nested statements
 abbrev pub Requires : Severity → (ℕ → ℕ) → PlainStatement → Required → Type 0
 Requires severity required s x = RowRequires severity required (statement_row s).emits (statement_row s).waits x
 
--- A statement at a disrupted place of the body requires it.
+-- A statement at a disrupted place of the body has the requirement.
 pub record DisruptedRequirement (severity : Severity) (required : ℕ → ℕ) (varies : ℕ → Type 0) (body : PlainBlock) (x : Required) : Type 0 where
   pub place : Place
   pub statement : PlainStatement
@@ -50,7 +50,7 @@ pub record DisruptedRequirement (severity : Severity) (required : ℕ → ℕ) (
   pub asks : Requires severity required statement x
   pub disrupted : Disrupted varies false body place
 
--- A fault of uniformity of a body, under the flags.
+-- A uniformity fault of a body, under the flags.
 pub record UniformityFault (flags : ValidationFlags) (severity : Severity) (required : ℕ → ℕ) (varies : ℕ → Type 0) (body : PlainBlock)
     (x : Required) : Type 0 where
   pub flag : Has flags.0 CONTROL_FLOW_UNIFORMITY.0

@@ -1,9 +1,9 @@
--- What is found of a kind of thing in a list.
+-- Results of a search in a list: none, exactly one, or several.
 use Rattle.std.specs.Prelude.{◌≡◌, ◌≤◌, List, [], ◌∷◌, length, Option, Some, None}
 use Rattle.spec_interface.specs.declared.found.Found.{Found}
 use Rattle.spec_interface.specs.declared.found.Found.TheVariants.{Nothing, One, More}
 
--- these are all that there are
+-- these are all matches
 abbrev pub Stands : {T : Type 0} → Found T → List T → Type 0
 Stands Nothing xs = xs ≡ []
 Stands (One x) xs = xs ≡ x ∷ []

@@ -1,4 +1,4 @@
--- Types of small interfaces.
+-- The types of small example interfaces.
 use Rattle.std.specs.Prelude.{ℕ, List, [], ◌∷◌, false, Option, Some, None}
 use Rattle.ir_kinds.specs.judged.Scalars.{floating}
 use Rattle.ir_kinds.specs.declared.bindings.Binding.{Binding}
@@ -16,14 +16,14 @@ unnamed i = record { name = None; inner = i }
 abbrev bound_so : (type : ℕ) → Option Binding → (offset : ℕ) → PlainMember
 bound_so type b offset = record { name = None; ty = type; binding = b; offset = offset }
 
--- at a location in the linear way, and perhaps a source of a blend
+-- at a location with linear interpolation, and optionally a blend source
 abbrev pub linear_at : (location : ℕ) → (source : Option ℕ) → Location
 linear_at n source = record { location = n; interpolation = Some Linear; sampling = None; blend_src = source; per_primitive = false }
 
 abbrev pub bound_at : (location : ℕ) → (source : Option ℕ) → Binding
 bound_at n source = binding.Location n (Some Linear) None source false
 
--- a float, four of them, a vertex with a float at a location, two sources of a blend, and what has a member that is not bound
+-- a float, a vector of four, a vertex with a float at a location, two blend sources, and a struct with a member without a binding
 abbrev pub small_types : List PlainType
 small_types =
     unnamed (plain (inner.Scalar (floating 4)))

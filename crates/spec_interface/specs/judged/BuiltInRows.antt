@@ -1,5 +1,5 @@
--- The built-in values as a table: which stages are given each, which give it, whether it belongs to a primitive of a mesh
--- alone, of which type it is, and which capability it needs.
+-- The built-in values as a table: the stages that have each as an input or output, whether it is a primitive output of a mesh
+-- shader only, its type, and its capability.
 use Rattle.std.specs.Prelude.{Bool, true, false, Some, None}
 use Rattle.ir_flags.specs.declared.settings.Capabilities.{Capabilities}
 use Rattle.ir_flags.specs.declared.settings.TheConstants.Capabilities.{PRIMITIVE_INDEX, CLIP_DISTANCES, CULL_DISTANCE, MULTIVIEW, MULTISAMPLED_SHADING, SUBGROUP, SHADER_BARYCENTRICS, MESH_SHADER, DRAW_INDEX}
@@ -40,30 +40,30 @@ float_vector n = Value (vector n (floating 4))
 abbrev pub row_with : (ins outs : ShaderStages) → (primitive : Bool) → BuiltInType → BuiltInRow
 row_with ins outs primitive type = record { inputs = ins; outputs = outs; primitive = primitive; ty = type; capability = None; exception = exception.None }
 
--- where a capability is there
+-- requires a capability
 abbrev pub by : Capabilities → BuiltInRow → BuiltInRow
 by needed r = record r { capability = Some needed }
 
 abbrev pub but : Exception → BuiltInRow → BuiltInRow
 but e r = record r { exception = e }
 
--- what is given by the stages before
+-- an input of these stages
 abbrev pub taken : ShaderStages → BuiltInType → BuiltInRow
 taken inputs type = row_with inputs NONE false type
 
--- what is given to the stages after
+-- an output of these stages
 abbrev pub gives : ShaderStages → BuiltInType → BuiltInRow
 gives outputs type = row_with NONE outputs false type
 
--- what is both, as all that rays know
+-- both an input and an output, as the built-in values of rays
 abbrev pub both : ShaderStages → BuiltInType → BuiltInRow
 both stages type = row_with stages stages false type
 
--- what a mesh shader gives with a primitive alone
+-- a primitive output of a mesh shader only
 abbrev pub with_primitive : BuiltInType → BuiltInRow
 with_primitive type = by MESH_SHADER (row_with NONE NONE true type)
 
--- The four parts of what a mesh shader gives stand nowhere: it has them in a variable.
+-- The four parts of a mesh output have no stage: they are members of its output variable.
 abbrev pub built_in_row : BuiltIn → BuiltInRow
 built_in_row PrimitiveIndex = but exception.FreeAtHits (by PRIMITIVE_INDEX (row_with PRIMITIVES NONE true uint))
 built_in_row (Position invariant) = row_with FRAGMENT RASTER false (float_vector Quad)

@@ -1,4 +1,4 @@
--- What the rules of varyings look at.
+-- The context of the rules of varyings.
 use Rattle.std.specs.Prelude.{ℕ, List, Option}
 use Rattle.ir_flags.specs.declared.settings.Capabilities.{Capabilities}
 use Rattle.ir_flags.specs.declared.settings.ValidationFlags.{ValidationFlags}
@@ -9,8 +9,8 @@ use Rattle.ir_types.specs.judged.Plain.{PlainType}
 use Rattle.spec_interface.specs.judged.Stages.{stage_row}
 use Rattle.spec_interface.specs.declared.varyings.Direction.{Direction}
 
--- The checks that are made, the capabilities and types of the module, and of the entry point its stage, the sizes of its
--- workgroups and the variable of its task's payload; and which way the varyings go.
+-- The validation flags, the capabilities and types of the module, and of the entry point its stage, its workgroup
+-- size and its task payload variable; and the direction of the varyings.
 pub record VaryingContext : Type 0 where
   pub flags : ValidationFlags
   pub capabilities : Capabilities
@@ -20,11 +20,11 @@ pub record VaryingContext : Type 0 where
   pub payload : Option ℕ
   pub direction : Direction
 
--- that of varyings of an entry point
+-- the context of an entry point's varyings
 abbrev pub context_of : ValidationFlags → Capabilities → PlainModule → PlainEntry → Direction → VaryingContext
 context_of flags capabilities m e direction =
     record { flags = flags; capabilities = capabilities; types = m.types; stage = e.stage; sizes = e.sizes; payload = e.payload; direction = direction }
 
--- the set of one stage
+-- the singleton set of a stage
 abbrev pub stage_set : ShaderStage → ShaderStages
 stage_set stage = (stage_row stage).set

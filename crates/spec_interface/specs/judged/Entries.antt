@@ -1,4 +1,4 @@
--- What is required of an entry point.
+-- The rules of an entry point.
 use Rattle.std.specs.Prelude.{ℕ, List, true, Option, IfSome}
 use Rattle.ir_flags.specs.declared.settings.Capabilities.{Capabilities}
 use Rattle.ir_flags.specs.declared.settings.ValidationFlags.{ValidationFlags}
@@ -16,8 +16,8 @@ use Rattle.spec_interface.specs.judged.Contexts.{context_of, stage_set}
 use Rattle.spec_interface.specs.judged.Varyings.{VaryingsOK, argument_varyings, result_varyings}
 use Rattle.spec_interface.specs.declared.varyings.Direction.TheVariants.{Input, Output}
 
--- What connects an entry point with other stages and with hosts: what it is given and gives, and the global variables, which it uses
--- in this way.
+-- The interface of an entry point: its inputs and outputs, and the global variables, given how it uses
+-- them.
 pub record ConnectionsOK (flags : ValidationFlags) (capabilities : Capabilities) (m : PlainModule) (e : PlainEntry) (Uses : ℕ → ℕ → Type 0) : Type 0 where
   pub arguments : VaryingsOK (context_of flags capabilities m e Input) (argument_varyings m.types e.function.arguments)
   pub result : VaryingsOK (context_of flags capabilities m e Output) (result_varyings m.types e.function.result)
@@ -25,8 +25,8 @@ pub record ConnectionsOK (flags : ValidationFlags) (capabilities : Capabilities)
   pub variables : VariablesOK flags m e Uses
   pub mesh : IfSome e.mesh (MeshOK flags capabilities m e)
 
--- The entry point meets the rules of its stage, its function those of functions, where a lower layer says this of it, these stages
--- may run its callees, the function uses global variables in this way, and those before have this payload type.
+-- The entry point meets the rules of its stage, and its function those of functions, given by a lower layer, these stages that
+-- may run its callees, these uses of global variables, and this payload type of those before.
 pub record EntryOK (reading : Reading) (callees : List ShaderStages) (Uses : ℕ → ℕ → Type 0) (s : Settings) (held : Option ℕ) (m : PlainModule) (e : PlainEntry) : Type 0 where
   pub stage : StageOK s.capabilities e
   pub function : FunctionOK reading s true held m e.function

@@ -1,4 +1,4 @@
--- That no two entry points of one stage have one name.
+-- No two entry points of one stage have the same name.
 use Rattle.std.specs.Prelude.{◌≡◌, ◌<◌, ℕ, Some, slice_get}
 use Rattle.ir_items.specs.judged.Plain.{PlainEntry, PlainModule}
 

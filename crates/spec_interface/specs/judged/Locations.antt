@@ -1,4 +1,4 @@
--- What is required of one value at a location.
+-- The rules of one value at a location.
 use Rattle.std.specs.Prelude.{◌≡◌, ◌≢◌, ◌⊎◌, ◌==◌, ℕ, Bool, true, false, not, List, Option, Some, None, IsSome, IsSomeAnd, IsTrue, if◌then◌else◌, option_and_then}
 use Rattle.ir_flags.specs.Sets.{Has}
 use Rattle.ir_flags.specs.declared.settings.TheConstants.Capabilities.{MESH_SHADER, MULTISAMPLED_SHADING, PER_VERTEX}
@@ -24,22 +24,22 @@ use Rattle.typing_forms.specs.judged.Forms.{form_of_type}
 use Rattle.typing_forms.specs.declared.form.Form.{Form}
 use Rattle.typing_forms.specs.declared.form.Form.TheVariants as form
 
--- ---- primitives
+-- ---- per-primitive values
 
--- all that a mesh shader gives with a primitive belongs to it, and so may what a fragment is given; nothing else does
+-- primitive outputs of a mesh shader are per-primitive, and fragment inputs may be; nothing else is
 abbrev pub PerPrimitiveOK : Direction → ShaderStage → (per_primitive : Bool) → Type 0
 PerPrimitiveOK Input stage per_primitive = IsTrue per_primitive → stage ≡ Fragment
 PerPrimitiveOK Output stage per_primitive = per_primitive ≡ false
 PerPrimitiveOK VertexOutput stage per_primitive = per_primitive ≡ false
 PerPrimitiveOK PrimitiveOutput stage per_primitive = per_primitive ≡ true
 
--- ---- values of each vertex
+-- ---- per-vertex values
 
--- the elements of an array of three
+-- the elements of an array of length three
 abbrev pub three : (base : ℕ) → ArraySize → Option ℕ
 three base n = elim n [ size.Constant count ↦ if count == 3 then Some base else None | _ ↦ None ]
 
--- the type that counts: where every vertex gives its own value, that of the elements
+-- the effective type: with `PerVertex` interpolation the element type
 abbrev pub varying_type : List PlainType → Option Interpolation → (type : ℕ) → Option ℕ
 varying_type types None type = Some type
 varying_type types (Some Perspective) type = Some type
@@ -51,7 +51,7 @@ pub record PerVertexOK (c : VaryingContext) : Type 0 where
   pub fragment : c.stage ≡ Fragment
   pub capable : Has c.capabilities.0 PER_VERTEX.0
 
--- ---- how a value between vertices is found
+-- ---- interpolation
 
 abbrev pub is_flat_sampling : Sampling → Bool
 is_flat_sampling Center = false
@@ -60,21 +60,21 @@ is_flat_sampling Sample = false
 is_flat_sampling First = true
 is_flat_sampling Either = true
 
--- which places go with which way of finding a value; the values of each vertex are taken at none
+-- which samplings are allowed with which interpolation; `PerVertex` has none
 abbrev pub sampling_fits : Interpolation → Sampling → Bool
 sampling_fits Perspective s = not (is_flat_sampling s)
 sampling_fits Linear s = not (is_flat_sampling s)
 sampling_fits Flat s = is_flat_sampling s
 sampling_fits PerVertex s = false
 
--- where a value is interpolated between vertices
+-- whether the value is interpolated between vertices
 abbrev pub NeedsInterpolation : Direction → ShaderStage → (per_primitive : Bool) → Type 0
 NeedsInterpolation Input stage per_primitive = (stage ≡ Fragment) × (per_primitive ≡ false)
 NeedsInterpolation Output stage per_primitive = (stage ≡ Vertex) ⊎ (stage ≡ Mesh)
 NeedsInterpolation VertexOutput stage per_primitive = (stage ≡ Vertex) ⊎ (stage ≡ Mesh)
 NeedsInterpolation PrimitiveOutput stage per_primitive = (stage ≡ Vertex) ⊎ (stage ≡ Mesh)
 
--- floats have an interpolation, and integers are flat
+-- floats have any interpolation, and integers are flat
 abbrev pub InterpolationOK : ScalarKind → Option Interpolation → Type 0
 InterpolationOK kind.Sint i = i ≡ Some Flat
 InterpolationOK kind.Uint i = i ≡ Some Flat
@@ -83,17 +83,17 @@ InterpolationOK kind.Bool i = Unit {0}
 InterpolationOK kind.AbstractInt i = Unit {0}
 InterpolationOK kind.AbstractFloat i = Unit {0}
 
--- what the scalars of a scalar or of a vector are
+-- the scalar kind of a scalar or of a vector
 abbrev pub kind_of : Form → Option ScalarKind
 kind_of t = elim t [ form.Scalar s ↦ Some s.kind | form.Vector n s ↦ Some s.kind | _ ↦ None ]
 
--- a scalar or a vector, which is interpolated where that is required
+-- a scalar or a vector, with an interpolation if one is required
 abbrev pub IsVaryingValue : (between : Type 0) → Option Interpolation → Form → Type 0
 IsVaryingValue between i t = IsSomeAnd (kind_of t) (λ kind. between → InterpolationOK kind i)
 
--- ---- the whole
+-- ---- the whole rule
 
--- A value of the type may go to the location.
+-- A value of the type may be at the location.
 pub record LocationOK (c : VaryingContext) (type : ℕ) (l : Location) : Type 0 where
   pub capable : IsTrue l.per_primitive → Has c.capabilities.0 MESH_SHADER.0
   pub primitive : PerPrimitiveOK c.direction c.stage l.per_primitive

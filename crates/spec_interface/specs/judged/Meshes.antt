@@ -1,4 +1,4 @@
--- What a mesh shader gives, by the variable that holds it.
+-- Mesh shader outputs, in the output variable.
 use Rattle.std.specs.Prelude.{◌≡◌, ℕ, List, [], ◌∷◌, Option, Some, None, false, IsSome, option_and_then, slice_get}
 use Rattle.ir_types.specs.judged.ExpressionPlain.{PlainExpression, plain as plain_expression}
 use Rattle.ir_types.specs.declared.expressions.Expression.TheVariants.{Override}
@@ -30,46 +30,46 @@ use Rattle.spec_interface.specs.declared.varyings.Direction.TheVariants.{VertexO
 
 -- ---- the four parts
 
--- each part is bound to one member, of this type
+-- each part is bound to exactly one member, of this type
 pub record AreParts (members : List PlainMember) (t : MeshParts) : Type 0 where
   pub vertex_count : types_bound VertexCount members ≡ t.vertex_count ∷ []
   pub vertices : types_bound Vertices members ≡ t.vertices ∷ []
   pub primitive_count : types_bound PrimitiveCount members ≡ t.primitive_count ∷ []
   pub primitives : types_bound Primitives members ≡ t.primitives ∷ []
 
--- the variable is a struct with these parts
+-- the variable is a struct with these four parts
 pub record HasParts (m : PlainModule) (variable : ℕ) (t : MeshParts) : Type 0 where
   pub members : List PlainMember
   pub struct : option_and_then (λ (v : PlainGlobal). members_at m.types v.ty) (slice_get m.globals variable) ≡ Some members
   pub parts : AreParts members t
 
--- ---- how many there are
+-- ---- maximum counts
 
--- the type of the elements of an array, and how many there are
+-- the element type of an array, and its size
 abbrev pub array_of : Option PlainInner → Option (ℕ × ArraySize)
 array_of o = elim o [ Some (plain (inner.Array base size stride)) ↦ Some (base, size) | _ ↦ None ]
 
--- how many elements there are at most, and the override that says so, where one does; nothing where a buffer says how many
+-- the maximum length, and the override that gives it, if one does; none for runtime-sized arrays
 abbrev pub most : ArraySize → Option (ℕ × Option ℕ)
 most o = elim o [ count.Constant n ↦ Some (n, None) | count.Pending override ↦ Some (0, Some override) | count.Dynamic ↦ None ]
 
--- an array of at most so many of this type
+-- an array of at most this many elements of this type
 pub record HoldsMost (types : List PlainType) (type : ℕ) (element n : ℕ) (by : Option ℕ) : Type 0 where
   pub size : ArraySize
   pub array : array_of (inner_at types type) ≡ Some (element, size)
   pub counted : most size ≡ Some (n, by)
 
--- ---- what is implied
+-- ---- implied mesh info
 
--- The fields of the parts are such as they should be: the counts numbers, and the others arrays of this type.
+-- The types of the parts are as required: the counts are 32-bit unsigned integers, the others arrays of this type.
 pub record FieldsOK (types : List PlainType) (t : MeshParts) (i : MeshStageInfo) (vertices_by primitives_by : Option ℕ) : Type 0 where
   pub vertex_count : form_of_type types t.vertex_count ≡ form.Scalar U32
   pub primitive_count : form_of_type types t.primitive_count ≡ form.Scalar U32
   pub vertices : HoldsMost types t.vertices i.vertex_output_type i.max_vertices vertices_by
   pub primitives : HoldsMost types t.primitives i.primitive_output_type i.max_primitives primitives_by
 
--- The variable implies what a mesh shader gives that holds it there, no override said, and these overrides. A primitive names its
--- vertices once.
+-- The mesh info that the output variable implies, without its overrides, and these overrides. A primitive has exactly one
+-- indices member.
 pub record ImpliesMeshInfo (m : PlainModule) (variable : ℕ) (i : MeshStageInfo) (vertices_by primitives_by : Option ℕ) : Type 0 where
   pub types : MeshParts
   pub parts : HasParts m variable types
@@ -79,17 +79,17 @@ pub record ImpliesMeshInfo (m : PlainModule) (variable : ℕ) (i : MeshStageInfo
   pub vertices_unsaid : i.max_vertices_override ≡ None
   pub primitives_unsaid : i.max_primitives_override ≡ None
 
--- ---- what is given
+-- ---- the mesh info
 
 -- the override that an expression is, if it is one
 abbrev pub override_of : PlainExpression → Option ℕ
 override_of e = elim e [ plain_expression (Override override) ↦ Some override | _ ↦ None ]
 
--- a global expression that says how many, where it is an override, is the one that is implied
+-- if a global expression for a count is given, and it is an override, it is the implied one
 abbrev pub GivenByOverride : PlainModule → (given by : Option ℕ) → Type 0
 GivenByOverride m given by = (e o : ℕ) → given ≡ Some e → option_and_then override_of (slice_get m.global_expressions e) ≡ Some o → by ≡ Some o
 
--- what is said of a mesh shader is what its output implies, but for the overrides that are said
+-- the mesh info is the implied one, except for overrides that it gives
 pub record IsSaid (m : PlainModule) (i : MeshStageInfo) : Type 0 where
   pub vertices_by : Option ℕ
   pub primitives_by : Option ℕ
@@ -97,18 +97,18 @@ pub record IsSaid (m : PlainModule) (i : MeshStageInfo) : Type 0 where
   pub vertices : GivenByOverride m i.max_vertices_override vertices_by
   pub primitives : GivenByOverride m i.max_primitives_override primitives_by
 
--- a mesh shader may give vertices of this type, a struct, and they have a position
+-- a valid vertex output type: a struct with a `Position`
 pub record VertexOK (flags : ValidationFlags) (capabilities : Capabilities) (m : PlainModule) (e : PlainEntry) (type : ℕ) : Type 0 where
   pub struct : IsSome (members_at m.types type)
   pub given : VaryingsOK (context_of flags capabilities m e VertexOutput) (mesh_varyings m.types type)
   pub position : HasBuiltIn (mesh_varyings m.types type) (Position false)
 
--- it may give primitives of this type, a struct
+-- a valid primitive output type: a struct
 pub record PrimitiveOK (flags : ValidationFlags) (capabilities : Capabilities) (m : PlainModule) (e : PlainEntry) (type : ℕ) : Type 0 where
   pub struct : IsSome (members_at m.types type)
   pub given : VaryingsOK (context_of flags capabilities m e PrimitiveOutput) (mesh_varyings m.types type)
 
--- Its output is memory of the workgroup, and what is said of it is what the output implies.
+-- The output variable is in the workgroup space, and the mesh info is the implied one.
 pub record MeshOK (flags : ValidationFlags) (capabilities : Capabilities) (m : PlainModule) (e : PlainEntry) (i : MeshStageInfo) : Type 0 where
   pub lies : space_at m i.output_variable ≡ Some WorkGroup
   pub said : IsSaid m i

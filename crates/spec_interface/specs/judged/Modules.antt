@@ -1,4 +1,4 @@
--- When the entry points of a module are accepted.
+-- Which entry points of a module are valid.
 use Rattle.std.specs.Prelude.{◌≡◌, ◌<◌, ◌↔◌, ℕ, List, Option, Some, length, slice_get}
 use Rattle.ir_flags.specs.Sets.{Has}
 use Rattle.ir_flags.specs.declared.stages.ShaderStages.{ShaderStages}
@@ -14,7 +14,7 @@ use Rattle.spec_statements.specs.judged.Functions.{AllowsStage}
 
 -- ---- stages
 
--- these stages may run the functions of a module, each with its callees
+-- the stages that may run each function of a module, with its callees
 pub record AreStages (s : Settings) (m : PlainModule) (stages : List ShaderStages) : Type 0 where
   pub many : length stages ≡ length m.functions
   pub each : (index : ℕ) (f : PlainFunction) (own : ShaderStages) → slice_get m.functions index ≡ Some f → slice_get stages index ≡ Some own
@@ -22,8 +22,8 @@ pub record AreStages (s : Settings) (m : PlainModule) (stages : List ShaderStage
 
 -- ---- entry points
 
--- The entry point at an index of a module meets the rules of entry points, by all chains of calls, with what functions and earlier
--- entry points leave to it; and none of those has its stage and its name.
+-- The entry point at an index of a module meets the rules of entry points, over call chains, given the payload type of functions
+-- and earlier entry points; and none of those has the same stage and name.
 pub record EntryAtOK (s : Settings) (m : PlainModule) (index : ℕ) : Type 0 where
   pub entry : PlainEntry
   pub at : slice_get m.entries index ≡ Some entry
@@ -34,6 +34,6 @@ pub record EntryAtOK (s : Settings) (m : PlainModule) (index : ℕ) : Type 0 whe
   pub apart : ¬ IsConflict m index entry
   pub ok : EntryOK (reading_over stages m entry.function) stages (HasUse m entry.function) s held m entry
 
--- all entry points of a module do
+-- all entry points of a module are valid
 abbrev pub EntriesOK : Settings → PlainModule → Type 0
 EntriesOK s m = (index : ℕ) → index < length m.entries → EntryAtOK s m index

@@ -1,4 +1,4 @@
--- The payload that a task shader hands to mesh shaders.
+-- The payload from a task shader to mesh shaders.
 use Rattle.std.specs.Prelude.{◌≡◌, ℕ, Bool, true, false, IsTrue, Option, Some, IfSome, IsSome, option_map, option_and_then, slice_get}
 use Rattle.ir_items.specs.judged.GlobalPlain.{PlainGlobal}
 use Rattle.ir_items.specs.judged.Plain.{PlainEntry, PlainModule}
@@ -8,14 +8,14 @@ use Rattle.ir_kinds.specs.declared.spaces.AddressSpace.TheVariants.{TaskPayload}
 use Rattle.ir_kinds.specs.declared.stages.ShaderStage.{ShaderStage}
 use Rattle.ir_kinds.specs.declared.stages.ShaderStage.TheVariants.{Mesh, Task}
 
--- where the global variable at a handle lies, and what a host binds it to
+-- the address space of the global variable at a handle, and its resource binding
 abbrev pub space_at : PlainModule → ℕ → Option AddressSpace
 space_at m g = option_map (λ (v : PlainGlobal). v.space) (slice_get m.globals g)
 
 abbrev pub binding_at : PlainModule → ℕ → Option ResourceBinding
 binding_at m g = option_and_then (λ (v : PlainGlobal). v.binding) (slice_get m.globals g)
 
--- a task shader hands a payload on, and a mesh shader may be handed one
+-- the stages that may have a task payload; a task shader must have one
 abbrev pub has_payload : ShaderStage → Bool
 has_payload stage = elim stage [ Mesh ↦ true | Task ↦ true | _ ↦ false ]
 

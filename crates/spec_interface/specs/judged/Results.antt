@@ -1,4 +1,4 @@
--- What the function of an entry point answers, by its stage.
+-- The results of entry point functions, by stage.
 use Rattle.std.specs.Prelude.{◌≡◌, false, List, Option, Some, None}
 use Rattle.ir_items.specs.declared.functions.FunctionResult.{FunctionResult}
 use Rattle.ir_kinds.specs.declared.bindings.BuiltIn.TheVariants.{Position}
@@ -11,14 +11,14 @@ use Rattle.spec_interface.specs.judged.Varyings.{HasBuiltIn, result_varyings}
 use Rattle.typing_forms.specs.judged.Forms.{form_of_type}
 use Rattle.typing_forms.specs.declared.form.Form.TheVariants.{Vector}
 
--- it answers how many mesh workgroups are launched, each way
+-- the result is the mesh task size: three 32-bit unsigned integers
 pub record GivesTaskSize (types : List PlainType) (r : Option FunctionResult) : Type 0 where
   pub result : FunctionResult
   pub answered : r ≡ Some result
   pub size : form_of_type types result.ty ≡ Vector Tri U32
 
--- A vertex shader answers where a vertex lies, a task shader sizes, and a mesh shader nothing. How answers are bound is checked
--- beside.
+-- A vertex shader returns a `Position`, a task shader a `MeshTaskSize`, and a mesh shader nothing. Bindings of results are
+-- checked elsewhere.
 pub record StageResultOK (types : List PlainType) (stage : ShaderStage) (r : Option FunctionResult) : Type 0 where
   pub vertex : stage ≡ Vertex → HasBuiltIn (result_varyings types r) (Position false)
   pub task : stage ≡ Task → GivesTaskSize types r

@@ -1,4 +1,4 @@
--- What each address space requires of the type of a global variable.
+-- The rules of each address space for the type of a global variable.
 use Rattle.std.specs.Prelude.{◌≡◌, ◌≢◌, ℕ, List, [], ◌∷◌, Bool, true, false, IsTrue, Option, Some, None, unwrap_or}
 use Rattle.ir_flags.specs.Sets.{Has}
 use Rattle.ir_flags.specs.declared.memory.TheConstants.StorageAccess.{STORE}
@@ -21,22 +21,22 @@ use Rattle.typing_forms.specs.judged.Resolutions.{inner_at}
 
 -- ---- binding arrays
 
--- the type of the elements of a binding array, if it is one
+-- the element type of a binding array, if it is one
 abbrev pub array_base : Option PlainInner → Option ℕ
 array_base o = elim o [ Some (plain (inner.BindingArray base n)) ↦ Some base | _ ↦ None ]
 
--- the type whose rules count: of a binding array that of its elements
+-- the effective type: the element type of a binding array, and otherwise the type itself
 abbrev pub effective_type : List PlainType → (type : ℕ) → ℕ
 effective_type types type = unwrap_or (array_base (inner_at types type)) type
 
--- what a binding array of what is made of this needs in a space; in those that are left there is none
+-- the capability required for a binding array of this inner type in a space; other spaces have no binding arrays
 abbrev pub array_capability : AddressSpace → (base : Option PlainInner) → Option Capabilities
 array_capability (Storage access) base = Some STORAGE_BUFFER_BINDING_ARRAY
 array_capability Uniform base = Some BUFFER_BINDING_ARRAY
 array_capability Handle base = handle_array_capability base
 array_capability _ base = None
 
--- it may be a binding array of this
+-- binding arrays of this are allowed
 pub record HasArrayCapability (capabilities : Capabilities) (space : AddressSpace) (base : Option PlainInner) : Type 0 where
   pub capability : Capabilities
   pub needed : array_capability space base ≡ Some capability
@@ -44,8 +44,8 @@ pub record HasArrayCapability (capabilities : Capabilities) (space : AddressSpac
 
 -- ---- the table
 
--- Of a space: what the type has to be used for, what a variable needs, if it needs any capability whatever it is made of, whether a
--- host binds it, whether a host fills it with bytes, and whether a stage has variables there at all.
+-- Of a space: the required type flags, the capability required whatever the type, if any, whether a
+-- resource binding is required, whether it is a buffer space, and whether a stage may use variables there at all.
 pub record SpaceRow : Type 0 where
   pub flags : List TypeFlag
   pub needs : Option Capabilities
@@ -65,14 +65,14 @@ space_row Immediate = record { flags = Data ∷ Copy ∷ HostShareable ∷ Sized
 space_row RayPayload = record { flags = Data ∷ Sized ∷ []; needs = Some RAY_TRACING_PIPELINE; bound = false; buffer = false; reach = λ s. s.traces }
 space_row IncomingRayPayload = record { flags = Data ∷ Sized ∷ []; needs = Some RAY_TRACING_PIPELINE; bound = false; buffer = false; reach = λ s. s.incoming }
 
--- ---- what else a space requires
+-- ---- further rules of a space
 
--- what a variable of what is made of this needs in a space, if it needs any capability
+-- the capability required for a variable of this inner type in a space, if any
 abbrev pub space_capability : AddressSpace → Option PlainInner → Option Capabilities
 space_capability s i = elim s [ Handle ↦ handle_capability i | space ↦ (space_row space).needs ]
 
--- Of what the type that counts is made of, and of its tree. No global variable lies in Function. Buffers are laid out as hosts
--- do, where that is required; none is written alone. A payload of a task takes some bytes.
+-- The rules of the effective type's inner type and tree. No global variable is in Function. Buffers have the
+-- required layout, if struct layouts are checked; none is write-only. The size of a task payload is not zero.
 abbrev pub LiesIn : ValidationFlags → AddressSpace → Option PlainInner → Tree → Type 0
 LiesIn flags Function i t = ⊥
 LiesIn flags (Storage access) i t = (Has flags.0 STRUCT_LAYOUTS.0 → FitsStorageBuffer t) × (access ≢ STORE)

@@ -1,4 +1,4 @@
--- What the stage of an entry point requires of it beside its function.
+-- What the stage of an entry point requires of it besides its function.
 use Rattle.std.specs.Prelude.{◌≡◌, ◌≤◌, ◌↔◌, ℕ, All, Bool, true, false, Option, Some, None, IfSome, IsSome}
 use Rattle.ir_flags.specs.Sets.{Has}
 use Rattle.ir_flags.specs.declared.settings.Capabilities.{Capabilities}
@@ -10,8 +10,8 @@ use Rattle.ir_kinds.specs.declared.stages.ShaderStage.{ShaderStage}
 use Rattle.ir_kinds.specs.declared.stages.ShaderStage.TheVariants.{Vertex, Fragment, Compute, Mesh, Task, RayGeneration, AnyHit, ClosestHit, Miss}
 use Rattle.spec_interface.specs.declared.sizes.TheConstants.{MAX_WORKGROUP_SIZE}
 
--- Of a stage: itself as a set, what it needs, if it needs any capability, whether it runs in workgroups, whether it traces rays with
--- payloads, and whether it runs for a ray that has one.
+-- Of a stage: its singleton set, its required capability, if any, whether it has workgroups, whether it has ray
+-- payloads, and whether it has incoming ray payloads.
 pub record StageRow : Type 0 where
   pub set : ShaderStages
   pub needs : Option Capabilities
@@ -30,16 +30,16 @@ stage_row AnyHit = record { set = stages.ANY_HIT; needs = Some RAY_TRACING_PIPEL
 stage_row ClosestHit = record { set = stages.CLOSEST_HIT; needs = Some RAY_TRACING_PIPELINE; workgroups = false; traces = true; incoming = true }
 stage_row Miss = record { set = stages.MISS; needs = Some RAY_TRACING_PIPELINE; workgroups = false; traces = true; incoming = true }
 
--- the size of a workgroup in one dimension: from 1 to the greatest where the stage runs in workgroups, else 0
+-- the workgroup size in one dimension: from 1 to the maximum if the stage has workgroups, otherwise 0
 abbrev pub SizeOK : (workgroups : Bool) → ℕ → Type 0
 SizeOK workgroups n = elim workgroups [ true ↦ (1 ≤ n) × (n ≤ MAX_WORKGROUP_SIZE) | false ↦ n ≡ 0 ]
 
--- depth is tested early for fragments
+-- early depth tests are for fragment shaders, and require a capability
 pub record EarlyOK (capabilities : Capabilities) (stage : ShaderStage) : Type 0 where
   pub has : Has capabilities.0 EARLY_DEPTH_TEST.0
   pub fragments : stage ≡ Fragment
 
--- What is required of an entry point for its stage: what a mesh shader gives is reported of mesh shaders alone.
+-- The requirements of an entry point's stage: only mesh shaders have a mesh info.
 pub record StageOK (capabilities : Capabilities) (e : PlainEntry) : Type 0 where
   pub needed : IfSome (stage_row e.stage).needs (λ c. Has capabilities.0 c.0)
   pub early : IsSome e.early → EarlyOK capabilities e.stage

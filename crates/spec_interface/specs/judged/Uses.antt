@@ -1,4 +1,4 @@
--- What entry points may do with global variables, by the memory in which these lie.
+-- Allowed uses of global variables, by address space.
 use Rattle.std.specs.Prelude.{◌≡◌, ◌==◌, ◌⊎◌, ℕ, Bool, Option, Some, if◌then◌else◌, bit_and, bit_or, option_map}
 use Rattle.std.specs.Int.{bit_at}
 use Rattle.spec_expressions.specs.declared.global_use.GlobalUse.{GlobalUse}
@@ -23,19 +23,19 @@ use Rattle.spec_interface.specs.judged.Stages.{stage_row}
 abbrev pub no_uses : GlobalUse
 no_uses = record { 0 = 0 }
 
--- these are read, and their size is queried
+-- reading and querying
 abbrev pub read_uses : GlobalUse
 read_uses = record { 0 = bit_or use_.READ.0 use_.QUERY.0 }
 
--- and written
+-- and writing
 abbrev pub all_but_atomic : GlobalUse
 all_but_atomic = record { 0 = bit_or read_uses.0 use_.WRITE.0 }
 
--- a kind of use where some access allows it
+-- a use that requires one of these accesses
 abbrev pub use_if : StorageAccess → (needed : StorageAccess) → GlobalUse → ℕ
 use_if access needed kind = if bit_and access.0 needed.0 == needed.0 then kind.0 else 0
 
--- what memory of some access may be used for
+-- the allowed uses of storage with some access
 abbrev pub access_uses : StorageAccess → GlobalUse
 access_uses a = record { 0 = bit_or (bit_or (bit_or use_.QUERY.0 (use_if a access.LOAD use_.READ)) (use_if a access.STORE use_.WRITE)) (use_if a access.ATOMIC use_.ATOMIC) }
 
@@ -47,17 +47,17 @@ class_uses (class.Depth multi) = read_uses
 class_uses class.External = read_uses
 class_uses (class.Storage format access) = access_uses access
 
--- what is made of this
+-- the allowed uses of this inner type
 abbrev pub handle_uses : Option PlainInner → GlobalUse
 handle_uses o = elim o [ Some (plain (Image dim arrayed class)) ↦ class_uses class | _ ↦ read_uses ]
 
 -- ---- spaces
 
--- the payload of a task, where a stage may have one: a task shader writes what it hands on, and others read it
+-- a task payload, if the stage may have one: a task shader writes it, and others read it
 abbrev pub payload_uses : ShaderStage → GlobalUse
 payload_uses stage = elim stage [ Task ↦ all_but_atomic | _ ↦ read_uses ]
 
--- what a stage may do with a variable in a space, of what is made of this; of a binding array what its elements are made of
+-- the allowed uses of a variable in a space, by its inner type, in a stage; for a binding array, its elements' inner type
 abbrev pub allowed_uses : ShaderStage → AddressSpace → Option PlainInner → GlobalUse
 allowed_uses stage space.Function i = no_uses
 allowed_uses stage space.Private i = all_but_atomic
@@ -70,23 +70,23 @@ allowed_uses stage space.TaskPayload i = payload_uses stage
 allowed_uses stage space.RayPayload i = all_but_atomic
 allowed_uses stage space.IncomingRayPayload i = all_but_atomic
 
--- a stage has variables in a space at all
+-- a stage may use variables in a space at all
 abbrev pub is_reached : ShaderStage → AddressSpace → Bool
 is_reached stage s = (space_row s).reach (stage_row stage)
 
--- ---- what an entry point does with the variables that it names beside its function
+-- ---- uses of the variables that an entry point names besides its function
 
--- its payload, where its stage may have one
+-- its task payload, if its stage may have one
 abbrev pub own_payload_use : ShaderStage → GlobalUse
 own_payload_use stage = elim stage [ Task ↦ record { 0 = bit_or use_.READ.0 use_.WRITE.0 } | Mesh ↦ use_.READ | _ ↦ no_uses ]
 
--- the variable that holds what a mesh shader gives, which is read
+-- the mesh output variable, which is read
 abbrev pub mesh_output : PlainEntry → Option ℕ
 mesh_output e = option_map (λ (mesh : MeshStageInfo). mesh.output_variable) e.mesh
 
 abbrev pub OwnUse : PlainEntry → (g k : ℕ) → Type 0
 OwnUse e g k = ((e.payload ≡ Some g) × (bit_at (own_payload_use e.stage).0 k ≡ 1)) ⊎ ((mesh_output e ≡ Some g) × (bit_at use_.READ.0 k ≡ 1))
 
--- an entry point whose function uses global variables in this way does so
+-- the uses of an entry point whose function has these uses of global variables
 abbrev pub EntryUses : PlainEntry → (ℕ → ℕ → Type 0) → (g k : ℕ) → Type 0
 EntryUses e Uses g k = Uses g k ⊎ OwnUse e g k

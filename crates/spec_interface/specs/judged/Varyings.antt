@@ -1,4 +1,4 @@
--- The varyings of an entry point, and what is required of all that go one way.
+-- The varyings of an entry point, and the rules of all varyings of one direction.
 use Rattle.std.specs.Prelude.{◌≡◌, ◌<◌, ◌||◌, ◌++◌, ℕ, zero, suc, Bool, false, List, [], ◌∷◌, map, Option, Some, None, is_some, slice_get, if◌then◌else◌}
 use Rattle.ir_flags.specs.Sets.{Has}
 use Rattle.ir_flags.specs.declared.settings.TheConstants.ValidationFlags.{BINDINGS}
@@ -21,45 +21,45 @@ use Rattle.spec_interface.specs.declared.varyings.Direction.TheVariants.{Output}
 use Rattle.spec_interface.specs.declared.varyings.Varying.{Varying}
 use Rattle.typing_forms.specs.judged.Resolutions.{inner_at}
 
--- ---- which varyings there are
+-- ---- the varyings
 
--- a value of a type, with its binding
+-- a value of a type, with its binding, if any
 abbrev pub bound_value : (type : ℕ) → Binding → Bound
 bound_value type (binding.BuiltIn b) = built_in type b
 bound_value type (binding.Location place interpolation sampling source per_primitive) =
     location type (record { location = place; interpolation = interpolation; sampling = sampling; blend_src = source; per_primitive = per_primitive })
 
--- the member at a place
+-- the member at an index
 abbrev pub bound_member : (place type : ℕ) → Option Binding → Bound
 bound_member place type o = elim o [ Some b ↦ bound_value type b | None ↦ NoMember place ]
 
--- members from a place on
+-- members from an index on
 abbrev pub bound_members : (place : ℕ) → List PlainMember → List Bound
 bound_members place [] = []
 bound_members place (m ∷ ms) = bound_member place m.ty m.binding ∷ bound_members (suc place) ms
 
--- some member is a source of a blend
+-- some member is a blend source
 abbrev pub has_source : List PlainMember → Bool
 has_source [] = false
 has_source (m ∷ ms) = is_some (blend_source m.binding) || has_source ms
 
--- what denotes a value that is not bound: the members of a struct, each by itself, unless they are the sources of a blend
+-- the varyings of a value without a binding: the members of a struct, each by itself, unless they are the blend sources
 abbrev pub unbound : Option PlainInner → List Bound
 unbound (Some (struct members span)) = if has_source members then (BlendSources ∷ []) else (bound_members zero members)
 unbound _ = Nothing ∷ []
 
--- what is bound of a value of a type with this binding
+-- the bindings of a value of a type with this optional binding
 abbrev pub bounds : List PlainType → (type : ℕ) → Option Binding → List Bound
 bounds types type o = elim o [ Some b ↦ bound_value type b ∷ [] | None ↦ unbound (inner_at types type) ]
 
 abbrev pub varying : (index : ℕ) → Bound → Varying
 varying index b = record { index = index; bound = b }
 
--- the varyings of one value: of an argument by its index, or of an answer or what a mesh shader gives
+-- the varyings of one value: of an argument by its index, or of a result or a mesh output
 abbrev pub varyings_of : List PlainType → (index type : ℕ) → Option Binding → List Varying
 varyings_of types index type b = map (varying index) (bounds types type b)
 
--- those of arguments from an index on
+-- the varyings of arguments from an index on
 abbrev pub argument_varyings_from : List PlainType → (index : ℕ) → List PlainArgument → List Varying
 argument_varyings_from types index [] = []
 argument_varyings_from types index (a ∷ as_) = varyings_of types index a.ty a.binding ++ argument_varyings_from types (suc index) as_
@@ -67,17 +67,17 @@ argument_varyings_from types index (a ∷ as_) = varyings_of types index a.ty a.
 abbrev pub argument_varyings : List PlainType → List PlainArgument → List Varying
 argument_varyings types arguments = argument_varyings_from types zero arguments
 
--- those of an answer, if there is one
+-- the varyings of a result, if there is one
 abbrev pub result_varyings : List PlainType → Option FunctionResult → List Varying
 result_varyings types o = elim o [ Some r ↦ varyings_of types zero r.ty r.binding | None ↦ [] ]
 
--- those of the vertices or the primitives of a mesh, which are of this type
+-- the varyings of the vertex or primitive outputs of a mesh shader, which have this type
 abbrev pub mesh_varyings : List PlainType → (type : ℕ) → List Varying
 mesh_varyings types type = varyings_of types zero type None
 
--- ---- what they show
+-- ---- keys that must be distinct
 
--- the built-in value by its word: what it says besides does not count
+-- the variant of the built-in value: its fields don't matter
 abbrev pub canonical : BuiltIn → BuiltIn
 canonical b = elim b [ Position invariant ↦ Position false | Barycentric perspective ↦ Barycentric false | other ↦ other ]
 
@@ -88,7 +88,7 @@ built_in_of BlendSources = None
 built_in_of Nothing = None
 built_in_of (NoMember place) = None
 
--- the location that is taken; sources of a blend take the first one
+-- the location taken; the blend sources take the first one
 abbrev pub location_of : Bound → Option ℕ
 location_of (built_in type b) = None
 location_of (location type l) = Some l.location
@@ -96,25 +96,25 @@ location_of BlendSources = Some 0
 location_of Nothing = None
 location_of (NoMember place) = None
 
--- the varying at a place shows this
+-- the varying at an index has this key
 abbrev pub ShowsAt : {A : Type 0} → (Bound → Option A) → List Varying → (place : ℕ) → A → Type 0
 ShowsAt shown vs place x = (v : Varying) × (slice_get vs place ≡ Some v) × (shown v.bound ≡ Some x)
 
--- no two show the same
+-- no two have the same key
 abbrev pub VaryingsApart : {A : Type 0} → (Bound → Option A) → List Varying → Type 0
 VaryingsApart {A} shown vs = (first second : ℕ) (x : A) → first < second → ShowsAt shown vs first x → ¬ ShowsAt shown vs second x
 
--- the built-in value is among them
+-- the built-in is among them
 abbrev pub HasBuiltIn : List Varying → BuiltIn → Type 0
 HasBuiltIn vs b = (place : ℕ) × ShowsAt built_in_of vs place (canonical b)
 
--- two sources are blended
+-- the two blend sources are among them
 abbrev pub HasBlendSources : List Varying → Type 0
 HasBlendSources vs = (place : ℕ) × (v : Varying) × (slice_get vs place ≡ Some v) × (v.bound ≡ BlendSources)
 
--- ---- what is required of them
+-- ---- rules
 
--- of each by itself
+-- the rule of each varying by itself
 abbrev pub BoundOK : VaryingContext → Bound → Type 0
 BoundOK c (built_in type b) = RowOK c type (built_in_row b)
 BoundOK c (location type l) = LocationOK c type l
@@ -122,7 +122,7 @@ BoundOK c BlendSources = (c.stage ≡ Fragment) × (c.direction ≡ Output)
 BoundOK c Nothing = ¬ Has c.flags.0 BINDINGS.0
 BoundOK c (NoMember place) = ¬ Has c.flags.0 BINDINGS.0
 
--- Each is as it should be, no built-in value stands twice, and no location is taken twice where that is required.
+-- Each is valid, no built-in value occurs twice, and no location occurs twice if that is required.
 pub record VaryingsOK (c : VaryingContext) (vs : List Varying) : Type 0 where
   pub each : (place : ℕ) (v : Varying) → slice_get vs place ≡ Some v → BoundOK c v.bound
   pub once : VaryingsApart built_in_of vs

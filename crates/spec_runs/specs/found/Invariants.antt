@@ -1,4 +1,4 @@
--- What holds of all events of a run, because it holds where they arise.
+-- An invariant of all events of a run, from the events that may arise in each frame.
 use Rattle.std.specs.Prelude.{◌≡◌, ℕ, ℤ, List, ◌∷◌, ◌++◌, [], Option, Some, Contains, slice_get}
 use Rattle.std.specs.List.{AllByRecursion}
 use Rattle.ir_blocks.specs.judged.Control.{ControlOK}
@@ -12,9 +12,9 @@ use Rattle.spec_runs.specs.judged.Machine.{Frame, mentioned_at, introduced_opera
 use Rattle.spec_statements.specs.found.SureLevel.{visible_by}
 use Rattle.spec_runs.specs.judged.Scoping.{UsedOperands, Scoping, IsLawful, AreUsable}
 
--- In each frame that is fine the statements leave their blocks as they may, P holds of the events that may arise there, and the
--- frames of calls are fine again. A use may arise where all that is in scope at its place is there, and an expression's uses as it
--- is introduced also where what its statement has introduced before is there.
+-- In each valid frame the statements leave their blocks in allowed ways only, P holds of the events that may arise there, and the
+-- frames of calls are valid. A use may arise if all that is in scope at its place is live, and the uses of an introduced
+-- expression also if all that its statement introduced before is live.
 pub record IsInvariant (u : UsedOperands) (g : Scoping) (m : PlainModule) (Fine : Frame → Type 0) (P : Event → Type 0) : Type 0 where
   pub control : (frame : Frame) → Fine frame → ControlOK frame.function.body
   pub calls : (frame : Frame) → Fine frame → (p : Place) (function : ℕ) (arguments : List ℕ) (result : Option ℕ) (callee : PlainFunction) → OccursAt frame.function.body p (call function arguments result) → slice_get m.functions function ≡ Some callee
@@ -31,7 +31,7 @@ pub record IsInvariant (u : UsedOperands) (g : Scoping) (m : PlainModule) (Fine 
   pub returns : (frame : Frame) → Fine frame → (p : Place) (value : Option ℕ) → OccursAt frame.function.body p (return value) → P (returned frame.function value)
   pub falls : (frame : Frame) → Fine frame → (last : Option Place) → P (fell_off frame.function last)
 
--- then P holds of all events of a run of a function whose frame is fine
+-- then P holds of all events of a run of a function whose frame is valid
 abbrev pub InvariantsHold : Type 1
 InvariantsHold =
     (u : UsedOperands) (g : Scoping) → IsLawful g → (m : PlainModule) (Fine : Frame → Type 0) (P : Event → Type 0) → IsInvariant u g m Fine P

@@ -18,19 +18,19 @@ use Rattle.spec_runs.specs.judged.Scoping.{Scoping, IsUsable}
 
 -- ---- depth
 
--- no call is nested deeper than this
+-- no call depth is greater than this
 abbrev pub DepthOK : (most : ℕ) → Event → Type 0
 DepthOK most (entered depth) = depth ≤ most
 DepthOK most _ = Unit {0}
 
 -- ---- types
 
--- As many are passed as the callee declares, each of the type that it declares.
+-- A call passes as many arguments as the callee declares, each of the declared type.
 pub record ArgumentsOK (m : PlainModule) (caller callee : PlainFunction) (arguments : List ℕ) : Type 0 where
   pub many : length arguments ≡ length callee.arguments
   pub each : (i e : ℕ) (a : PlainArgument) → slice_get arguments i ≡ Some e → slice_get callee.arguments i ≡ Some a → HasType m caller e (form_of_type m.types a.ty)
 
--- a value of the declared type, or none where none is declared
+-- a value of the declared type, or none if none is declared
 abbrev pub ValueOK : PlainModule → PlainFunction → Option ℕ → Type 0
 ValueOK m f None = f.result ≡ None
 ValueOK m f (Some e) = IsSomeAnd f.result (λ r. HasType m f e (form_of_type m.types r.ty))
@@ -42,37 +42,37 @@ TypesOK m _ = Unit {0}
 
 -- ---- operands
 
--- An operand that is used may be used there, by what counts as being there; a stricter scope leaves out what a continue skipped.
+-- An operand may be used where it is, under the given notion of scope; strict scope excludes what a continue skipped.
 abbrev pub UsesOK : Scoping → Event → Type 0
 UsesOK g (used f live skipped e) = IsUsable g f live skipped e
 UsesOK g _ = Unit {0}
 
--- it is always in scope, live, or skipped by a continue
+-- the operand is always in scope, live, or skipped by a `Continue`
 abbrev pub LiveOK : Event → Type 0
 LiveOK (used f live skipped e) = PreEmitted f e ⊎ (Contains live e ⊎ Contains skipped e)
 LiveOK _ = Unit {0}
 
--- it is always in scope or live, and none that a continue skipped is used
+-- the operand is always in scope or live; skipped operands are not allowed
 abbrev pub SurelyLiveOK : Event → Type 0
 SurelyLiveOK (used f live skipped e) = PreEmitted f e ⊎ Contains live e
 SurelyLiveOK _ = Unit {0}
 
 -- ---- global variables
 
--- a global variable that is named is one of the module, and something reached from the function where the run begins names it
+-- a global variable that is referred to is one of the module, and a function reachable from the run's start refers to it
 abbrev pub NamedOK : PlainModule → PlainFunction → Event → Type 0
 NamedOK m f (named g) = (g < length m.globals) × Reaches m f (NamesGlobal g)
 NamedOK m f _ = Unit {0}
 
--- a pair that is sampled is one of that function
+-- a sampled pair is one of that function's
 abbrev pub SampledOK : PlainModule → PlainFunction → Event → Type 0
 SampledOK m f (sampled image sampler) = HasPair m f (Global image, Global sampler)
 SampledOK m f _ = Unit {0}
 
 -- ---- stages
 
--- What is executed or introduced is there, and the stage may run it. `subgroups` are the stages that have operations of subgroups, and
--- `functions` has, for each function of the module, the stages that may run it; `stage` is a set of one.
+-- The statement or expression exists, and the stage may run it. `subgroups` are the stages that support subgroup operations, and
+-- `functions` has, for each function of the module, the stages that may run it; `stage` is a singleton set.
 abbrev pub StagesOK : (subgroups : ShaderStages) → (functions : List ShaderStages) → (stage : ℕ) → Event → Type 0
 StagesOK subgroups functions stage (executed f p) = (s : PlainStatement) × OccursAt f.body p s × Has (statement_stages subgroups functions s).0 stage
 StagesOK subgroups functions stage (introduced_expression f e) = IsSomeAnd (slice_get f.expressions e) (λ x. Has (stages_of functions x).0 stage)
@@ -80,12 +80,12 @@ StagesOK subgroups functions stage _ = Unit {0}
 
 -- ---- ends of functions
 
--- a function with a result falls off only where the last statement that it executed is a break out of a final switch
+-- a function with a result reaches its end only if the last executed statement is a break out of a final switch
 abbrev pub FallsOK : Event → Type 0
 FallsOK (fell_off f last) = IsSome f.result → IsSomeAnd last (LeavesFinalSwitch f.body)
 FallsOK _ = Unit {0}
 
--- nothing escapes
+-- no escapes
 abbrev pub NoEscape : Event → Type 0
 NoEscape escaped = ⊥
 NoEscape _ = Unit {0}

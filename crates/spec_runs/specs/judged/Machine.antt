@@ -1,4 +1,4 @@
--- Runs of an entry point of a module, on every list of answers and in every number of steps.
+-- Runs of an entry point of a module, for every list of oracle answers and every number of steps.
 use Rattle.std.specs.Prelude.{ℕ, zero, suc, ◌+◌, ℤ, pos, Bool, true, false, List, [], ◌∷◌, ◌++◌, map, Option, Some, None, slice_get, unwrap_or}
 use Rattle.std.specs.List.{flat_map}
 use Rattle.std.specs.Ordering.{int_eq}
@@ -22,30 +22,30 @@ use Rattle.spec_runs.specs.judged.Scoping.{UsedOperands}
 
 -- ---- frames and configurations
 
--- A call that has begun and not ended: how deep it is, its function, and the global variables that its arguments denote,
--- where they denote any.
+-- The frame of a call in progress: its depth, its function, and the global variables that its arguments denote,
+-- if they denote any.
 pub record Frame : Type 0 where
   pub depth : ℕ
   pub function : PlainFunction
   pub arguments : List (Option ℕ)
 
 pub record Configuration : Type 0 where
-  -- what is live in the present frame, what is skipped there, and where its last executed statement stands
+  -- the expressions live in the current frame, those skipped there, and the place of its last executed statement
   pub live : List ℕ
   pub skipped : List ℕ
   pub last : Option Place
-  -- the answers that are left, the steps that are left, and what has happened
+  -- the remaining answers, the remaining steps, and the events so far
   pub answers : List ℤ
   pub steps : ℕ
   pub events : List Event
 
--- How a part of a run completes. A continue says what the part's own statements that it left out would have introduced.
+-- How a part of a run completes. A continue has the expressions that the skipped statements of the part would have introduced.
 pub data Completion : Type 0 where
   normal : Completion
   by_break : Completion
   by_continue : (left_out : List ℕ) → Completion
   by_return : (value : Option ℕ) → Completion
-  -- the run is over: it was cut, or killed, or it escaped
+  -- the run is over: out of steps or answers, killed, or escaped
   halted : Completion
 
 pub record Outcome : Type 0 where
@@ -58,31 +58,31 @@ completes completion now = record { completion = completion; after = now }
 abbrev pub happen : List Event → Configuration → Configuration
 happen events now = record now { events = now.events ++ events }
 
--- the run ends with an escape
+-- ends the run with an escape
 abbrev pub escapes : Configuration → Outcome
 escapes now = completes halted (happen (escaped ∷ []) now)
 
 -- ---- steps and answers
 
--- takes one of the steps that are left, which are given first
+-- takes one of the remaining steps, which are the first argument
 abbrev pub step : ℕ → Configuration → (Configuration → Outcome) → Outcome
 step zero now go = completes halted now
 step (suc k) now go = go (record now { steps = k })
 
--- takes one of the answers that are left, which are given first
+-- takes one of the remaining answers, which are the first argument
 abbrev pub answered : List ℤ → Configuration → (ℤ → Configuration → Outcome) → Outcome
 answered [] now go = completes halted now
 answered (a ∷ more) now go = go a (record now { answers = more })
 
 -- ---- global variables
 
--- the global variable that something denotes, where the frame's arguments denote these; nothing where it has no such argument
+-- the global variable that an image or sampler denotes, given those of the frame's arguments; none if there is no such argument
 abbrev pub global_meant : List (Option ℕ) → Option GlobalOrArgument → Option ℕ
 global_meant arguments (Some (Global g)) = Some g
 global_meant arguments (Some (Argument n)) = unwrap_or (slice_get arguments n) None
 global_meant arguments None = None
 
--- the one that an expression denotes in a frame
+-- the global variable that an expression denotes in a frame
 abbrev pub global_denoted : Frame → ℕ → Option ℕ
 global_denoted frame e = global_meant frame.arguments (global_or_argument frame.function.expressions e)
 
@@ -91,17 +91,17 @@ pair_of (Some image) (Some sampler) = sampled image sampler ∷ []
 pair_of (Some image) None = []
 pair_of None sampler = []
 
--- a global variable is named, and a sampling samples what its image and its sampler denote
+-- a global variable expression refers to it, and a sample samples the pair that its image and its sampler denote
 abbrev pub mentioned_at : Frame → Option PlainExpression → List Event
 mentioned_at frame (Some (plain (GlobalVariable g))) = named g ∷ []
 mentioned_at frame (Some (plain (ImageSample image sampler gathers coordinate array_index offset level depth_ref clamp_to_edge))) = pair_of (global_denoted frame image) (global_denoted frame sampler)
 mentioned_at frame _ = []
 
--- what these expressions mention, and their operands at any depth
+-- the events of these expressions, and of their operands at any depth
 abbrev pub mentions : Frame → List ℕ → List Event
 mentions frame expressions = flat_map (λ e. mentioned_at frame (slice_get frame.function.expressions e)) (flat_map (reached_from frame.function) expressions)
 
--- ---- what statements use and introduce
+-- ---- uses and introductions of statements
 
 abbrev pub uses : Frame → List ℕ → Configuration → Configuration
 uses frame operands now = happen (map (used frame.function now.live now.skipped) operands) now
@@ -110,28 +110,28 @@ abbrev pub introduced_operands : UsedOperands → Option PlainExpression → Lis
 introduced_operands u (Some expression) = u.at_introduction expression
 introduced_operands u None = []
 
--- a statement begins: it is executed, its operands mention global variables, and are used
+-- a statement begins: it is executed, and its operands' global variables are referred to, and its operands used
 abbrev pub begins : UsedOperands → Frame → Place → PlainStatement → Configuration → Configuration
 begins u frame p s now =
     uses frame (u.at_spot (statement s)) (happen (executed frame.function p ∷ mentions frame (statement_operands s)) (record now { last = Some p }))
 
--- an expression is introduced: it and its operands mention global variables, these operands are used, and it is live from then on
+-- an expression is introduced: it and its operands refer to global variables, its operands are used, and it is live from then on
 abbrev pub introduces_one : UsedOperands → Frame → ℕ → Configuration → Configuration
 introduces_one u frame e now = let begun = happen (introduced_expression frame.function e ∷ mentions frame (e ∷ [])) now in
     record (uses frame (introduced_operands u (slice_get frame.function.expressions e)) begun) { live = now.live ++ (e ∷ []) }
 
--- so are these, one after the other
+-- these expressions are introduced, one after another
 abbrev pub introduces : UsedOperands → Frame → List ℕ → Configuration → Configuration
 introduces u frame [] now = now
 introduces u frame (e ∷ es) now = introduces u frame es (introduces_one u frame e now)
 
 -- ---- parts and completions
 
--- what came to be live or skipped in a part ends with it
+-- expressions that became live or skipped in a part are dropped at its end
 abbrev pub leave_scope : Configuration → Outcome → Outcome
 leave_scope start r = completes r.completion (record r.after { live = start.live; skipped = start.skipped })
 
--- goes on after a normal completion; what a continue leaves out is then what the statements to come would introduce
+-- continues after a normal completion; what a continue skips then includes what the remaining statements would introduce
 abbrev pub sequence : (coming : List ℕ) → Completion → Configuration → (Configuration → Outcome) → Outcome
 sequence coming normal now go = go now
 sequence coming by_break now go = completes by_break now
@@ -141,14 +141,14 @@ sequence coming halted now go = completes halted now
 
 -- ---- tasks
 
--- a loop; `at` says where in the function's body a place of it is, the loop standing first in a block
+-- a loop; `at` maps its places into the function's body, with the loop as the first statement of a block
 pub record Loop : Type 0 where
   pub at : Place → Place
   pub body : PlainBlock
   pub continuing : PlainBlock
   pub break_if : Option ℕ
 
--- What is left to be done, a block or the turns of a loop; `at` says where in the function's body a place of the block is.
+-- A task, a block or the iterations of a loop; `at` maps the block's places into the function's body.
 pub data Task : Type 0 where
   in_block : (at : Place → Place) → PlainBlock → Task
   in_loop : Loop → Task
@@ -158,7 +158,7 @@ Evaluation = Task → Configuration → Outcome
 
 -- ---- if and switch
 
--- the branch that an if takes
+-- the branch that a conditional takes
 abbrev pub taken_branch : (rejects : Bool) → (Place → Place) → (accept reject : PlainBlock) → Task
 taken_branch true at accept reject = in_block (λ p. at (inside rejecting p)) reject
 taken_branch false at accept reject = in_block (λ p. at (inside accepting p)) accept
@@ -173,7 +173,7 @@ is_default Default = true
 is_default (I32 z) = false
 is_default (U32 n) = false
 
--- The last cases of a switch; `at` tells for the first, the second and so on where its places are.
+-- The remaining cases of a switch; `at` maps the places of the first, the second and so on.
 pub record Cases : Type 0 where
   pub at : ℕ → Place → Place
   pub cases : PlainCases
@@ -182,21 +182,21 @@ abbrev pub either_cases : (first : Bool) → Cases → Cases → Cases
 either_cases true one other = one
 either_cases false one other = other
 
--- from the first case on that passes, and none where none does
+-- from the first case on that passes, and none if none does
 abbrev pub from_first : (passes : SwitchValue → Bool) → (ℕ → Place → Place) → PlainCases → Cases
 from_first passes at no_case = record { at = at; cases = no_case }
 from_first passes at (case value body falls rest) = either_cases (passes value) (record { at = at; cases = case value body falls rest }) (from_first passes (λ n. at (suc n)) rest)
 
--- the first ones, where there is a case among them
+-- the first ones, if there is a case among them
 abbrev pub unless_none : PlainCases → Cases → Cases → Cases
 unless_none no_case one other = other
 unless_none (case value body falls rest) one other = one
 
--- from the first case on whose value is the answer, else from the default on
+-- from the first case on whose value is the answer, otherwise from the default on
 abbrev pub chosen : (answer : ℤ) → (ℕ → Place → Place) → PlainCases → Cases
 chosen a at cases = let one = from_first (λ v. is_value v a) at cases in unless_none one.cases one (from_first is_default at cases)
 
--- goes on into the next case after a fall through
+-- continues with the next case after a fall through
 abbrev pub fall : (falls : Bool) → Outcome → (Configuration → Outcome) → Outcome
 fall false r go = r
 fall true r go = sequence [] r.completion r.after go
@@ -205,7 +205,7 @@ abbrev pub eval_cases : Evaluation → (ℕ → Place → Place) → PlainCases 
 eval_cases go at no_case now = completes normal now
 eval_cases go at (case value body falls rest) now = fall falls (leave_scope now (go (in_block (at 0) body) now)) (λ s. eval_cases go (λ n. at (suc n)) rest s)
 
--- a break ends a switch
+-- a `Break` completes a switch normally
 abbrev pub at_switch : Completion → Completion
 at_switch by_break = normal
 at_switch normal = normal
@@ -218,13 +218,13 @@ leave_switch start r = leave_scope start (completes (at_switch r.completion) r.a
 
 -- ---- loops
 
--- a turn of the loop, which begins in this configuration
+-- an iteration of the loop, from this configuration
 module _ (u : UsedOperands) (frame : Frame) (go : Evaluation) (l : Loop) (start : Configuration) where
-  -- what was live before this turn is live before the next
+  -- expressions live before this iteration are live before the next
   abbrev pub next_turn : Configuration → Outcome
   next_turn now = go (in_loop l) (record now { live = start.live; skipped = start.skipped })
 
-  -- an answer other than 0 leaves the loop
+  -- a nonzero answer leaves the loop
   abbrev pub stay_or_leave : (stays : Bool) → Configuration → Outcome
   stay_or_leave true now = next_turn now
   stay_or_leave false now = completes normal now
@@ -233,7 +233,7 @@ module _ (u : UsedOperands) (frame : Frame) (go : Evaluation) (l : Loop) (start 
   eval_condition None now = next_turn now
   eval_condition (Some h) now = answered now.answers (uses frame (u.at_spot (loop_condition (Some h))) now) (λ a s. stay_or_leave (int_eq a (pos 0)) s)
 
-  -- nothing may leave a continuing part
+  -- no completion may leave a continuing block
   abbrev pub after_continuing : Completion → Configuration → Outcome
   after_continuing normal now = eval_condition l.break_if now
   after_continuing by_break now = escapes now
@@ -244,7 +244,7 @@ module _ (u : UsedOperands) (frame : Frame) (go : Evaluation) (l : Loop) (start 
   abbrev pub eval_continuing : Configuration → Outcome
   eval_continuing now = let r = go (in_block (λ p. l.at (inside loop_continuing p)) l.continuing) now in after_continuing r.completion r.after
 
-  -- after a continue, what it left out of the body is skipped
+  -- after a continue, the expressions whose introduction it skipped in the body are skipped
   abbrev pub after_body : Completion → Configuration → Outcome
   after_body normal now = eval_continuing now
   after_body (by_continue left_out) now = eval_continuing (record now { skipped = now.skipped ++ left_out })
@@ -257,19 +257,19 @@ module _ (u : UsedOperands) (frame : Frame) (go : Evaluation) (l : Loop) (start 
 
 -- ---- calls
 
--- the callee's frame, one deeper
+-- the callee's frame, one level deeper
 abbrev pub callee_frame : Frame → PlainFunction → List ℕ → Frame
 callee_frame frame callee arguments = record { depth = frame.depth + 1; function = callee; arguments = map (global_denoted frame) arguments }
 
--- nothing is live there yet
+-- no expression is live there yet
 abbrev pub enters : Frame → PlainFunction → List ℕ → Configuration → Configuration
 enters frame callee arguments now = happen (passed frame.function callee arguments ∷ entered (frame.depth + 1) ∷ []) (record now { live = []; skipped = []; last = None })
 
--- back in the caller's frame, as it was at the call
+-- restores the caller's frame, as it was at the call
 abbrev pub restore_caller : Configuration → Configuration → Configuration
 restore_caller at_call now = record now { live = at_call.live; skipped = at_call.skipped; last = at_call.last }
 
--- the callee's body has completed so; a break or a continue may not leave it
+-- the callee's body has completed in this way; a break or a continue may not leave it
 abbrev pub leave_call : PlainFunction → (at_call : Configuration) → Completion → Configuration → Outcome
 leave_call callee at_call normal now = completes normal (restore_caller at_call (happen (fell_off callee now.last ∷ []) now))
 leave_call callee at_call (by_return value) now = completes normal (restore_caller at_call (happen (returned callee value ∷ []) now))
@@ -285,7 +285,7 @@ eval_call (Some callee) go frame arguments now =
 
 -- ---- the machine
 
--- what a statement does once it has begun, and before what it introduces is introduced
+-- the effect of a statement after it begins, and before its expressions are introduced
 abbrev pub eval_statement : PlainModule → (Frame → Evaluation) → Frame → (Place → Place) → PlainStatement → Configuration → Outcome
 eval_statement m go frame at (emit first end) now = completes normal now
 eval_statement m go frame at (block b) now = leave_scope now (go frame (in_block (λ p. at (inside inner p)) b) now)
@@ -301,22 +301,22 @@ eval_statement m go frame at (operation a) now = completes normal now
 eval_statement m go frame at (call function arguments result) now = eval_call (slice_get m.functions function) go frame arguments now
 
 module _ (u : UsedOperands) (m : PlainModule) where
-  -- what a task does first, where `go` does what is inside; each statement and each turn that begins takes a step
+  -- one step of a task, where `go` runs nested tasks; each statement and each iteration that begins takes a step
   abbrev pub eval_task : (Frame → Evaluation) → Frame → Evaluation
   eval_task go frame (in_block at stop) now = completes normal now
   eval_task go frame (in_block at (next s rest)) now = step now.steps now (λ begun. let r = eval_statement m go frame at s (begins u frame (at here) s begun) in
       sequence (introduced s ++ top_level rest) r.completion r.after (λ end. go frame (in_block (λ p. at (later p)) rest) (introduces u frame (introduced s) end)))
   eval_task go frame (in_loop l) now = step now.steps now (λ begun. eval_turn u frame (go frame) l begun)
 
-  -- A task, with at most so many inside one another. It is a function by recursion on this bound, which cuts no run as long as
-  -- it is greater than the number of steps that are left.
+  -- A task, with nesting up to this bound. The function is recursive in the bound, which never ends a run as long as
+  -- it is greater than the number of remaining steps.
   abbrev pub eval : (nested : ℕ) → Frame → Evaluation
   eval zero frame task now = completes halted now
   eval (suc n) frame task now = eval_task (eval n) frame task now
 
 -- ---- runs
 
--- a break or a continue may not leave the entry point's body either
+-- a `Break` or `Continue` may not leave the entry point's body either
 abbrev pub finish : PlainFunction → Completion → Configuration → List Event
 finish f normal now = now.events ++ (fell_off f now.last ∷ [])
 finish f by_break now = now.events ++ (escaped ∷ [])
@@ -330,10 +330,10 @@ entry_frame f = record { depth = 0; function = f; arguments = [] }
 abbrev pub initial : List ℤ → ℕ → Configuration
 initial answers n = record { live = []; skipped = []; last = None; answers = answers; steps = n; events = entered 0 ∷ [] }
 
--- what happens as the function is run on these answers, in at most n steps
+-- the events of executing the function with these answers, in at most n steps
 abbrev pub trace_of : UsedOperands → PlainModule → PlainFunction → List ℤ → ℕ → List Event
 trace_of u m f answers n = let r = eval u m (suc n) (entry_frame f) (in_block (λ p. p) f.body) (initial answers n) in finish f r.completion r.after
 
--- the run of an entry point
+-- the events of a run of an entry point
 abbrev pub trace : UsedOperands → PlainModule → PlainEntry → List ℤ → ℕ → List Event
 trace u m e answers n = trace_of u m e.function answers n

@@ -1,4 +1,4 @@
--- What a walk over a body carries: the expressions by which calls and atomic operations have answered, in order.
+-- What a walk of a body carries: the result expressions of calls and atomic operations so far, in order.
 use Rattle.std.specs.Prelude.{◌≡◌, ◌↔◌, ℕ, zero, suc, List, [], ◌++◌, Contains, option_to_list}
 use Rattle.ir_blocks.specs.judged.Places.{Place, here, later, inside, condition}
 use Rattle.ir_blocks.specs.judged.Plain.{PlainStatement, emit, block, if_, switch, loop, break, continue, return, kill, operation, call, PlainBlock, stop, next, PlainCases, no_case, case}
@@ -6,12 +6,12 @@ use Rattle.ir_blocks.specs.judged.Shapes.{Part, rejecting, case_at, loop_continu
 use Rattle.spec_statements.specs.judged.Results.{answer_of, AnswersBy}
 
 abbrev mutual
-  -- by which a block answers, at any depth
+  -- the result expressions of a block, at any depth
   pub answered_in : PlainBlock → List ℕ
   answered_in stop = []
   answered_in (next s rest) = answered_at s ++ answered_in rest
 
-  -- by which a statement answers, and those inside it
+  -- the result expressions of a statement and its nested statements
   pub answered_at : PlainStatement → List ℕ
   answered_at (emit first end) = []
   answered_at (block b) = answered_in b
@@ -29,20 +29,20 @@ abbrev mutual
   answered_in_cases no_case = []
   answered_in_cases (case value body falls rest) = answered_in body ++ answered_in_cases rest
 
--- those of the cases before one
+-- the result expressions of the cases before one
 abbrev pub answered_before_case : PlainCases → ℕ → List ℕ
 answered_before_case no_case k = []
 answered_before_case (case value body falls rest) zero = []
 answered_before_case (case value body falls rest) (suc k) = answered_in body ++ answered_before_case rest k
 
--- those in the parts of a statement before one
+-- the result expressions in the parts of a statement before one
 abbrev pub answered_before_part : PlainStatement → Part → List ℕ
 answered_before_part (if_ test accept reject) rejecting = answered_in accept
 answered_before_part (switch selector cases) (case_at k) = answered_before_case cases k
 answered_before_part (loop body continuing break_if) loop_continuing = answered_in body
 answered_before_part _ _ = []
 
--- what has been answered by at a place, in the order of the text, where `seen` has been as the body begins
+-- the result expressions before a place, in program order, where `seen` are those before the body
 abbrev pub answered_before : (seen : List ℕ) → Place → PlainBlock → List ℕ
 answered_before seen here body = seen
 answered_before seen (later p) stop = seen
@@ -52,11 +52,11 @@ answered_before seen (inside part p) (next s rest) = answered_before (seen ++ an
 answered_before seen condition stop = seen
 answered_before seen condition (next s rest) = seen ++ answered_at s
 
--- no statement answers by what has been answered by before it
+-- no statement has a result expression seen before it
 abbrev pub NoneAgain : PlainBlock → Type 0
 NoneAgain body = (p : Place) (e : ℕ) → AnswersBy body p e → Contains (answered_before [] p body) e → ⊥
 
--- no two statements answer by one expression
+-- no two statements have the same result expression
 abbrev pub EachOnce : PlainBlock → Type 0
 EachOnce body = (p q : Place) (e : ℕ) → AnswersBy body p e → AnswersBy body q e → p ≡ q
 

@@ -2,6 +2,6 @@
 use Rattle.ir_types.specs.declared.types.ArraySize.{ArraySize}
 use Rattle.ir_types.specs.declared.types.ArraySize.TheVariants as count
 
--- an array of this size ends where its buffer does
+-- an array of this size is runtime-sized
 abbrev pub IsDynamic : ArraySize → Type 0
 IsDynamic n = elim n [ count.Dynamic ↦ Unit {0} | _ ↦ ⊥ ]

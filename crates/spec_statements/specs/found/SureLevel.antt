@@ -1,4 +1,4 @@
--- What a walk over a body carries for strict scope, where what is in scope depends on what the top level of a loop's body leaves.
+-- What a walk of a body carries for strict scope, which depends on what the top level of a loop's body keeps.
 use Rattle.std.specs.Prelude.{◌↔◌, ◌⊎◌, ℕ, Bool, true, false, ◌||◌, List, [], ◌++◌, Contains}
 use Rattle.ir_blocks.specs.judged.Places.{Place, here, later, inside, condition}
 use Rattle.ir_blocks.specs.judged.Plain.{PlainStatement, emit, block, if_, switch, loop, break, continue, return, kill, operation, call, PlainBlock, stop, next, PlainCases, no_case, case}
@@ -9,7 +9,7 @@ use Rattle.spec_statements.specs.judged.Strict.{InStrictScope}
 use Rattle.spec_statements.specs.judged.Tables.{introduced}
 use Rattle.spec_statements.specs.judged.Visible.{top_level}
 
--- ---- what is in scope at a place, by what is left
+-- ---- scope at a place, given what is kept
 
 abbrev pub entering_by : (level : PlainBlock → List ℕ) → List ℕ → PlainStatement → Part → List ℕ
 entering_by level outer s inner = outer
@@ -22,7 +22,7 @@ entering_by level outer s loop_continuing = outer ++ level (part_of (shape_of s)
 abbrev pub at_condition_by : (level : PlainBlock → List ℕ) → List ℕ → PlainStatement → List ℕ
 at_condition_by level outer s = (outer ++ level (part_of (shape_of s) loop_body)) ++ top_level (part_of (shape_of s) loop_continuing)
 
--- what is in scope at a place of a body, where `outer` is as the body begins, and the top level of a loop's body leaves `level`
+-- the expressions in scope at a place of a body, where `outer` are in scope before it, and `level` is what a loop's body keeps
 abbrev pub visible_by : (level : PlainBlock → List ℕ) → (outer : List ℕ) → Place → PlainBlock → List ℕ
 visible_by level outer here body = outer
 visible_by level outer (later p) stop = outer
@@ -32,9 +32,9 @@ visible_by level outer (inside part p) (next s rest) = visible_by level (enterin
 visible_by level outer condition stop = outer
 visible_by level outer condition (next s rest) = at_condition_by level outer s
 
--- ---- continues
+-- ---- `Continue`
 
--- a continue of the loop around is in the block, in the statement, or in one of the cases
+-- a continue of the enclosing loop is in the block, in the statement, or in one of the cases
 abbrev mutual
   pub holds_continue_in : PlainBlock → Bool
   holds_continue_in stop = false
@@ -63,11 +63,11 @@ abbrev pub unless : Bool → List ℕ → List ℕ
 unless true es = []
 unless false es = es
 
--- what the top level of a block introduces up to the first statement that holds a continue
+-- what the top level of a block introduces before the first statement that contains a continue
 abbrev pub sure_level : PlainBlock → List ℕ
 sure_level stop = []
 sure_level (next s rest) = introduced s ++ unless (holds_continue s) (sure_level rest)
 
--- at each place of a function, what is in strict scope is always so, or is carried there
+-- at each place of a function, an expression in strict scope is always so, or is carried there
 abbrev pub StrictByWalk : Type 0
 StrictByWalk = (f : PlainFunction) (p : Place) (e : ℕ) → InStrictScope f p e ↔ (PreEmitted f e ⊎ Contains (visible_by sure_level [] p f.body) e)

@@ -1,4 +1,4 @@
--- Indexes of accesses.
+-- Indices of accesses.
 use Rattle.std.specs.Prelude.{◌<◌, ℕ, ℤ, pos, negsuc, List, Option, Some, None, IfSome, option_and_then, option_map}
 use Rattle.ir_types.specs.judged.ExpressionPlain.{PlainExpression, plain}
 use Rattle.ir_types.specs.declared.expressions.Expression.TheVariants as x
@@ -15,19 +15,19 @@ use Rattle.typing_forms.specs.judged.Resolutions.{inner_at}
 use Rattle.typing_forms.specs.judged.Order.{declared_size}
 use Rattle.spec_statements.specs.judged.Shapes.{IsIntegerScalar}
 
--- ---- how many parts there are, where the module says it
+-- ---- the number of components, if it is known statically
 
 abbrev pub element_count : ArraySize → Option ℕ
 element_count o = elim o [ count.Constant n ↦ Some n | count.Pending override ↦ None | count.Dynamic ↦ None ]
 
--- of what a pointer leads to
+-- the number of components of a pointer's base type
 abbrev pub pointed_count : Option PlainInner → Option ℕ
 pointed_count (Some (plain_type (inner.Vector n s))) = Some (component_count n)
 pointed_count (Some (plain_type (inner.Matrix columns rows s))) = Some (component_count columns)
 pointed_count (Some i) = option_and_then element_count (declared_size i)
 pointed_count None = None
 
--- of a vector, the columns of a matrix, of an array whose length is written, and of what a pointer to one of these leads to
+-- the number of components of a vector, a matrix (its columns), an array of constant length, or a pointer to one of these
 abbrev pub known_length : List PlainType → Form → Option ℕ
 known_length types (form.Vector n s) = Some (component_count n)
 known_length types (form.Matrix columns rows s) = Some (component_count columns)
@@ -45,12 +45,12 @@ known_length types (form.AccelerationStructure vertex_return) = None
 known_length types (form.RayQuery vertex_return) = None
 known_length types form.Nothing = None
 
--- ---- an index that is computed
+-- ---- dynamic access
 
 abbrev pub literal_of : PlainExpression → Option Literal
 literal_of e = elim e [ plain (x.Literal value) ↦ Some value | _ ↦ None ]
 
--- the index that a literal is: of 32 bits, signed or not
+-- the value of a literal index: 32-bit, signed or unsigned
 abbrev pub index_of : Literal → Option ℤ
 index_of (literal.I32 z) = Some z
 index_of (literal.U32 n) = Some (pos n)
@@ -65,16 +65,16 @@ index_of (literal.Bool b) = None
 index_of (literal.AbstractInt z) = None
 index_of (literal.AbstractFloat bits) = None
 
--- an index of so many parts, if it is known how many there are
+-- a valid index, if the number of components is known
 abbrev pub IsIndexOf : (parts : Option ℕ) → ℤ → Type 0
 IsIndexOf parts z = elim z [ pos n ↦ IfSome parts (λ many. n < many) | negsuc n ↦ ⊥ ]
 
--- the index is an integer; where it is written, it is that of a part
+-- the index is an integer scalar; if it is a literal, it is in bounds
 pub record AccessOK (types : List PlainType) (base index : Form) (written : Option PlainExpression) : Type 0 where
   pub integer : IsIntegerScalar index
   pub within : IfSome (option_and_then index_of (option_and_then literal_of written)) (IsIndexOf (known_length types base))
 
--- ---- an index that is written
+-- ---- constant access
 
 abbrev pub AccessIndexOK : List PlainType → (base : Form) → (index : ℕ) → Type 0
 AccessIndexOK types base index = IfSome (known_length types base) (λ many. index < many)

@@ -1,4 +1,4 @@
--- Values in memory that are changed atomically.
+-- Atomic operations on memory.
 use Rattle.std.specs.Prelude.{◌≡◌, ◌⊎◌, ℕ, List, Option, Some, None, Bool, true, false, IsSomeAnd, option_and_then, slice_get}
 use Rattle.ir_blocks.specs.declared.operations.AtomicFunction.{AtomicFunction}
 use Rattle.ir_blocks.specs.declared.operations.AtomicFunction.TheVariants as fun
@@ -23,22 +23,22 @@ use Rattle.spec_statements.specs.judged.BlockContext.{BlockContext, form_at}
 use Rattle.spec_statements.specs.judged.StorageImages.{IsMinOrMax}
 use Rattle.spec_statements.specs.judged.Stores.{pointer_space}
 
--- ---- what is changed
+-- ---- the pointer
 
--- the scalar of an atomic
+-- the scalar type of an atomic
 abbrev pub atomic_of : Option PlainInner → Option Scalar
 atomic_of o = elim o [ Some (plain_inner (inner.Atomic s)) ↦ Some s | _ ↦ None ]
 
--- the scalar of the atomic that a pointer leads to
+-- the scalar of the atomic that a pointer points to
 abbrev pub changed_scalar : List PlainType → (pointer : Form) → Option Scalar
 changed_scalar types pointer = atomic_of (pointed_in types pointer)
 
--- ---- which scalars are changed how
+-- ---- which operations are allowed on which scalars
 
 abbrev pub IsInStorage : (pointer : Form) → Type 0
 IsInStorage pointer = IsSomeAnd (pointer_space pointer) IsStorageSpace
 
--- the least and the greatest of integers of eight bytes are kept in storage, and not answered
+-- `Min` and `Max` on 64-bit integers in storage, without a result
 abbrev pub IsStorageMinMaxWithoutResult : (pointer : Form) → AtomicFunction → (result : Option ℕ) → Type 0
 IsStorageMinMaxWithoutResult pointer done result = IsMinOrMax done × IsInStorage pointer × (result ≡ None)
 
@@ -46,7 +46,7 @@ abbrev pub Int64AtomicOK : Capabilities → (pointer : Form) → AtomicFunction 
 Int64AtomicOK capabilities pointer done result =
     Has capabilities.0 SHADER_INT64_ATOMIC_ALL_OPS.0 ⊎ (Has capabilities.0 SHADER_INT64_ATOMIC_MIN_MAX.0 × IsStorageMinMaxWithoutResult pointer done result)
 
--- floats are added, subtracted, and replaced without a comparison
+-- floats allow addition, subtraction, and exchange without comparison
 abbrev pub IsDoneWithFloats : AtomicFunction → Type 0
 IsDoneWithFloats fun.Add = Unit {0}
 IsDoneWithFloats fun.Subtract = Unit {0}
@@ -58,15 +58,15 @@ pub record Float32AtomicOK (capabilities : Capabilities) (pointer : Form) (done 
   pub done_so : IsDoneWithFloats done
   pub stored : IsInStorage pointer
 
--- What is required of some scalars beside.
+-- Further requirements of some scalars.
 pub record ScalarAllows (capabilities : Capabilities) (s : Scalar) (pointer : Form) (done : AtomicFunction) (result : Option ℕ) : Type 0 where
   pub signed_wide : s ≡ signed 8 → Int64AtomicOK capabilities pointer done result
   pub unsigned_wide : s ≡ unsigned 8 → Int64AtomicOK capabilities pointer done result
   pub float : s ≡ floating 4 → Float32AtomicOK capabilities pointer done
 
--- ---- what is answered
+-- ---- the result
 
--- What an atomic operation answers, as an `AtomicResult` declares it.
+-- The result of an atomic operation, as its `AtomicResult` declares it.
 pub record AtomicAnswer : Type 0 where
   pub ty : ℕ
   pub comparison : Bool
@@ -74,13 +74,13 @@ pub record AtomicAnswer : Type 0 where
 abbrev pub declared_answer : PlainExpression → Option AtomicAnswer
 declared_answer e = elim e [ plain (x.AtomicResult type comparison) ↦ Some (record { ty = type; comparison = comparison }) | _ ↦ None ]
 
--- what was there before, or, where it is compared, that and whether it was replaced
+-- the old value, or, with a comparison, a struct of the old value and whether it was exchanged
 abbrev pub AtomicAnswerOK : BlockContext → Scalar → (compare : Option ℕ) → AtomicAnswer → Type 0
 AtomicAnswerOK c s None answer = (form_of_type c.m.types answer.ty ≡ form.Scalar s) × (answer.comparison ≡ false)
 AtomicAnswerOK c s (Some compare) answer =
     (form_at c compare ≡ form.Scalar s) × IsExchangeOf (λ old. old ≡ form.Scalar s) c.m.types (inner_at c.m.types answer.ty) × (answer.comparison ≡ true)
 
--- the operation may have no result: all may but an exchange without a comparison
+-- the result may be absent: always except for an exchange without a comparison
 abbrev pub MayOmitResult : AtomicFunction → Type 0
 MayOmitResult fun.Add = Unit {0}
 MayOmitResult fun.Subtract = Unit {0}
@@ -96,9 +96,9 @@ abbrev pub AtomicResultOK : BlockContext → Scalar → AtomicFunction → (resu
 AtomicResultOK c s done None = MayOmitResult done
 AtomicResultOK c s done (Some result) = IsSomeAnd (option_and_then declared_answer (slice_get c.f.expressions result)) (AtomicAnswerOK c s (comparand done))
 
--- ---- the whole
+-- ---- the whole rule
 
--- A value of the atomic's scalar changes it.
+-- The value has the atomic's scalar type.
 pub record AtomicChangeOK (c : BlockContext) (pointer : ℕ) (done : AtomicFunction) (value : ℕ) (result : Option ℕ) (s : Scalar) : Type 0 where
   pub fits : form_at c value ≡ form.Scalar s
   pub allowed : ScalarAllows c.capabilities s (form_at c pointer) done result

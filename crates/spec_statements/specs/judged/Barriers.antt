@@ -1,4 +1,4 @@
--- Barriers.
+-- The rules of barriers.
 use Rattle.ir_flags.specs.Sets.{Has}
 use Rattle.ir_flags.specs.declared.memory.Barrier.{Barrier}
 use Rattle.ir_flags.specs.declared.memory.TheConstants.Barrier.{SUB_GROUP}
@@ -6,7 +6,7 @@ use Rattle.ir_flags.specs.declared.settings.TheConstants.Capabilities.{SUBGROUP,
 use Rattle.ir_flags.specs.declared.stages.TheConstants.SubgroupOperationSet.{BASIC}
 use Rattle.spec_statements.specs.judged.BlockContext.{BlockContext}
 
--- What a barrier of a subgroup needs.
+-- The requirements of a subgroup barrier.
 pub record HasSubgroupBarriers (c : BlockContext) : Type 0 where
   pub subgroups : Has c.capabilities.0 SUBGROUP.0
   pub barriers : Has c.capabilities.0 SUBGROUP_BARRIER.0

@@ -1,4 +1,4 @@
--- What the rules of a statement may look at.
+-- The context of the rules of a statement.
 use Rattle.std.specs.Prelude.{ℕ, List}
 use Rattle.ir_flags.specs.declared.settings.Capabilities.{Capabilities}
 use Rattle.ir_flags.specs.declared.stages.SubgroupOperationSet.{SubgroupOperationSet}
@@ -6,7 +6,7 @@ use Rattle.ir_items.specs.judged.Plain.{PlainFunction, PlainModule}
 use Rattle.typing_forms.specs.declared.form.Form.{Form}
 use Rattle.spec_statements.specs.judged.Scene as scene
 
--- The capabilities and the operations of subgroups that may be used, the module, the function whose body it is, and the forms
+-- The capabilities and subgroup operations of the validator, the module, the function whose body it is, and the forms
 -- of the types of all its expressions.
 pub record BlockContext : Type 0 where
   pub capabilities : Capabilities

@@ -1,4 +1,4 @@
--- What is required of an expression that is no composition, beside its type: a row for each kind.
+-- The rules of an expression that is no composition, besides its type: a row for each kind.
 use Rattle.std.specs.Prelude.{slice_get}
 use Rattle.ir_types.specs.declared.expressions.Expression.{Expression}
 use Rattle.ir_types.specs.declared.expressions.Expression.TheVariants as x
@@ -18,7 +18,7 @@ use Rattle.spec_statements.specs.judged.ExpressionResults.{AtomicResultTypeOK, U
 use Rattle.spec_statements.specs.judged.Scene.{Scene, form_among}
 use Rattle.spec_statements.specs.judged.Selections.{SelectOK, RelationalOK}
 
--- a composition is no plain expression, so nothing is said of that row
+-- a composition has its own rule, so this row is left out
 abbrev pub CheckOf : Scene → Expression → Type 0
 CheckOf s (x.Literal value) = LiteralOK s.capabilities value
 CheckOf s (x.Constant constant) = Unit {0}

@@ -1,4 +1,4 @@
--- Which conversions there are.
+-- Valid conversions.
 use Rattle.std.specs.Prelude.{◌≢◌, ℕ, Option, Some, None, IsSomeAnd}
 use Rattle.ir_flags.specs.declared.settings.Capabilities.{Capabilities}
 use Rattle.ir_kinds.specs.declared.scalars.Scalar.{Scalar}
@@ -9,7 +9,7 @@ use Rattle.spec_expressions.specs.judged.Conversions.{converted}
 use Rattle.typing_layout.specs.judged.Widths.{ScalarOK}
 use Rattle.spec_statements.specs.judged.Shapes.{shaped_of}
 
--- into a scalar that there is; where the same bits are read anew, neither from truth values nor as such
+-- the target scalar is valid; a bit cast is neither from bools nor to them
 abbrev pub IsConverted : Capabilities → ScalarKind → (convert : Option ℕ) → Scalar → Type 0
 IsConverted capabilities kind (Some width) s = ScalarOK capabilities (converted kind (Some width) s)
 IsConverted capabilities kind None s = (kind ≢ Bool) × (s.kind ≢ Bool)

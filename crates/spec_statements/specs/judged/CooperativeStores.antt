@@ -1,4 +1,4 @@
--- Cooperative matrices that are stored.
+-- Cooperative stores.
 use Rattle.std.specs.Prelude.{◌≡◌, ℕ, Option, Some, None}
 use Rattle.ir_types.specs.declared.expressions.CooperativeData.{CooperativeData}
 use Rattle.ir_kinds.specs.declared.scalars.Scalar.{Scalar}
@@ -8,11 +8,11 @@ use Rattle.spec_expressions.specs.judged.CooperativeMatrices.{pointed_scalar}
 use Rattle.spec_statements.specs.judged.BlockContext.{BlockContext, form_at}
 use Rattle.spec_statements.specs.judged.Stores.{IsWritable}
 
--- the scalar of a cooperative matrix
+-- the component type of a cooperative matrix
 abbrev pub matrix_scalar : Form → Option Scalar
 matrix_scalar t = elim t [ form.CooperativeMatrix columns rows s role ↦ Some s | _ ↦ None ]
 
--- A matrix goes where its scalars lie and may be written; the stride is of any type.
+-- The pointer points to the matrix's scalar in writable memory; the stride has any type.
 pub record CooperativeStoreOK (c : BlockContext) (target : ℕ) (place : CooperativeData) : Type 0 where
   pub scalar : Scalar
   pub matrix : matrix_scalar (form_at c target) ≡ Some scalar

@@ -1,7 +1,7 @@
--- Derivatives.
+-- The rules of derivatives.
 use Rattle.typing_forms.specs.declared.form.Form.{Form}
 use Rattle.spec_statements.specs.judged.Shapes.{IsScalarOrVector, IsFloating, IsMadeOf}
 
--- floats, alone or in a row
+-- scalar or vector of floats
 abbrev pub DerivativeOK : (of : Form) → Type 0
 DerivativeOK of = IsMadeOf IsScalarOrVector IsFloating of

@@ -1,4 +1,4 @@
--- What statements may answer.
+-- Result expressions of statements.
 use Rattle.std.specs.Prelude.{◌≡◌, ℕ, List, [], ◌∷◌, Option, Some, Bool, true, false, IsSomeAnd, codes}
 use Rattle.ir_flags.specs.declared.settings.Capabilities.{Capabilities}
 use Rattle.ir_types.specs.judged.Plain.{PlainInner, PlainMember, struct, PlainType}
@@ -10,11 +10,11 @@ use Rattle.typing_forms.specs.judged.Resolutions.{inner_at}
 use Rattle.typing_forms.specs.declared.form.Form.{Form}
 use Rattle.spec_statements.specs.judged.Shapes.{shaped_of, IsScalarShape, IsBool, IsMadeOf}
 
--- a scalar that atomics have
+-- a valid atomic scalar
 abbrev pub IsAtomicValue : Capabilities → Form → Type 0
 IsAtomicValue capabilities t = IsSomeAnd (shaped_of t) (λ x. IsScalarShape x.shape × AtomicOK capabilities x.scalar)
 
--- the value that was there, which is as `IsOld` says, and whether it was exchanged
+-- the old value, which satisfies `IsOld`, and whether it was exchanged
 pub record AreExchanged (IsOld : Form → Type 0) (types : List PlainType) (old exchanged : PlainMember) : Type 0 where
   pub old_name : old.name ≡ Some (codes "old_value")
   pub old_type : IsOld (form_of_type types old.ty)
@@ -25,19 +25,19 @@ abbrev pub AreExchangeMembers : (IsOld : Form → Type 0) → List PlainType →
 AreExchangeMembers IsOld types (old ∷ exchanged ∷ []) = AreExchanged IsOld types old exchanged
 AreExchangeMembers IsOld types _ = ⊥
 
--- a struct of exactly these members
+-- a struct with exactly these members
 abbrev pub IsExchangeOf : (IsOld : Form → Type 0) → List PlainType → Option PlainInner → Type 0
 IsExchangeOf IsOld types o = elim o [ Some (struct members span) ↦ AreExchangeMembers IsOld types members | _ ↦ ⊥ ]
 
--- of a scalar that atomics have
+-- with a valid atomic scalar
 abbrev pub IsExchange : Capabilities → List PlainType → Option PlainInner → Type 0
 IsExchange capabilities = IsExchangeOf (IsAtomicValue capabilities)
 
--- an atomic operation answers a scalar, and an exchange that compares a struct of it
+-- the result of an atomic operation is a scalar, and that of a compare-exchange a struct with it
 abbrev pub AtomicResultTypeOK : Capabilities → List PlainType → (type : ℕ) → (comparison : Bool) → Type 0
 AtomicResultTypeOK capabilities types type false = IsAtomicValue capabilities (form_of_type types type)
 AtomicResultTypeOK capabilities types type true = IsExchange capabilities types (inner_at types type)
 
--- values of a size that is known, which can be composed
+-- types of known size that can be constructed
 abbrev pub UniformLoadOK : List PlainType → (type : ℕ) → Type 0
 UniformLoadOK types type = HasFlag Sized (type_tree types type) × HasFlag Constructible (type_tree types type)

@@ -1,4 +1,4 @@
--- How texels are loaded, and what is required of images.
+-- Image loads and image queries.
 use Rattle.std.specs.Prelude.{◌≡◌, ℕ, List, Option, Some, None, true, IsSomeAnd}
 use Rattle.ir_types.specs.declared.expressions.ImageQuery.{ImageQuery}
 use Rattle.ir_types.specs.declared.expressions.ImageQuery.TheVariants.{Size, NumLevels, NumLayers, NumSamples}
@@ -16,21 +16,21 @@ use Rattle.spec_statements.specs.declared.shapes.ImageType.{ImageType}
 
 -- ---- loads
 
--- the number of a texel each way, of any integers; those of cubes have none
+-- an integer coordinate of the image's dimension; cube images have no loads
 abbrev pub IsFlat : ImageDimension → Type 0
 IsFlat dim = elim dim [ D1 ↦ Unit {0} | D2 ↦ Unit {0} | D3 ↦ Unit {0} | Cube ↦ ⊥ ]
 
 abbrev pub IsTexelCoordinate : ImageDimension → (coordinate : Form) → Type 0
 IsTexelCoordinate dim coordinate = IsFlat dim × IsSomeAnd (shaped_of coordinate) (λ x. IsInteger x.scalar.kind × (coordinate ≡ coordinate_form dim x.scalar))
 
--- storage images are loaded from where they allow it
+-- storage images need the `LOAD` access
 abbrev pub IsReadable : ImageClass → Type 0
 IsReadable (Sampled kind multi) = Unit {0}
 IsReadable (Depth multi) = Unit {0}
 IsReadable External = Unit {0}
 IsReadable (Storage format access) = Has access.0 LOAD.0
 
--- a texel, with its layer, its sample and its level each exactly where the image has several
+-- a texel, with an array index, a sample index and a level each exactly if the image has them
 pub record IsTexelLoad (forms : List Form) (image : ImageType) (texel : ℕ) (array_index of_texel of_image : Option ℕ) : Type 0 where
   pub coordinate : IsTexelCoordinate image.dim (form_among forms texel)
   pub layer : ExactlyIf image.arrayed array_index (λ layer. IsIntegerScalar (form_among forms layer))
@@ -44,7 +44,7 @@ ImageLoadOK forms image coordinate array_index sample level =
 
 -- ---- queries
 
--- the size at a level, and how many levels there are, where there are several; how many layers; how many samples
+-- the size at a level, and the number of levels, if the image is mipmapped; the number of layers; the number of samples
 abbrev pub IsAnswered : (forms : List Form) → ImageQuery → ImageType → Type 0
 IsAnswered forms (Size None) image = Unit {0}
 IsAnswered forms (Size (Some level)) image = (is_mipmapped image.class ≡ true) × IsIntegerScalar (form_among forms level)

@@ -1,4 +1,4 @@
--- How images are sampled.
+-- Image samples and gathers.
 use Rattle.std.specs.Prelude.{◌≡◌, ◌≢◌, ◌⊎◌, ℕ, List, Option, Some, None, Bool, true, false, is_some, IfSome, IsSomeAnd}
 use Rattle.ir_types.specs.judged.ExpressionPlain.{PlainExpression}
 use Rattle.ir_types.specs.declared.expressions.SampleLevel.{SampleLevel}
@@ -25,7 +25,7 @@ use Rattle.spec_statements.specs.declared.shapes.Sampling.{Sampling}
 abbrev pub IsFloat32 : Form → Type 0
 IsFloat32 t = t ≡ form.Scalar (floating 4)
 
--- texels that are not floats are only gathered
+-- texels other than floats can only be gathered
 abbrev pub IsFiltered : ImageClass → (gather : Option SwizzleComponent) → Type 0
 IsFiltered (Sampled kind multi) (Some letter) = Unit {0}
 IsFiltered (Sampled kind multi) None = kind ≡ Float
@@ -33,23 +33,23 @@ IsFiltered (Depth multi) gather = Unit {0}
 IsFiltered External gather = Unit {0}
 IsFiltered (Storage format access) gather = Unit {0}
 
--- of squares and of cubes
+-- two-dimensional and cube images
 abbrev pub HasNeighbours : ImageDimension → Type 0
 HasNeighbours dim = elim dim [ D2 ↦ Unit {0} | Cube ↦ Unit {0} | _ ↦ ⊥ ]
 
--- four texels of the finest level; of depths their one component
+-- a gather is at level zero; of depth images the component is `X`
 pub record IsGathered (image : ImageType) (level : SampleLevel) (letter : SwizzleComponent) : Type 0 where
   pub neighbours : HasNeighbours image.dim
   pub finest : level ≡ Zero
   pub component : is_depth image.class ≡ true → letter ≡ X
 
--- an offset is constant, with so many texels each way; on cubes there is none
+-- an offset is const, with an integer for each dimension; cube images have none
 pub record IsOffset (expressions : List PlainExpression) (forms : List Form) (dim : ImageDimension) (offset : ℕ) : Type 0 where
   pub known : IsOfKind expressions offset Const
   pub texels : form_among forms offset ≡ coordinate_form dim (signed 4)
   pub flat : dim ≢ Cube
 
--- a level is a float, of depth images also an integer; gradients have the type of the coordinate
+-- a level is a 32-bit float, or for depth images an integer; gradients have the type of the coordinate
 abbrev pub IsLevel : (forms : List Form) → ImageClass → (coordinate : Form) → SampleLevel → Type 0
 IsLevel forms class coordinate Auto = Unit {0}
 IsLevel forms class coordinate Zero = Unit {0}
@@ -57,26 +57,26 @@ IsLevel forms class coordinate (Exact level) = IsFloat32 (form_among forms level
 IsLevel forms class coordinate (Bias bias) = IsFloat32 (form_among forms bias)
 IsLevel forms class coordinate (Gradient right below) = (form_among forms right ≡ coordinate) × (form_among forms below ≡ coordinate)
 
--- of floats, in a flat image without layers
+-- a two-dimensional float image that is not arrayed
 abbrev pub IsClamped : ImageType → Type 0
 IsClamped image = (image.dim ≡ D2) × (image.arrayed ≡ false) × ((multi : Bool) × (image.class ≡ Sampled Float multi))
 
--- external images are always clamped, others where they may be
+-- external images are always clamped, others only if they allow it
 abbrev pub ClampOK : ImageType → (clamp_to_edge : Bool) → Type 0
 ClampOK image clamp_to_edge = elim clamp_to_edge [ true ↦ (image.class ≡ External) ⊎ IsClamped image | false ↦ image.class ≢ External ]
 
--- external images are sampled at level zero, without gather or offset
+-- external images are sampled at level zero, without a gather or an offset
 abbrev pub ExternalOK : ImageClass → (gather : Option SwizzleComponent) → (offset : Option ℕ) → SampleLevel → Type 0
 ExternalOK class gather offset level = class ≡ External → (level ≡ Zero) × (gather ≡ None) × (offset ≡ None)
 
 pub record IsSampled (expressions : List PlainExpression) (forms : List Form) (image : ImageType) (by : Sampling) : Type 0 where
-  -- a sampler compares exactly where there is something to compare with: a float, and depths
+  -- a comparison sampler exactly if there is a depth reference: a float, with a depth image
   pub sampler : IsSomeAnd (sampler_of (form_among forms by.sampler)) (λ comparison. comparison ≡ is_some by.depth_ref)
   pub compared : IfSome by.depth_ref (λ reference. IsFloat32 (form_among forms reference) × (is_depth image.class ≡ true))
-  -- a texel has one sample
+  -- the image is not multisampled
   pub single : is_multisampled image.class ≡ false
   pub filtered : IsFiltered image.class by.gather
-  -- a place in the image, and a layer exactly where there are layers
+  -- a coordinate of the image's dimension, and an array index exactly if it is arrayed
   pub coordinate : form_among forms by.coordinate ≡ coordinate_form image.dim (floating 4)
   pub layer : ExactlyIf image.arrayed by.array_index (λ layer. IsIntegerScalar (form_among forms layer))
   pub offset : IfSome by.offset (IsOffset expressions forms image.dim)

@@ -1,4 +1,4 @@
--- The variables of a function, what it is given and what it answers.
+-- The variables, arguments and result of a function.
 use Rattle.std.specs.Prelude.{◌≡◌, ◌⊎◌, ℕ, Some, None, Bool, false, IfSome, slice_get}
 use Rattle.ir_items.specs.judged.Plain.{PlainArgument, PlainLocal, PlainModule}
 use Rattle.ir_items.specs.declared.functions.FunctionResult.{FunctionResult}
@@ -12,9 +12,9 @@ use Rattle.typing_layout.specs.declared.constness.ExpressionKind.TheVariants.{Co
 use Rattle.spec_statements.specs.judged.BlockContext.{BlockContext, form_at}
 use Rattle.spec_statements.specs.judged.Stores.{pointer_space}
 
--- ---- variables
+-- ---- local variables
 
--- What a variable begins as is of its type, and known before the shader runs.
+-- A variable's initializer is of its type, and const or override.
 pub record BeginsAs (c : BlockContext) (ty init : ℕ) : Type 0 where
   pub fits : form_at c init ≡ form_of_type c.m.types ty
   pub known : IsOfKind c.f.expressions init Const ⊎ IsOfKind c.f.expressions init Override
@@ -25,11 +25,11 @@ pub record LocalOK (c : BlockContext) (local : PlainLocal) : Type 0 where
 
 -- ---- arguments
 
--- functions are given pointers to variables of one invocation alone
+-- arguments may only be pointers into the function and private spaces
 abbrev pub IsGiven : AddressSpace → Type 0
 IsGiven s = elim s [ space.Function ↦ Unit {0} | space.Private ↦ Unit {0} | _ ↦ ⊥ ]
 
--- entry says that the function is an entry point's, which alone has bindings
+-- entry: the function is an entry point's; no other function has bindings
 pub record ArgumentOK (m : PlainModule) (entry : Bool) (a : PlainArgument) : Type 0 where
   pub space : IfSome (pointer_space (form_of_type m.types a.ty)) IsGiven
   pub argument : HasFlag Argument (type_tree m.types a.ty)
@@ -41,7 +41,7 @@ pub record ResultOK (m : PlainModule) (entry : Bool) (r : FunctionResult) : Type
   pub constructible : HasFlag Constructible (type_tree m.types r.ty)
   pub unbound : entry ≡ false → r.binding ≡ None
 
--- The variables, the arguments and the result of a function.
+-- The local variables, the arguments and the result of a function are valid.
 pub record InterfaceOK (c : BlockContext) (entry : Bool) : Type 0 where
   pub locals : (i : ℕ) (local : PlainLocal) → slice_get c.f.locals i ≡ Some local → LocalOK c local
   pub arguments : (i : ℕ) (a : PlainArgument) → slice_get c.f.arguments i ≡ Some a → ArgumentOK c.m entry a

@@ -1,4 +1,4 @@
--- When the functions of a module are accepted.
+-- Which functions of a module are valid.
 use Rattle.std.specs.Prelude.{◌≡◌, ◌<◌, ℕ, List, false, Option, Some, length, slice_get}
 use Rattle.ir_flags.specs.declared.stages.ShaderStages.{ShaderStages}
 use Rattle.ir_flags.specs.declared.settings.Settings.{Settings}
@@ -11,8 +11,8 @@ use Rattle.spec_statements.specs.judged.Analysis.{IsAnalysed}
 use Rattle.spec_statements.specs.judged.EarlierPayloads.{IsPayloadBefore}
 use Rattle.spec_statements.specs.judged.Functions.{Reading, FunctionOK}
 
--- What is said of a function of a module: the types of its expressions by the rules of their kinds, the analysis by chains of
--- calls, the checks of expressions, and which stages may run an expression where these may run the functions that it calls.
+-- The lower layer for a function of a module: the types of its expressions by the typing rules, the analysis over call
+-- chains, the checks of expressions, and which stages may run an expression, given those that may run its callees.
 abbrev pub reading_over : (callees : List ShaderStages) → PlainModule → PlainFunction → Reading
 reading_over callees m f = record {
   HasForm = HasType m f;
@@ -21,7 +21,7 @@ reading_over callees m f = record {
   IsRunBy = IsRunBy callees f.expressions;
 }
 
--- The function at an index of a module meets the rules of functions, with what those before it leave to it, whichever stages may
+-- The function at an index of a module meets the rules of functions, given what the earlier ones contribute, whichever stages may
 -- run its callees.
 pub record FunctionAtOK (s : Settings) (m : PlainModule) (index : ℕ) : Type 0 where
   pub function : PlainFunction
@@ -30,6 +30,6 @@ pub record FunctionAtOK (s : Settings) (m : PlainModule) (index : ℕ) : Type 0 
   pub before : IsPayloadBefore s.flags m index held
   pub ok : (callees : List ShaderStages) → FunctionOK (reading_over callees m function) s false held m function
 
--- all functions of a module do
+-- all functions of a module are valid
 abbrev pub FunctionsOK : Settings → PlainModule → Type 0
 FunctionsOK s m = (index : ℕ) → index < length m.functions → FunctionAtOK s m index

@@ -1,4 +1,4 @@
--- Which operands operations on one value and on two take.
+-- The operands that unary and binary operations allow.
 use Rattle.std.specs.Prelude.{◌≡◌, IsSomeAnd}
 use Rattle.ir_kinds.specs.judged.Scalars.{unsigned}
 use Rattle.ir_kinds.specs.declared.operators.BinaryOperator.{BinaryOperator}
@@ -12,32 +12,32 @@ use Rattle.spec_statements.specs.judged.Shapes.{shaped_of, form_of_shape, AnySha
 use Rattle.spec_statements.specs.declared.shapes.Shape.{Shape}
 use Rattle.spec_statements.specs.declared.shapes.Shape.TheVariants as shape
 
--- ---- on one value
+-- ---- unary operations
 
--- negative numbers are signed integers and floats
+-- negation is for signed integers and floats
 abbrev pub IsSigned : ScalarKind → Type 0
 IsSigned k = elim k [ kind.Sint ↦ Unit {0} | kind.Float ↦ Unit {0} | _ ↦ ⊥ ]
 
--- the scalars that an operation on one value takes
+-- the scalars that a unary operation allows
 abbrev pub TakesKind : UnaryOperator → ScalarKind → Type 0
 TakesKind Negate k = IsSigned k
 TakesKind LogicalNot k = IsBool k
 TakesKind BitwiseNot k = IsInteger k
 
--- the operand is made of such scalars, whatever its shape
+-- the operand consists of such scalars, in any shape
 abbrev pub UnaryOK : UnaryOperator → (of : Form) → Type 0
 UnaryOK op of = IsMadeOf AnyShape (TakesKind op) of
 
--- ---- on two values
+-- ---- binary operations
 
--- truth values and integers
+-- bools and integers
 abbrev pub IsIntegerOrBool : ScalarKind → Type 0
 IsIntegerOrBool kind.Sint = Unit {0}
 IsIntegerOrBool kind.Uint = Unit {0}
 IsIntegerOrBool kind.Bool = Unit {0}
 IsIntegerOrBool _ = ⊥
 
--- numbers alone and in a row, and any matrix
+-- numeric scalars and vectors, and any matrix
 abbrev pub IsAdded : Shape → ScalarKind → Type 0
 IsAdded shape.Scalar k = IsNumeric k
 IsAdded (shape.Vector n) k = IsNumeric k
@@ -47,8 +47,8 @@ IsAdded (shape.CooperativeMatrix columns rows role) k = Unit {0}
 abbrev pub SumOK : (left right : Form) → Type 0
 SumOK left right = (left ≡ right) × IsSomeAnd (shaped_of left) (λ x. IsAdded x.shape x.scalar.kind)
 
--- A scalar scales anything. Rows are as long as each other; the rows and the columns of a matrix are multiplied with as long
--- a row; and of two matrices the left one has as many columns as the right one has rows.
+-- A scalar scales anything. Two vectors have the same size; a vector matches the columns of a matrix to its left, and the
+-- rows of one to its right; and of two matrices the left one has as many columns as the right one has rows.
 abbrev pub AreMultiplied : (left right : Shape) → Type 0
 AreMultiplied shape.Scalar right = Unit {0}
 AreMultiplied (shape.Vector n) shape.Scalar = Unit {0}
@@ -60,15 +60,15 @@ AreMultiplied (shape.Matrix columns rows) (shape.Matrix more lines) = columns �
 AreMultiplied (shape.CooperativeMatrix columns rows role) shape.Scalar = Unit {0}
 AreMultiplied _ _ = ⊥
 
--- of one scalar, in shapes that are multiplied
+-- two operands of the same scalar, in shapes that can be multiplied
 abbrev pub ProductOK : (left right : Form) → Type 0
 ProductOK left right = IsSomeAnd (shaped_of left) (λ x. IsSomeAnd (shaped_of right) (λ y. (x.scalar ≡ y.scalar) × AreMultiplied x.shape y.shape))
 
--- two of one type, made of such scalars in such a shape
+-- two operands of the same type, with such scalars in such a shape
 abbrev pub AreAlike : (Shape → Type 0) → (ScalarKind → Type 0) → (left right : Form) → Type 0
 AreAlike In Of left right = (left ≡ right) × IsMadeOf In Of left
 
--- integers of any shape, shifted by as many 32-bit unsigned ones
+-- integers of any shape, and shift amounts of the same shape of 32-bit unsigned integers
 abbrev pub ShiftOK : (left right : Form) → Type 0
 ShiftOK left right = IsSomeAnd (shaped_of left) (λ x. IsInteger x.scalar.kind × (right ≡ form_of_shape x.shape (unsigned 4)))
 

@@ -1,4 +1,4 @@
--- Rays that a pipeline traces.
+-- Ray tracing pipelines.
 use Rattle.std.specs.Prelude.{ℕ, IsSome, IsSomeAnd}
 use Rattle.ir_blocks.specs.declared.operations.RayPipelineFunction.{RayPipelineFunction}
 use Rattle.ir_blocks.specs.declared.operations.RayPipelineFunction.TheVariants as pipeline
@@ -8,11 +8,11 @@ use Rattle.spec_statements.specs.judged.BlockContext.{BlockContext, form_at}
 use Rattle.spec_statements.specs.judged.Variables.{variable_at}
 use Rattle.spec_statements.specs.judged.RayQueries.{structure_of, IsRayDescriptor}
 
--- the spaces of payloads: of what the shaders on a ray's way are handed
+-- the spaces of payloads: `RayPayload` and `IncomingRayPayload`
 abbrev pub IsPayloadSpace : AddressSpace → Type 0
 IsPayloadSpace s = elim s [ space.RayPayload ↦ Unit {0} | space.IncomingRayPayload ↦ Unit {0} | _ ↦ ⊥ ]
 
--- In what a ray is traced, how it is described, and its payload.
+-- The acceleration structure, the ray descriptor, and the payload.
 pub record TraceOK (c : BlockContext) (acceleration_structure descriptor payload : ℕ) : Type 0 where
   pub structure : IsSome (structure_of (form_at c acceleration_structure))
   pub described : IsRayDescriptor c (form_at c descriptor)

@@ -1,4 +1,4 @@
--- What denotes the results of calls and of atomic operations is answered once.
+-- Each result expression of a call or an atomic operation is the result of one statement.
 use Rattle.std.specs.Prelude.{◌≡◌, ℕ, List, Option, Some, slice_get}
 use Rattle.ir_blocks.specs.judged.Places.{Place, OccursAt}
 use Rattle.ir_blocks.specs.judged.Plain.{PlainStatement, PlainBlock}
@@ -10,20 +10,20 @@ use Rattle.ir_flags.specs.declared.settings.TheConstants.ValidationFlags.{EXPRES
 use Rattle.ir_items.specs.judged.Plain.{PlainFunction}
 use Rattle.spec_expressions.specs.judged.Kinds.{statement_row}
 
--- what a call or an atomic operation answers by
+-- the result expression of a call or an atomic operation
 abbrev pub answer_of : PlainStatement → Option ℕ
 answer_of s = (statement_row s).answer
 
--- the statement at the place answers by the expression
+-- the statement at the place has the result expression
 abbrev pub AnswersBy : PlainBlock → Place → ℕ → Type 0
 AnswersBy b p e = (s : PlainStatement) × OccursAt b p s × (answer_of s ≡ Some e)
 
--- the expression denotes the result of a call or of an atomic operation
+-- the expression is a result of a call or of an atomic operation
 pub data DenotesResult (expressions : List PlainExpression) (e : ℕ) : Type 0 where
   of_call : {function : ℕ} → slice_get expressions e ≡ Some (plain (x.CallResult function)) → DenotesResult expressions e
   of_atomic : {type : ℕ} {comparison : _} → slice_get expressions e ≡ Some (plain (x.AtomicResult type comparison)) → DenotesResult expressions e
 
--- No two statements answer by one expression, each that denotes an answer is answered by one; and without the checks of
+-- No two statements have the same result expression, and each result expression has a statement; and without the checks of
 -- expressions no call and no atomic operation has a result.
 pub record AnsweredOnce (flags : ValidationFlags) (f : PlainFunction) : Type 0 where
   pub once : (p q : Place) (e : ℕ) → AnswersBy f.body p e → AnswersBy f.body q e → p ≡ q

@@ -1,4 +1,4 @@
--- What the checks of an expression may look at.
+-- The context of the checks of an expression.
 use Rattle.std.specs.Prelude.{◌≡◌, ℕ, List, Some, length, slice_get, unwrap_or}
 use Rattle.ir_types.specs.judged.ExpressionPlain.{PlainExpression}
 use Rattle.ir_flags.specs.declared.settings.Capabilities.{Capabilities}
@@ -9,7 +9,7 @@ use Rattle.typing_forms.specs.declared.form.Form.TheVariants as form
 use Rattle.spec_expressions.specs.judged.Context.{Context}
 use Rattle.spec_expressions.specs.judged.Typing.{HasTypeAmong}
 
--- The capabilities, the module's types, all expressions among which the one stands, and the canonical forms of their types.
+-- The capabilities, the module's types, the list of expressions that contains it, and the canonical forms of their types.
 pub record Scene : Type 0 where
   pub capabilities : Capabilities
   pub types : List PlainType
@@ -24,7 +24,7 @@ form_among forms place = unwrap_or (slice_get forms place) form.Nothing
 abbrev pub scene_of : Capabilities → PlainModule → PlainFunction → List Form → Scene
 scene_of capabilities m f forms = record { capabilities = capabilities; types = m.types; expressions = f.expressions; forms = forms }
 
--- at the module's top
+-- among the module's global expressions
 abbrev pub global_scene : Capabilities → PlainModule → List Form → Scene
 global_scene capabilities m forms = record { capabilities = capabilities; types = m.types; expressions = m.global_expressions; forms = forms }
 

@@ -1,4 +1,4 @@
--- Which expressions are in scope at a place of a body.
+-- Scope of expressions at a place of a body.
 use Rattle.std.specs.Prelude.{◌≡◌, ◌⊎◌, ℕ, Bool, true, false, Contains, IsSomeAnd, slice_get}
 use Rattle.ir_blocks.specs.judged.Places.{Place, Before, spot_at}
 use Rattle.ir_blocks.specs.judged.Plain.{PlainBlock}
@@ -13,19 +13,19 @@ is_pre_emitted e = elim e [ compose type components ↦ false | plain expression
 abbrev pub PreEmitted : PlainFunction → ℕ → Type 0
 PreEmitted f e = IsSomeAnd (slice_get f.expressions e) (λ x. is_pre_emitted x ≡ true)
 
--- the statement at the place brings the expression into scope
+-- the statement at the place introduces the expression
 abbrev pub Introduces : PlainBlock → Place → ℕ → Type 0
 Introduces b p e = Contains (introduced_at (spot_at p b)) e
 
--- what stands at the place uses the expression, which has to be in scope
+-- the statement or condition at the place uses the expression, which must be in scope
 abbrev pub Checks : PlainBlock → Place → ℕ → Type 0
 Checks b p e = Contains (checked_at (spot_at p b)) e
 
--- always, or something before the place has brought it
+-- always, or a statement before the place has introduced it
 abbrev pub InScope : PlainFunction → Place → ℕ → Type 0
 InScope f p e = PreEmitted f e ⊎ ((q : Place) × Before q p × Introduces f.body q e)
 
--- What is used is in scope, and what is brought into scope is not there already.
+-- Used expressions are in scope, and introduced expressions are not in scope already.
 pub record ScopeOK (f : PlainFunction) : Type 0 where
   pub in_scope : (p : Place) (e : ℕ) → Checks f.body p e → InScope f p e
   pub fresh : (p : Place) (e : ℕ) → Introduces f.body p e → InScope f p e → ⊥

@@ -1,4 +1,4 @@
--- The rule of each kind of statement, what stands inside it, scope and control aside.
+-- The rule of each kind of statement, without nested statements, scope and control flow.
 use Rattle.std.specs.Prelude.{IfSome}
 use Rattle.ir_blocks.specs.judged.Plain.{PlainOperation, control_barrier, memory_barrier, store, image_store, atomic, image_atomic, uniform_load, ray_query, ballot, collective, gather, cooperative_store, ray_pipeline, PlainStatement, emit, block, if_, switch, loop, break, continue, return, kill, operation, call}
 use Rattle.spec_statements.specs.judged.Atomics.{AtomicStatementOK}

@@ -1,4 +1,4 @@
--- Texels that are written, and texels that are changed atomically.
+-- Image stores and image atomics.
 use Rattle.std.specs.Prelude.{◌≡◌, ℕ, List, Option, Some, None, IsSomeAnd, option_and_then}
 use Rattle.std.specs.Option.{option_or}
 use Rattle.ir_blocks.specs.declared.operations.AtomicFunction.{AtomicFunction}
@@ -27,32 +27,32 @@ use Rattle.spec_statements.specs.judged.Variables.{variable_at, accessed_at}
 
 -- ---- the image
 
--- the type of the resources of an array of such
+-- the element type of a binding array
 abbrev pub resource_of : Form → Option ℕ
 resource_of t = elim t [ form.BindingArray base size ↦ Some base | _ ↦ None ]
 
--- texels are written in a global variable that is an image, or in one of an array of images
+-- an image store is to a global variable that is an image, or to an element of a binding array of images
 abbrev pub written_image : PlainModule → PlainFunction → (image : ℕ) → Option ImageType
 written_image m f image = option_or (option_and_then (λ g. image_type_of (form_of_type m.types g.ty)) (variable_at m f image))
     (option_and_then (λ g. option_and_then (λ r. image_type_of (form_of_type m.types r)) (resource_of (form_of_type m.types g.ty))) (accessed_at m f image))
 
--- an array of images counts as one of them
+-- a binding array of images counts as one of its elements
 abbrev pub image_type_in : List PlainType → Form → Option ℕ → Option ImageType
 image_type_in types t o = elim o [ Some resource ↦ image_type_of (form_of_type types resource) | None ↦ image_type_of t ]
 
--- texels are changed atomically in a global variable, or in an element of one, which are images or arrays of them
+-- an image atomic is on a global variable, or an element of one, that is an image or a binding array of images
 abbrev pub changed_image : PlainModule → PlainFunction → (image : ℕ) → Option ImageType
 changed_image m f image = option_and_then (λ g. image_type_in m.types (form_of_type m.types g.ty) (resource_of (form_of_type m.types g.ty)))
     (option_or (variable_at m f image) (accessed_at m f image))
 
 -- ---- the texel
 
--- A texel of the image: its coordinate, and its layer exactly where there are several.
+-- A texel of the image: its coordinate, and an array index exactly if it is arrayed.
 pub record IsTexelOf (c : BlockContext) (image : ImageType) (coordinate : ℕ) (array_index : Option ℕ) : Type 0 where
   pub flat : IsTexelCoordinate image.dim (form_at c coordinate)
   pub layer : ExactlyIf image.arrayed array_index (λ layer. IsIntegerScalar (form_at c layer))
 
--- a value of the image's format
+-- a value of the storage format
 abbrev pub IsWritten : ImageClass → (value : Form) → Type 0
 IsWritten o value = elim o [ class.Storage format access ↦ value ≡ form.Vector Quad (format_scalar format) | _ ↦ ⊥ ]
 
@@ -60,12 +60,12 @@ abbrev pub ImageStoreOK : BlockContext → (image coordinate : ℕ) → (array_i
 ImageStoreOK c image coordinate array_index value =
     IsSomeAnd (written_image c.m c.f image) (λ image_type. IsTexelOf c image_type coordinate array_index × IsWritten image_type.class (form_at c value))
 
--- ---- what is done with it
+-- ---- the operation
 
 abbrev pub IsMinOrMax : AtomicFunction → Type 0
 IsMinOrMax done = elim done [ fun.Min ↦ Unit {0} | fun.Max ↦ Unit {0} | _ ↦ ⊥ ]
 
--- all but subtractions and exchanges
+-- all but subtraction and exchange
 abbrev pub IsDoneAtTexels : AtomicFunction → Type 0
 IsDoneAtTexels fun.Add = Unit {0}
 IsDoneAtTexels fun.And = Unit {0}
@@ -75,13 +75,13 @@ IsDoneAtTexels fun.Min = Unit {0}
 IsDoneAtTexels fun.Max = Unit {0}
 IsDoneAtTexels _ = ⊥
 
--- What the texels of a format are changed by, with the capability that it needs.
+-- The atomic operations on a format, with the required capability.
 pub data FormatAllows (capabilities : Capabilities) (done : AtomicFunction) : StorageFormat → Type 0 where
   wide : Has capabilities.0 TEXTURE_INT64_ATOMIC.0 → IsMinOrMax done → FormatAllows capabilities done format.R64Uint
   unsigned : Has capabilities.0 TEXTURE_ATOMIC.0 → IsDoneAtTexels done → FormatAllows capabilities done format.R32Uint
   signed : Has capabilities.0 TEXTURE_ATOMIC.0 → IsDoneAtTexels done → FormatAllows capabilities done format.R32Sint
 
--- The image allows that a texel is changed so by the value.
+-- The image allows the atomic operation with the value.
 pub record IsChangedBy (capabilities : Capabilities) (format : StorageFormat) (access : StorageAccess) (done : AtomicFunction) (value : Form) : Type 0 where
   pub atomic : Has access.0 ATOMIC.0
   pub allowed : FormatAllows capabilities done format

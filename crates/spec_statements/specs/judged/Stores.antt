@@ -1,4 +1,4 @@
--- Values that are stored.
+-- Stores.
 use Rattle.std.specs.Prelude.{◌≡◌, ℕ, List, Option, Some, None, IsSomeAnd, option_and_then, slice_get}
 use Rattle.ir_types.specs.judged.ExpressionPlain.{PlainExpression, plain}
 use Rattle.ir_types.specs.declared.expressions.Expression.TheVariants as x
@@ -14,18 +14,18 @@ use Rattle.typing_forms.specs.judged.Resolutions.{inner_at}
 use Rattle.spec_expressions.specs.judged.Loads.{loaded, loaded_value}
 use Rattle.spec_statements.specs.judged.BlockContext.{BlockContext, form_at}
 
--- ---- where
+-- ---- the pointer
 
--- the base of the access that an expression is, if it is one
+-- the base of the access, if the expression is one
 abbrev pub base_at : List PlainExpression → ℕ → Option ℕ
 base_at expressions e = option_and_then base_of (slice_get expressions e)
 
--- a chain of accesses begins at what is no access
+-- the root of an access chain is no access
 pub data BeginsAt (expressions : List PlainExpression) : ℕ → ℕ → Type 0 where
   itself : {e : ℕ} → base_at expressions e ≡ None → BeginsAt expressions e e
   through : {e base start : ℕ} → base_at expressions e ≡ Some base → BeginsAt expressions base start → BeginsAt expressions e start
 
--- variables and arguments
+-- local variables, global variables and arguments
 abbrev pub IsVariableOf : PlainExpression → Type 0
 IsVariableOf (plain (x.FunctionArgument number)) = Unit {0}
 IsVariableOf (plain (x.GlobalVariable variable)) = Unit {0}
@@ -35,17 +35,17 @@ IsVariableOf _ = ⊥
 abbrev pub IsVariableAt : List PlainExpression → ℕ → Type 0
 IsVariableAt expressions e = IsSomeAnd (slice_get expressions e) IsVariableOf
 
--- the space that a pointer points into
+-- the address space of a pointer
 abbrev pub pointer_space : Form → Option AddressSpace
 pointer_space t = elim t [ form.Pointer base space ↦ Some space | form.ValuePointer n s space ↦ Some space | _ ↦ None ]
 
--- it is a pointer to what may be written
+-- it is a pointer into writable memory
 abbrev pub IsWritable : (pointer : Form) → Type 0
 IsWritable pointer = IsSomeAnd (pointer_space pointer) (λ space. Has (access_of space).0 STORE.0)
 
--- ---- what
+-- ---- the value
 
--- images and samplers are not stored
+-- images and samplers can't be stored
 abbrev pub IsStorable : (value : Form) → Type 0
 IsStorable (form.Image dim arrayed class) = ⊥
 IsStorable (form.Sampler comparison) = ⊥
@@ -63,13 +63,13 @@ IsStorable (form.RayQuery vertex_return) = Unit {0}
 IsStorable (form.BindingArray base size) = Unit {0}
 IsStorable form.Nothing = Unit {0}
 
--- it is of the type that would be loaded: of an atomic its scalar, and else what the pointer leads to
+-- the value has the type that a load would have: the scalar of an atomic, and otherwise the base type
 abbrev pub FitsAt : List PlainType → (pointer value : Form) → Type 0
 FitsAt types (form.Pointer base space) value = value ≡ loaded types base (inner_at types base)
 FitsAt types (form.ValuePointer n s space) value = value ≡ loaded_value n s
 FitsAt types _ value = ⊥
 
--- What may be stored, where it fits and may be written.
+-- A valid store: the value fits, and the memory is writable.
 pub record StoreOK (c : BlockContext) (pointer value : ℕ) : Type 0 where
   pub place : (start : ℕ) × BeginsAt c.f.expressions pointer start × IsVariableAt c.f.expressions start
   pub storable : IsStorable (form_at c value)

@@ -1,4 +1,4 @@
--- Operations of subgroups.
+-- Subgroup operations.
 use Rattle.std.specs.Prelude.{◌≡◌, ◌≤◌, ℕ, Option, Some, None, IfSome, IsSomeAnd, option_and_then, slice_get}
 use Rattle.ir_blocks.specs.declared.operations.GatherMode.{GatherMode}
 use Rattle.ir_types.specs.judged.ExpressionPlain.{PlainExpression, plain}
@@ -24,7 +24,7 @@ use Rattle.spec_statements.specs.declared.shapes.Shape.{Shape}
 use Rattle.spec_expressions.specs.judged.Operands.{gather_index, gather_row}
 use Rattle.spec_statements.specs.judged.BlockContext.{BlockContext, form_at}
 
--- ---- what is needed
+-- ---- requirements
 
 abbrev pub collective_needs : SubgroupOperation → SubgroupOperationSet
 collective_needs op.All = VOTE
@@ -40,24 +40,24 @@ collective_needs op.Xor = ARITHMETIC
 abbrev pub gather_needs : GatherMode → SubgroupOperationSet
 gather_needs how = (gather_row how).needs
 
--- The module may use subgroups, and the operation.
+-- The validator allows subgroups, and the operation.
 pub record HasOperation (c : BlockContext) (needed : SubgroupOperationSet) : Type 0 where
   pub capable : Has c.capabilities.0 SUBGROUP.0
   pub supported : Has c.operations.0 needed.0
 
--- ---- answers
+-- ---- results
 
 -- the type that a `SubgroupOperationResult` declares
 abbrev pub answered_type : PlainExpression → Option ℕ
 answered_type e = elim e [ plain (x.SubgroupOperationResult type) ↦ Some type | _ ↦ None ]
 
--- the answer is of the argument's type
+-- the result has the argument's type
 abbrev pub AnswersAs : BlockContext → (argument result : ℕ) → Type 0
 AnswersAs c argument result = IsSomeAnd (option_and_then answered_type (slice_get c.f.expressions result)) (λ t. form_of_type c.m.types t ≡ form_at c argument)
 
 -- ---- ballots
 
--- the predicate of a ballot is bool or absent
+-- the predicate of a ballot is `bool` or absent
 pub record BallotOK (c : BlockContext) (predicate : Option ℕ) : Type 0 where
   pub operation : HasOperation c BALLOT
   pub truth : IfSome predicate (λ e. form_at c e ≡ form.Scalar boolean)
@@ -71,7 +71,7 @@ IsSubgroupNumber kind.Uint = Unit {0}
 IsSubgroupNumber kind.Float = Unit {0}
 IsSubgroupNumber _ = ⊥
 
--- truth values are required one by one; bits are of integers of four bytes up
+-- `All` and `Any` take scalar bools; bit operations take integers of at least 32 bits
 abbrev pub TakesShape : SubgroupOperation → Shape → Scalar → Type 0
 TakesShape op.All shape s = IsScalarShape shape × IsBool s.kind
 TakesShape op.Any shape s = IsScalarShape shape × IsBool s.kind
@@ -86,7 +86,7 @@ TakesShape op.Xor shape s = IsScalarOrVector shape × IsInteger s.kind × (4 ≤
 abbrev pub IsScanned : SubgroupOperation → Type 0
 IsScanned o = elim o [ op.Add ↦ Unit {0} | op.Mul ↦ Unit {0} | _ ↦ ⊥ ]
 
--- reductions are of all operations, scans of sums and products
+-- reductions allow all operations, scans only `Add` and `Mul`
 abbrev pub GoesOver : CollectiveOperation → SubgroupOperation → Type 0
 GoesOver how operation = elim how [ over.Reduce ↦ Unit {0} | over.InclusiveScan ↦ IsScanned operation | over.ExclusiveScan ↦ IsScanned operation ]
 
@@ -98,7 +98,7 @@ pub record CollectiveOK (c : BlockContext) (done : SubgroupOperation) (over_all 
 
 -- ---- gathers
 
--- the index is known as the module is written
+-- the index is a const expression
 abbrev pub IndexIsKnown : BlockContext → GatherMode → Type 0
 IndexIsKnown c how = IfSome (gather_row how).constant (λ index. IsOfKind c.f.expressions index Const)
 

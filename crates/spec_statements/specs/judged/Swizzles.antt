@@ -1,4 +1,4 @@
--- Components of vectors in another order.
+-- Swizzles.
 use Rattle.std.specs.Prelude.{◌≡◌, ◌<◌, ℕ, List, Option, Some, None, IsSomeAnd, slice_get}
 use Rattle.ir_kinds.specs.judged.Scalars.{component_count, component_place}
 use Rattle.ir_kinds.specs.declared.scalars.SwizzleComponent.{SwizzleComponent}
@@ -11,7 +11,7 @@ use Rattle.spec_statements.specs.declared.shapes.Shape.TheVariants as shape
 abbrev pub row_size : Shape → Option VectorSize
 row_size s = elim s [ shape.Vector n ↦ Some n | _ ↦ None ]
 
--- of the pattern as many letters count as the size says, and each is that of a component
+-- the first components of the pattern, as many as the size, are each in bounds
 abbrev pub AreComponents : (size : VectorSize) → (pattern : List SwizzleComponent) → (of : VectorSize) → Type 0
 AreComponents size pattern of =
     (place : ℕ) (letter : SwizzleComponent) → place < component_count size → slice_get pattern place ≡ Some letter → component_place letter < component_count of

@@ -1,4 +1,4 @@
--- What a walk over a body carries: the expressions that have come into scope, in order.
+-- What a walk of a body carries: the expressions in scope so far, in order.
 use Rattle.std.specs.Prelude.{◌↔◌, ◌⊎◌, ℕ, List, [], ◌++◌, Contains}
 use Rattle.ir_blocks.specs.judged.Places.{Place, here, later, inside, condition}
 use Rattle.ir_blocks.specs.judged.Plain.{PlainStatement, PlainBlock, stop, next}
@@ -7,12 +7,12 @@ use Rattle.ir_items.specs.judged.Plain.{PlainFunction}
 use Rattle.spec_statements.specs.judged.Scope.{PreEmitted, InScope}
 use Rattle.spec_statements.specs.judged.Tables.{introduced}
 
--- what the statements of a block bring into scope, those inside them aside
+-- what the statements of a block introduce, without nested statements
 abbrev pub top_level : PlainBlock → List ℕ
 top_level stop = []
 top_level (next s rest) = introduced s ++ top_level rest
 
--- what is in scope where a part of a statement begins: in a continuing part also what the loop's body has brought
+-- the expressions in scope at the start of a nested block: in a continuing block also what the loop's body introduced
 abbrev pub entering : List ℕ → PlainStatement → Part → List ℕ
 entering outer s inner = outer
 entering outer s accepting = outer
@@ -21,11 +21,11 @@ entering outer s (case_at k) = outer
 entering outer s loop_body = outer
 entering outer s loop_continuing = outer ++ top_level (part_of (shape_of s) loop_body)
 
--- what is in scope at a loop's condition
+-- the expressions in scope at a loop's condition
 abbrev pub at_condition : List ℕ → PlainStatement → List ℕ
 at_condition outer s = (outer ++ top_level (part_of (shape_of s) loop_body)) ++ top_level (part_of (shape_of s) loop_continuing)
 
--- what is in scope at a place, where `outer` is in scope as the body begins
+-- the expressions in scope at a place, where `outer` are in scope before the body
 abbrev pub visible : (outer : List ℕ) → Place → PlainBlock → List ℕ
 visible outer here body = outer
 visible outer (later p) stop = outer
@@ -35,6 +35,6 @@ visible outer (inside part p) (next s rest) = visible (entering outer s part) p 
 visible outer condition stop = outer
 visible outer condition (next s rest) = at_condition outer s
 
--- at each place of a function, what is in scope is always so, or is carried there
+-- at each place of a function, an expression in scope is always so, or is carried there
 abbrev pub ScopeByWalk : Type 0
 ScopeByWalk = (f : PlainFunction) (p : Place) (e : ℕ) → InScope f p e ↔ (PreEmitted f e ⊎ Contains (visible [] p f.body) e)

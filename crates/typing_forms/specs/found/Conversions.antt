@@ -1,4 +1,4 @@
--- Which types are converted to which implicitly.
+-- Implicit conversions between types.
 use Rattle.std.specs.Prelude.{◌≡◌, ℕ, List, Option, Some, None, Bool, true, false, ◌==◌, ◌&&◌, if◌then◌else◌, IsSome}
 use Rattle.ir_kinds.specs.judged.Scalars.{component_count}
 use Rattle.ir_kinds.specs.declared.scalars.Scalar.{Scalar}
@@ -27,24 +27,24 @@ scalars_of (plain (inner.Matrix columns rows s)) (plain (inner.Matrix others lin
     if same_size columns others && same_size rows lines then Some (s, t) else None
 scalars_of _ _ = None
 
--- the elements' types of two arrays of one length
+-- the element types of two arrays of one length
 abbrev pub bases_of : PlainInner → PlainInner → Option (ℕ × ℕ)
 bases_of (plain (inner.Array base size stride)) (plain (inner.Array other length step)) =
     if same_count size length then Some (base, other) else None
 bases_of _ _ = None
 
--- Two types differ in these scalars alone, and in where arrays put their elements.
+-- Two types differ in these scalars only, and in array strides.
 pub data SameShape (types : List PlainType) : PlainInner → PlainInner → Scalar → Scalar → Type 0 where
   alike : {i j : PlainInner} {s t : Scalar} → scalars_of i j ≡ Some (s, t) → SameShape types i j s t
   elements : {i j k l : PlainInner} {s t : Scalar} {base other : ℕ} → bases_of i j ≡ Some (base, other)
       → inner_at types base ≡ Some k → inner_at types other ≡ Some l → SameShape types k l s t → SameShape types i j s t
 
--- the same of the types at two handles
+-- the element types of two arrays at two handles
 abbrev pub SameShapeAt : List PlainType → ℕ → ℕ → Scalar → Scalar → Type 0
 SameShapeAt types left right s t =
     (i : PlainInner) × (inner_at types left ≡ Some i) × (j : PlainInner) × (inner_at types right ≡ Some j) × SameShape types i j s t
 
--- what two types at handles give, if both are there
+-- the value for the types at two handles, if both exist
 abbrev pub both_found : {A : Type 0} → (PlainInner → PlainInner → Option A) → Option PlainInner → Option PlainInner → Option A
 both_found f (Some i) (Some j) = f i j
 both_found f (Some i) None = None
@@ -53,6 +53,6 @@ both_found f None other = None
 abbrev pub both_at : {A : Type 0} → (PlainInner → PlainInner → Option A) → List PlainType → ℕ → ℕ → Option A
 both_at f types left right = both_found f (inner_at types left) (inner_at types right)
 
--- the one type is converted to the other by converting these scalars
+-- the one type converts to the other by converting these scalars
 abbrev pub Converts : List PlainType → PlainInner → PlainInner → Scalar → Scalar → Type 0
 Converts types i j s t = SameShape types i j s t × IsSome (conversion s t)

@@ -1,10 +1,10 @@
--- Which types are equivalent.
+-- Equivalence of types.
 use Rattle.std.specs.Prelude.{◌≡◌, List, length}
 use Rattle.ir_types.specs.judged.Plain.{PlainType}
 use Rattle.typing_forms.specs.judged.Forms.{form_of}
 use Rattle.typing_forms.specs.judged.Resolutions.{PlainResolution, IsAmong}
 
--- both are there, and they have one canonical form
+-- both exist, and they have the same canonical form
 pub record AreEquivalent (types : List PlainType) (a b : PlainResolution) : Type 0 where
   pub first_among : IsAmong (length types) a
   pub second_among : IsAmong (length types) b

@@ -1,4 +1,4 @@
--- How many elements there are to index.
+-- Lengths of indexable types.
 use Rattle.std.specs.Prelude.{List, Option, Some, None, Result, Ok, Err}
 use Rattle.ir_kinds.specs.judged.Scalars.{component_count}
 use Rattle.ir_types.specs.judged.Plain.{PlainInner, plain, PlainType}
@@ -20,7 +20,7 @@ array_length (count.Constant n) = Ok (indexable.Known n)
 array_length (count.Pending override) = Err (fault.Pending (count.Pending override))
 array_length count.Dynamic = Ok indexable.Dynamic
 
--- the length of what has elements itself
+-- the length of a type that has elements itself
 abbrev pub elements_of : PlainInner → Length
 elements_of (plain (inner.Vector n s)) = Ok (indexable.Known (component_count n))
 elements_of (plain (inner.Matrix columns rows s)) = Ok (indexable.Known (component_count columns))
@@ -28,12 +28,12 @@ elements_of (plain (inner.Array base size stride)) = array_length size
 elements_of (plain (inner.BindingArray base size)) = array_length size
 elements_of _ = Err fault.TypeNotIndexable
 
--- the same of a type that may not be there
+-- the length of an indexable type, if there is a type
 abbrev pub elements_found : Option PlainInner → Length
 elements_found (Some i) = elements_of i
 elements_found None = Err fault.TypeNotIndexable
 
--- the length of what is indexed, also through a pointer to it
+-- the length of an indexable type, or of what a pointer points to
 abbrev pub length_of : List PlainType → PlainInner → Length
 length_of types (plain (inner.Pointer base space)) = elements_found (inner_at types base)
 length_of types (plain (inner.ValuePointer (Some n) s space)) = Ok (indexable.Known (component_count n))

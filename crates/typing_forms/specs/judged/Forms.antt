@@ -1,4 +1,4 @@
--- The canonical form of a type: what is left of it when names don't count, nor the way in which it is given.
+-- The canonical form of a type: it ignores names and whether the type is given by handle or by value.
 use Rattle.std.specs.Prelude.{ℕ, List, Option, Some, None}
 use Rattle.ir_kinds.specs.declared.spaces.AddressSpace.{AddressSpace}
 use Rattle.ir_types.specs.judged.Plain.{PlainInner, struct, plain, PlainType}
@@ -7,7 +7,7 @@ use Rattle.typing_forms.specs.judged.Resolutions.{inner_at, PlainResolution, by_
 use Rattle.typing_forms.specs.declared.form.Form.{Form}
 use Rattle.typing_forms.specs.declared.form.Form.TheVariants as form
 
--- a pointer to a type that is made of this: one to a scalar or a vector is its value pointer
+-- the form of a pointer to this inner type: one to a scalar or a vector is its value pointer
 abbrev pub pointing : ℕ → AddressSpace → Option PlainInner → Form
 pointing base space (Some (plain (inner.Scalar s))) = form.ValuePointer None s space
 pointing base space (Some (plain (inner.Vector n s))) = form.ValuePointer (Some n) s space
@@ -17,7 +17,7 @@ pointing base space _ = form.Pointer base space
 abbrev pub struct_at : Option ℕ → Form
 struct_at o = elim o [ Some handle ↦ form.Struct handle | None ↦ form.Nothing ]
 
--- the form of what is made of this, and has the handle, if it has one
+-- the form of this inner type with the given handle, if any
 abbrev pub form_in : List PlainType → Option ℕ → PlainInner → Form
 form_in types handle (struct members span) = struct_at handle
 form_in types handle (plain (inner.Scalar s)) = form.Scalar s
@@ -46,12 +46,12 @@ form_of_type types handle = form_found types handle (inner_at types handle)
 abbrev pub form_of : List PlainType → PlainResolution → Form
 form_of types r = elim r [ by_handle handle ↦ form_of_type types handle | by_value i ↦ form_in types None i ]
 
--- it is made of members
+-- it is a struct
 abbrev pub IsStruct : PlainInner → Type 0
 IsStruct (struct members span) = Unit {0}
 IsStruct (plain i) = ⊥
 
--- a struct is given by its handle
+-- a struct is identified by its handle
 abbrev pub NoStructValue : PlainResolution → Type 0
 NoStructValue (by_handle handle) = Unit {0}
 NoStructValue (by_value i) = IsStruct i → ⊥

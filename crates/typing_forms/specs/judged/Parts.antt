@@ -1,4 +1,4 @@
--- What a type is built of: its scalar, its components, what a pointer leads to.
+-- The parts of a type: its scalar, its components, its pointer base.
 use Rattle.std.specs.Prelude.{ℕ, List, Bool, true, false, Option, Some, None, option_map, slice_get, length}
 use Rattle.ir_kinds.specs.judged.Scalars.{component_count}
 use Rattle.ir_kinds.specs.declared.images.ImageDimension.{ImageDimension}
@@ -16,7 +16,7 @@ use Rattle.typing_forms.specs.judged.Resolutions.{inner_at, PlainResolution, by_
 
 -- ---- scalars
 
--- the scalar of a scalar, a vector or a matrix of either kind
+-- the scalar of a scalar, a vector, a matrix or a cooperative matrix
 abbrev pub scalar_of : PlainInner → Option Scalar
 scalar_of (plain (inner.Scalar s)) = Some s
 scalar_of (plain (inner.Vector n s)) = Some s
@@ -38,7 +38,7 @@ size_and_scalar _ = None
 
 -- ---- components
 
--- how many components a value is composed of
+-- the number of components to compose a value from
 abbrev pub components_of : PlainInner → Option ℕ
 components_of (struct members span) = Some (length members)
 components_of (plain (inner.Vector n s)) = Some (component_count n)
@@ -46,7 +46,7 @@ components_of (plain (inner.Matrix columns rows s)) = Some (component_count colu
 components_of (plain (inner.Array base (count.Constant n) stride)) = Some n
 components_of _ = None
 
--- the type of a component: all have one type, but for those of a struct
+-- the type of a component: all have one type, except those of a struct
 abbrev pub component_at : PlainInner → ℕ → Option PlainResolution
 component_at (struct members span) index = option_map (λ m. by_handle m.ty) (slice_get members index)
 component_at (plain (inner.Vector n s)) index = Some (by_value (plain (inner.Scalar s)))
@@ -56,13 +56,13 @@ component_at _ index = None
 
 -- ---- pointers
 
--- where a pointer points
+-- the address space of a pointer
 abbrev pub space_of : PlainInner → Option AddressSpace
 space_of (plain (inner.Pointer base space)) = Some space
 space_of (plain (inner.ValuePointer n s space)) = Some space
 space_of _ = None
 
--- what a pointer points to
+-- the base type of a pointer
 abbrev pub pointee_of : PlainInner → Option PlainResolution
 pointee_of (plain (inner.Pointer base space)) = Some (by_handle base)
 pointee_of (plain (inner.ValuePointer None s space)) = Some (by_value (plain (inner.Scalar s)))
@@ -80,13 +80,13 @@ points_to_atomic types _ = false
 
 -- ---- images
 
--- the dimension of an image with so many coordinates, which are of this kind: integers
+-- the dimension of an image with this many coordinates of this kind: integers
 abbrev pub dimension_of : ScalarKind → ImageDimension → Option ImageDimension
 dimension_of kind.Sint dim = Some dim
 dimension_of kind.Uint dim = Some dim
 dimension_of _ dim = None
 
--- the dimension of the storage images that take this as a coordinate
+-- the dimension of the storage images that take this type as a coordinate
 abbrev pub storage_dimension : PlainInner → Option ImageDimension
 storage_dimension (plain (inner.Scalar s)) = dimension_of s.kind dimension.D1
 storage_dimension (plain (inner.Vector Bi s)) = dimension_of s.kind dimension.D2

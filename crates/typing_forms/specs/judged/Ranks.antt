@@ -3,11 +3,11 @@ use Rattle.std.specs.Prelude.{ℕ, List, [], ◌∷◌, Option, Some, None, if�
 use Rattle.ir_kinds.specs.declared.scalars.Scalar.{Scalar}
 use Rattle.ir_kinds.specs.judged.Scalars.{signed, unsigned, floating, abstract_int, abstract_float, same_scalar}
 
--- what an abstract float becomes, with the ranks
+-- the scalars an abstract float converts to, with the ranks
 abbrev pub float_ranks : List (Scalar × ℕ)
 float_ranks = (floating 4, 1) ∷ (floating 2, 2) ∷ (floating 8, 3) ∷ []
 
--- what an abstract integer becomes, with the ranks
+-- the scalars an abstract integer converts to, with the ranks
 abbrev pub integer_ranks : List (Scalar × ℕ)
 integer_ranks = (signed 4, 4) ∷ (unsigned 4, 5) ∷ (signed 2, 6) ∷ (unsigned 2, 7) ∷ (signed 8, 8) ∷ (unsigned 8, 9)
     ∷ (abstract_float, 10) ∷ (floating 4, 11) ∷ (floating 2, 12) ∷ (floating 8, 13) ∷ []
@@ -21,6 +21,6 @@ abbrev pub conversion : Scalar → Scalar → Option ℕ
 conversion from to = if same_scalar from abstract_int then rank_in integer_ranks to
     else if same_scalar from abstract_float then rank_in float_ranks to else None
 
--- the same, where a scalar is taken for itself at the best rank
+-- the rank of a conversion, where a scalar has the best rank to itself
 abbrev pub rank : Scalar → Scalar → Option ℕ
 rank from to = if same_scalar from to then Some 0 else conversion from to

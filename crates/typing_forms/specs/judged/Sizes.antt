@@ -1,4 +1,4 @@
--- How many bytes a value takes.
+-- Sizes of types in bytes.
 use Rattle.typing_forms.specs.declared.sizes.TheConstants.{MAX_TYPE_SIZE}
 use Rattle.std.specs.Prelude.{ℕ, ◌+◌, ◌-◌, ◌*◌, ◌/◌, Option, Some, None, if◌then◌else◌, nat_le}
 use Rattle.ir_kinds.specs.judged.Scalars.{component_count, cooperative_count}
@@ -9,11 +9,11 @@ use Rattle.ir_types.specs.declared.types.ArraySize.{ArraySize}
 use Rattle.ir_types.specs.declared.types.ArraySize.TheVariants as count
 use Rattle.ir_types.specs.declared.types.TypeInner.TheVariants as inner
 
--- the least multiple of a step that is not below
+-- the least multiple of a step that is at least the number
 abbrev pub rounded_up : (step : ℕ) → ℕ → ℕ
 rounded_up step n = (n + (step - 1)) / step * step
 
--- the alignment of a vector of this size whose scalars take so many bytes
+-- the alignment of a vector of this size with scalars of this width
 abbrev pub vector_alignment : VectorSize → (width : ℕ) → ℕ
 vector_alignment n width = elim n [ Bi ↦ 2 * width | Tri ↦ 4 * width | Quad ↦ 4 * width ]
 
@@ -21,7 +21,7 @@ vector_alignment n width = elim n [ Bi ↦ 2 * width | Tri ↦ 4 * width | Quad 
 abbrev pub column_size : VectorSize → (width : ℕ) → ℕ
 column_size rows width = rounded_up (vector_alignment rows width) (component_count rows * width)
 
--- how many elements count: one where the number isn't known
+-- the number of elements for a size: one if it isn't known
 abbrev pub counted : ArraySize → ℕ
 counted o = elim o [ count.Constant n ↦ n | count.Pending override ↦ 1 | count.Dynamic ↦ 1 ]
 
@@ -41,6 +41,6 @@ type_size (plain _) = 0
 abbrev pub greatest_size : ℕ
 greatest_size = MAX_TYPE_SIZE
 
--- the size where a type may have it
+-- the size, if it is not over the limit
 abbrev pub allowed : ℕ → Option ℕ
 allowed size = if nat_le size greatest_size then Some size else None

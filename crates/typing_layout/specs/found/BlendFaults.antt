@@ -1,4 +1,4 @@
--- Why members can't be sources of a blend.
+-- Why members can't be blend sources.
 use Rattle.std.specs.Prelude.{◌≡◌, ◌≢◌, ◌⊎◌, ℕ, List, Some, None, slice_get}
 use Rattle.ir_flags.specs.Sets.{Has}
 use Rattle.ir_flags.specs.declared.settings.Capabilities.{Capabilities}
@@ -13,7 +13,7 @@ use Rattle.typing_layout.specs.declared.type_error.TypeError.TheVariants as erro
 use Rattle.typing_layout.specs.declared.type_error.VaryingError.{VaryingError}
 use Rattle.typing_layout.specs.declared.type_error.VaryingError.TheVariants as varying
 
--- a member is this source, and of this type
+-- a member is this blend source, and has this type
 pub record IsSource (members : List PlainMember) (source ty : ℕ) : Type 0 where
   pub place : ℕ
   pub m : PlainMember
@@ -27,7 +27,7 @@ pub record IsLocated (members : List PlainMember) (location : ℕ) (m : PlainMem
   pub at : slice_get members place ≡ Some m
   pub is : binding_location m.binding ≡ Some location
 
--- two members are this source
+-- two members are this blend source
 pub record IsTwice (members : List PlainMember) (source : ℕ) : Type 0 where
   pub first : ℕ
   pub second : ℕ
@@ -38,7 +38,7 @@ pub record IsTwice (members : List PlainMember) (source : ℕ) : Type 0 where
 abbrev pub IsAbsent : List PlainMember → (source : ℕ) → Type 0
 IsAbsent members source = (k : ℕ) → source_at members k ≢ Some source
 
--- one of the two sources is there, and not the other
+-- one of the two blend sources is present, and not the other
 abbrev pub IsAlone : List PlainMember → (present : ℕ) → Type 0
 IsAlone members present = ((place : ℕ) × (source_at members place ≡ Some present)) × (((present ≡ 0) × IsAbsent members 1) ⊎ ((present ≡ 1) × IsAbsent members 0))
 
@@ -52,7 +52,7 @@ IsVaryingFault types members (varying.InvalidBlendSrcWithOtherBindings location)
 IsVaryingFault types members (varying.BlendSrcOutputTypeMismatch first second) =
     IsSource members 0 first × IsSource members 1 second × (inner_at types first ≢ inner_at types second)
 
--- members are sources of a blend, and can't be
+-- members are blend sources, and they are invalid
 abbrev pub IsBlendFault : Capabilities → List PlainType → List PlainMember → TypeError → Type 0
 IsBlendFault capabilities types members (error.MissingCapability c) = HasSource members × (c ≡ DUAL_SOURCE_BLENDING) × ¬ Has capabilities.0 c.0
 IsBlendFault capabilities types members (error.InvalidBlendSrc e) = HasSource members × IsVaryingFault types members e

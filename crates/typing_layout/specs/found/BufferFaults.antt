@@ -1,4 +1,4 @@
--- What keeps a host from laying out a type.
+-- Why a type is not host-shareable.
 use Rattle.std.specs.Prelude.{◌≡◌, ◌<◌, ◌⊎◌, ℕ, List, Some, slice_get}
 use Rattle.std.specs.Int.{◌∣◌}
 use Rattle.ir_types.specs.judged.Plain.{PlainType}
@@ -14,7 +14,7 @@ use Rattle.typing_layout.specs.declared.type_error.Disalignment.TheVariants as f
 use Rattle.typing_layout.specs.declared.type_error.ImmediateError.{ImmediateError}
 use Rattle.typing_layout.specs.declared.type_error.ImmediateError.TheVariants as immediate
 
--- an array whose stride is no multiple of a number that its elements require
+-- an array whose stride is no multiple of an alignment that its elements require
 pub record IsBadStride (asks : Tree → ℕ → Type 0) (stride a : ℕ) (t : Tree) : Type 0 where
   pub base : Tree
   pub count : ArraySize
@@ -29,7 +29,7 @@ pub record IsBadSpan (span a : ℕ) (t : Tree) : Type 0 where
   pub asked : a ≡ alignment t
   pub broken : ¬ (a ∣ span)
 
--- a struct with a member that does not begin at a multiple of what `part` requires of its type
+-- a struct with a member whose offset is no multiple of what `part` requires of its type
 pub record IsBadOffset (part : Tree → ℕ) (index offset a : ℕ) (t : Tree) : Type 0 where
   pub members : Members
   pub span : ℕ
@@ -40,7 +40,7 @@ pub record IsBadOffset (part : Tree → ℕ) (index offset a : ℕ) (t : Tree) :
   pub asked : a ≡ part p.of_type
   pub broken : ¬ (a ∣ offset)
 
--- a struct with a member that begins too near after a struct
+-- a struct with a member too close to the end of the struct before it
 pub record IsNearAfter (index offset expected : ℕ) (t : Tree) : Type 0 where
   pub members : Members
   pub span : ℕ
@@ -67,10 +67,10 @@ BreaksUniform (fault.MemberOffset index offset a) t = IsBadOffset uniform_alignm
 BreaksUniform (fault.MemberOffsetAfterStruct index offset expected) t = IsNearAfter index offset expected t
 BreaksUniform fault.NonHostShareable t = ¬ HasFlag HostShareable t
 
--- the fault stands at the type itself or at one inside, which is that at the handle
+-- the fault is at the type itself or at a type inside it, the one at the handle
 abbrev pub IsBroken : (Disalignment → Tree → Type 0) → List PlainType → Tree → (ℕ × Disalignment) → Type 0
 IsBroken breaks types t e = Somewhere (λ inside. (inside ≡ type_tree types e.0) × breaks e.1 inside) t
 
--- the scalar stands inside, and takes two bytes
+-- the type contains the scalar, whose width is two
 abbrev pub IsUnfit : Tree → ImmediateError → Type 0
 IsUnfit t (immediate.InvalidScalar s) = Somewhere (λ inside. tree_scalar inside ≡ Some s) t × (s.width ≡ 2)

@@ -1,4 +1,4 @@
--- Why a type is refused, a kind of type after the other.
+-- Type errors, one kind of type after another.
 use Rattle.std.specs.Prelude.{◌≡◌, ◌≢◌, ◌⊎◌, ℕ, List, Bool, true}
 use Rattle.ir_flags.specs.Sets.{Has}
 use Rattle.ir_flags.specs.declared.settings.Capabilities.{Capabilities}
@@ -33,7 +33,7 @@ use Rattle.typing_layout.specs.declared.type_error.WidthError.TheVariants as wid
 abbrev pub Lacks : Capabilities → Capabilities → Type 0
 Lacks capabilities c = ¬ Has capabilities.0 c.0
 
--- no scalar takes so many bytes, where two and eight require capabilities
+-- there is no scalar of this width; widths two and eight require capabilities
 abbrev pub IsNoWidth : (bytes : ℕ) → Type 0
 IsNoWidth bytes = (bytes ≢ 2) × (bytes ≢ 4) × (bytes ≢ 8)
 
@@ -45,7 +45,7 @@ IsNoScalar kind.Bool bytes = bytes ≢ 1
 IsNoScalar AbstractInt bytes = ⊥
 IsNoScalar AbstractFloat bytes = ⊥
 
--- a scalar of two or of eight bytes requires its capability
+-- a scalar of width two or eight requires its capability
 abbrev pub RequiresFor : (two eight : Capabilities) → (bytes : ℕ) → Capabilities → Type 0
 RequiresFor two eight bytes c = ((bytes ≡ 2) × (c ≡ two)) ⊎ ((bytes ≡ 8) × (c ≡ eight))
 
@@ -103,7 +103,7 @@ IsAtomicFault capabilities s (error.InvalidAtomicWidth k bytes) = (k ≡ s.kind)
 IsAtomicFault capabilities s (error.MissingCapability c) = LacksAtomic capabilities s.kind s.width c
 IsAtomicFault capabilities s _ = ⊥
 
--- ---- types that name another
+-- ---- types that refer to another
 
 abbrev pub IsPointerFault : List PlainType → (base : ℕ) → AddressSpace → TypeError → Type 0
 IsPointerFault types base space (error.InvalidPointerBase ty) = (ty ≡ base) × ¬ HasFlag Data (type_tree types base)
@@ -124,7 +124,7 @@ abbrev pub IsBindingArrayFault : List PlainType → (base : ℕ) → ArraySize �
 IsBindingArrayFault types base n error.Other = ¬ BindingArrayOK (type_tree types base) n
 IsBindingArrayFault types base n _ = ⊥
 
--- ---- images, and what traces rays
+-- ---- images, and types of ray tracing
 
 abbrev pub LacksForImage : Capabilities → ImageDimension → (arrayed : Bool) → ImageClass → Capabilities → Type 0
 LacksForImage capabilities dim arrayed class c =

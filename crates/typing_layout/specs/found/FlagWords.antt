@@ -1,4 +1,4 @@
--- The words of what types may be used for.
+-- The bits of the type flags.
 use Rattle.std.specs.Prelude.{List, [], ◌∷◌}
 use Rattle.ir_flags.specs.Words.{Row, numbered}
 

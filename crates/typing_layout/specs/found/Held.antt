@@ -1,4 +1,4 @@
--- What a layouter holds, and why it refuses a type.
+-- The contents of a layouter, and layout errors.
 use Rattle.std.specs.Prelude.{◌≡◌, ◌<◌, ◌≤◌, ◌++◌, ℕ, List, [], Some, length, slice_get}
 use Rattle.ir_types.specs.declared.refusal.Refusal.{Refusal}
 use Rattle.ir_types.specs.declared.refusal.Refusal.TheVariants as refusal
@@ -31,23 +31,23 @@ abbrev pub IsFaultOf : Tree → LayoutErrorInner → Type 0
 IsFaultOf t NonPowerOfTwoWidth = ¬ IsWidthOK t
 IsFaultOf t TooLarge = MAX_TYPE_SIZE < size t
 
--- the type has no layout, and those of all types before it are kept
+-- the type has no layout, and those of all earlier types are kept
 pub record IsRefused (types : List PlainType) (layouts : List TypeLayout) (e : LayoutError) : Type 0 where
   pub next : length layouts ≡ e.ty
   pub within : e.ty < length types
   pub fault : IsFaultOf (type_tree types e.ty) e.inner
 
--- why not all types are laid out: a type has no layout, or there is no memory for one more
+-- why not all types are laid out: a type has no layout, or out of memory
 abbrev pub IsRefusal : List PlainType → List TypeLayout → Refusal LayoutError → Type 0
 IsRefusal types layouts (refusal.Memory e) = length layouts < length types
 IsRefusal types layouts (refusal.Fault f) = IsRefused types layouts (error_of f) × (spans_of f ≡ [])
 
--- ---- what is known of them
+-- ---- laws
 
--- as many layouts of one module's types are the same layouts
+-- two lists of layouts of one module's types that have the same length are equal
 abbrev pub OneLayout : Type 0
 OneLayout = (types : List PlainType) (left right : List TypeLayout) → AreLayouts types left → AreLayouts types right → length left ≡ length right → left ≡ right
 
--- layouts are kept where types are added after
+-- appending types keeps the layouts
 abbrev pub LayoutsStay : Type 0
 LayoutsStay = (types more : List PlainType) (layouts : List TypeLayout) → TypesGoBack types → AreLayouts types layouts → AreLayouts (types ++ more) layouts

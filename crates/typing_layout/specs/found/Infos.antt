@@ -1,4 +1,4 @@
--- What the info of a type says.
+-- The meaning of a type's info.
 use Rattle.std.specs.Prelude.{◌≡◌, ◌↔◌, List, MatchResult}
 use Rattle.ir_flags.specs.Sets.{Has}
 use Rattle.ir_types.specs.judged.Plain.{PlainType}
@@ -11,7 +11,7 @@ use Rattle.typing_layout.specs.found.BufferFaults.{BreaksStorage, BreaksUniform,
 use Rattle.typing_layout.specs.declared.type_flags.TypeFlags.{TypeFlags}
 use Rattle.typing_layout.specs.declared.info.TypeInfo.{TypeInfo}
 
--- a set has exactly the flags of a type
+-- the bits are exactly the flags of a type
 abbrev pub AreFlags : TypeFlags → Tree → Type 0
 AreFlags set t = (f : TypeFlag) → Has set.0 (bit f) ↔ HasFlag f t
 

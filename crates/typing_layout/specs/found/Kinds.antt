@@ -1,10 +1,10 @@
--- The kind of an expression, from those of the expressions before it.
+-- The kind of an expression, given those of the earlier expressions.
 use Rattle.std.specs.Prelude.{ℕ, List, map, slice_get, unwrap_or}
 use Rattle.typing_layout.specs.judged.Constness.{Origin, own, latest_of, latest}
 use Rattle.typing_layout.specs.declared.constness.ExpressionKind.{ExpressionKind}
 use Rattle.typing_layout.specs.declared.constness.ExpressionKind.TheVariants.{Runtime}
 
--- the kind that is known of an expression
+-- the tracked kind of an expression
 abbrev pub known_kind : List ExpressionKind → ℕ → ExpressionKind
 known_kind kinds handle = unwrap_or (slice_get kinds handle) Runtime
 

@@ -1,4 +1,4 @@
--- Why a member is refused at its place.
+-- Errors of a struct's member.
 use Rattle.std.specs.Prelude.{◌≡◌, ◌≢◌, ◌<◌, ◌+◌, ℕ, suc, List, [], Some, length, slice_get}
 use Rattle.ir_types.specs.judged.Plain.{PlainMember, PlainType}
 use Rattle.typing_layout.specs.judged.Flags.{HasFlag, Data, Sized}
@@ -8,7 +8,7 @@ use Rattle.typing_layout.specs.judged.View.{type_tree}
 use Rattle.typing_layout.specs.declared.type_error.TypeError.{TypeError}
 use Rattle.typing_layout.specs.declared.type_error.TypeError.TheVariants as error
 
--- a member at a place begins at an offset and ends past a number
+-- a member at an index begins at an offset and ends after a limit
 pub record EndsPast (types : List PlainType) (m : PlainMember) (bound : ℕ) : Type 0 where
   pub past : bound < m.offset + size (type_tree types m.ty)
 

@@ -1,4 +1,4 @@
--- Structs whose members are sources of a blend.
+-- Structs whose members are blend sources.
 use Rattle.std.specs.Prelude.{◌≡◌, ◌⊎◌, ℕ, List, Option, Some, None, slice_get, option_and_then}
 use Rattle.ir_flags.specs.Sets.{Has}
 use Rattle.ir_flags.specs.declared.settings.Capabilities.{Capabilities}
@@ -15,24 +15,24 @@ binding_location None = None
 binding_location (Some (bound.BuiltIn built_in)) = None
 binding_location (Some (bound.Location location interpolation sampling source per_primitive)) = Some location
 
--- the source of a blend that stands at a place
+-- the blend source at an index
 abbrev pub source_at : List PlainMember → (place : ℕ) → Option ℕ
 source_at members place = option_and_then (λ m. blend_source m.binding) (slice_get members place)
 
 abbrev pub HasSource : List PlainMember → Type 0
 HasSource members = (place : ℕ) × (source : ℕ) × (source_at members place ≡ Some source)
 
--- a source stands at this place, and at no other
+-- the blend source is at this index, and at no other
 pub record IsOnlySource (members : List PlainMember) (source place : ℕ) (m : PlainMember) : Type 0 where
   pub at : slice_get members place ≡ Some m
   pub is : blend_source m.binding ≡ Some source
   pub only : (k : ℕ) → source_at members k ≡ Some source → k ≡ place
 
--- whatever has a location is the first or the second source at location 0
+-- each member with a location is the first or the second blend source at location 0
 abbrev pub BlendLocationOK : PlainMember → Type 0
 BlendLocationOK m = (location : ℕ) → binding_location m.binding ≡ Some location → (location ≡ 0) × ((blend_source m.binding ≡ Some 0) ⊎ (blend_source m.binding ≡ Some 1))
 
--- both sources stand once each, and their types are made of the same and go between stages
+-- each blend source occurs once, and their types are equal and may pass between stages
 pub record BlendOK (capabilities : Capabilities) (types : List PlainType) (members : List PlainMember) : Type 0 where
   pub capability : Has capabilities.0 DUAL_SOURCE_BLENDING.0
   pub located : (place : ℕ) (m : PlainMember) → slice_get members place ≡ Some m → BlendLocationOK m

@@ -1,4 +1,4 @@
--- Which types a host can lay out in storage buffers and in uniform ones, reported at each array and struct inside.
+-- Which types are host-shareable in storage buffers and in uniform buffers, checked at each array and struct inside.
 use Rattle.std.specs.Prelude.{◌≡◌, ◌≤◌, ℕ, List, Some, IfSome, max, slice_get}
 use Rattle.std.specs.Int.{◌∣◌}
 use Rattle.typing_forms.specs.judged.Sizes.{rounded_up}
@@ -7,13 +7,13 @@ use Rattle.typing_layout.specs.judged.Tree.{Tree}
 use Rattle.typing_layout.specs.judged.Flags.{HasFlag, HostShareable}
 use Rattle.typing_layout.specs.judged.Parts.{TreeMember, member_list, end_of, item_before, Everywhere}
 
--- each offset is a multiple of what `part` requires of the member's type
+-- each offset is a multiple of the alignment `part` of the member's type
 abbrev pub PartsAligned : (part : Tree → ℕ) → List TreeMember → Type 0
 PartsAligned part ps = (k : ℕ) (p : TreeMember) → slice_get ps k ≡ Some p → part p.of_type ∣ p.offset
 
 -- ---- storage buffers
 
--- the stride of an array, the offsets of members and the span of a struct are multiples of alignments
+-- array strides, member offsets and struct spans are multiples of the alignments
 abbrev pub StorageParts : TreeParts → Type 0
 StorageParts (has_elements base n stride) = alignment base ∣ stride
 StorageParts (has_members ms span) = PartsAligned alignment (member_list ms) × (greatest_alignment ms ∣ span)
@@ -27,19 +27,19 @@ FitsStorageBuffer t = HasFlag HostShareable t × Everywhere StorageAt t
 
 -- ---- uniform buffers
 
--- the alignment of a type as a part: at least 16 bytes for arrays and structs
+-- the alignment of a type within a uniform buffer: at least 16 bytes for arrays and structs
 abbrev pub uniform_alignment : Tree → ℕ
 uniform_alignment t =
     elim (tree_parts t) [ has_elements base n stride ↦ max 16 (alignment t) | has_members ms span ↦ max 16 (alignment t) | has_no_parts s bytes ↦ alignment t ]
 
--- where the next member may begin: after a struct at its end, rounded up to 16
+-- the minimum offset of the next member: after a struct its end, rounded up to 16
 abbrev pub free_after : TreeMember → Tree → ℕ
 free_after p t = elim (tree_parts t) [ has_elements base n stride ↦ 0 | has_members ms span ↦ rounded_up 16 (end_of p) | has_no_parts s bytes ↦ 0 ]
 
 abbrev pub StructsApart : List TreeMember → Type 0
 StructsApart ps = (k : ℕ) (p : TreeMember) → slice_get ps k ≡ Some p → IfSome (item_before ps k) (λ a. free_after a a.of_type ≤ p.offset)
 
--- the same with the alignments of parts in uniform buffers; the stride of an array is a multiple of 16, and structs are apart
+-- uniform buffers: alignments in uniform buffers; array strides are multiples of 16, and members after structs keep their distance
 abbrev pub UniformParts : TreeParts → Type 0
 UniformParts (has_elements base n stride) = (uniform_alignment base ∣ stride) × (16 ∣ stride)
 UniformParts (has_members ms span) = PartsAligned uniform_alignment (member_list ms) × (greatest_alignment ms ∣ span) × StructsApart (member_list ms)

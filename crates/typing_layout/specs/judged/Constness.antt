@@ -1,4 +1,4 @@
--- When the value of an expression is known.
+-- Constness of expressions.
 use Rattle.std.specs.Prelude.{◌≡◌, ◌<◌, ◌++◌, ℕ, List, [], ◌∷◌, Some, map, option_to_list, slice_get, length, All}
 use Rattle.ir_types.specs.judged.ExpressionPlain.{PlainExpression, compose, plain}
 use Rattle.ir_types.specs.declared.expressions.Expression.TheVariants as expression
@@ -12,12 +12,12 @@ later Override Const = Override
 later Override k = k
 later Runtime k = Runtime
 
--- the latest of some kinds, and const where there is none
+-- the latest of some kinds, const if there is none
 abbrev pub latest : List ExpressionKind → ExpressionKind
 latest [] = Const
 latest (k ∷ ks) = later k (latest ks)
 
--- Where an expression has its kind from.
+-- What determines the kind of an expression.
 pub data Origin : Type 0 where
   own : ExpressionKind → Origin
   latest_of : (operands : List ℕ) → Origin
@@ -41,7 +41,7 @@ origin_of (plain (expression.Math fun arg arg1 arg2 arg3)) = latest_of (arg ∷ 
 origin_of (plain (expression.As expr kind convert)) = latest_of (expr ∷ [])
 origin_of _ = own Runtime
 
--- The expression at a handle is of a kind: its own, or the latest of its operands' kinds.
+-- The expression at a handle has a kind: its own, or the latest of its operands' kinds.
 pub data IsOfKind (expressions : List PlainExpression) : ℕ → ExpressionKind → Type 0 where
   by_itself : {handle : ℕ} {e : PlainExpression} {k : ExpressionKind} → slice_get expressions handle ≡ Some e → origin_of e ≡ own k
       → IsOfKind expressions handle k
@@ -49,12 +49,12 @@ pub data IsOfKind (expressions : List PlainExpression) : ℕ → ExpressionKind 
       → origin_of e ≡ latest_of operands → ((place operand : ℕ) → slice_get operands place ≡ Some operand → IsOfKind expressions operand (kind operand))
       → IsOfKind expressions handle (latest (map kind operands))
 
--- the operands by which an expression has its kind
+-- the operands that determine the kind of an expression
 abbrev pub operands_from : Origin → List ℕ
 operands_from (own k) = []
 operands_from (latest_of operands) = operands
 
--- they come before it
+-- the operands that determine the kind precede the expression
 abbrev pub OriginsPrecede : List PlainExpression → Type 0
 OriginsPrecede expressions =
     (handle : ℕ) (e : PlainExpression) → slice_get expressions handle ≡ Some e → All (λ operand. operand < handle) (operands_from (origin_of e))
@@ -64,7 +64,7 @@ pub record AreKinds (expressions : List PlainExpression) (kinds : List Expressio
   pub many : length kinds ≡ length expressions
   pub each : (handle : ℕ) (k : ExpressionKind) → slice_get kinds handle ≡ Some k → IsOfKind expressions handle k
 
--- an expression is of one kind at most
+-- an expression has at most one kind
 abbrev pub OneKind : Type 0
 OneKind = (expressions : List PlainExpression) (handle : ℕ) (left right : ExpressionKind) → IsOfKind expressions handle left → IsOfKind expressions handle right
     → left ≡ right

@@ -1,4 +1,4 @@
--- What a type may be used for.
+-- Type flags.
 use Rattle.std.specs.Prelude.{◌≡◌, ◌≤◌, ◌==◌, ◌||◌, ℕ, List, [], ◌∷◌, Option, Some, None, Bool, false, IsTrue, IsSome, IfSome, slice_get}
 use Rattle.ir_kinds.specs.declared.bindings.Binding.{Binding}
 use Rattle.ir_kinds.specs.declared.bindings.Binding.TheVariants as bound
@@ -13,24 +13,24 @@ use Rattle.typing_layout.specs.judged.Tree.{Tree, scalar, vector, matrix, cooper
 use Rattle.typing_layout.specs.judged.Parts.{TreeMember, member_list, end_of, item_before}
 
 pub data TypeFlag : Type 0 where
-  -- values can be stored
+  -- values can be stored in memory
   Data : TypeFlag
-  -- their size is known before a shader runs
+  -- the size is known at pipeline creation
   Sized : TypeFlag
-  -- they can be copied
+  -- values can be copied
   Copy : TypeFlag
-  -- they go from one stage to the next
+  -- values can be passed between stages
   IoShareable : TypeFlag
-  -- the host lays them out as the shader does
+  -- the type is host-shareable
   HostShareable : TypeFlag
-  -- their size is known where the pipeline is made, no override aside
+  -- the size is known at pipeline creation, without overrides
   CreationResolved : TypeFlag
-  -- functions take them
+  -- functions take arguments of the type
   Argument : TypeFlag
-  -- they can be composed
+  -- values can be constructed
   Constructible : TypeFlag
 
--- the number of each in a set
+-- the bit of each flag
 abbrev pub bit : TypeFlag → ℕ
 bit Data = DATA.0
 bit Sized = SIZED.0
@@ -45,7 +45,7 @@ abbrev pub among : List TypeFlag → TypeFlag → Bool
 among [] f = false
 among (x ∷ xs) f = (bit x == bit f) || among xs f
 
--- ---- kinds of types that have their flags from nothing else
+-- ---- kinds of types with fixed flags
 
 abbrev pub value_flags : List TypeFlag
 value_flags = Data ∷ Sized ∷ Copy ∷ CreationResolved ∷ Argument ∷ Constructible ∷ []
@@ -64,7 +64,7 @@ scalar_flags kind.AbstractFloat = IoShareable ∷ shareable_flags
 abbrev pub shared_pointer_flags : List TypeFlag
 shared_pointer_flags = Sized ∷ Copy ∷ CreationResolved ∷ []
 
--- functions take pointers to an invocation's own variables
+-- functions take pointers into the function and private spaces
 abbrev pub pointer_flags : AddressSpace → List TypeFlag
 pointer_flags space.Function = Argument ∷ shared_pointer_flags
 pointer_flags space.Private = Argument ∷ shared_pointer_flags
@@ -80,7 +80,7 @@ pointer_flags space.IncomingRayPayload = shared_pointer_flags
 abbrev pub resource_flags : List TypeFlag
 resource_flags = CreationResolved ∷ Argument ∷ []
 
--- those that an array may have from its elements
+-- the flags that an array inherits from its elements
 abbrev pub array_flags : ArraySize → List TypeFlag
 array_flags (count.Constant n) = shareable_flags
 array_flags (count.Pending override) = Data ∷ Sized ∷ Copy ∷ HostShareable ∷ Argument ∷ []
@@ -88,7 +88,7 @@ array_flags count.Dynamic = Data ∷ Copy ∷ HostShareable ∷ CreationResolved
 
 -- ---- structs
 
--- the source of a blend that a member is
+-- the blend source of a member
 abbrev pub blend_source : Option Binding → Option ℕ
 blend_source None = None
 blend_source (Some (bound.BuiltIn built_in)) = None
@@ -97,12 +97,12 @@ blend_source (Some (bound.Location location interpolation sampling source per_pr
 abbrev pub HasBlendSource : List TreeMember → Type 0
 HasBlendSource ps = (k : ℕ) × (p : TreeMember) × (slice_get ps k ≡ Some p) × IsSome (blend_source p.binding)
 
--- each member begins where the one before ends, or later
+-- each member begins at or after the end of the one before
 abbrev pub IsInOrder : List TreeMember → Type 0
 IsInOrder ps = (k : ℕ) (p : TreeMember) → slice_get ps k ≡ Some p → IfSome (item_before ps k) (λ a. end_of a ≤ p.offset)
 
--- a struct has the flags that all members have, `all` says of this one; but it goes between stages exactly as sources of
--- a blend, and the host lays it out only with its members in order
+-- a struct has a flag if `all`: each member has it; except that it can be passed between stages exactly if it has
+-- blend sources, and that it is host-shareable only with its members in order
 abbrev pub StructHas : TypeFlag → (all : Type 0) → List TreeMember → Type 0
 StructHas Data all ps = all
 StructHas Sized all ps = all

@@ -1,4 +1,4 @@
--- How many bytes a value of a type takes, and at which addresses it may lie.
+-- Size and alignment of types.
 use Rattle.std.specs.Prelude.{◌≡◌, ◌≤◌, ◌<◌, ◌*◌, ℕ, Option, Some, None, IfSome, max}
 use Rattle.std.specs.Int.{IsPowerOfTwo, ◌∣◌}
 use Rattle.ir_kinds.specs.declared.scalars.Scalar.{Scalar}
@@ -10,8 +10,8 @@ use Rattle.ir_types.specs.declared.types.ArraySize.{ArraySize}
 use Rattle.typing_layout.specs.judged.Tree.{Tree, scalar, vector, matrix, cooperative_matrix, atomic, pointer, value_pointer, array, struct, image, sampler, acceleration_structure, ray_query, binding_array, Members, no_members, member}
 use Rattle.typing_layout.specs.judged.View.{tree_by}
 
--- What a type is put together of where it lies: of elements, of members, or of no other type. Then it takes so many bytes, and a
--- scalar is what it is, or is put together of, or none is.
+-- What determines a type's layout: elements, members, or no other type. Then its size is given, and
+-- its scalar, if it is one or consists of one.
 pub data TreeParts : Type 0 where
   has_elements : (base : Tree) → ArraySize → (stride : ℕ) → TreeParts
   has_members : Members → (span : ℕ) → TreeParts
@@ -33,16 +33,16 @@ tree_parts (acceleration_structure vertex_return) = has_no_parts None 0
 tree_parts (ray_query vertex_return) = has_no_parts None 0
 tree_parts (binding_array base n) = has_no_parts None 0
 
--- the size of a value in bytes; an array counts one element where their number isn't known
+-- the size of a value in bytes; an array of unknown length counts as one element
 abbrev pub size : Tree → ℕ
 size t = elim (tree_parts t) [ has_elements base n stride ↦ counted n * stride | has_members ms span ↦ span | has_no_parts s bytes ↦ bytes ]
 
--- the scalar that a value is, or is put together of; elements and members have their own
+-- the scalar of a type; elements and members have their own
 abbrev pub tree_scalar : Tree → Option Scalar
 tree_scalar t = elim (tree_parts t) [ has_elements base n stride ↦ None | has_members ms span ↦ None | has_no_parts s bytes ↦ s ]
 
 abbrev mutual
-  -- the number of bytes of which each address of a value is a multiple
+  -- the alignment of a value's address in bytes
   pub alignment : Tree → ℕ
   alignment (scalar s) = s.width
   alignment (vector n s) = vector_alignment n s.width
@@ -59,20 +59,20 @@ abbrev mutual
   alignment (ray_query vertex_return) = 1
   alignment (binding_array base n) = 1
 
-  -- the greatest alignment of a member, and 1 where there is none
+  -- the greatest alignment of a member, 1 if there is none
   pub greatest_alignment : Members → ℕ
   greatest_alignment no_members = 1
   greatest_alignment (member t binding offset ms) = max (alignment t) (greatest_alignment ms)
 
--- a type has a layout: the width of the scalar by which size and alignment are found, where there is one, is a power of two, and
+-- a type has a layout: the scalar width that determines size and alignment, if any, is a power of two, and
 -- no value is too large
 pub record LayoutOK (t : Tree) : Type 0 where
   pub width : IfSome (tree_scalar t) (λ s. IsPowerOfTwo s.width)
   pub in_range : size t ≤ MAX_TYPE_SIZE
 
--- ---- what is known of them
+-- ---- laws
 
--- the least multiple of a step that is not below a number
+-- the least multiple of a step that is at least a number
 pub record IsLeastMultiple (step n multiple : ℕ) : Type 0 where
   pub is_multiple : step ∣ multiple
   pub not_below : n ≤ multiple
@@ -81,6 +81,6 @@ pub record IsLeastMultiple (step n multiple : ℕ) : Type 0 where
 abbrev pub RoundedIsLeast : Type 0
 RoundedIsLeast = (step n : ℕ) → 0 < step → IsLeastMultiple step n (rounded_up step n)
 
--- the size is that of the type, which names no other type's
+-- the size of a tree is that of the type, whose size depends on no other type
 abbrev pub SizeOfTree : Type 0
 SizeOfTree = (tree : ℕ → Tree) (i : PlainInner) → size (tree_by tree i) ≡ type_size i

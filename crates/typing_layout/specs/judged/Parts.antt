@@ -1,4 +1,4 @@
--- The members of a struct by their places, and what holds at each type inside a type.
+-- The members of a struct by their indices, and predicates on all types inside a type.
 use Rattle.std.specs.Prelude.{◌+◌, ◌⊎◌, ℕ, zero, suc, List, [], ◌∷◌, Option, None, slice_get}
 use Rattle.ir_kinds.specs.declared.bindings.Binding.{Binding}
 use Rattle.typing_layout.specs.judged.Layout.{size}
@@ -14,11 +14,11 @@ abbrev pub member_list : Members → List TreeMember
 member_list no_members = []
 member_list (member t binding offset ms) = record { of_type = t; binding = binding; offset = offset } ∷ member_list ms
 
--- the first byte after a member
+-- the end of a member
 abbrev pub end_of : TreeMember → ℕ
 end_of p = p.offset + size p.of_type
 
--- what stands before a place
+-- what precedes an index
 abbrev pub item_before : {A : Type 0} → List A → (place : ℕ) → Option A
 item_before xs zero = None
 item_before xs (suc k) = slice_get xs k

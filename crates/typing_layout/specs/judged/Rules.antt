@@ -1,4 +1,4 @@
--- Which types a module may have under capabilities, a kind a line.
+-- Which types are valid under given capabilities, one line per kind.
 use Rattle.std.specs.Prelude.{◌≡◌, ◌⊎◌, ℕ, List, Bool, true, false}
 use Rattle.ir_flags.specs.Sets.{Has}
 use Rattle.ir_flags.specs.declared.settings.Capabilities.{Capabilities}
@@ -28,11 +28,11 @@ CooperativeOK capabilities s = Has capabilities.0 COOPERATIVE_MATRIX.0 × ((s �
 abbrev pub IsStorageSpace : AddressSpace → Type 0
 IsStorageSpace s = elim s [ space.Storage access ↦ Unit {0} | _ ↦ ⊥ ]
 
--- what has no known size lies in storage buffers
+-- types of unknown size are in storage buffers
 abbrev pub PointerOK : (base : Tree) → AddressSpace → Type 0
 PointerOK base space = HasFlag Data base × (HasFlag Sized base ⊎ IsStorageSpace space)
 
--- where overrides are resolved, none gives the number of elements; an array of runtime size is no matter here
+-- if overrides are resolved, no length is an override; runtime-sized arrays are not affected
 abbrev pub CountIsResolved : (resolved : Bool) → ArraySize → Type 0
 CountIsResolved resolved o = elim o [ count.Constant n ↦ Unit {0} | count.Pending override ↦ resolved ≡ false | count.Dynamic ↦ Unit {0} ]
 
@@ -49,11 +49,11 @@ IsBindingArrayBase (sampler comparison) = Unit {0}
 IsBindingArrayBase (acceleration_structure vertex_return) = Unit {0}
 IsBindingArrayBase _ = ⊥
 
--- the number of elements is never an override's
+-- the length is never an override
 abbrev pub BindingArrayOK : (base : Tree) → ArraySize → Type 0
 BindingArrayOK base n = IsBindingArrayBase base × CountIsResolved true n
 
--- what is required of a type itself, of those that it names only what they may be used for
+-- what is required of a type itself; of the types it refers to only their flags
 abbrev pub ShapeOK : Capabilities → (resolved : Bool) → Tree → Type 0
 ShapeOK capabilities resolved (scalar s) = ScalarOK capabilities s
 ShapeOK capabilities resolved (vector n s) = ScalarOK capabilities s
@@ -70,7 +70,7 @@ ShapeOK capabilities resolved (acceleration_structure vertex_return) = Accelerat
 ShapeOK capabilities resolved (ray_query vertex_return) = RayQueryTypeOK capabilities vertex_return
 ShapeOK capabilities resolved (binding_array base n) = BindingArrayOK base n
 
--- the module's type at a handle is accepted
+-- the module's type at a handle is valid
 pub record TypeOK (capabilities : Capabilities) (resolved : Bool) (types : List PlainType) (handle : ℕ) : Type 0 where
   pub shape : ShapeOK capabilities resolved (type_tree types handle)
   pub blends : BlendsOK capabilities types (inner_at types handle)

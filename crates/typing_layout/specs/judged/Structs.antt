@@ -3,8 +3,8 @@ use Rattle.std.specs.Prelude.{◌≡◌, ◌≢◌, ◌≤◌, ◌<◌, ◌⊎�
 use Rattle.typing_layout.specs.judged.Flags.{HasFlag, Data, Sized}
 use Rattle.typing_layout.specs.judged.Parts.{TreeMember, end_of, item_before}
 
--- a member at its place: its values can be stored; only the last may be of a size that isn't known; it begins where the
--- one before ends or later, or at 0; and it ends within the span
+-- a member at its index: it is `DATA`; only the last may be of unknown size; it begins at or after the
+-- end of the one before, or at 0; and it ends within the span
 pub record MemberOK (ps : List TreeMember) (span place : ℕ) (p : TreeMember) : Type 0 where
   pub stored : HasFlag Data p.of_type
   pub sized : suc place < length ps → HasFlag Sized p.of_type

@@ -1,5 +1,5 @@
--- Types as trees: where a type names another by its handle, that one's tree stands in the handle's place. A tree holds no
--- names, so types that differ only in names have one tree.
+-- Types as trees: each handle of a type is replaced by that type's tree. A tree has no
+-- names, so types that differ only in names have the same tree.
 use Rattle.std.specs.Prelude.{ℕ, Bool, false, Option}
 use Rattle.ir_kinds.specs.declared.bindings.Binding.{Binding}
 use Rattle.ir_kinds.specs.declared.images.ImageClass.{ImageClass}
@@ -34,6 +34,6 @@ mutual
     no_members : Members
     member : (of_type : Tree) → Option Binding → (offset : ℕ) → Members → Members
 
--- what stands at a handle that no type has; a module whose handles are in order has none, so it decides nothing
+-- the tree of an invalid handle; a module with valid handles has none, so its definition doesn't matter
 abbrev pub no_type : Tree
 no_type = sampler false

@@ -6,13 +6,13 @@ use Rattle.typing_forms.specs.judged.Order.{TypesGoBack}
 use Rattle.typing_forms.specs.judged.Resolutions.{inner_at}
 use Rattle.typing_layout.specs.judged.Tree.{Tree, scalar, vector, matrix, cooperative_matrix, atomic, pointer, value_pointer, array, struct, image, sampler, acceleration_structure, ray_query, binding_array, Members, no_members, member, no_type}
 
--- ---- a type, where `tree` gives the trees of the types that it names
+-- ---- a type, given the trees of the types that it refers to by `tree`
 
 abbrev pub members_by : (tree : ℕ → Tree) → List PlainMember → Members
 members_by tree [] = no_members
 members_by tree (m ∷ ms) = member (tree m.ty) m.binding m.offset (members_by tree ms)
 
--- a struct is never `plain`, so nothing is said of that case
+-- a struct is never `plain`, so that case is left out
 abbrev pub tree_by : (tree : ℕ → Tree) → PlainInner → Tree
 tree_by tree (written_struct members span) = struct (members_by tree members) span
 tree_by tree (plain (inner.Scalar s)) = scalar s
@@ -35,22 +35,22 @@ tree_found tree o = elim o [ Some i ↦ tree_by tree i | None ↦ no_type ]
 
 -- ---- a type of a module
 
--- the tree of the type at a handle, along so many handles at most
+-- the tree of the type at a handle, following at most this many handles
 unfoldable pub tree_along : List PlainType → (handles : ℕ) → (handle : ℕ) → Tree
 tree_along types zero handle = no_type
 tree_along types (suc n) handle = tree_found (tree_along types n) (inner_at types handle)
 
--- the tree of the type at a handle: types go back, so that no way from it is longer than the handle
+-- the tree of the type at a handle: types refer to earlier types, so no chain of handles is longer than the handle's index
 unfoldable pub type_tree : List PlainType → (handle : ℕ) → Tree
 type_tree types handle = tree_along types (suc handle) handle
 
--- ---- what is known of them
+-- ---- laws
 
--- the tree of a type is made of the trees of the types that it names
+-- the tree of a type consists of the trees of the types that it refers to
 abbrev pub TreeByTrees : Type 0
 TreeByTrees = (types : List PlainType) → TypesGoBack types → (handle : ℕ) (i : PlainInner) → inner_at types handle ≡ Some i
     → type_tree types handle ≡ tree_by (type_tree types) i
 
--- where types are added after, the trees of the others stay
+-- appending types keeps the trees of the others
 abbrev pub TreesStay : Type 0
 TreesStay = (types more : List PlainType) → TypesGoBack types → (handle : ℕ) → handle < length types → type_tree (types ++ more) handle ≡ type_tree types handle

@@ -1,4 +1,4 @@
--- What the bits of sets denote.
+-- The members of bit sets.
 use Rattle.std.specs.Prelude.{ℕ, List, [], ◌∷◌, Option, Some, None, map}
 use Rattle.ir_kinds.specs.judged.Scalars.{signed, unsigned, floating, boolean, abstract_int, abstract_float}
 use Rattle.ir_kinds.specs.declared.scalars.Scalar.{Scalar}
@@ -19,25 +19,25 @@ scalars =
 abbrev pub scalars_in : ℕ → List Scalar
 scalars_in set = chosen set scalars
 
--- the sets of one scalar each
+-- the singleton sets of its scalars
 abbrev pub single_scalars : List ScalarSet
 single_scalars = map (λ n. record { 0 = n }) (powers 1 12)
 
--- the thirteen shapes, the lowest bit first
+-- the thirteen constructors, the lowest bit first
 abbrev pub sizes : List ConstructorSize
 sizes =
     size.Scalar ∷ size.Vector Bi ∷ size.Vector Tri ∷ size.Vector Quad ∷ size.Matrix Bi Bi ∷ size.Matrix Bi Tri ∷ size.Matrix Bi Quad
     ∷ size.Matrix Tri Bi ∷ size.Matrix Tri Tri ∷ size.Matrix Tri Quad ∷ size.Matrix Quad Bi ∷ size.Matrix Quad Tri ∷ size.Matrix Quad Quad ∷ []
 
--- the shapes in a set
+-- the constructors in a set
 abbrev pub sizes_in : ℕ → List ConstructorSize
 sizes_in set = chosen set sizes
 
--- the sets of one shape each
+-- the singleton sets of its constructors
 abbrev pub single_sizes : List ConstructorSet
 single_sizes = map (λ n. record { 0 = n }) (powers 1 13)
 
--- the shape of a type, if it is that of a value
+-- the constructor of a type, if it is a scalar, a vector or a matrix
 abbrev pub size_of : Option ValueType → List ConstructorSize
 size_of (Some given) = given.size ∷ []
 size_of None = []

@@ -1,4 +1,4 @@
--- What holds of the rules that are left of a function's table.
+-- Laws of the rules that remain of a function's table.
 use Rattle.std.specs.Prelude.{◌≡◌, ◌≤◌, ◌⊎◌, ℕ, List, [], ◌∷◌, Some, Bool, All, filter, length, slice_get}
 use Rattle.ir_kinds.specs.judged.Maths.{argument_count}
 use Rattle.ir_kinds.specs.declared.maths.MathFunction.{MathFunction}
@@ -9,7 +9,7 @@ use Rattle.typing_rules.specs.judged.Types.{value_type_of, argument_list}
 use Rattle.typing_rules.specs.judged.Ranks.{rank_at, accepts_inner, is_concrete}
 use Rattle.typing_rules.specs.judged.MathTable.{math_overloads}
 
--- what is required of rules: that they take an argument of this type at a place, or no abstract argument
+-- a filter on rules: they accept an argument of this type at an index, or they have no abstract argument
 pub data Demand : Type 0 where
   supplied : (place : ℕ) → (given : PlainInner) → Demand
   concrete : Demand
@@ -18,7 +18,7 @@ abbrev pub meets : Demand → Rule → Bool
 meets (supplied place given) rule = accepts_inner place given rule
 meets concrete rule = is_concrete rule
 
--- the rules that are left when one thing is required after the other
+-- the rules that remain after the filters, one after another
 abbrev pub left_by : List Demand → List Rule → List Rule
 left_by [] rules = rules
 left_by (demand ∷ more) rules = left_by more (filter (meets demand) rules)
@@ -27,22 +27,22 @@ abbrev pub IsAmong : {A : Type 0} → A → List A → Type 0
 IsAmong x [] = ⊥
 IsAmong x (y ∷ ys) = (y ≡ x) ⊎ IsAmong x ys
 
--- whatever is required of the rules of a function: at no supplied argument another rule that is left has a smaller rank than the first one
+-- after any filters on the rules of a function: at no supplied argument a remaining rule has a smaller rank than the first one
 abbrev pub PreferredIsBest : Type 0
 PreferredIsBest = (function : MathFunction) (demands : List Demand) (preferred other : Rule)
     → slice_get (left_by demands (math_overloads function)) 0 ≡ Some preferred → IsAmong other (left_by demands (math_overloads function))
     → (place : ℕ) (given : PlainInner) → IsAmong (supplied place given) demands
     → (type : ValueType) (x y : ℕ) → value_type_of given ≡ Some type → rank_at place type preferred ≡ Some x → rank_at place type other ≡ Some y → x ≤ y
 
--- two demands leave the same rules in either order
+-- two filters leave the same rules in either order
 abbrev pub DemandsCommute : Type 0
 DemandsCommute = (a b : Demand) (rules : List Rule) → filter (meets b) (filter (meets a) rules) ≡ filter (meets a) (filter (meets b) rules)
 
--- a demand that is made again changes nothing
+-- a repeated filter changes nothing
 abbrev pub DemandsRepeat : Type 0
 DemandsRepeat = (a : Demand) (rules : List Rule) → filter (meets a) (filter (meets a) rules) ≡ filter (meets a) rules
 
--- how many arguments a rule has
+-- the number of arguments of a rule
 abbrev pub arity : Rule → ℕ
 arity rule = length (argument_list rule.arguments)
 

@@ -31,11 +31,11 @@ u32 = unsigned 4
 abbrev pub f32 : Scalar
 f32 = floating 4
 
--- all numbers
+-- all numeric scalars
 abbrev pub numbers : List Scalar
 numbers = abstract_int ∷ i32 ∷ u32 ∷ signed 2 ∷ unsigned 2 ∷ signed 8 ∷ unsigned 8 ∷ abstract_float ∷ f32 ∷ floating 2 ∷ floating 8 ∷ []
 
--- all numbers but the unsigned ones
+-- all numeric scalars but the unsigned integers
 abbrev pub signed_numbers : List Scalar
 signed_numbers = abstract_int ∷ i32 ∷ signed 2 ∷ signed 8 ∷ abstract_float ∷ f32 ∷ floating 2 ∷ floating 8 ∷ []
 
@@ -43,7 +43,7 @@ signed_numbers = abstract_int ∷ i32 ∷ signed 2 ∷ signed 8 ∷ abstract_flo
 abbrev pub floats : List Scalar
 floats = abstract_float ∷ f32 ∷ floating 2 ∷ floating 8 ∷ []
 
--- all integers that are not abstract
+-- all concrete integers
 abbrev pub integers : List Scalar
 integers = i32 ∷ u32 ∷ signed 2 ∷ unsigned 2 ∷ signed 8 ∷ unsigned 8 ∷ []
 
@@ -72,7 +72,7 @@ square_matrices = size.Matrix Bi Bi ∷ size.Matrix Tri Tri ∷ size.Matrix Quad
 abbrev pub matrices : List ConstructorSize
 matrices = flat_map (λ columns. map (λ rows. size.Matrix columns rows) (Bi ∷ Tri ∷ Quad ∷ [])) (Bi ∷ Tri ∷ Quad ∷ [])
 
--- ---- one rule, of a shape and a scalar
+-- ---- one rule, for a shape and a scalar
 
 -- a vector with one component for each column of a matrix
 abbrev pub vector_of_columns : ConstructorSize → ConstructorSize
@@ -85,7 +85,7 @@ vector_of_rows o = elim o [ size.Matrix c r ↦ size.Vector r | n ↦ n ]
 abbrev pub transposed : ConstructorSize → ConstructorSize
 transposed o = elim o [ size.Matrix c r ↦ size.Matrix r c | n ↦ n ]
 
--- the size that the key of a predeclared struct has: none for a scalar
+-- the size in a predeclared struct's key: none for a scalar
 abbrev pub vector_size : ConstructorSize → Option VectorSize
 vector_size o = elim o [ size.Vector n ↦ Some n | _ ↦ None ]
 
@@ -93,11 +93,11 @@ vector_size o = elim o [ size.Vector n ↦ Some n | _ ↦ None ]
 abbrev pub word : ValueType
 word = value_type size.Scalar u32
 
--- a rule: what it requires, and what it gives
+-- a rule: its arguments, and its result
 abbrev pub a_rule : Arguments → Conclusion → Rule
 a_rule arguments conclusion = record { arguments = arguments; conclusion = conclusion }
 
--- the rule that a pattern makes of a shape and a scalar
+-- the rule of a pattern for a shape and a scalar
 abbrev pub math_rule : Pattern → ConstructorSize → Scalar → Rule
 math_rule Same n s = a_rule (One (value_type n s)) (Value (value_type n s))
 math_rule SameTwo n s = a_rule (Two (value_type n s) (value_type n s)) (Value (value_type n s))
@@ -116,24 +116,24 @@ math_rule ToWord n s = a_rule (One (value_type n s)) (Value word)
 math_rule FromWord n s = a_rule (One word) (Value (value_type n s))
 math_rule FromTwoWords n s = a_rule (Two word word) (Value (value_type n s))
 
--- ---- the rules of a function: by shape, then by scalar
+-- ---- the rules of a function: ordered by shape, then by scalar
 
--- a rule of each of the shapes with each of the scalars
+-- one rule for each of the shapes with each of the scalars
 abbrev pub rules_over : Pattern → List Scalar → List ConstructorSize → List Rule
 rules_over p ss ns = flat_map (λ n. map (math_rule p n) ss) ns
 
 abbrev pub one_rule : Pattern → ConstructorSize → Scalar → List Rule
 one_rule p n s = rules_over p (s ∷ []) (n ∷ [])
 
--- the overloads of a math function, in the order in which they are tried
+-- the overloads of a math function, in order of preference
 abbrev pub math_overloads : MathFunction → List Rule
--- numbers, all of one type
+-- numeric functions, all of one type
 math_overloads math.Abs = rules_over Same numbers scalars_and_vectors
 math_overloads math.Min = rules_over SameTwo numbers scalars_and_vectors
 math_overloads math.Max = rules_over SameTwo numbers scalars_and_vectors
 math_overloads math.Clamp = rules_over SameThree numbers scalars_and_vectors
 math_overloads math.Sign = rules_over Same signed_numbers scalars_and_vectors
--- floats, all of one type
+-- float functions, all of one type
 math_overloads math.Saturate = rules_over Same floats scalars_and_vectors
 math_overloads math.Cos = rules_over Same floats scalars_and_vectors
 math_overloads math.Cosh = rules_over Same floats scalars_and_vectors
@@ -167,7 +167,7 @@ math_overloads math.Fma = rules_over SameThree floats scalars_and_vectors
 math_overloads math.SmoothStep = rules_over SameThree floats scalars_and_vectors
 math_overloads math.Mix = rules_over SameThree floats scalars_and_vectors ++ rules_over WithScalar floats vectors
 math_overloads math.QuantizeToF16 = rules_over Same (f32 ∷ []) scalars_and_vectors
--- bits of integers
+-- bit operations on integers
 math_overloads math.CountTrailingZeros = rules_over Same integers scalars_and_vectors
 math_overloads math.CountLeadingZeros = rules_over Same integers scalars_and_vectors
 math_overloads math.CountOneBits = rules_over Same integers scalars_and_vectors
@@ -185,7 +185,7 @@ math_overloads math.Refract = rules_over WithScalar floats vectors
 math_overloads math.Cross = rules_over SameTwo floats (vec3 ∷ [])
 math_overloads math.Length = rules_over ToScalar floats scalars_and_vectors
 math_overloads math.Distance = rules_over TwoToScalar floats scalars_and_vectors
--- fractions and exponents
+-- `modf` and `frexp`
 math_overloads math.Modf = rules_over ToFraction floats scalars_and_vectors
 math_overloads math.Frexp = rules_over ToExponent floats scalars_and_vectors
 math_overloads math.Ldexp = rules_over WithExponent floats scalars_and_vectors
@@ -194,7 +194,7 @@ math_overloads math.Outer = rules_over ToOuter floats matrices
 math_overloads math.Transpose = rules_over ToTransposed floats matrices
 math_overloads math.Determinant = rules_over ToScalar floats square_matrices
 math_overloads math.Inverse = rules_over Same floats square_matrices
--- values in one word
+-- packing and unpacking
 math_overloads math.Pack4x8snorm = one_rule ToWord vec4 f32
 math_overloads math.Pack4x8unorm = one_rule ToWord vec4 f32
 math_overloads math.Pack2x16snorm = one_rule ToWord vec2 f32

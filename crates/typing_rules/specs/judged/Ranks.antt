@@ -1,4 +1,4 @@
--- Which arguments a rule accepts, and at which rank.
+-- Which arguments a rule accepts, and with which conversion rank.
 use Rattle.std.specs.Prelude.{ℕ, List, [], ◌∷◌, Option, Some, None, Bool, true, false, ◌&&◌, not, ◌==◌, is_some, option_and_then, slice_get, if◌then◌else◌}
 use Rattle.ir_kinds.specs.declared.scalars.ScalarKind.{ScalarKind}
 use Rattle.ir_kinds.specs.declared.scalars.ScalarKind.TheVariants as kind
@@ -10,19 +10,19 @@ use Rattle.typing_rules.specs.judged.Types.{constructor_place, value_type_of, ar
 
 -- ---- acceptance
 
--- from a type to another one of the same shape
+-- from a type to another of the same shape
 abbrev pub type_rank : ValueType → ValueType → Option ℕ
 type_rank given wanted = if constructor_place given.size == constructor_place wanted.size then rank given.scalar wanted.scalar else None
 
--- from what is given at a place to what the rule requires there, if it has such an argument
+-- from the argument at an index to the type that the rule requires there, if it has such an argument
 abbrev pub rank_at : ℕ → ValueType → Rule → Option ℕ
 rank_at place given rule = option_and_then (type_rank given) (slice_get (argument_list rule.arguments) place)
 
--- a rule accepts an argument that has a rank
+-- a rule accepts an argument if there is a conversion rank
 abbrev pub accepts_if : ℕ → Option ValueType → Rule → Bool
 accepts_if place o rule = elim o [ Some given ↦ is_some (rank_at place given rule) | None ↦ false ]
 
--- no rule accepts what is neither a scalar nor a vector nor a matrix
+-- no rule accepts a type that is neither a scalar nor a vector nor a matrix
 abbrev pub accepts_inner : ℕ → PlainInner → Rule → Bool
 accepts_inner place given rule = accepts_if place (value_type_of given) rule
 

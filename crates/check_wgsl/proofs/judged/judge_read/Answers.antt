@@ -1,4 +1,4 @@
--- proofs/judged/judge_read/Answers.antt
+-- The result of validating the module that was read.
 use Rattle.check_wgsl.proofs.Soundness.{checked}
 use Rattle.check_wgsl.proofs.judged.judge_read.Goals as goal
 

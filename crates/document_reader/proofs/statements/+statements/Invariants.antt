@@ -35,7 +35,7 @@ decreases-nested l = 7 * l.depth + 5
 abbrev pub decreases-statement_of : goal.decreases-statement_of
 decreases-statement_of l = 7 * l.depth + 6
 
--- what was found so far, and what the rest gives, is what all of it gives
+-- the statements decoded so far, followed by those of the rest, are the statements of the whole
 abbrev pub invariant-block-loop-item : goal.invariant-block-loop-item
 invariant-block-loop-item l =
     option_map (λ xs. map statement_view l.found.items ++ xs) (each (statement_at l.depth) (items_view (drop l.item-index l.item-items))) ≡ each (statement_at l.depth) (items_view l.item-items)

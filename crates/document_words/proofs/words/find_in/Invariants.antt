@@ -2,6 +2,6 @@ use Rattle.std.proofs.Common.{◌≡◌, drop, map}
 use Rattle.document_words.specs.Lookup.{lookup, spelled}
 use Rattle.document_words.proofs.words.find_in.Given as goal
 
--- the word denotes what it denotes in the rest of the table
+-- the word has the same value in the rest of the table
 abbrev pub invariant-loop-entry : goal.invariant-loop-entry
 invariant-loop-entry g l = lookup l.word (map spelled (drop l.entry-index l.table)) ≡ lookup l.word (map spelled l.table)

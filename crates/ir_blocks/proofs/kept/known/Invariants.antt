@@ -1,4 +1,4 @@
--- What is after the first `count` is undefined.
+-- The spans after the first `count` are undefined.
 use Rattle.std.proofs.Common.{◌≡◌, ◌≤◌, length, take}
 use Rattle.ir_blocks.specs.found.Padded.{up_to_defined}
 use Rattle.ir_blocks.proofs.kept.known.Given as goal

@@ -1,4 +1,4 @@
--- What is left of the chain stays in the arena, and starts at what the whole chain starts at.
+-- The rest of the chain stays in the arena, and has the same end as the whole chain.
 use Rattle.std.proofs.Common.{◌<◌, length, ℕ, Option}
 use Rattle.ir_items.specs.judged.Bases.{expressions_of, HasOrigin}
 use Rattle.ir_items.proofs.bases.origin_of.Given as goal

@@ -1,4 +1,4 @@
--- The leaves that were found, and then those of what is ahead, are the leaves of all.
+-- The leaves found so far, followed by those of the stack, are the leaves of all.
 use Rattle.std.proofs.Common.{◌<◌, ◌≤◌, ◌++◌, List, ℕ, length, reverse}
 use Rattle.std.specs.List.{All}
 use Rattle.ir_items.specs.judged.Bases.{expressions_of}

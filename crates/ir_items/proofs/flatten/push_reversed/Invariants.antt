@@ -1,4 +1,4 @@
--- What the rest adds is what all add.
+-- The result of the rest is the result of the whole.
 use Rattle.std.proofs.Common.{◌≡◌, ◌++◌, reverse}
 use Rattle.ir_items.proofs.flatten.push_reversed.Given as goal
 

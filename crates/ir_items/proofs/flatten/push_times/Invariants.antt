@@ -1,4 +1,4 @@
--- As many as were counted stand after what stood.
+-- The stack is the original one, followed by as many copies as were counted.
 use Rattle.std.proofs.Common.{◌≡◌, ◌++◌, replicate}
 use Rattle.ir_items.proofs.flatten.push_times.Given as goal
 

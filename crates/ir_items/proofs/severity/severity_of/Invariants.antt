@@ -1,4 +1,4 @@
--- What is left to search stays in the arena, and what it gives is what the whole search gives.
+-- The rest of the search stays in the arena, and has the same result as the whole search.
 use Rattle.std.proofs.Common.{◌<◌, length}
 use Rattle.std.specs.Option.{ForSome}
 use Rattle.ir_kinds.specs.declared.diagnostics.Severity.{Severity}

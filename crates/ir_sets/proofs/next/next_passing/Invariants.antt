@@ -1,4 +1,4 @@
--- What was written names the first that passes, from each place on.
+-- The entries written so far are the first indices that pass, from each index on.
 use Rattle.std.proofs.Common.{◌≡◌, ℕ, ◌<◌, ◌≤◌, length, slice_index_or}
 use Rattle.ir_sets.specs.Next.{IsNext}
 use Rattle.ir_sets.proofs.next.next_passing.Given as goal

@@ -20,7 +20,7 @@ returns-clause-called c = record { callee = _; called = refl; passed = passed; a
     passed zero e a at declared = let x = at in let y = declared in cc
     passed (suc i) e a at declared = let x = at in absurd (cc)
 
--- what a function that is found is given
+-- the argument of the function that is called
 abbrev arguments_of : Option PlainFunction → Option PlainArgument
 arguments_of None = None
 arguments_of (Some f) = slice_get f.arguments 0

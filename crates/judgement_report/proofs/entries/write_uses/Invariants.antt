@@ -1,4 +1,4 @@
--- What is written and what the rest gives are what all give.
+-- The text so far, with the lines of the rest, is the text of all.
 use Rattle.std.proofs.Common.{◌≡◌, ◌++◌, drop, string_bytes}
 use Rattle.ir_items.specs.found.View.{entry_view}
 use Rattle.judgement.specs.judged.Lines.{each_from, global_line}

@@ -19,7 +19,7 @@ decreases-write_members l = 3 * l.depth + 1
 abbrev pub decreases-write_inner : goal.decreases-write_inner
 decreases-write_inner l = 3 * l.depth + 2
 
--- what was written and what the rest gives is what all gives
+-- the text so far, with the lines of the rest, is the text of all
 abbrev pub invariant-write_members-loop-place : goal.invariant-write_members-loop-place
 invariant-write_members-loop-place l =
     string_bytes l.text

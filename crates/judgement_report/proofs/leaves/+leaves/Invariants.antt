@@ -18,11 +18,11 @@ decreases-add_members l = 3 * l.depth + 1
 abbrev pub decreases-add_inner : goal.decreases-add_inner
 decreases-add_inner l = 3 * l.depth + 2
 
--- what the elements so far gave
+-- the leaves of the elements so far
 abbrev pub invariant-add_elements-loop-place : goal.invariant-add_elements-loop-place
 invariant-add_elements-loop-place l = l.out.items ≡ l.fn.out.items ++ rows l.start (repeated l.place 0 l.stride (leaves 1 (tree_along (types_view l.types) l.depth l.base)))
 
--- what was found and what the rest gives is what all gives
+-- the leaves so far, with those of the rest, are those of all
 abbrev pub invariant-add_members-loop-member : goal.invariant-add_members-loop-member
 invariant-add_members-loop-member l =
     l.out.items ++ rows l.start (member_leaves 1 l.member-index (members_by (tree_along (types_view l.types) l.depth) (map member_view (drop l.member-index l.members))))

@@ -1,4 +1,4 @@
--- What is written and what the rest gives are what all give.
+-- The text so far, with the lines of the rest, is the text of all.
 use Rattle.std.proofs.Common.{◌≡◌, ◌++◌, drop, string_bytes}
 use Rattle.ir_items.specs.found.View.{module_view}
 use Rattle.judgement_report.specs.Lines.{described, leaf_report}

@@ -1,4 +1,4 @@
--- The components that were passed are of the form.
+-- The components so far have the form.
 use Rattle.module_constants.specs.Composed.{FitBelow, IsForm, forms_of}
 use Rattle.module_constants.proofs.compose.check_each.Given as goal
 

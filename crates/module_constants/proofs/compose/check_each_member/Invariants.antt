@@ -1,4 +1,4 @@
--- The components that were passed may be the members at their places.
+-- The components so far have the types of the members at their indices.
 use Rattle.std.proofs.Common.{map}
 use Rattle.ir_types.specs.judged.Plain.{member_view}
 use Rattle.module_constants.specs.Composed.{FitBelow, IsMember, forms_of}

@@ -1,4 +1,4 @@
--- The components that were passed may be some of it, and their scalars are counted.
+-- The components so far are allowed, and their scalars are counted.
 use Rattle.std.proofs.Common.{◌≡◌, map, take, sum}
 use Rattle.module_constants.specs.Compositions.{in_32_bits}
 use Rattle.module_constants.specs.Composed.{FitBelow, IsScalars, forms_of}

@@ -1,4 +1,4 @@
--- Those that were passed are accepted.
+-- The expressions so far are accepted.
 use Rattle.std.proofs.Common.{ℕ, ◌<◌}
 use Rattle.module_constants.specs.Known.{module_in}
 use Rattle.spec_expressions.specs.judged.GlobalExpressions.{GlobalExpressionOK}

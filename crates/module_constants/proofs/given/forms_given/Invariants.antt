@@ -1,4 +1,4 @@
--- The forms that were made with those of the rest are those of all.
+-- The forms so far, followed by those of the remaining types, are the forms of all.
 use Rattle.std.proofs.Common.{◌≡◌, ◌++◌, map, drop}
 use Rattle.typing_forms.specs.judged.Resolutions.{types_view}
 use Rattle.typing_errors.specs.Answers.{form_given}

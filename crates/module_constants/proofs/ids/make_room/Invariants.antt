@@ -1,4 +1,4 @@
--- there are as many words as were counted, and they read as before
+-- there are as many words as counted, and their bits are unchanged
 use Rattle.std.proofs.Common.{◌≡◌, ℕ, get_or, length}
 use Rattle.module_constants.proofs.ids.make_room.Given as goal
 

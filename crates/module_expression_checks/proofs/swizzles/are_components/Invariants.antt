@@ -1,4 +1,4 @@
--- The letters that were passed may stand where they do.
+-- The components so far are in bounds.
 use Rattle.module_expression_checks.specs.Letters.{StandBelow}
 use Rattle.module_expression_checks.proofs.swizzles.are_components.Given as goal
 

@@ -22,7 +22,7 @@ decreases-slots_of l = 3 * l.depth + 2
 abbrev pub invariant-slots_of_elements-loop-place : goal.invariant-slots_of_elements-loop-place
 invariant-slots_of_elements-loop-place l = (k : ℕ) → k < 64 → IsIn l.slots.0 k ↔ IsReachedAmong k (tree_along (types_view l.types) l.depth l.base) l.stride l.offset l.place
 
--- the slots so far and those of the rest are those of all
+-- the slots so far, with those of the rest, are those of all
 abbrev pub invariant-slots_of_members-loop-member : goal.invariant-slots_of_members-loop-member
 invariant-slots_of_members-loop-member l =
     (k : ℕ) → k < 64

@@ -1,4 +1,4 @@
--- Those that were passed are accepted.
+-- The variables so far are valid.
 use Rattle.std.proofs.Common.{ℕ, ◌<◌}
 use Rattle.module_constants.specs.Known.{module_in}
 use Rattle.spec_interface.specs.judged.Globals.{GlobalOK}

@@ -1,4 +1,4 @@
--- The members that were passed fit.
+-- The members so far are allowed.
 use Rattle.std.proofs.Common.{map}
 use Rattle.ir_types.specs.judged.Plain.{member_view}
 use Rattle.module_steps.specs.Layouts.{FitsAt}

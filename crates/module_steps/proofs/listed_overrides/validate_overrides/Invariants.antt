@@ -1,4 +1,4 @@
--- The overrides that were passed are accepted, and their ids are noted.
+-- The overrides so far are valid, and their ids are in the set.
 use Rattle.std.proofs.Common.{ℕ, ◌<◌}
 use Rattle.module_constants.specs.Ids.{AreIds}
 use Rattle.module_constants.specs.Known.{module_in}

@@ -1,4 +1,4 @@
--- The members that were passed lie as their types require.
+-- The members so far have valid offsets for their types.
 use Rattle.std.proofs.Common.{map}
 use Rattle.ir_types.specs.judged.Plain.{member_view}
 use Rattle.module_steps.specs.Layouts.{UniformPart}

@@ -1,4 +1,4 @@
--- The types that were passed are accepted, and it is reported of each.
+-- The types so far are valid, and there is a `TypeInfo` for each.
 use Rattle.typing_forms.specs.judged.Resolutions.{types_view}
 use Rattle.module_context.specs.AcceptedTypes.{AreAcceptedBelow}
 use Rattle.module_steps.proofs.validate.validate_types.Given as goal

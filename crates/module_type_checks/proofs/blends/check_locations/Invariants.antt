@@ -1,4 +1,4 @@
--- The members that were passed have no other locations.
+-- The members so far have no other locations.
 use Rattle.std.proofs.Common.{map}
 use Rattle.ir_types.specs.judged.Plain.{member_view}
 use Rattle.module_type_checks.proofs.Sources.{LocatedBelow}

@@ -1,4 +1,4 @@
--- No source was passed.
+-- No member so far has a blend source.
 use Rattle.std.proofs.Common.{map}
 use Rattle.ir_types.specs.judged.Plain.{member_view}
 use Rattle.module_type_checks.proofs.Sources.{NoneBelow}

@@ -1,4 +1,4 @@
--- What was found is the only one that was passed.
+-- The member found is the only one so far.
 use Rattle.std.proofs.Common.{map}
 use Rattle.ir_types.specs.judged.Plain.{member_view}
 use Rattle.module_type_checks.specs.Blends.{IsSoleBelow}

@@ -1,4 +1,4 @@
--- The flags that the members have that were passed.
+-- The flags that all members so far have.
 use Rattle.std.proofs.Common.{map}
 use Rattle.ir_types.specs.judged.Plain.{member_view}
 use Rattle.module_type_checks.specs.Sets.{CommonBelow}

@@ -1,4 +1,4 @@
--- The members that were passed are in order.
+-- The members so far are in order.
 use Rattle.std.proofs.Common.{map}
 use Rattle.ir_types.specs.judged.Plain.{member_view}
 use Rattle.module_type_checks.specs.Sets.{Follows}

@@ -1,4 +1,4 @@
--- The members that were passed may stand at their places.
+-- The members so far are valid at their indices.
 use Rattle.std.proofs.Common.{map}
 use Rattle.ir_types.specs.judged.Plain.{member_view}
 use Rattle.typing_layout.specs.judged.Structs.{MemberOK}

@@ -4,6 +4,6 @@ use Rattle.ir_types.specs.judged.Plain.{member_view}
 use Rattle.spec_interface.specs.judged.Members.{types_bound}
 use Rattle.spec_interface.proofs.members.only_type.Given as goal
 
--- what is found among the members before this one
+-- the result for the members before this one
 abbrev pub invariant-loop-member : goal.invariant-loop-member
 invariant-loop-member l = Stands l.found (types_bound l.part (map member_view (take l.member-index l.members)))

@@ -1,4 +1,4 @@
--- What was put together with what is put together of the rest is that of all.
+-- What is assembled so far, followed by the rest's infos, is the infos of all.
 use Rattle.std.proofs.Common.{◌≡◌, ◌++◌, length}
 use Rattle.std.specs.Vec.Iter.{into_iter_items, into_iter_len}
 use Rattle.typing_analysis.specs.Kept.{infos_from}

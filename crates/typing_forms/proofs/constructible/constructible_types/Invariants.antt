@@ -1,4 +1,4 @@
--- It is known of the types that were passed.
+-- The entries are those of the types visited so far.
 use Rattle.typing_forms.specs.judged.Resolutions.{types_view}
 use Rattle.typing_forms.specs.found.Constructible.{AreFoundBelow}
 use Rattle.typing_forms.proofs.constructible.constructible_types.Given as goal

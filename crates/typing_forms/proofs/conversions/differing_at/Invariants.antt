@@ -1,4 +1,4 @@
--- The types that are left differ where the whole types do.
+-- The remaining types differ in some scalars exactly if the whole types do.
 use Rattle.typing_forms.specs.judged.Resolutions.{types_view}
 use Rattle.typing_forms.proofs.Shapes.{SameScalars}
 use Rattle.typing_forms.proofs.conversions.differing_at.Given as goal

@@ -1,4 +1,4 @@
--- What is left of the chain leads to where the whole chain leads to.
+-- The rest of the chain has the same end as the whole chain.
 use Rattle.ir_types.specs.judged.Plain.{inner_view}
 use Rattle.typing_forms.specs.judged.Resolutions.{types_view}
 use Rattle.typing_forms.specs.found.Elements.{base_of}

@@ -1,4 +1,4 @@
--- With the place set, the marks are as those at the beginning with it set.
+-- The marks with the index set equal the original marks with it set.
 use Rattle.std.proofs.Common.{◌≡◌, ◌+◌, ◌-◌, length}
 use Rattle.typing_infos.specs.Marks.{marked_at}
 use Rattle.typing_infos.proofs.marks.mark.Given as goal

@@ -1,4 +1,4 @@
--- The marks of the pairs that were passed with those of the rest are those of all.
+-- The marks of the visited pairs, joined with those of the rest, are the marks of all.
 use Rattle.std.proofs.Common.{◌≡◌, drop, fold}
 use Rattle.typing_infos.specs.Marks.{marked_pair, marks_of}
 use Rattle.typing_infos.proofs.marks.marks_of.Given as goal

@@ -1,4 +1,4 @@
--- What is put in, or is among the rest, is what is among all.
+-- Inserted, or in the rest, means in the whole list.
 use Rattle.typing_infos.proofs.IndexLemmas.{AreAll}
 use Rattle.typing_infos.proofs.pair_set.codes_of.Given as goal
 

@@ -1,4 +1,4 @@
--- What was added with the rest is what all add.
+-- What was appended so far, followed by the rest, is the whole result.
 use Rattle.std.proofs.Common.{◌≡◌, ◌++◌, drop}
 use Rattle.typing_infos.proofs.sampled.append.Given as goal
 

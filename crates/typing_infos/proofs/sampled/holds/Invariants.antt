@@ -1,4 +1,4 @@
--- One of the rest is equal exactly where one of all is.
+-- The rest contains the value exactly if the whole list does.
 use Rattle.std.proofs.Common.{◌≡◌, drop}
 use Rattle.std.specs.List.{list_any}
 use Rattle.typing_infos.proofs.sampled.holds.Given as goal

@@ -1,4 +1,4 @@
--- The uses that were passed are included.
+-- The uses visited so far are included.
 use Rattle.typing_infos.proofs.UseBits.{DominatesBelow}
 use Rattle.typing_infos.proofs.uses.dominates.Given as goal
 

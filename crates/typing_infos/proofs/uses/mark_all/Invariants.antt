@@ -1,4 +1,4 @@
--- What the rest adds is what all add.
+-- Adding the rest's uses gives the result of adding all.
 use Rattle.std.proofs.Common.{◌≡◌, drop}
 use Rattle.typing_infos.specs.Infos.{with_uses}
 use Rattle.typing_infos.proofs.uses.mark_all.Given as goal

@@ -1,4 +1,4 @@
--- The greatest so far, and of the rest, is the greatest of all.
+-- The maximum so far, and of the rest, is the maximum of all.
 use Rattle.std.proofs.Common.{◌≡◌, ◌≤◌, ℕ, drop, map, max}
 use Rattle.ir_types.specs.judged.Plain.{member_view}
 use Rattle.typing_layout.specs.judged.Layout.{greatest_alignment}

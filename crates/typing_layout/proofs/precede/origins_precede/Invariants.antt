@@ -1,4 +1,4 @@
--- The expressions that were passed have their kinds from earlier ones.
+-- The operands that determine the kinds of the expressions visited so far precede.
 use Rattle.std.proofs.Common.{map}
 use Rattle.ir_arena.specs.found.Arenas.{value_of_entry}
 use Rattle.ir_types.specs.judged.ExpressionPlain.{expression_view}

@@ -1,4 +1,4 @@
--- The kinds of the expressions before this one are found.
+-- The kinds of the expressions before this one are computed.
 use Rattle.std.proofs.Common.{map}
 use Rattle.ir_arena.specs.found.Arenas.{value_of_entry}
 use Rattle.ir_types.specs.judged.ExpressionPlain.{expression_view}

@@ -5,7 +5,7 @@ use Rattle.typing_references.specs.Faults.{operand_forward}
 use Rattle.typing_references.specs.First.{first_of}
 use Rattle.typing_references.proofs.forward.operands_with_handles.Given as goal
 
--- the first of the rest is the first of all
+-- the first match of the rest is the first of all
 abbrev pub invariant-loop-handle : goal.invariant-loop-handle
 invariant-loop-handle l =
     first_of (λ h. operand_forward h.0 (expression_view h.1)) l.handle-iterator ≡ first_of (λ h. operand_forward h.0 (expression_view h.1)) (handles_from 0 l.expressions)

@@ -1,4 +1,4 @@
--- What is joined with what the rest joins is what all join.
+-- Merging the rest into the result so far gives the result of merging all.
 use Rattle.std.proofs.Common.{◌≡◌, drop, length}
 use Rattle.typing_summaries.specs.Tallies.{merged_from}
 use Rattle.typing_summaries.proofs.counts.merge.Given as goal

@@ -1,4 +1,4 @@
--- Of each argument before this number it is so.
+-- The property holds of each argument before this index.
 use Rattle.std.proofs.Common.{ℕ, ◌<◌}
 use Rattle.typing_summaries.specs.Parts.{Stands}
 use Rattle.typing_summaries.proofs.joined.all_stand.Given as goal

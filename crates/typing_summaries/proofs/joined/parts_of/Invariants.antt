@@ -1,4 +1,4 @@
--- What was found with what the rest gives is what all give.
+-- What was computed so far, followed by the rest's parts, is the parts of all.
 use Rattle.std.proofs.Common.{◌≡◌, ◌++◌, drop, map}
 use Rattle.ir_types.specs.judged.ExpressionPlain.{expression_view}
 use Rattle.ir_items.specs.found.GlobalView.{values_of}

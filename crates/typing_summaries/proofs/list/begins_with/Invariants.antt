@@ -1,4 +1,4 @@
--- Where the rest begins so, all does.
+-- If the rest begins so, the whole does.
 use Rattle.std.proofs.Common.{drop}
 use Rattle.typing_summaries.specs.Fronts.{BeginsWith}
 use Rattle.typing_summaries.proofs.list.begins_with.Given as goal

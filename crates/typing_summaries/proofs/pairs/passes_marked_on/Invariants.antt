@@ -1,4 +1,4 @@
--- What is marked before this number is passed on.
+-- The marked arguments before this index are passed on unchanged.
 use Rattle.std.proofs.Common.{◌≡◌, ℕ, ◌<◌, true, map, Some, slice_get}
 use Rattle.ir_types.specs.judged.ExpressionPlain.{expression_view}
 use Rattle.ir_items.specs.found.GlobalView.{values_of}

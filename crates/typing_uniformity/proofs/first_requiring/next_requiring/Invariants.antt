@@ -1,4 +1,4 @@
--- What was written names the first that requires something, from each place on.
+-- Each entry written is the first one from its index on that has a requirement.
 use Rattle.std.proofs.Common.{◌≡◌, ℕ, ◌<◌, ◌≤◌, length, slice_index_or}
 use Rattle.typing_uniformity.specs.Requiring.{asks, IsNext}
 use Rattle.typing_uniformity.proofs.first_requiring.next_requiring.Given as goal

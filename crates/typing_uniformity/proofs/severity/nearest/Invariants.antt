@@ -1,4 +1,4 @@
--- What the rest of the search finds is what the whole search finds.
+-- The rest of the search has the result of the whole search.
 use Rattle.std.proofs.Common.{Option}
 use Rattle.ir_kinds.specs.declared.diagnostics.Severity.{Severity}
 use Rattle.ir_items.specs.found.Filters.{nodes_of}

@@ -1,4 +1,4 @@
--- What is known so far is that of the nodes before this one.
+-- The severities so far are those of the nodes before this one.
 use Rattle.std.proofs.Common.{◌≡◌, length}
 use Rattle.ir_items.specs.found.Filters.{nodes_of}
 use Rattle.typing_uniformity.specs.Nearest.{AreNearest}

@@ -1,4 +1,4 @@
--- What was reported with what the rest tells is what all tell.
+-- The uniformities so far, followed by the rest's, are those of all.
 use Rattle.std.proofs.Common.{◌≡◌, ◌++◌, map}
 use Rattle.ir_arena.specs.judged.Handles.{handles_from}
 use Rattle.typing_uniformity.specs.Reported.{told, all_reported}

@@ -1,4 +1,4 @@
--- What was seen with what the rest shows is what the whole shows.
+-- The result so far, combined with the rest's, is the result of the whole.
 use Rattle.std.proofs.Common.{◌≡◌, ◌||◌, is_some, option_map, drop, map}
 use Rattle.ir_blocks.specs.found.View.{statements_view, case_view, cases_of}
 use Rattle.spec_expressions.specs.judged.Disruption.{ends_in, ends_in_cases}

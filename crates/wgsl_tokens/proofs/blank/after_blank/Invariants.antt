@@ -1,4 +1,4 @@
--- Only blankspace and comments stand before this byte.
+-- Only blankspace and comments precede this byte.
 use Rattle.std.proofs.Common.{◌-◌, ◌≤◌, length}
 use Rattle.wgsl_tokens.proofs.blank.after_blank.Given as goal
 

@@ -1,4 +1,4 @@
--- The name goes on up to here.
+-- The identifier extends to here.
 use Rattle.std.proofs.Common.{◌-◌, ◌≤◌, length}
 use Rattle.wgsl_tokens.proofs.characters.name_end.Given as goal
 

@@ -1,4 +1,4 @@
--- One token more stands after those before.
+-- One more token in order.
 use Rattle.std.proofs.Common.{rules, length}
 use Rattle.wgsl_tokens.proofs.Joined.{covers_more}
 use Rattle.wgsl_tokens.proofs.lexer.cut_tokens.Goals as goal

@@ -1,4 +1,4 @@
--- The tokens so far stand one after the other, up to the next byte.
+-- The tokens so far are in order up to the next byte.
 use Rattle.std.proofs.Common.{◌-◌, ◌≤◌, length}
 use Rattle.wgsl_tokens.specs.Cut.{Covers}
 use Rattle.wgsl_tokens.proofs.lexer.cut_tokens.Given as goal

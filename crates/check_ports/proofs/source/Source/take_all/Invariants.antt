@@ -4,7 +4,7 @@ use Rattle.check_ports.specs.Source.{has_failed, reader_of}
 use Rattle.check_ports.proofs.Runs.{ReadsOn}
 use Rattle.check_ports.proofs.source.Source.take_all.Given as goal
 
--- `progress`: as long as no call failed, each call gave a byte
+-- `progress`: as long as no call failed, each call returned a byte
 abbrev pub invariant-loop-call : goal.invariant-loop-call
 invariant-loop-call g l = record {
   consumed : Consumes (g.R.Read.remaining (reader_of l.initial.self)) (g.R.Read.remaining (reader_of l.self)) l.taken.items;

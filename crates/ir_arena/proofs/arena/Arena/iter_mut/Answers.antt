@@ -5,7 +5,7 @@ use Rattle.ir_arena.specs.judged.Handles.{handles_from}
 use Rattle.ir_arena.proofs.Zipped.{handles_numbered, length_with_values, spans_with_values}
 use Rattle.ir_arena.proofs.arena.Arena.iter_mut.Goals as goal
 
--- there are as many values, whatever is written to them
+-- writes to the values keep the length
 pub invariant_of-self-lent : goal.invariant_of-self-lent
 invariant_of-self-lent g c = λ w. omega (arith, length_with_values c.self.inside.entries w, c.self.invariant)
 

@@ -6,7 +6,7 @@ use Rattle.typing_rules.specs.judged.Types.{constructor_place}
 use Rattle.typing_rules.specs.found.Members.{sizes_in, size_of}
 use Rattle.typing_rules.proofs.constructor_set.ConstructorSet.singleton.Goals as goal
 
--- the bit of a shape's place is the set of that shape
+-- the bit of a constructor's index is the singleton set of that constructor
 one_shape : (n : ConstructorSize) → sizes_in (1 * 2 ^ constructor_place n % 65536) ≡ n ∷ []
 one_shape size.Scalar = refl
 one_shape (size.Vector Bi) = refl

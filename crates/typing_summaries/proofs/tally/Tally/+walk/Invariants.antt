@@ -4,7 +4,7 @@ use Rattle.typing_summaries.specs.Joined.{AreJoined}
 use Rattle.typing_summaries.specs.Tallies.{known, tallied, done_in, done_in_cases}
 use Rattle.typing_summaries.proofs.tally.Tally.+walk.Given as goal
 
--- what the rest gives is what the whole gives, and what was joined is there
+-- tallying the rest gives the tally of the whole, and the pairs of merged callees are in the list
 abbrev pub invariant-add_all-loop-statement : goal.invariant-add_all-loop-statement
 invariant-add_all-loop-statement l =
     (done_in (known l.context) (statements_view (drop l.statement-index l.statement-items)) (tallied l.self) ≡ done_in (known l.context) (statements_view l.statement-items) (tallied l.fn.self))
