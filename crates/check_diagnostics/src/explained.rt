@@ -1,4 +1,7 @@
 // The explained validation result of a WGSL text.
+ghost use Rattle.std.specs.Prelude.{◌≡◌, IfOk};
+ghost use Rattle.document_reader.specs.found.View.{document_view};
+ghost use Rattle.check_explanation.specs.Answered.{IsExplained, IsExplainedOf};
 
 use crate::excerpt::Excerpt;
 use crate::location::Location;
@@ -20,7 +23,9 @@ pub struct Diagnosed {
 }
 
 // The explanation with the part of the text.
-fn located(bytes: &[u8], module: &Module, explanation: Explanation) -> Diagnosed {
+fn located(bytes: &[u8], module: &Module, explanation: Explanation) -> Diagnosed
+    ensures { result.explanation ≡ explanation }
+{
     let location = match refused_span(module, &explanation).to_range() {
         Some(range) => Some(Location::new(bytes, range.start, range.end)),
         None => None,
@@ -38,7 +43,9 @@ fn explain_written(
     bytes: &[u8],
     text: &[u8],
     document: &mut Document,
-) -> Result<Diagnosed, WgslError> {
+) -> Result<Diagnosed, WgslError>
+    ensures { IfOk result (λ d. IsExplainedOf requested (document_view document.old) d.explanation) }
+{
     match explain_document(alloc, requested, text, document) {
         Ok(explanation) => Ok(located(bytes, &document.module, explanation)),
         Err(_) => Err(WgslError::MEMORY),
@@ -51,7 +58,9 @@ fn explain_read(
     requested: Requested,
     bytes: &[u8],
     document: &mut Document,
-) -> Result<Diagnosed, WgslError> {
+) -> Result<Diagnosed, WgslError>
+    ensures { IfOk result (λ d. IsExplainedOf requested (document_view document.old) d.explanation) }
+{
     match write_document(alloc, document) {
         Ok(text) => explain_written(alloc, requested, bytes, text.as_bytes(), document),
         Err(_) => Err(WgslError::MEMORY),
@@ -64,7 +73,9 @@ pub fn explain_wgsl(
     alloc: Global,
     requested: Requested,
     bytes: &[u8],
-) -> Result<Diagnosed, WgslError> {
+) -> Result<Diagnosed, WgslError>
+    ensures { IfOk result (λ d. IsExplained requested d.explanation) }
+{
     match read_wgsl(alloc, bytes) {
         Ok(mut document) => {
             let diagnosed = explain_read(alloc, requested, bytes, &mut document);

@@ -1,2 +1,3 @@
 pub mod Answered
 pub mod Listed
+pub mod ListedWgsl

@@ -1,18 +1,22 @@
-//! Validation of a document or of SPIR-V for hosts that can call C. `include/shader_check.h` declares the host API:
+//! Validation of a document, of SPIR-V or of WGSL for hosts that can call C. `include/shader_check.h` declares the host API:
 //! the same functions without `_c`, defined by `include/shader_check_calls.c`, which also allow null pointers.
 #![tactic(auto)]
 
 mod answer;
+mod wgsl;
 
 ghost use Rattle.std.specs.Prelude.{◌≡◌, ◌≢◌, ◌<◌, ◌≤◌, ◌+◌, ◌*◌};
 ghost use Rattle.shader_check_c.specs.Answers.{IsGiven, IsExplained, IsGivenListing, IsGivenOfSpirv, IsGivenWith, IsListingOfSpirv};
 ghost use Rattle.shader_check_c.specs.Answers.{IsReadOrNot, IsVerdictOfSpirv};
+ghost use Rattle.check_wgsl.specs.Answered.{IsAnswered as IsAnsweredOfWgsl};
+ghost use Rattle.shader_check_c.specs.Wgsl.{IsGivenOfWgsl, IsListingOfWgsl, IsReadOrNotOfWgsl, IsVerdictOfWgsl};
 
 use answer::{
     answer_on, explained_on, listed_on, put_front, spirv_answer_on, spirv_document_on,
     spirv_listing_on, spirv_object_on, status_in, status_of, status_of_spirv,
 };
 use std::alloc::Global;
+use wgsl::{status_of_wgsl, wgsl_answer_on, wgsl_document_on, wgsl_listing_on, wgsl_object_on};
 
 const MAJOR: u32 = 0;
 
@@ -201,6 +205,110 @@ pub extern "C" fn shader_check_c_spirv_document(
             *needed = answer.text.len();
             put_front(text, answer.text.as_bytes());
             status_of_spirv(answer.verdict)
+        }
+        None => 2,
+    }
+}
+
+/// Validates the WGSL text in `wgsl`, and writes the text of the verdict and the report to the front of `text`, or why no
+/// module was read, with its line and column, as `./shader-check --wgsl` does. `needed` is the length of the whole text in bytes.
+///
+/// Returns 0 for a valid module, 1 for an invalid one, 2 if out of memory, then `text` is unchanged and `needed` is 0,
+/// and 3 if the text is not WGSL or not supported by the translation.
+#[unsafe(no_mangle)]
+pub extern "C" fn shader_check_c_wgsl_text(
+    alloc: Global,
+    wgsl: &[u8],
+    text: &mut [u8],
+    needed: &mut usize,
+) -> u32
+    ensures known { result ≤ 3 }
+    ensures given { result ≢ 2 → IsGivenOfWgsl IsAnsweredOfWgsl result text.old text.new needed.new }
+    ensures refused { result ≡ 2 → text.new ≡ text.old }
+    ensures refused_none { result ≡ 2 → needed.new ≡ 0 }
+{
+    *needed = 0;
+    match wgsl_answer_on(alloc, wgsl) {
+        Some(answer) => {
+            *needed = answer.text.len();
+            put_front(text, answer.text.as_bytes());
+            status_of_wgsl(answer.verdict)
+        }
+        None => 2,
+    }
+}
+
+/// Validates the WGSL text in `wgsl`, and writes one JSON object with all details to the front of `text`, as
+/// `./shader-check --wgsl --json` does. `needed` and the status are as for [`shader_check_c_wgsl_text`].
+#[unsafe(no_mangle)]
+pub extern "C" fn shader_check_c_wgsl_json(
+    alloc: Global,
+    wgsl: &[u8],
+    text: &mut [u8],
+    needed: &mut usize,
+) -> u32
+    ensures known { result ≤ 3 }
+    ensures given { result ≢ 2 → IsGivenOfWgsl (λ v t. IsVerdictOfWgsl v) result text.old text.new needed.new }
+    ensures refused { result ≡ 2 → text.new ≡ text.old }
+    ensures refused_none { result ≡ 2 → needed.new ≡ 0 }
+{
+    *needed = 0;
+    match wgsl_object_on(alloc, wgsl) {
+        Some(answer) => {
+            *needed = answer.text.len();
+            put_front(text, answer.text.as_bytes());
+            status_of_wgsl(answer.verdict)
+        }
+        None => 2,
+    }
+}
+
+/// Validates the WGSL text in `wgsl`, and writes the line of the verdict to the front of `text` and, if it is valid, the lines of its
+/// buffers with their leaves, as `./shader-check --wgsl --leaves` does. `needed` and the status are as for
+/// [`shader_check_c_wgsl_text`].
+#[unsafe(no_mangle)]
+pub extern "C" fn shader_check_c_wgsl_leaves(
+    alloc: Global,
+    wgsl: &[u8],
+    text: &mut [u8],
+    needed: &mut usize,
+) -> u32
+    ensures known { result ≤ 3 }
+    ensures given { result ≢ 2 → IsGivenOfWgsl IsListingOfWgsl result text.old text.new needed.new }
+    ensures refused { result ≡ 2 → text.new ≡ text.old }
+    ensures refused_none { result ≡ 2 → needed.new ≡ 0 }
+{
+    *needed = 0;
+    match wgsl_listing_on(alloc, wgsl) {
+        Some(answer) => {
+            *needed = answer.text.len();
+            put_front(text, answer.text.as_bytes());
+            status_of_wgsl(answer.verdict)
+        }
+        None => 2,
+    }
+}
+
+/// Translates the WGSL text in `wgsl`, and writes its document to the front of `text`, as `./shader-check --wgsl --document` does
+/// without the line feed. It is not validated. Returns 0, or a failure as [`shader_check_c_wgsl_text`]; `needed` is as there.
+#[unsafe(no_mangle)]
+pub extern "C" fn shader_check_c_wgsl_document(
+    alloc: Global,
+    wgsl: &[u8],
+    text: &mut [u8],
+    needed: &mut usize,
+) -> u32
+    ensures known { result ≤ 3 }
+    ensures given { result ≢ 2 → IsGivenOfWgsl IsReadOrNotOfWgsl result text.old text.new needed.new }
+    ensures refused { result ≡ 2 → text.new ≡ text.old }
+    ensures refused_none { result ≡ 2 → needed.new ≡ 0 }
+{
+    *needed = 0;
+    match wgsl_document_on(alloc, wgsl) {
+        Some(answer) => {
+            *needed = answer.text.len();
+            put_front(text, answer.text.as_bytes());
+            status_of_wgsl(answer.verdict)
         }
         None => 2,
     }
