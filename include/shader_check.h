@@ -63,6 +63,22 @@ uint32_t shader_check_spirv_leaves(const uint8_t *spirv, size_t length, uint8_t 
  * does that. Answers 0, SHADER_CHECK_NO_MEMORY or SHADER_CHECK_UNREAD. */
 uint32_t shader_check_spirv_document(const uint8_t *spirv, size_t length, uint8_t *text, size_t capacity, size_t *needed);
 
+/* Judges the text of WGSL in the `length` bytes at `wgsl`, in UTF-8 and without a 0 at its end: the text is that of ./shader-check --wgsl.
+ * Answers SHADER_CHECK_UNREAD besides, where the text is no WGSL or says what is not translated; the text then is one line that says
+ * what, and at which line and column. All else is as with shader_check. */
+uint32_t shader_check_wgsl(const uint8_t *wgsl, size_t length, uint8_t *text, size_t capacity, size_t *needed);
+
+/* The same, but that the text is one JSON object without an end of a line: ./shader-check --wgsl --json. Of what is refused or not read
+ * its field `wgsl` has the part of the text that is at fault, in bytes and in lines and columns. */
+uint32_t shader_check_wgsl_json(const uint8_t *wgsl, size_t length, uint8_t *text, size_t capacity, size_t *needed);
+
+/* The same, but that the text has the leaves of the buffers: ./shader-check --wgsl --leaves. */
+uint32_t shader_check_wgsl_leaves(const uint8_t *wgsl, size_t length, uint8_t *text, size_t capacity, size_t *needed);
+
+/* Writes the document that a text of WGSL says, without an end of a line: ./shader-check --wgsl --document. It is not judged: shader_check
+ * does that. Answers 0, SHADER_CHECK_NO_MEMORY or SHADER_CHECK_UNREAD. */
+uint32_t shader_check_wgsl_document(const uint8_t *wgsl, size_t length, uint8_t *text, size_t capacity, size_t *needed);
+
 #ifdef __cplusplus
 }
 #endif

@@ -1,5 +1,5 @@
-/* Judges the document in each file that is named, as ./shader-check does; with --json, --leaves, --spirv or --document in front as that
- * does with them. --version prints the library's version. */
+/* Judges the document in each file that is named, as ./shader-check does; with --json, --leaves, --spirv, --wgsl or --document in front as
+ * that does with them. --version prints the library's version. */
 #include "shader_check.h"
 
 #include <stdio.h>
@@ -36,7 +36,7 @@ typedef uint32_t call(const uint8_t *, size_t, uint8_t *, size_t, size_t *);
 
 /* What the words in front say. */
 struct wanted {
-    int is_spirv, is_json, is_leaves, is_document;
+    int is_spirv, is_wgsl, is_json, is_leaves, is_document;
 };
 
 /* Takes a word, and says whether it is one. */
@@ -44,6 +44,8 @@ static int take_word(struct wanted *wanted, const char *word)
 {
     if (strcmp(word, "--spirv") == 0)
         wanted->is_spirv = 1;
+    else if (strcmp(word, "--wgsl") == 0)
+        wanted->is_wgsl = 1;
     else if (strcmp(word, "--json") == 0)
         wanted->is_json = 1;
     else if (strcmp(word, "--leaves") == 0)
@@ -55,19 +57,21 @@ static int take_word(struct wanted *wanted, const char *word)
     return 1;
 }
 
-/* The call for them. */
+/* The calls by what is judged, a document, SPIR-V or WGSL, and by what is written. A document is not written. */
+static call *const calls[3][4] = {
+    {shader_check, shader_check_json, shader_check_leaves, shader_check},
+    {shader_check_spirv, shader_check_spirv_json, shader_check_spirv_leaves, shader_check_spirv_document},
+    {shader_check_wgsl, shader_check_wgsl_json, shader_check_wgsl_leaves, shader_check_wgsl_document},
+};
+
+/* The call for them. --document says that SPIR-V is judged, where it has no --wgsl beside it. */
 static call *call_for(const struct wanted *wanted)
 {
-    if (wanted->is_document)
-        return shader_check_spirv_document;
-    if (wanted->is_json)
-        return wanted->is_spirv ? shader_check_spirv_json : shader_check_json;
-    if (wanted->is_leaves)
-        return wanted->is_spirv ? shader_check_spirv_leaves : shader_check_leaves;
-    return wanted->is_spirv ? shader_check_spirv : shader_check;
+    int kind = wanted->is_wgsl ? 2 : wanted->is_spirv || wanted->is_document;
+    return calls[kind][wanted->is_document ? 3 : wanted->is_json ? 1 : wanted->is_leaves ? 2 : 0];
 }
 
-/* Judges a document or a module of SPIR-V. First without room for the text, which says how much it takes. */
+/* Judges a document, a module of SPIR-V or a text of WGSL. First without room for the text, which says how much it takes. */
 static uint32_t judge(call *check, const uint8_t *bytes, size_t length, uint8_t **text, size_t *needed)
 {
     uint32_t status = check(bytes, length, NULL, 0, needed);
@@ -86,7 +90,7 @@ int main(int count, char **names)
         return version != SHADER_CHECK_VERSION_NUMBER;
     }
     uint32_t worst = SHADER_CHECK_ACCEPTED;
-    struct wanted wanted = {0, 0, 0, 0};
+    struct wanted wanted = {0, 0, 0, 0, 0};
     int at = 1;
     while (at < count && take_word(&wanted, names[at]))
         at++;

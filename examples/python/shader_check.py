@@ -3,6 +3,7 @@
     import shader_check
     answer = shader_check.check(document)          # bytes, or a text
     answer = shader_check.check_spirv(module)      # bytes
+    answer = shader_check.check_wgsl(source)       # a text, or its bytes in UTF-8
     answer = shader_check.check_leaves(document)   # what lies where in its buffers
     if not answer.accepted:
         print(answer.text, shader_check.check_json(document).data["text"])
@@ -16,8 +17,8 @@ import json
 import os
 from dataclasses import dataclass
 
-__all__ = ["Answer", "Status", "check", "check_json", "check_leaves", "check_spirv", "check_spirv_json", "check_spirv_leaves",
-           "document_of_spirv", "version"]
+__all__ = ["Answer", "Status", "check", "check_json", "check_leaves", "check_spirv", "check_spirv_json", "check_spirv_leaves", "check_wgsl",
+           "check_wgsl_json", "check_wgsl_leaves", "document_of_spirv", "document_of_wgsl", "version"]
 __version__ = "0.1.0"
 
 
@@ -43,7 +44,7 @@ class Answer:
 
     @property
     def data(self):
-        """The object of an answer of `check_json` or `check_spirv_json`."""
+        """The object of an answer of `check_json`, `check_spirv_json` or `check_wgsl_json`."""
         return json.loads(self.text)
 
 
@@ -55,7 +56,9 @@ def _load():
     library.shader_check_version.argtypes = []
     library.shader_check_version.restype = ctypes.c_uint32
     for call in (library.shader_check, library.shader_check_json, library.shader_check_leaves, library.shader_check_spirv,
-                 library.shader_check_spirv_json, library.shader_check_spirv_leaves, library.shader_check_spirv_document):
+                 library.shader_check_spirv_json, library.shader_check_spirv_leaves, library.shader_check_spirv_document,
+                 library.shader_check_wgsl, library.shader_check_wgsl_json, library.shader_check_wgsl_leaves,
+                 library.shader_check_wgsl_document):
         call.argtypes = [ctypes.c_char_p, ctypes.c_size_t, ctypes.c_char_p, ctypes.c_size_t, ctypes.POINTER(ctypes.c_size_t)]
         call.restype = ctypes.c_uint32
     return library
@@ -112,9 +115,34 @@ def check_spirv_leaves(module):
     return _answer(_library.shader_check_spirv_leaves, module)
 
 
-def document_of_spirv(module):
-    """The document that a module of SPIR-V says, not judged; ValueError says why there is none."""
-    answer = _answer(_library.shader_check_spirv_document, module)
+def check_wgsl(source):
+    """Judges a text of WGSL, as `shader-check --wgsl` does."""
+    return _answer(_library.shader_check_wgsl, source)
+
+
+def check_wgsl_json(source):
+    """Judges a text of WGSL; the text is the object of `shader-check --wgsl --json`, and `data` what it says: `data["wgsl"]` has the
+    lines and columns of the part that is at fault."""
+    return _answer(_library.shader_check_wgsl_json, source)
+
+
+def check_wgsl_leaves(source):
+    """Judges a text of WGSL, and lists what lies in its buffers, as `shader-check --wgsl --leaves` does."""
+    return _answer(_library.shader_check_wgsl_leaves, source)
+
+
+def _document(call, module):
+    answer = _answer(call, module)
     if not answer.accepted:
         raise ValueError(answer.text.strip())
     return answer.text
+
+
+def document_of_spirv(module):
+    """The document that a module of SPIR-V says, not judged; ValueError says why there is none."""
+    return _document(_library.shader_check_spirv_document, module)
+
+
+def document_of_wgsl(source):
+    """The document that a text of WGSL says, not judged; ValueError says why there is none."""
+    return _document(_library.shader_check_wgsl_document, source)

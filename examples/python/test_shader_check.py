@@ -87,6 +87,47 @@ class Modules(unittest.TestCase):
         self.assertTrue(answer.text.startswith("malformed: "))
 
 
+class Texts(unittest.TestCase):
+    def test_each_example_has_its_answer(self):
+        for file in sorted(EXAMPLES.glob("wgsl/*.wgsl")):
+            with self.subTest(file.name):
+                answer = shader_check.check_wgsl(file.read_text())
+                self.assertEqual(answer.text, file.with_suffix(".answer").read_text())
+                self.assertEqual(answer, shader_check.check_wgsl(file.read_bytes()))
+
+    def test_an_object_has_the_verdict_and_the_place(self):
+        for file in sorted(EXAMPLES.glob("wgsl/*.wgsl")):
+            with self.subTest(file.name):
+                answer = shader_check.check_wgsl_json(file.read_text())
+                due = file.with_suffix(".answer").read_text().split("\n")[0]
+                self.assertEqual(answer.data["verdict"], due.split()[0].rstrip(":"))
+                if answer.status == shader_check.Status.UNREAD:
+                    place = answer.data["wgsl"]
+                    self.assertEqual(f'{place["line"]}:{place["column"]}', due.split()[-1])
+
+    def test_leaves_stand_below_their_buffers(self):
+        for file in sorted(EXAMPLES.glob("wgsl/*.wgsl")):
+            with self.subTest(file.name):
+                answer = shader_check.check_wgsl_leaves(file.read_text())
+                self.assertEqual(without_leaves(answer.text), of_buffers(file.with_suffix(".answer").read_text()))
+
+    def test_the_document_has_the_same_answer(self):
+        for file in sorted(EXAMPLES.glob("wgsl/*.wgsl")):
+            with self.subTest(file.name):
+                due = file.with_suffix(".answer").read_text()
+                try:
+                    document = shader_check.document_of_wgsl(file.read_text())
+                except ValueError as why:
+                    self.assertEqual(str(why), due.strip())
+                else:
+                    self.assertEqual(shader_check.check(document).text, due)
+
+    def test_bytes_that_are_no_text_are_not_read(self):
+        answer = shader_check.check_wgsl(b"fn \xff() {}")
+        self.assertEqual(answer.status, shader_check.Status.UNREAD)
+        self.assertTrue(answer.text.startswith("malformed: "))
+
+
 class Library(unittest.TestCase):
     def test_its_version_is_that_of_the_module(self):
         self.assertEqual(".".join(str(it) for it in shader_check.version()), shader_check.__version__)
@@ -99,6 +140,7 @@ class Library(unittest.TestCase):
         self.assertEqual(needed.value, len((EXAMPLES / "shader-compute-blur.txt").read_bytes()))
         self.assertEqual(library.shader_check(None, 5, None, 0, None), shader_check.Status.REFUSED)
         self.assertEqual(library.shader_check_spirv(None, 0, None, 0, None), shader_check.Status.UNREAD)
+        self.assertEqual(library.shader_check_wgsl(None, 5, None, 0, None), shader_check.Status.ACCEPTED)
 
 
 class Threads(unittest.TestCase):

@@ -1,16 +1,17 @@
-//! The check of a shader module, in process: [`check`] of the bytes of a document, [`check_spirv`] of those of SPIR-V, and the other forms
-//! of answer beside them.
+//! The check of a shader module, in process: [`check`] of the bytes of a document, [`check_spirv`] of those of SPIR-V, [`check_wgsl`] of a
+//! text of WGSL, and the other forms of answer beside them.
 
 use std::error::Error;
 use std::fmt;
 
-/// What a module was found to be, each with the text of `shader-check`: by [`check`] and [`check_spirv`] the verdict's line, and of an
-/// accepted one the report.
+/// What a module was found to be, each with the text of `shader-check`: by [`check`], [`check_spirv`] and [`check_wgsl`] the verdict's
+/// line, and of an accepted one the report.
 #[derive(Clone, Debug, PartialEq, Eq)]
 pub enum Verdict {
     Accepted(String),
     Refused(String),
-    /// Only of SPIR-V: the words are none, or say what is not translated. The text says what, and at which word.
+    /// Only of SPIR-V and WGSL: there is no module, or one that says what is not translated. The text says what, and at which word, or
+    /// line and column.
     Unread(String),
 }
 
@@ -46,6 +47,10 @@ extern "C" {
     fn shader_check_spirv_json(spirv: *const u8, length: usize, text: *mut u8, capacity: usize, needed: *mut usize) -> u32;
     fn shader_check_spirv_leaves(spirv: *const u8, length: usize, text: *mut u8, capacity: usize, needed: *mut usize) -> u32;
     fn shader_check_spirv_document(spirv: *const u8, length: usize, text: *mut u8, capacity: usize, needed: *mut usize) -> u32;
+    fn shader_check_wgsl(wgsl: *const u8, length: usize, text: *mut u8, capacity: usize, needed: *mut usize) -> u32;
+    fn shader_check_wgsl_json(wgsl: *const u8, length: usize, text: *mut u8, capacity: usize, needed: *mut usize) -> u32;
+    fn shader_check_wgsl_leaves(wgsl: *const u8, length: usize, text: *mut u8, capacity: usize, needed: *mut usize) -> u32;
+    fn shader_check_wgsl_document(wgsl: *const u8, length: usize, text: *mut u8, capacity: usize, needed: *mut usize) -> u32;
 }
 
 // One call with so much room. Answers the status, the bytes that were written, and how many the whole text has.
@@ -110,10 +115,35 @@ pub fn check_spirv_leaves(spirv: &[u8]) -> Result<Verdict, NoMemory> {
     verdict(shader_check_spirv_leaves, spirv)
 }
 
-/// The document that a module of SPIR-V says, not judged: `Ok(Ok(document))`, or `Ok(Err(why))` where no module was read.
-pub fn document_of_spirv(spirv: &[u8]) -> Result<Result<String, String>, NoMemory> {
-    match verdict(shader_check_spirv_document, spirv)? {
+/// Judges a text of WGSL: the text is that of `./shader-check --wgsl`.
+pub fn check_wgsl(wgsl: &[u8]) -> Result<Verdict, NoMemory> {
+    verdict(shader_check_wgsl, wgsl)
+}
+
+/// Judges a text of WGSL: the text is the object of `./shader-check --wgsl --json`.
+pub fn check_wgsl_json(wgsl: &[u8]) -> Result<Verdict, NoMemory> {
+    verdict(shader_check_wgsl_json, wgsl)
+}
+
+/// Judges a text of WGSL: the text is that of `./shader-check --wgsl --leaves`.
+pub fn check_wgsl_leaves(wgsl: &[u8]) -> Result<Verdict, NoMemory> {
+    verdict(shader_check_wgsl_leaves, wgsl)
+}
+
+// The document that a module says, or why no module was read.
+fn document(check: Call, module: &[u8]) -> Result<Result<String, String>, NoMemory> {
+    match verdict(check, module)? {
         Verdict::Accepted(document) => Ok(Ok(document)),
         Verdict::Refused(why) | Verdict::Unread(why) => Ok(Err(why)),
     }
+}
+
+/// The document that a module of SPIR-V says, not judged: `Ok(Ok(document))`, or `Ok(Err(why))` where no module was read.
+pub fn document_of_spirv(spirv: &[u8]) -> Result<Result<String, String>, NoMemory> {
+    document(shader_check_spirv_document, spirv)
+}
+
+/// The same of a text of WGSL.
+pub fn document_of_wgsl(wgsl: &[u8]) -> Result<Result<String, String>, NoMemory> {
+    document(shader_check_wgsl_document, wgsl)
 }

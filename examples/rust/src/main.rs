@@ -1,30 +1,35 @@
-//! Judges the document in each file that is named, as ./shader-check does; with --json, --leaves, --spirv or --document in front as that
-//! does with them. --version prints the library's version.
+//! Judges the document in each file that is named, as ./shader-check does; with --json, --leaves, --spirv, --wgsl or --document in front as
+//! that does with them. --version prints the library's version.
 
 use shader_check::{
-    check, check_json, check_leaves, check_spirv, check_spirv_json, check_spirv_leaves, document_of_spirv, version, NoMemory, Verdict,
+    check, check_json, check_leaves, check_spirv, check_spirv_json, check_spirv_leaves, check_wgsl, check_wgsl_json, check_wgsl_leaves,
+    document_of_spirv, document_of_wgsl, version, NoMemory, Verdict,
 };
 use std::process::ExitCode;
 
 type Judge = fn(&[u8]) -> Result<Verdict, NoMemory>;
 
-fn document(spirv: &[u8]) -> Result<Verdict, NoMemory> {
-    Ok(match document_of_spirv(spirv)? {
+fn written(document: Result<String, String>) -> Verdict {
+    match document {
         Ok(document) => Verdict::Accepted(document),
         Err(why) => Verdict::Unread(why),
-    })
+    }
 }
 
-// The call for the words in front.
+// The call for the words in front. --document says that SPIR-V is judged, where it has no --wgsl beside it.
 fn judge_for(words: &[String]) -> Judge {
     let has = |word: &str| words.iter().any(|it| it == word);
-    match (has("--document"), has("--json"), has("--leaves"), has("--spirv")) {
-        (true, ..) => document,
-        (_, true, _, true) => check_spirv_json,
-        (_, true, _, false) => check_json,
-        (_, _, true, true) => check_spirv_leaves,
-        (_, _, true, false) => check_leaves,
-        (.., true) => check_spirv,
+    match (has("--wgsl"), has("--spirv"), has("--document"), has("--json"), has("--leaves")) {
+        (true, _, true, ..) => |wgsl| document_of_wgsl(wgsl).map(written),
+        (true, _, _, true, _) => check_wgsl_json,
+        (true, _, _, _, true) => check_wgsl_leaves,
+        (true, ..) => check_wgsl,
+        (_, _, true, ..) => |spirv| document_of_spirv(spirv).map(written),
+        (_, true, _, true, _) => check_spirv_json,
+        (_, true, _, _, true) => check_spirv_leaves,
+        (_, true, ..) => check_spirv,
+        (_, _, _, true, _) => check_json,
+        (.., true) => check_leaves,
         _ => check,
     }
 }

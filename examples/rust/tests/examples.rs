@@ -1,7 +1,8 @@
 //! Tries the wrapper over the examples of the repository.
 
 use shader_check::{
-    check, check_json, check_leaves, check_spirv, check_spirv_json, check_spirv_leaves, document_of_spirv, version, Verdict,
+    check, check_json, check_leaves, check_spirv, check_spirv_json, check_spirv_leaves, check_wgsl, check_wgsl_json, check_wgsl_leaves,
+    document_of_spirv, document_of_wgsl, version, Verdict,
 };
 use std::fs;
 use std::path::PathBuf;
@@ -63,6 +64,36 @@ fn the_document_of_a_module_has_the_same_answer() {
             Err(why) => assert_eq!(why, answer, "{}", path.display()),
         }
     }
+}
+
+#[test]
+fn each_text_has_its_answer() {
+    for (path, answer) in cases(examples().join("wgsl"), "wgsl", "answer") {
+        let text = fs::read(&path).expect("a text");
+        assert_eq!(check_wgsl(&text).expect("memory").text(), answer, "{}", path.display());
+        let leaves = check_wgsl_leaves(&text).expect("memory");
+        assert_eq!(without_leaves(leaves.text()), of_buffers(&answer), "{}", path.display());
+    }
+}
+
+#[test]
+fn the_document_of_a_text_has_the_same_answer() {
+    for (path, answer) in cases(examples().join("wgsl"), "wgsl", "answer") {
+        let text = fs::read(&path).expect("a text");
+        match document_of_wgsl(&text).expect("memory") {
+            Ok(document) => assert_eq!(check(document.as_bytes()).expect("memory").text(), answer, "{}", path.display()),
+            Err(why) => assert_eq!(why, answer, "{}", path.display()),
+        }
+    }
+}
+
+#[test]
+fn an_object_of_wgsl_has_the_place() {
+    let Verdict::Unread(text) = check_wgsl_json(b"fn main() {\n    let x = ;\n}\n").expect("memory") else {
+        panic!("a value is missing");
+    };
+    assert!(text.contains("\"verdict\":\"malformed\""), "{text}");
+    assert!(text.contains("\"line\":2,\"column\":13"), "{text}");
 }
 
 #[test]
