@@ -2,8 +2,9 @@
 """Checks the layers: the order of crates.txt, and what the five crates that hand a layer on make public.
 
 The order of the rows is the order of the layers: each row stands after those that it names, and names no crate of a higher
-layer. A layer is known by the first word of a crate's name (LAYERS). surface.txt has the names that each of the five crates is
-to hand on. Says what is wrong and which names are missing, and ends with status 1 where there is something.
+layer. It names the crates that the text of its own crate cites, and no others. A layer is known by the first word of a crate's
+name (LAYERS). surface.txt has the names that each of the five crates is to hand on. Says what is wrong and which names are
+missing, and ends with status 1 where there is something.
 """
 import re
 import sys
@@ -54,6 +55,28 @@ def wrong_order():
             if (rank(dep) or 0) > own:
                 yield f"{crate}: names {dep}, of a higher layer"
         seen.add(crate)
+
+
+def cited(crate):
+    """The crates that the text of a crate names: in paths of code, and in paths of definitions and proofs."""
+    found = set()
+    for folder in ("src", "specs", "proofs"):
+        for file in (CRATES / crate / folder).glob("**/*"):
+            if file.suffix in (".rt", ".antt"):
+                text = file.read_text()
+                for form in (r"\bRattle\.(\w+)", r"\b(\w+)::", r"^(?:pub )?use (\w+)"):
+                    found |= set(re.findall(form, text, re.M))
+    return found
+
+
+def wrong_rows():
+    """Which rows name less or more than what their crates cite."""
+    for crate, deps in rows().items():
+        names = (cited(crate) & rows().keys()) - {crate}
+        if names - set(deps):
+            yield f"{crate}: cites {', '.join(sorted(names - set(deps)))}, which its row does not name"
+        if set(deps) - names:
+            yield f"{crate}: its row names {', '.join(sorted(set(deps) - names))}, which it does not cite"
 
 
 def surface():
@@ -116,7 +139,7 @@ def missing(crate, module, names):
 
 def main():
     status = 0
-    for line in wrong_order():
+    for line in (*wrong_order(), *wrong_rows()):
         print(line)
         status = 1
     for key, names in surface().items():

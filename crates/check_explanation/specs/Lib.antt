@@ -2,4 +2,3 @@ pub mod Answered
 pub mod Explained
 pub mod Listed
 pub mod Objects
-pub mod Ruled

@@ -13,11 +13,10 @@ ghost use Rattle.ir_items.specs.found.View.{module_view};
 ghost use Rattle.shader_check.specs.found.Examined.{IsLeft, finding_in};
 ghost use Rattle.shader_check.specs.found.Judgements.{Judged, FindsIn};
 
-use crate::causes::place_value;
-use crate::refused::{RefusedItem, refused_item, value_of};
 use check_faults::{Refused, accepted_value, no_document_value, refused_value};
 use check_names::{Names, Roles, entries_value, globals_value};
 use check_reasons::{PathNames, Slip, hint};
+use check_refusals::{RefusedItem, place_value, refused_item, value_of};
 use document_forms::Place;
 use document_reader::{Document, DocumentError, MAX_LEN, read_document};
 use ir_flags::Capabilities;

@@ -3,19 +3,14 @@
 //! is reported at the instruction that it comes from.
 #![tactic(auto)]
 
-mod causes;
 mod explanation;
-mod refused;
-mod required;
-mod sites;
 mod spirv;
 mod traced;
-mod types;
 
 pub use check_names::unread_json;
 pub use check_origins::Origin;
+pub use check_refusals::RefusedItem;
 pub use explanation::{Explanation, Requested, explain, explain_document};
-pub use refused::RefusedItem;
 pub use shader_check::{DocumentError, MAX_TAKEN};
 pub use spirv::{SpirvAnswer, SpirvVerdict, check_spirv, document_text};
 pub use spirv_lines::error_text;

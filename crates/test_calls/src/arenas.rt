@@ -1,4 +1,4 @@
-// Arenas, each beside another that it is compared with.
+// Arenas, each beside another for comparison.
 ghost use Rattle.std.specs.Prelude.{◌≡◌, ◌<◌, length};
 ghost use Rattle.ir_arena.specs.found.Arenas.{with_value};
 
@@ -12,7 +12,7 @@ use std::alloc::{AllocError, Global};
 use std::{mem, ops};
 use test_support::call::{handle, no_call, number, range, span, text, told};
 
-/// Two arenas. Calls are made of the first.
+/// Two arenas. Calls are made on the first.
 #[derive(Drop)]
 pub struct Arenas<T, K> {
     pub first: Arena<T, K>,
@@ -28,7 +28,7 @@ impl<T: Item, K: Kind> Arenas<T, K> {
         }
     }
 
-    /// The result of a call of an arena.
+    /// The result of a call on an arena.
     pub fn answer(&mut self, alloc: Global, call: &Value) -> Result<String, AllocError> {
         match text(call, 2) {
             "compare" => told(alloc, self.first == self.second),
@@ -45,7 +45,7 @@ impl<T: Item, K: Kind> Arenas<T, K> {
     }
 }
 
-// Puts a value in with a span, in one of the ways, and answers its place.
+// Adds a value with a span, in one of the ways, and returns its index.
 fn added<T: Item, K>(
     alloc: Global,
     arena: &mut Arena<T, K>,
@@ -66,7 +66,7 @@ fn values_of<T: Item, K>(alloc: Global, arena: &mut Arena<T, K>) -> Vec<T> {
     mem::replace(arena, Arena::new(alloc)).into_inner()
 }
 
-// What a caller learns of a value that it changes.
+// What a caller sees of a value that it changes.
 fn put<T: Drop, K>(arena: &mut Arena<T, K>, handle: Handle<K>, value: T)
     requires { handle < length arena.old }
     ensures { arena.new ≡ with_value arena.old handle value }
@@ -74,7 +74,7 @@ fn put<T: Drop, K>(arena: &mut Arena<T, K>, handle: Handle<K>, value: T)
     *arena.get_mut(handle) = value;
 }
 
-// Puts a value in the place of another, and answers whether there is one.
+// Replaces the value at an index, and returns whether there is one.
 fn changed<T: Item, K>(
     alloc: Global,
     arena: &mut Arena<T, K>,
@@ -89,7 +89,7 @@ fn changed<T: Item, K>(
     Ok(true)
 }
 
-// Adds to the value at a place, if there is one.
+// Adds to the value at an index, if there is one.
 fn added_to<T: Item, K>(arena: &mut Arena<T, K>, place: usize) -> Result<bool, AllocError> {
     if place >= arena.len() {
         return Ok(false);
@@ -109,10 +109,10 @@ fn retain<T: Item, K>(arena: &mut Arena<T, K>) {
     arena.retain_mut(|handle, value| value.keep(handle.index()));
 }
 
-/// Values with their places and spans.
+/// Values with their indices and spans.
 pub type Entries<T> = Vec<(usize, T, Span)>;
 
-// Whether the arena is empty as soon as its values are taken, and what was taken.
+// Whether the arena is empty once its values are drained, and the drained values.
 fn entries<T: Item, K>(
     alloc: Global,
     arena: &mut Arena<T, K>,
@@ -146,17 +146,17 @@ fn seen<T: Item, K: Kind>(
     }
 }
 
-// The place of the first value that is greater than this.
+// The index of the first greater value.
 fn fetched_above<T: Item, K>(arena: &Arena<T, K>, size: usize) -> Option<usize> {
     Some(arena.fetch_if(|value| value.size() > size)?.index())
 }
 
-// The place of the first value that is as great.
+// The index of the first equal value.
 fn fetched_sized<T: Item, K>(arena: &Arena<T, K>, size: usize) -> Option<usize> {
     Some(arena.fetch_if(|value| value.size() == size)?.index())
 }
 
-// The values with their places.
+// The values with their indices.
 fn values<T: Item, K>(alloc: Global, arena: &Arena<T, K>) -> Result<Vec<(usize, &T)>, AllocError> {
     let mut values = Vec::new(alloc);
     for (handle, value) in arena.iter() {
@@ -173,7 +173,7 @@ fn indexed<T, K>(arena: &Arena<T, K>, place: usize) -> Option<&T> {
     }
 }
 
-// The result of a call of a range of an arena.
+// The result of a call on a range of an arena.
 fn ranged<T: Item, K: Kind>(
     alloc: Global,
     arena: &Arena<T, K>,
@@ -190,7 +190,7 @@ fn ranged<T: Item, K: Kind>(
     }
 }
 
-// The places of a range that the arena has not as the error.
+// The missing handles of a range, as its error.
 fn checked<T, K: Kind>(arena: &Arena<T, K>, range: &Range<K>) -> Result<(), ops::Range<u32>> {
     match arena.check_contains_range(range) {
         Ok(()) => Ok(()),

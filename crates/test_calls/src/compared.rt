@@ -1,4 +1,4 @@
-// Types by their handles or by what they are made of: their forms, and which of them are equivalent.
+// Types by handle or by inner type: their forms, and which are equivalent.
 use crate::given::{Types, inner, is_no_struct, resolution};
 use ir_arena::handle::Handle;
 use ir_items::Module;
@@ -10,7 +10,7 @@ use typing_forms::laws::form_equality;
 use typing_forms::{TypeResolution, compare_types, form_in, form_of, form_of_type, inner_of};
 use typing_infos::CompareTypes;
 
-// What a resolution leads to, where it is among the types.
+// The inner type of a resolution, if its handle is in the arena.
 fn see_inner(
     alloc: Global,
     resolution: &TypeResolution,
@@ -23,7 +23,7 @@ fn see_inner(
     }
 }
 
-// Whether a copy equals its source, and the place that the copy names.
+// Whether a copy equals its source, and the handle of the copy.
 fn copied(alloc: Global, source: &TypeResolution) -> Result<(bool, Option<usize>), AllocError> {
     let copy = source.clone(alloc)?;
     Ok(freeing((copy == *source, copy.handle().map(Handle::index)), copy))
@@ -37,7 +37,7 @@ fn see_form(
     told(alloc, (form_of(types, resolution), resolution))
 }
 
-// The result of a call of one resolution.
+// The result of a call on one resolution.
 fn of_one(
     alloc: Global,
     resolution: &TypeResolution,
@@ -53,7 +53,7 @@ fn of_one(
     }
 }
 
-/// The result of a call of the resolution that stands after its name.
+/// The result of a call on the resolution after its name.
 pub fn of_resolution(alloc: Global, types: &Types, call: &Value) -> Result<String, AllocError> {
     match resolution(alloc, call, 1)? {
         Some(resolution) => freeing(of_one(alloc, &resolution, types, call), resolution),
@@ -61,7 +61,7 @@ pub fn of_resolution(alloc: Global, types: &Types, call: &Value) -> Result<Strin
     }
 }
 
-/// The form of the type at a handle, and what it is made of.
+/// The form of the type at a handle, and its inner type.
 pub fn of_handle(alloc: Global, types: &Types, call: &Value) -> Result<String, AllocError> {
     let handle = handle(call, 1);
     told(
@@ -81,7 +81,7 @@ fn are_alike(
     told(alloc, form_equality(forms.0, forms.1))
 }
 
-// Whether a type and the one that stands after it have the same form.
+// Whether a type and the one after it have the same form.
 fn of_form(
     alloc: Global,
     types: &Types,
@@ -94,7 +94,7 @@ fn of_form(
     }
 }
 
-/// Whether two types that are given as values have the same form.
+/// Whether two types given by value have the same form.
 pub fn of_forms(alloc: Global, types: &Types, call: &Value) -> Result<String, AllocError> {
     match inner(alloc, call, 1)? {
         Some(left) => freeing(of_form(alloc, types, &left, call), left),
@@ -102,7 +102,7 @@ pub fn of_forms(alloc: Global, types: &Types, call: &Value) -> Result<String, Al
     }
 }
 
-// Whether two types are equivalent among the types, in the module, and by what its expressions may name.
+// Whether two types are equivalent in the arena, in the module, and by what its expressions may name.
 fn compared(
     module: &Module,
     left: &TypeResolution,
@@ -118,7 +118,7 @@ fn compared(
     ))
 }
 
-// Whether a type and the one that stands after it are equivalent.
+// Whether a type and the one after it are equivalent.
 fn of_other(
     alloc: Global,
     module: &Module,
@@ -131,7 +131,7 @@ fn of_other(
     }
 }
 
-/// Whether the two types that stand after a name are equivalent.
+/// Whether the two types after a name are equivalent.
 pub fn of_pair(alloc: Global, module: &Module, call: &Value) -> Result<String, AllocError> {
     match resolution(alloc, call, 1)? {
         Some(left) => freeing(of_other(alloc, module, &left, call), left),

@@ -1,4 +1,4 @@
-// The types that the rules of functions give in a module.
+// The types that the rules of functions conclude in a module.
 use crate::given::scalar;
 use ir_items::SpecialTypes;
 use ir_kinds::PredeclaredType;
@@ -8,7 +8,7 @@ use std::alloc::{AllocError, Global};
 use test_support::call::{text, told};
 use typing_rules::{Conclusion, ConstructorSize, ValueType};
 
-/// The predeclared type that a line names, of a scalar.
+/// The predeclared type of a scalar that a line names.
 pub fn predeclared(call: &Value) -> Option<PredeclaredType> {
     let scalar = scalar(call, 2);
     let size = None;
@@ -30,7 +30,7 @@ fn conclusion(call: &Value) -> Conclusion {
     }
 }
 
-/// What a conclusion gives where these are the special types.
+/// The type of a conclusion with these special types.
 pub fn of_conclusion(
     alloc: Global,
     special: &SpecialTypes,

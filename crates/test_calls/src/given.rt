@@ -17,7 +17,7 @@ use typing_forms::TypeResolution;
 
 pub type Types = UniqueArena<IrType, key::IrType>;
 
-/// What the type at a place is made of, or `None` where none is written there.
+/// The inner type at an index, or `None`.
 pub fn inner(alloc: Global, call: &Value, place: usize) -> Result<Option<TypeInner>, AllocError> {
     let Some(value) = call.get(place) else {
         return Ok(None);
@@ -28,7 +28,7 @@ pub fn inner(alloc: Global, call: &Value, place: usize) -> Result<Option<TypeInn
     }
 }
 
-/// A type by its handle, where a number stands at a place, or by what it is made of.
+/// A type by its handle, if a number is at the index, or by its inner type.
 pub fn resolution(
     alloc: Global,
     call: &Value,
@@ -43,12 +43,12 @@ pub fn resolution(
     }
 }
 
-/// The scalar at a place, by its word.
+/// The scalar at an index, by its word.
 pub fn scalar(call: &Value, place: usize) -> Scalar {
     find_word(text(call, place)).unwrap_or(Scalar::ABSTRACT_FLOAT)
 }
 
-/// Whether a type is not a struct that is given as a value.
+/// Whether a type is not a struct given by value.
 pub fn is_no_struct(resolution: &TypeResolution) -> bool
     ensures { IsTrue result → NoStructValue (resolution_view resolution.now) }
 {
@@ -58,7 +58,7 @@ pub fn is_no_struct(resolution: &TypeResolution) -> bool
     }
 }
 
-/// Whether one of two types is no struct.
+/// Whether one of two types is not a struct.
 pub fn are_not_structs(left: &TypeInner, right: &TypeInner) -> bool
     ensures { IsTrue result → NotBothStructs (inner_view left.now) (inner_view right.now) }
 {

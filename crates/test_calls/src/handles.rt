@@ -1,4 +1,4 @@
-// Handles and ranges of them.
+// Handles and ranges of handles.
 use crate::item::Tag;
 use ir_arena::handle::{BadHandle, Handle, Kind, NonMaxU32};
 use ir_arena::range::{BadRangeError, Range};
@@ -7,7 +7,7 @@ use std::alloc::{AllocError, Global};
 use std::ops;
 use test_support::call::{handle, no_call, number, range, text, told};
 
-// The place of the handle that is made of a number.
+// The index of the handle for a number.
 fn place_of_new<K>(index: u32) -> Option<usize> {
     let handle: Handle<K> = Handle::new(NonMaxU32::new(index)?);
     Some(handle.index())
@@ -20,7 +20,7 @@ fn place_of_clone<K>(handle: Handle<K>) -> Option<usize> {
     }
 }
 
-/// The result of a call of a handle.
+/// The result of a call on a handle.
 pub fn of_handle<K: Kind>(alloc: Global, call: &Value) -> Result<String, AllocError> {
     let left: Handle<K> = handle(call, 3);
     let right = handle(call, 4);
@@ -36,7 +36,7 @@ pub fn of_handle<K: Kind>(alloc: Global, call: &Value) -> Result<String, AllocEr
     }
 }
 
-// The places of the handles that so many steps give.
+// The indices of the handles after this many steps.
 fn steps<K>(
     alloc: Global,
     mut range: Range<K>,
@@ -49,7 +49,7 @@ fn steps<K>(
     Ok(places)
 }
 
-// How many handles a range gives.
+// The number of handles of a range.
 fn counted<K>(range: Range<K>) -> usize {
     let mut count = 0usize;
     for _ in range {
@@ -72,14 +72,14 @@ fn is_cloned<K>(range: Range<K>) -> Result<bool, AllocError> {
     Ok(range.clone()? == range)
 }
 
-// What is left of a copy of a range that has gone on.
+// The rest of a copy of a range after some steps.
 fn gone_on(range: &Range<Tag>) -> ops::Range<u32> {
     let mut copy = *range;
     copy.next();
     copy.index_range()
 }
 
-/// The result of a call of a range.
+/// The result of a call on a range.
 pub fn of_range<K: Kind>(alloc: Global, call: &Value) -> Result<String, AllocError> {
     let range: Range<K> = range(call, 3);
     match text(call, 2) {
@@ -97,7 +97,7 @@ pub fn of_range<K: Kind>(alloc: Global, call: &Value) -> Result<String, AllocErr
     }
 }
 
-/// What is left of a copy of a range that has gone on, and the range.
+/// The rest of a copy of a range after some steps, and the range.
 pub fn of_copy(alloc: Global, call: &Value) -> Result<String, AllocError> {
     let range: Range<Tag> = range(call, 1);
     told(alloc, (gone_on(&range), range.index_range()))
@@ -109,12 +109,12 @@ fn bounded<K>(call: &Value) -> ops::Range<u32> {
     range.index_range()
 }
 
-// What the error of a range holds.
+// The fields of the error of a range.
 fn told_range(error: &BadRangeError) -> (&'static str, ops::Range<u32>) {
     (error.kind, error.range.index_range())
 }
 
-// Whether the error of a range equals that of the range's places.
+// Whether the error of a range equals that of the range's indices.
 fn is_bad_alike<K: Kind>(range: Range<K>) -> bool {
     let places = range.index_range();
     BadRangeError::new(range)

@@ -1,4 +1,4 @@
-// What arenas hold here: numbers, and texts.
+// The values in arenas here: numbers, and strings.
 use ir_arena::handle::Kind;
 use serde_json::Value;
 use std::alloc::{AllocError, Global};
@@ -6,7 +6,7 @@ use std::fmt::Debug;
 use std::hash::Hash;
 use test_support::call::{number, text};
 
-/// A tag of handles.
+/// A handle tag.
 #[derive(Clone, Copy)]
 pub enum Tag {}
 
@@ -20,7 +20,7 @@ impl Kind for Tag {
     }
 }
 
-/// A tag of handles of numbers.
+/// A handle tag for numbers.
 #[derive(Clone, Copy)]
 pub enum Number {}
 
@@ -36,19 +36,19 @@ impl Kind for Number {
 
 /// A value that a line of the input can name.
 pub trait Item: Eq + Hash + Debug + Drop + Sized {
-    /// The value at a place of a line.
+    /// The value at an index of a line.
     fn read(alloc: Global, call: &Value, place: usize) -> Result<Self, AllocError>;
 
-    /// A number's value, a text's length.
+    /// The value of a number, the length of a string.
     fn size(&self) -> usize;
 
-    /// Adds 1 to a number, and puts a "c" after a text.
+    /// Adds 1 to a number, and appends "c" to a string.
     fn add(&mut self) -> Result<(), AllocError>;
 
-    /// Adds ten times its place to a number, and puts a "!" after a text.
+    /// Adds ten times its index to a number, and appends "!" to a string.
     fn mark(&mut self, place: usize) -> Result<(), AllocError>;
 
-    /// Adds its place to a number, and answers whether it is neither 5 nor 9 then; of a text, whether it has one byte.
+    /// Adds its index to a number, and returns whether it is then neither 5 nor 9; for a string, whether it has one byte.
     fn keep(&mut self, place: usize) -> bool;
 }
 

@@ -1,14 +1,14 @@
-//! Calls each public function of the plain types and of the sets of words, makes the calls of arenas, sets of handles, errors,
-//! types and items of the IR that standard input lists, prints the answers, and then looks up in the overload sets of all
-//! functions of numbers what data/overloads.json names.
+//! Calls each public function of the plain types and the sets of flags, makes the calls on arenas, sets of handles, errors,
+//! types and IR items that standard input lists, prints the results, and then looks up the overload sets of all math functions
+//! named by data/overloads.json.
 //!
-//! A line is a list: what is called (`"numbers"`, `"tagged"` or `"texts"` and then what of them, or else a span, a number,
-//! an error or a refusal), the call, and what it is given; or a call of items, and what it is given, written as in a
-//! document; or else a call of types, and what it is given: a type is written as in a document, with its name, or is the
-//! number of its handle. Beside the line stands the answer. A line that is a text is a heading.
+//! A line is a list: the subject (`"numbers"`, `"tagged"` or `"texts"` and then the container, or a span, a number, an error or
+//! a refusal), the call, and its inputs; or a call on items, and its inputs in the form of a document; or a call on types, and
+//! its inputs: a type is in the form of a document, with its name, or the number of its handle. The result stands beside the
+//! line. A line that is a string is a heading.
 //!
-//! With the word `json` it only reads standard input as JSON, and with `sets` it only makes an overload set for each byte
-//! of it, both to measure by; without one it does that too, in the end, with what is left of it.
+//! With the word `json` it only reads standard input as JSON, and with `sets` it only builds an overload set for each byte of
+//! it, both for measurements; without a word it does both last, with the rest of the input.
 #![tactic(auto)]
 
 mod arenas;
@@ -41,11 +41,11 @@ use typing_forms::rule_laws::{
     canonical_once, compare_reflexive, compare_symmetric, compare_transitive,
 };
 
-/// The calls of items.
+/// The calls on items.
 const ITEMS: &str =
     "type types literal expression special_types block statements returns emitter search origin composition composition_in_little context lists document in_little constant override global filter body function entry module";
 
-/// What the calls are made of.
+/// The subjects of calls.
 #[derive(Drop)]
 struct Subjects {
     numbers: Subject<u32, Number>,
@@ -84,18 +84,18 @@ impl Answers for Subjects {
     }
 }
 
-// Whether a call is one of items.
+// Whether a call is one on items.
 fn is_of_items(word: &str) -> bool {
     ITEMS.split(' ').any(|item| item == word)
 }
 
-// Frees the subjects where nothing is known of their type.
+// Frees the subjects where their type is a parameter.
 fn answer_all<S: Answers + Drop>(rt: &HostRuntime, subjects: S) -> io::Result<()> {
     let mut subjects = subjects;
     freeing(answer_lines(rt, &mut subjects), subjects)
 }
 
-// Makes all calls, those of laws of types that a caller may use too, and both measures of what is left.
+// Makes all calls, those of laws of types for callers too, and both measurements on the rest of the input.
 fn make_calls(rt: &HostRuntime) -> io::Result<()> {
     compare_reflexive();
     compare_symmetric();

@@ -1,5 +1,5 @@
-// Makes the overload set of `min` over two vectors once for each byte of a text, and says how many rules they leave in all:
-// what overload sets take in a check of as many calls.
+// Builds the overload set of `min` over two vectors once for each byte of a string, and prints how many rules they leave in
+// all: the cost of overload sets in a check of as many calls.
 use check_ports::Source;
 use ir_kinds::{MathFunction, Scalar, VectorSize};
 use ir_types::TypeInner;
@@ -8,10 +8,10 @@ use std::io;
 use test_support::call::{freeing, told};
 use typing_overloads::{AnyOverloadSet, MathFunctionExt, OverloadSet};
 
-/// The most calls.
+/// The maximum number of calls.
 const MOST_CALLS: usize = 16777216;
 
-// How many rules a vector of floats at each of two places leaves of those of a set.
+// How many rules of a set two vectors of floats leave.
 fn supplied(alloc: Global, set: &mut AnyOverloadSet) -> Result<usize, AllocError> {
     let vector = TypeInner::Vector {
         size: VectorSize::Tri,
@@ -22,7 +22,7 @@ fn supplied(alloc: Global, set: &mut AnyOverloadSet) -> Result<usize, AllocError
     Ok(set.overload_list(alloc)?.len())
 }
 
-// How many rules two vectors of floats leave of those of `min`.
+// How many rules of `min` two vectors of floats leave.
 fn rules_left(alloc: Global) -> Result<usize, AllocError> {
     let mut set = MathFunction::Min.overloads(alloc)?;
     freeing(supplied(alloc, &mut set), set)
@@ -37,12 +37,12 @@ fn rules_of_all(alloc: Global, bytes: &[u8]) -> Result<usize, AllocError> {
     Ok(left)
 }
 
-/// How many rules are left in all for the bytes of a text.
+/// How many rules are left in all for the bytes of a string.
 pub fn rules_after(alloc: Global, text: &str) -> Result<String, AllocError> {
     told(alloc, rules_of_all(alloc, text.as_bytes()))
 }
 
-// Says how many rules are left in all for these bytes.
+// Prints how many rules are left in all for these bytes.
 fn say_left(rt: &HostRuntime, bytes: &[u8]) -> io::Result<()> {
     match rules_of_all(rt.alloc(), bytes) {
         Ok(left) => println!(rt; "{left} rules left"),
@@ -50,7 +50,7 @@ fn say_left(rt: &HostRuntime, bytes: &[u8]) -> io::Result<()> {
     }
 }
 
-/// Says how many rules are left in all for the bytes of standard input.
+/// Prints how many rules are left in all for the bytes of standard input.
 pub fn run(rt: &HostRuntime) -> io::Result<()> {
     let mut source = Source::new(rt.reader());
     match source.take_all(rt.alloc(), MOST_CALLS) {

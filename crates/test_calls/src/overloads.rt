@@ -1,13 +1,12 @@
-// Makes each call of overload sets once, looks up in the sets of all math functions what data/overloads.json names, and says
-// which answers are not those that are known. These come from two implementations that were written independently of this
-// one.
+// Makes each call of overload sets once, looks up the sets of all math functions named by data/overloads.json, and prints which
+// results differ from the expected ones. These come from two independent implementations.
 use anyhow::{Context, Result, ensure};
 use serde_json::Value;
 use std::{fs, io};
 use test_kinds::{every_call, is_met};
 use test_support::call::items;
 
-// Makes each call once, and says whether something else than what is expected was answered.
+// Makes each call once, and prints whether a result is unexpected.
 fn call_all(rt: &HostRuntime) -> io::Result<()> {
     match every_call(rt.alloc())? {
         Some(wrong) => println!(rt; "{wrong}: something else is answered"),
@@ -15,7 +14,7 @@ fn call_all(rt: &HostRuntime) -> io::Result<()> {
     }
 }
 
-// Looks up what these cases name. Answers how many differ.
+// Looks up these cases. Returns how many differ.
 fn ask_all(rt: &HostRuntime, cases: &[Value]) -> io::Result<usize> {
     let mut differing = 0usize;
     for (place, case) in cases.iter().enumerate() {
@@ -33,7 +32,7 @@ fn read_cases(rt: &HostRuntime) -> Result<Value> {
     Value::from_str(rt.alloc(), text.as_str()).context("reading overloads.json")
 }
 
-// Looks up what the cases of a file name.
+// Looks up the cases of a file.
 fn ask_file(rt: &HostRuntime, cases: &Value) -> Result<()> {
     let differing = ask_all(rt, items(cases))?;
     ensure!(differing == 0, "{differing} cases differ");

@@ -1,4 +1,4 @@
-// What a type is built of, how large it is, and how many elements it has.
+// The parts of a type, its size, and the number of its elements.
 use crate::given::{Types, are_not_structs, inner};
 use ir_types::TypeInner;
 use serde_json::Value;
@@ -6,12 +6,12 @@ use std::alloc::{AllocError, Global};
 use test_support::call::{freeing, no_call, number, text, told};
 use typing_forms::{TypeInnerExt, form_in, types_go_back};
 
-// The size where it is at most the greatest, and the size however large.
+// The size if it is at most the maximum, and the size however large.
 fn sizes(inner: &TypeInner) -> (Option<u64>, u64) {
     (inner.try_size(), inner.size())
 }
 
-// The result of a call that requires no other type.
+// The result of a call that needs no other type.
 fn of_one(alloc: Global, inner: &TypeInner, call: &Value) -> Result<String, AllocError> {
     match text(call, 0) {
         "scalar" => told(
@@ -28,7 +28,7 @@ fn of_one(alloc: Global, inner: &TypeInner, call: &Value) -> Result<String, Allo
     }
 }
 
-// What the types of the module say of a type whose elements and members may be among them.
+// What the types of the module tell of a type whose elements and members may be among them.
 fn of_elements(
     alloc: Global,
     inner: &TypeInner,
@@ -52,7 +52,7 @@ fn of_elements(
     }
 }
 
-// The result of a call of one type.
+// The result of a call on one type.
 fn of_types(
     alloc: Global,
     inner: &TypeInner,
@@ -68,7 +68,7 @@ fn of_types(
     }
 }
 
-/// The result of a call of the type that stands after its name.
+/// The result of a call on the type after its name.
 pub fn of_type(alloc: Global, types: &Types, call: &Value) -> Result<String, AllocError> {
     match inner(alloc, call, 1)? {
         Some(inner) => freeing(of_types(alloc, &inner, types, call), inner),
@@ -76,7 +76,7 @@ pub fn of_type(alloc: Global, types: &Types, call: &Value) -> Result<String, All
     }
 }
 
-// The result of a call of two types.
+// The result of a call on two types.
 fn of_both(
     alloc: Global,
     left: &TypeInner,
@@ -95,7 +95,7 @@ fn of_both(
     }
 }
 
-// The result of a call of a type and of the one that stands after it.
+// The result of a call on a type and the one after it.
 fn of_other(
     alloc: Global,
     left: &TypeInner,
@@ -108,7 +108,7 @@ fn of_other(
     }
 }
 
-/// The result of a call of the two types that stand after its name.
+/// The result of a call on the two types after its name.
 pub fn of_pair(alloc: Global, types: &Types, call: &Value) -> Result<String, AllocError> {
     match inner(alloc, call, 1)? {
         Some(left) => freeing(of_other(alloc, &left, types, call), left),

@@ -1,4 +1,4 @@
-// Scalars: the types that they are made into, their conversions, and the texts of errors.
+// Scalars: their types, their conversions, and error messages.
 use crate::given::scalar;
 use ir_kinds::{Scalar, ScalarKind, VectorSize};
 use serde_json::Value;
@@ -17,12 +17,12 @@ const fn vector_size(count: u32) -> VectorSize {
     }
 }
 
-// Whether the kind of a scalar is numeric.
+// Whether a scalar kind is numeric.
 fn is_numeric(scalar: Scalar) -> (ScalarKind, bool) {
     (scalar.kind, ScalarKindExt::is_numeric(scalar.kind))
 }
 
-/// The result of a call of a scalar.
+/// The result of a call on a scalar.
 pub fn of_scalar(alloc: Global, call: &Value) -> Result<String, AllocError> {
     let left = scalar(call, 1);
     let right = scalar(call, 2);
@@ -38,7 +38,7 @@ pub fn of_scalar(alloc: Global, call: &Value) -> Result<String, AllocError> {
     }
 }
 
-// The text of an error.
+// An error message.
 fn of_errors(alloc: Global, call: &str) -> Result<String, AllocError> {
     let unknown = ResolveArraySizeError::ExpectedPositiveArrayLength;
     match call {

@@ -1,4 +1,4 @@
-// Sets of handles, and values that are kept by handle.
+// Sets of handles, and values by handle.
 use crate::item::Item;
 use ir_arena::arena::Arena;
 use ir_arena::handle::Handle;
@@ -8,12 +8,12 @@ use serde_json::Value;
 use std::alloc::{AllocError, Global};
 use test_support::call::{handle, no_call, number, text, told};
 
-/// How many handles an arena of either kind has.
+/// The number of handles of an arena of either kind.
 pub fn handle_count<K, A: ArenaType<K>>(arena: &A) -> usize {
     arena.len()
 }
 
-// The places of the members, in order.
+// The indices of the members, in order.
 fn members<K>(alloc: Global, set: &HandleSet<K>) -> Result<Vec<usize>, AllocError> {
     let mut places = Vec::new(alloc);
     for handle in set.iter() {
@@ -22,7 +22,7 @@ fn members<K>(alloc: Global, set: &HandleSet<K>) -> Result<Vec<usize>, AllocErro
     Ok(places)
 }
 
-// Puts in each handle that the arena has.
+// Inserts each handle of the arena.
 fn insert_all<T, K>(set: &mut HandleSet<K>, arena: &Arena<T, K>) -> Result<(), AllocError> {
     for handle in HandleSet::all_possible(arena) {
         set.insert(handle)?;
@@ -30,7 +30,7 @@ fn insert_all<T, K>(set: &mut HandleSet<K>, arena: &Arena<T, K>) -> Result<(), A
     Ok(())
 }
 
-// How many handles a walk over a set gives.
+// The number of handles that an iteration over a set gives.
 fn counted<K>(set: &HandleSet<K>) -> usize {
     let mut count = 0usize;
     for _ in set.iter() {
@@ -39,7 +39,7 @@ fn counted<K>(set: &HandleSet<K>) -> usize {
     count
 }
 
-/// The result of a call of a set, beside an arena of its handles.
+/// The result of a call on a set, beside an arena with its handles.
 pub fn of_set<T, K>(
     alloc: Global,
     set: &mut HandleSet<K>,
@@ -78,7 +78,7 @@ fn of_arena<T, K>(
     }
 }
 
-/// The result of a call of values that are kept by handle.
+/// The result of a call on values by handle.
 pub fn of_values<T: Item, K>(
     alloc: Global,
     values: &mut HandleVec<K, T>,
@@ -94,7 +94,7 @@ pub fn of_values<T: Item, K>(
     }
 }
 
-// Keeps the value of the next handle, and answers whether it is that.
+// Adds the value of the next handle, and returns whether it is that.
 fn inserted<T: Item, K>(
     alloc: Global,
     values: &mut HandleVec<K, T>,

@@ -1,4 +1,4 @@
-// All that calls are made of, for one type of values and one of handles.
+// The subjects of all calls, for one type of values and one of handles.
 use crate::arenas::Arenas;
 use crate::item::Item;
 use crate::unique_arenas::UniqueArenas;
@@ -44,7 +44,7 @@ impl<T: Item, K: Kind> Subject<T, K> {
         }
     }
 
-    // How many handles the two arenas have.
+    // The number of handles of the two arenas.
     fn counts(&self) -> (usize, usize) {
         (
             sets::handle_count(&self.arenas.first),

@@ -1,4 +1,4 @@
-// The calls of types of expressions, over a module of types.
+// The calls on types of expressions, over a module of types.
 use crate::given::Types;
 use crate::{compared, conclusions, parts, scalars};
 use document_items::TypeForm;
@@ -23,7 +23,7 @@ impl TypeCalls {
         }
     }
 
-    // Adds the types of a line. Answers how many there are, and whether they go back.
+    // Adds the types of a line. Returns their number, and whether they only reference earlier ones.
     fn add_types(&mut self, alloc: Global, types: &[Value]) -> Result<(usize, bool), AllocError> {
         for value in types {
             if let Some(ty) = found::<TypeForm>(alloc, value)? {
@@ -33,7 +33,7 @@ impl TypeCalls {
         Ok((self.module.types.len(), types_go_back(&self.module.types)))
     }
 
-    // Gives the predeclared type of a line a type of the module. Answers how many have one.
+    // Sets the predeclared type of a line to a type of the module. Returns how many are set.
     fn declare(&mut self, call: &Value) -> Result<usize, AllocError> {
         let predeclared = &mut self.module.special_types.predeclared_types;
         if let Some(key) = conclusions::predeclared(call) {
@@ -63,7 +63,7 @@ impl TypeCalls {
     }
 }
 
-// The result of a call of a scalar, where a word stands after its name, or of a type.
+// The result of a call on a scalar, if a word is after its name, or on a type.
 fn scalars_or_types(alloc: Global, types: &Types, call: &Value) -> Result<String, AllocError> {
     if text(call, 1) != "" {
         return scalars::of_scalar(alloc, call);

@@ -1,4 +1,4 @@
-// Unique arenas, each beside another that it is compared with.
+// Unique arenas, each beside another for comparison.
 use crate::arenas::Entries;
 use crate::item::Item;
 use ir_arena::handle::{Handle, Kind};
@@ -8,7 +8,7 @@ use std::alloc::{AllocError, Global};
 use std::mem;
 use test_support::call::{handle, no_call, number, span, text, told};
 
-/// Two unique arenas. Calls are made of the first.
+/// Two unique arenas. Calls are made on the first.
 #[derive(Drop)]
 pub struct UniqueArenas<T: Item, K> {
     pub first: UniqueArena<T, K>,
@@ -24,7 +24,7 @@ impl<T: Item, K: Kind> UniqueArenas<T, K> {
         }
     }
 
-    /// The result of a call of a unique arena.
+    /// The result of a call on a unique arena.
     pub fn answer(&mut self, alloc: Global, call: &Value) -> Result<String, AllocError> {
         match text(call, 2) {
             "compare" => told(alloc, self.first == self.second),
@@ -38,14 +38,14 @@ impl<T: Item, K: Kind> UniqueArenas<T, K> {
         }
     }
 
-    // Takes the first arena into the second. Returns whether it is empty then, and how many were taken.
+    // Moves the first arena into the second. Returns whether it is then empty, and how many were moved.
     fn take(&mut self) -> (bool, usize) {
         self.second = self.first.take();
         (self.first.is_empty(), self.second.len())
     }
 }
 
-// Puts a value in with a span, and answers its place.
+// Inserts a value with a span, and returns its index.
 fn inserted<T: Item, K>(
     alloc: Global,
     arena: &mut UniqueArena<T, K>,
@@ -55,7 +55,7 @@ fn inserted<T: Item, K>(
     Ok(arena.insert(value, span(call, 4))?.index())
 }
 
-// Puts a value that the arena has not in the place of another, and answers whether that can be done.
+// Replaces a value by one that the arena lacks, and returns whether that is possible.
 #[tactic(auto, using(ir_arena::proofs::Found::passes_nowhere))]
 fn replaced<T: Item, K>(
     alloc: Global,
@@ -76,7 +76,7 @@ fn replaced<T: Item, K>(
     }
 }
 
-// Whether the arena is empty as soon as its values are taken, and what was taken.
+// Whether the arena is empty once its values are drained, and the drained values.
 fn entries<T: Item, K>(
     alloc: Global,
     arena: &mut UniqueArena<T, K>,
@@ -118,7 +118,7 @@ fn place_of<T: Item, K>(
     Ok(arena.get(&value).map(Handle::index))
 }
 
-// The values with their places.
+// The values with their indices.
 fn values<T: Item, K>(
     alloc: Global,
     arena: &UniqueArena<T, K>,

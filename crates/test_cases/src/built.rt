@@ -1,4 +1,4 @@
-// A module that is built by calls and judged, as by a front end that writes no documents.
+// A module built by calls and validated, as by a front end that writes no documents.
 use function_real_lower::RealLower;
 use ir_arena::handle::Handle;
 use ir_arena::span::Span;
@@ -34,7 +34,8 @@ fn buffer(alloc: Global, ty: Handle<key::IrType>) -> Result<GlobalVariable, Allo
     })
 }
 
-// Has a function store 1 in a variable. A span is where an item stands in the source: from its first byte to past its last.
+// Appends a store of 1 in a variable to a function. A span is the range of an item in the source: from its first byte to past
+// its last.
 fn store_one(
     function: &mut Function,
     variable: Handle<key::GlobalVariable>,
@@ -61,7 +62,7 @@ fn entry(alloc: Global) -> Result<EntryPoint, AllocError> {
     })
 }
 
-// Puts the type and the variable into a module.
+// Appends the type and the variable to a module.
 fn declare(alloc: Global, module: &mut Module) -> Result<Handle<key::GlobalVariable>, AllocError> {
     let number = IrType {
         name: None,
@@ -72,7 +73,7 @@ fn declare(alloc: Global, module: &mut Module) -> Result<Handle<key::GlobalVaria
     module.global_variables.append(count, Span::new(0, 42))
 }
 
-// Puts the parts of a compute shader into a module.
+// Appends the parts of a compute shader to a module.
 fn build(alloc: Global, module: &mut Module) -> Result<(), AllocError> {
     let count = declare(alloc, module)?;
     module.entry_points.push(entry(alloc)?)?;
@@ -82,7 +83,7 @@ fn build(alloc: Global, module: &mut Module) -> Result<(), AllocError> {
     }
 }
 
-// Whether a module is accepted. A refusal has the error, which prints itself, and the spans of what it names.
+// Whether a module is valid. An error has its message, and the spans of what it names.
 fn is_accepted_by(
     answer: &Result<ModuleInfo, Refusal<ValidationError>>,
 ) -> Result<bool, AllocError> {
@@ -99,7 +100,7 @@ fn accepts(validator: &mut Validator<RealLower>, module: &Module) -> Result<bool
     freeing(is_accepted_by(&answer), answer)
 }
 
-// The same of a validator that is made for it.
+// The same for a validator made for it.
 fn is_accepted(alloc: Global, module: &Module) -> Result<bool, AllocError> {
     let lower = RealLower::new(ModuleInfo::new(alloc));
     let flags = ValidationFlags::default();
@@ -107,13 +108,13 @@ fn is_accepted(alloc: Global, module: &Module) -> Result<bool, AllocError> {
     freeing(accepts(&mut validator, module), validator)
 }
 
-// The verdict and the report, as the program writes them of a document.
+// The verdict and the report, as the program writes them for a document.
 fn text_on(alloc: Global, document: &mut Document) -> Result<String, AllocError> {
     let judgement = judge_document(alloc, document)?;
     freeing(judgement.text(alloc), judgement)
 }
 
-// What is wrong with the judgement of a built module, if something is.
+// What is wrong with the result for a built module, if anything.
 fn wrong_of(alloc: Global, document: &mut Document) -> Result<Option<&'static str>, AllocError> {
     if !is_accepted(alloc, &document.module)? {
         return Ok(Some("a built module is refused"));
@@ -127,7 +128,7 @@ fn wrong_of(alloc: Global, document: &mut Document) -> Result<Option<&'static st
     })
 }
 
-// Builds the module of a document, and judges it in both ways.
+// Builds the module of a document, and validates it in both ways.
 fn build_and_judge(
     alloc: Global,
     document: &mut Document,
@@ -136,7 +137,7 @@ fn build_and_judge(
     wrong_of(alloc, document)
 }
 
-/// Builds a module and judges it in both ways. Answers what is wrong with it, if something is.
+/// Builds a module and validates it in both ways. Returns what is wrong with it, if anything.
 pub fn judge_built(alloc: Global) -> Result<Option<&'static str>, AllocError> {
     let settings = Settings {
         flags: ValidationFlags::default(),

@@ -1,4 +1,4 @@
-// A case, and what the check makes of it.
+// A case, and the result of the check.
 use crate::check::check;
 use crate::rows::{Answer, Row};
 use base64::engine::general_purpose::STANDARD;
@@ -10,7 +10,7 @@ use std::alloc::{AllocError, Global};
 use test_support::call::freeing;
 use test_support::fakes::Padded;
 
-/// A document, and the text that it is known to come to, or whether it is known to be one.
+/// A document, with the expected output, or whether it is one.
 #[derive(Clone, Copy)]
 struct Case<'a> {
     input: &'a [u8],
@@ -19,12 +19,12 @@ struct Case<'a> {
     output: &'a str,
 }
 
-// The text of this name, if there is one.
+// The string with this key, if any.
 fn text_of<'a>(item: &'a Value, key: &str) -> Option<&'a str> {
     item.get(key)?.as_str()
 }
 
-// How many spaces follow the input, if that is a number.
+// The number of spaces after the input, if it is a number.
 fn spaces_of(item: &Value) -> Option<u64> {
     match item.get("spaces") {
         Some(number) => number.as_u64(),
@@ -32,7 +32,7 @@ fn spaces_of(item: &Value) -> Option<u64> {
     }
 }
 
-// A case with this input, as a data file has it, or nothing where a part is missing or is of another form.
+// A case with this input from a data file; nothing if a part is missing or malformed.
 fn case_of<'a>(item: &'a Value, input: &'a [u8]) -> Option<Case<'a>> {
     let form = item.get("form").and_then(Value::as_bool);
     let output = match form {
@@ -59,7 +59,7 @@ fn is_written_so(alloc: Global, document: &Document, input: &[u8]) -> Result<boo
     }
 }
 
-// Whether the bytes are a document that is written as it was read, or `None` where they are no document.
+// Whether the bytes are a document that is written as it was read, or `None` if they are not a document.
 fn form_of(alloc: Global, input: &[u8]) -> Result<Option<bool>, AllocError> {
     match read_document(alloc, input) {
         Ok(document) => freeing(is_written_so(alloc, &document, input).map(Some), document),
@@ -68,8 +68,7 @@ fn form_of(alloc: Global, input: &[u8]) -> Result<Option<bool>, AllocError> {
     }
 }
 
-// Reads the case's bytes as a document, and writes it. Answers how that differs from what is expected, or `None` where it
-// does not.
+// Reads the case's bytes as a document, and writes it. Returns the difference from the expected result, if any.
 fn judge_form(alloc: Global, case: Case<'_>, form: bool) -> Result<Option<String>, AllocError> {
     let found = form_of(alloc, case.input)?;
     if found == form.then_some(true) {
@@ -81,7 +80,7 @@ fn judge_form(alloc: Global, case: Case<'_>, form: bool) -> Result<Option<String
     Ok(Some(difference))
 }
 
-// How an answer and what was written differ from what is known of the case.
+// How a result and its output differ from the expected ones.
 fn difference(
     alloc: Global,
     case: Case<'_>,
@@ -103,7 +102,7 @@ fn difference(
     Ok(Some(difference))
 }
 
-// Runs the check over the case's bytes, and compares.
+// Runs the check on the case's bytes, and compares.
 fn judge_output(alloc: Global, case: Case<'_>) -> Result<Option<String>, AllocError> {
     let mut written: Vec<u8> = Vec::new(alloc);
     let reader = Padded {
@@ -114,12 +113,12 @@ fn judge_output(alloc: Global, case: Case<'_>) -> Result<Option<String>, AllocEr
     freeing(difference(alloc, case, checked.answer, &written), written)
 }
 
-// What is said of an item that is no case.
+// The message for an item that is not a case.
 fn no_case(alloc: Global) -> Result<Option<String>, AllocError> {
     String::from_str(alloc, "a part is missing, or of another form").map(Some)
 }
 
-// The same of a case with this input.
+// The same for a case with this input.
 fn judge_input(alloc: Global, item: &Value, input: &[u8]) -> Result<Option<String>, AllocError> {
     let Some(case) = case_of(item, input) else {
         return no_case(alloc);
@@ -130,8 +129,8 @@ fn judge_input(alloc: Global, item: &Value, input: &[u8]) -> Result<Option<Strin
     }
 }
 
-/// Reads the bytes of a case that a data file has where it says whether they are a document, or else runs the check over
-/// them. Answers how that differs from what is expected, or `None` where it does not.
+/// Reads the bytes of a case as a document if its data file says whether they are one, else runs the check on them. Returns the
+/// difference from the expected result, if any.
 pub fn judge(alloc: Global, item: &Value) -> Result<Option<String>, AllocError> {
     let Some(text) = text_of(item, "input_b64") else {
         return match text_of(item, "input") {

@@ -1,10 +1,10 @@
-// One check over a reader and a writer.
+// One check with a reader and a writer.
 use crate::rows::Answer;
 use shader_check::{Sink, Source, check_document};
 use std::alloc::Global;
 use std::io::{Read, Write};
 
-/// What comes of a check: its answer, and whether its reader and its writer failed.
+/// The outcome of a check: its result, and whether its reader and its writer failed.
 #[derive(Clone, Copy)]
 pub struct Checked {
     pub answer: Answer,
@@ -12,7 +12,7 @@ pub struct Checked {
     pub write_failed: bool,
 }
 
-/// What comes of a check over these. They are freed here, where nothing is known of their types.
+/// The outcome of a check with these. They are freed here, where their types are parameters.
 pub fn check<R: Read + Drop, W: Write + Drop>(alloc: Global, reader: R, writer: W) -> Checked {
     let mut source = Source::new(reader);
     let mut sink = Sink::new(writer);

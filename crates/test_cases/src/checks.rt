@@ -1,7 +1,7 @@
-// Runs the check over readers and writers that fail, over input without end, with little memory and over what a program makes
-// of its answers, and the rules of functions over the small layer.
+// Runs the check with failing readers and writers, with endless input, with little memory and on documents for the results of
+// programs, and the rules of functions over the small layer.
 //
-// A line is a list: the call, a document with the line that it is known to come to, and what the call is given.
+// A line is a list: the call, a document with its expected line, and the inputs of the call.
 use crate::rows::{Answer, Row};
 use crate::{layer_judged, limits, memory, streams};
 use serde_json::Value;
@@ -10,7 +10,7 @@ use std::alloc::{AllocError, Global};
 use test_support::call::{no_call, number, text, told};
 use test_support::fakes::Bad;
 
-// The answer of a check that a line names.
+// The result of a check that a line names.
 fn answer_of(word: &str) -> Answer {
     match word {
         "accepted" => Ok(Verdict::Accepted),

@@ -1,8 +1,8 @@
-// Runs the check on each case of the data files, and says which answers are not those that are known.
+// Runs the check on each case of the data files, and prints which results differ from the expected ones.
 //
-// data/files.json names the data files. Each is a list of objects: a case's `name`, its `input` (or `input_b64`, in
-// Base64), the number of `spaces` that follow the input, which may be left out, and the `output` that is known; or, where
-// a case has a `form`, whether its input is a document.
+// data/files.json names the data files. Each is a list of objects: the `name` of a case, its `input` (or `input_b64`, in
+// Base64), optionally the number of `spaces` after the input, and the expected `output`; or, for a case with a `form`, whether
+// its input is a document.
 use crate::case::judge;
 use anyhow::{Context, Result, ensure};
 use serde_json::Value;
@@ -35,7 +35,7 @@ fn print_difference(
     Ok(true)
 }
 
-// Runs a case. Returns whether it differs, which is printed then.
+// Runs a case. Returns whether it differs; the difference is printed.
 fn differs(rt: &HostRuntime, name: &str, item: &Value) -> io::Result<bool> {
     match judge(rt.alloc(), item)? {
         Some(difference) => { freeing(print_difference(rt, name, item, &difference), difference) }
@@ -43,7 +43,7 @@ fn differs(rt: &HostRuntime, name: &str, item: &Value) -> io::Result<bool> {
     }
 }
 
-// Runs the cases of one data file. Answers how many differ.
+// Runs the cases of one data file. Returns how many differ.
 fn run_cases(rt: &HostRuntime, name: &str, cases: &[Value]) -> io::Result<usize> {
     let mut differing = 0usize;
     for item in cases {

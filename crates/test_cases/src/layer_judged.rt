@@ -1,4 +1,4 @@
-// Which functions of a module are accepted over the small layer.
+// Which functions of a module are valid over the small layer.
 
 ghost use Rattle.std.specs.Prelude.{◌≡◌, IsTrue};
 ghost use Rattle.ir_items.specs.found.View.{function_view, module_view};
@@ -29,7 +29,7 @@ fn is_in_order(function: &Function, module: &Module) -> bool
         && filter_parents_precede(function, module)
 }
 
-// A word for a fault.
+// A word for an error.
 fn word_of(error: &FunctionError) -> &'static str {
     match error {
         FunctionError::Expression { .. } => "expression",
@@ -40,7 +40,7 @@ fn word_of(error: &FunctionError) -> &'static str {
     }
 }
 
-// What is kept of a function, or nothing, where it is reported why.
+// The information on a function, or nothing after its error is printed.
 fn judge(
     validator: &mut Validator<TinyLower>,
     told: &mut String,
@@ -65,12 +65,12 @@ fn judge(
     }
 }
 
-// Tells the stages that may run a function.
+// Prints the stages that may run a function.
 fn tell_stages(alloc: Global, told: &mut String, stages: ShaderStages) -> Result<(), AllocError> {
     push(told, format!(in alloc; "accepted {} ", stages.0))
 }
 
-// Tells of each function of the module, up to the first that is refused, and keeps what is found of them in a list.
+// Prints the result for each function of the module up to the first invalid one, and keeps their information in a list.
 fn tell_all(
     alloc: Global,
     validator: &mut Validator<TinyLower>,
@@ -93,7 +93,7 @@ fn tell_all(
     Ok(())
 }
 
-// What is found of the functions of a module by a validator that is made for it, beside an empty list.
+// The results for the functions of a module by a validator made for it, beside an empty list.
 fn reported_by(
     alloc: Global,
     validator: &mut Validator<TinyLower>,
@@ -106,8 +106,7 @@ fn reported_by(
     completed(tell_all(alloc, validator, &mut told, module, kept), told)
 }
 
-// What is found of the functions of a module, one after the other, up to the first that is refused. The error is out of
-// memory.
+// The results for the functions of a module in order, up to the first invalid one. The error is out of memory.
 fn reported_of(
     alloc: Global,
     flags: ValidationFlags,
@@ -122,7 +121,7 @@ fn reported_of(
     freeing(reported, validator)
 }
 
-/// What is found of the functions of the document that a text spells, over the small layer.
+/// The results for the functions of the document in a string, over the small layer.
 pub fn of_document(alloc: Global, text: &str) -> Result<String, AllocError> {
     match read_document(alloc, text.as_bytes()) {
         Ok(document) => freeing(

@@ -17,7 +17,7 @@ use std::alloc::{AllocError, Global};
 use typing_forms::types_go_back;
 use typing_layout::{Layouter, TypeInfo};
 
-// What is reported of these types, where a module may have them. The error is out of memory.
+// The `TypeInfo`s of these types, if they are valid. The error is out of memory.
 fn infos_of(
     alloc: Global,
     types: &UniqueArena<IrType, key::IrType>,
@@ -40,8 +40,8 @@ fn infos_of(
     }
 }
 
-/// The layer for a module, if its types are accepted and it has no global variables. It is given no type of a global
-/// expression: the rules of functions require none. The error is out of memory.
+/// The layer for a module, if its types are valid and it has no global variables. It has no types of global expressions: the
+/// rules of functions need none. The error is out of memory.
 pub fn lower_for(alloc: Global, module: &Module) -> Result<Option<TinyLower>, AllocError>
     ensures { IfOk result (λ found. IfSome found (λ lower. IsMadeOf (module_view «module».now) lower.infos.items)) }
 {

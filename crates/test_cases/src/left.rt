@@ -1,13 +1,13 @@
-// What a judgement leaves that is refused memory: it is made, and where it is refused once more, and all is compared.
+// What a validation leaves after its allocation failed: it is run, run again after a failure, and all is compared.
 //
-// Where no request is refused, it is made once. `bench/rows.py` refuses each request in turn.
+// If no allocation fails, it runs once. `bench/rows.py` makes each allocation fail in turn.
 use document_reader::Document;
 use shader_check::{Judgement, judge_document};
 use std::alloc::{AllocError, Global};
 use test_support::call::{freeing, told};
 use test_support::questions::{Left, came_of};
 
-// Whether a document is judged so.
+// Whether a document is validated so.
 fn is_judged_so(
     alloc: Global,
     document: &mut Document,
@@ -18,7 +18,7 @@ fn is_judged_so(
     Ok(freeing(is_same, judgement))
 }
 
-// Whether a document is judged as its copy, and both are alike then.
+// Whether a document is validated like its copy, and both are equal afterwards.
 fn is_judged_as(
     alloc: Global,
     document: &mut Document,
@@ -29,7 +29,7 @@ fn is_judged_as(
     Ok(is_same && copy.module == document.module)
 }
 
-// What `judge_document` leaves of a document, whose report is the last that it makes.
+// What `judge_document` leaves of a document, whose report is built last.
 fn of_judgement(
     alloc: Global,
     document: &mut Document,
@@ -41,7 +41,7 @@ fn of_judgement(
     Ok(came_of(refused, right))
 }
 
-// What it leaves of a document, of which this is a copy, in a word.
+// What it leaves of a document, compared with this copy, in a word.
 fn left_in_words(
     alloc: Global,
     document: &mut Document,
@@ -51,7 +51,7 @@ fn left_in_words(
     told(alloc, came)
 }
 
-/// What `judge_document` leaves of a document where it is refused memory.
+/// What `judge_document` leaves of a document after its allocation failed.
 pub fn left_told(alloc: Global, document: &mut Document) -> Result<String, AllocError> {
     let mut copy = document.clone(alloc)?;
     freeing(left_in_words(alloc, document, &mut copy), copy)

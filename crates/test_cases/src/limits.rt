@@ -1,16 +1,16 @@
-// Input that is longer than a document may be, input that never comes, and documents of many types.
+// Input longer than a document may be, endless input, and documents of many types.
 use crate::check::{Checked, check};
 use std::alloc::{AllocError, Global};
 use test_support::call::{completed, freeing, push, told};
 use test_support::fakes::{Interrupted, Spaces, plain};
 
-// The answer, what was written, and whether the reader failed.
+// The result, the output, and whether the reader failed.
 fn seen(alloc: Global, checked: Checked, written: &[u8], count: u64) -> Result<String, AllocError> {
     let text = std::str::from_utf8(written).unwrap_or("no text");
     told(alloc, (checked.answer, text, checked.read_failed, count))
 }
 
-/// What comes of spaces without end, so many a call, and how many were given.
+/// The outcome for endless spaces, this many per call, and how many were read.
 pub fn past_the_limit(alloc: Global, step: usize) -> Result<String, AllocError> {
     let mut written: Vec<u8> = Vec::new(alloc);
     let mut spaces = Spaces {
@@ -22,7 +22,7 @@ pub fn past_the_limit(alloc: Global, step: usize) -> Result<String, AllocError> 
     freeing(seen(alloc, checked, &written, spaces.given), written)
 }
 
-/// What comes of a reader that is interrupted for ever, and how often it was called.
+/// The outcome for a reader that is interrupted forever, and how often it was called.
 pub fn interrupted_for_ever(alloc: Global) -> Result<String, AllocError> {
     let mut written: Vec<u8> = Vec::new(alloc);
     let mut reader = Interrupted { calls: 0 };
@@ -30,12 +30,12 @@ pub fn interrupted_for_ever(alloc: Global) -> Result<String, AllocError> {
     freeing(seen(alloc, checked, &written, reader.calls), written)
 }
 
-// Puts a scalar under a name after a text.
+// Appends a scalar type with a name to a string.
 fn push_scalar(alloc: Global, text: &mut String, name: u32) -> Result<(), AllocError> {
     push(text, format!(in alloc; "[\"{name}\",[\"Scalar\",\"u32\"]]"))
 }
 
-// Puts a document after a text whose types are one scalar under so many names. Each is called by its index, but for the last.
+// Appends a document to a string, whose types are one scalar with this many names: the index of each, but for the last.
 fn push_document(
     alloc: Global,
     text: &mut String,
@@ -51,14 +51,14 @@ fn push_document(
     text.push_str("],[null,null,null,[]],[[],null],[],[],[],[],[],[]]")
 }
 
-// What comes of a document.
+// The outcome for a document.
 fn of_document(alloc: Global, text: &str, count: u32) -> Result<String, AllocError> {
     let mut written: Vec<u8> = Vec::new(alloc);
     let checked = check(alloc, plain(text, 4096), &mut written);
     freeing(seen(alloc, checked, &written, u64::from(count)), written)
 }
 
-/// What comes of a document of so many types that differ in their names alone, of which the last has the name of this index.
+/// The outcome for a document of this many types that differ only in their names, the last with the name of this index.
 pub fn named_types(alloc: Global, count: u32, last: u32) -> Result<String, AllocError> {
     let mut text = String::new(alloc);
     let text = completed(push_document(alloc, &mut text, count, last), text)?;

@@ -1,9 +1,9 @@
-//! Runs the check on the documents of data/, of which the answers are known, answers the questions about modules there, judges a
-//! module that is built by calls, and says which answers differ; then makes the calls of checks that standard input lists, and
-//! prints the answers.
+//! Runs the check on the documents of data/, answers the questions about modules there, validates a module built by calls, and
+//! prints which results differ from the expected ones; then makes the calls of checks that standard input lists, and prints the
+//! results.
 //!
-//! A line of standard input is a list: the call, and what it is given. Beside it stands the answer. A line that is a text
-//! is a heading. The program runs where the data files lie: by hand it is `cd data && ../out/test_cases < ../stdin`.
+//! A line of standard input is a list: the call, and its inputs, with the result beside it. A line that is a string is a
+//! heading. The program runs where the data files are: by hand it is `cd data && ../out/test_cases < ../stdin`.
 #![tactic(auto)]
 
 mod built;

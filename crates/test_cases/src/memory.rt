@@ -7,14 +7,14 @@ use test_support::call::{freeing, told};
 use test_support::fakes::plain;
 use test_support::hog::{Steps, Trial, is_refused_more_than};
 
-/// How much is left at each step.
+/// The free memory at each step.
 const STEPS: Steps = Steps {
     most: 600,
     more: 128,
     spare: 0,
 };
 
-// A check of a document, what it wrote, and what came of it.
+// A check of a document, its output, and its outcome.
 #[derive(Drop)]
 struct Checking<'a> {
     row: Row<'a>,
@@ -33,7 +33,7 @@ impl Trial for Checking<'_> {
         self.checked.answer == Err(Fault::Memory)
     }
 
-    // Where there is no memory, nothing is written. No mark is set.
+    // Without free memory, nothing is written. No mark is set.
     fn is_right(&mut self, refused: bool) -> bool {
         let checked = self.checked;
         let is_right = if refused {
@@ -45,7 +45,7 @@ impl Trial for Checking<'_> {
     }
 }
 
-// Whether a check is refused memory more often than this. It is freed here, where nothing is known of its type.
+// Whether a check fails more often than this. It is freed here, where its type is a parameter.
 fn of<T: Trial + Drop>(alloc: Global, least: usize, trial: T) -> Result<String, AllocError> {
     let mut trial = trial;
     freeing(
@@ -54,7 +54,7 @@ fn of<T: Trial + Drop>(alloc: Global, least: usize, trial: T) -> Result<String, 
     )
 }
 
-/// Whether the check of a document is refused memory more often than this before what is known comes.
+/// Whether the check of a document fails for memory more often than this before its expected output.
 pub fn of_row(alloc: Global, row: Row<'_>, least: usize) -> Result<String, AllocError> {
     let checking = Checking {
         row,

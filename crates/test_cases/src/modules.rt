@@ -1,4 +1,4 @@
-// Whether the handles of a module are in order, whether it is accepted up to its overrides, and why it is not.
+// Whether the handles of a module are in order, whether it is valid up to its overrides, and its error.
 use document_reader::Document;
 use ir_items::Module;
 use ir_types::refusal::Refusal;
@@ -9,14 +9,14 @@ use std::fmt::Debug;
 use test_support::call::freeing;
 use typing_layout::TypeError;
 
-/// Whether each override has to have its value.
+/// Whether each override must have a value.
 #[derive(Clone, Copy)]
 pub enum Overrides {
     Open,
     Resolved,
 }
 
-// The name of what is wrong with a handle.
+// The name of an error of a handle.
 fn handle_fault(error: &InvalidHandleError) -> &'static str {
     match error {
         InvalidHandleError::BadHandle(_) => "BadHandle",
@@ -25,7 +25,7 @@ fn handle_fault(error: &InvalidHandleError) -> &'static str {
     }
 }
 
-/// Whether the handles of a module are in order, or the name of what is wrong with one.
+/// Whether the handles of a module are in order, or the name of the error.
 pub fn handles_told(alloc: Global, module: &Module) -> Result<String, AllocError> {
     let told = match validate_module_handles(module) {
         Ok(()) => "in order",
@@ -34,7 +34,7 @@ pub fn handles_told(alloc: Global, module: &Module) -> Result<String, AllocError
     String::from_str(alloc, told)
 }
 
-// The step that refuses an item, the item, and why.
+// The failing step, the item, and the error.
 fn item_told<E: Debug>(
     alloc: Global,
     step: &str,
@@ -44,7 +44,7 @@ fn item_told<E: Debug>(
     format!(in alloc; "{step} {index} {error:?}")
 }
 
-// The type that is refused, and why; which fault it is that sources of a blend have is not reported.
+// The invalid type, and its error; the fields of the error of blend sources are not printed.
 fn type_told(alloc: Global, refused: &InvalidType) -> Result<String, AllocError> {
     let index = refused.ty.index();
     if let TypeError::InvalidBlendSrc(_) = refused.error {
@@ -53,7 +53,7 @@ fn type_told(alloc: Global, refused: &InvalidType) -> Result<String, AllocError>
     item_told(alloc, "type", index, &refused.error)
 }
 
-/// The step that refuses a module, and why.
+/// The failing step of a module, and the error.
 pub fn error_told(alloc: Global, error: &ModuleError) -> Result<String, AllocError> {
     match error {
         ModuleError::InvalidHandle(error) => {
@@ -81,7 +81,7 @@ pub fn error_told(alloc: Global, error: &ModuleError) -> Result<String, AllocErr
     }
 }
 
-// What a validator answers.
+// The result of a validator.
 fn answer_told(
     alloc: Global,
     judged: &Result<ModuleInfo, Refusal<ModuleError>>,
@@ -93,7 +93,7 @@ fn answer_told(
     }
 }
 
-/// Whether the module of a document is accepted up to its overrides, or why it is not.
+/// Whether the module of a document is valid up to its overrides, or its error.
 pub fn checks_told(
     alloc: Global,
     document: &Document,

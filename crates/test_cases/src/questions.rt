@@ -1,11 +1,10 @@
-// Questions about the modules of documents: whether all handles are in order, whether a module is accepted up to its overrides,
-// whether it is accepted as a whole and why not, by which error a document is refused, what a call leaves that is refused memory,
-// and what one validator answers to several modules. Says which answers are others than those that stand there.
+// Questions about the modules of documents: whether all handles are in order, whether a module is valid up to its overrides,
+// whether it is valid and its error, the error of a document, what a call leaves after its allocation failed, and the results
+// of one validator for several modules. Prints which results differ from the expected ones.
 //
-// A line of a data file is a list of texts: the case's name, the question, a document, and the answer, or two of which either is
+// A line of a data file is a list of strings: the case's name, the question, a document, and the answer, or two that are both
 // right. make_checks.py, make_functions.py, make_names.py and make_turns.py of test_typing write these files. The answers come
-// from two implementations that were written independently of this one; why a function is refused comes from the model in
-// model_functions.py.
+// from two independent implementations; the errors of functions come from the model in model_functions.py.
 use crate::left::left_told;
 use crate::modules::{Overrides, checks_told, handles_told};
 use crate::turns::turns_told;
@@ -38,7 +37,7 @@ fn answer_of(alloc: Global, question: &str, document: &mut Document) -> Result<S
     }
 }
 
-// The same about the document of these bytes.
+// The same for the document in these bytes.
 fn answer_read(alloc: Global, question: &str, text: &str) -> Result<String, AllocError> {
     match read_document(alloc, text.as_bytes()) {
         Ok(mut document) => freeing(answer_of(alloc, question, &mut document), document),
@@ -47,7 +46,7 @@ fn answer_read(alloc: Global, question: &str, text: &str) -> Result<String, Allo
     }
 }
 
-// What answers them.
+// Answers them.
 #[derive(Clone, Copy)]
 struct Modules;
 
@@ -60,7 +59,7 @@ impl Questions for Modules {
     }
 }
 
-// Answers the questions of a file. Returns how many answers differ.
+// Answers the questions of a file. Returns how many results differ.
 fn ask_file(rt: &HostRuntime, name: &str) -> Result<usize> {
     let text = fs::read_to_string(rt, name).context(format_args!("reading {name}"))?;
     Ok(freeing(ask_lines(rt, &Modules, name, &text), text)?)

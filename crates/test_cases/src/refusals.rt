@@ -1,5 +1,4 @@
-// Why a function is refused: the words and the numbers of the text by which the error is shown, in order. The names of fields,
-// and names of items, which stand in quotes, are left out.
+// The error of a function: the words and the numbers of its `Debug` form, in order, without field names and quoted item names.
 use std::alloc::{AllocError, Global};
 use test_support::call::{completed, freeing};
 use typing_errors::FunctionError;
@@ -8,7 +7,7 @@ fn is_part_of_word(letter: char) -> bool {
     letter.is_ascii_alphanumeric() || letter == '_' || letter == '-'
 }
 
-// A piece of a text, with a space in place of each sign.
+// A part of a string, with a space for each punctuation character.
 fn push_spaced(spaced: &mut String, piece: &str) -> Result<(), AllocError> {
     for letter in piece.chars() {
         spaced.push(if is_part_of_word(letter) { letter } else { ' ' })?;
@@ -16,7 +15,7 @@ fn push_spaced(spaced: &mut String, piece: &str) -> Result<(), AllocError> {
     Ok(())
 }
 
-// The pieces of a text that stand in no quotes.
+// The parts of a string outside quotes.
 fn push_pieces(spaced: &mut String, text: &str) -> Result<(), AllocError> {
     for (place, piece) in text.split('"').enumerate() {
         if place % 2 == 0 {
@@ -26,13 +25,13 @@ fn push_pieces(spaced: &mut String, text: &str) -> Result<(), AllocError> {
     Ok(())
 }
 
-// A text without what stands in quotes, and with a space in place of each sign.
+// A string without its quoted parts, and with a space for each punctuation character.
 fn spaced_out(alloc: Global, text: &str) -> Result<String, AllocError> {
     let mut spaced = String::new(alloc);
     completed(push_pieces(&mut spaced, text), spaced)
 }
 
-// Whether a word is that of a kind or a set, or a number, and not the name of a field.
+// Whether a word is that of a kind or a set, or a number, and not a field name.
 fn is_reported(word: &str) -> bool {
     match word.chars().next() {
         Some(first) => !first.is_ascii_lowercase(),
@@ -40,7 +39,7 @@ fn is_reported(word: &str) -> bool {
     }
 }
 
-// Puts the words of a text that are reported after another.
+// Appends the printed words of a string to another.
 fn push_words(told: &mut String, spaced: &str) -> Result<(), AllocError> {
     for part in spaced.split(' ') {
         if is_reported(part) {
@@ -51,19 +50,19 @@ fn push_words(told: &mut String, spaced: &str) -> Result<(), AllocError> {
     Ok(())
 }
 
-// The same of a text with signs and what stands in quotes.
+// The same for a string with punctuation and quotes.
 fn push_text(alloc: Global, told: &mut String, text: &str) -> Result<(), AllocError> {
     let spaced = spaced_out(alloc, text)?;
     freeing(push_words(told, &spaced), spaced)
 }
 
-// The same of the text by which an error is shown.
+// The same for the `Debug` form of an error.
 fn push_error(alloc: Global, told: &mut String, error: &FunctionError) -> Result<(), AllocError> {
     let text = format!(in alloc; "{error:?}")?;
     freeing(push_text(alloc, told, &text), text)
 }
 
-/// Which function of these is refused, and why.
+/// The first invalid function of these, and its error.
 pub fn refusal_reported(
     alloc: Global,
     word: &str,

@@ -1,9 +1,9 @@
-// What is required of a document: a text, and the verdict and the text that are expected.
+// A question about a document: a string, with the expected verdict and output.
 use serde_json::Value;
 use shader_check::{Fault, Verdict};
 use test_support::call::text;
 
-/// What a check answers.
+/// The results of a check.
 pub type Answer = Result<Verdict, Fault>;
 
 /// A document of the input, and the expected line.
@@ -14,7 +14,7 @@ pub struct Row<'a> {
 }
 
 impl<'a> Row<'a> {
-    /// The row that stands after a call's name.
+    /// The row after a call's name.
     pub fn of(call: &'a Value) -> Row<'a> {
         Row {
             input: text(call, 1),
@@ -22,7 +22,7 @@ impl<'a> Row<'a> {
         }
     }
 
-    /// Whether the answer and what was written are the expected ones.
+    /// Whether the result and the output are the expected ones.
     pub fn is_met(self, answer: Answer, written: &[u8]) -> bool {
         let expected = if self.expected.starts_with("accepted") {
             Verdict::Accepted

@@ -1,4 +1,4 @@
-// Checks over readers and writers that fail at one of their calls, at each in turn.
+// Checks with readers and writers that fail at one of their calls, at each in turn.
 use crate::check::{Checked, check};
 use crate::rows::Row;
 use shader_check::Fault;
@@ -12,12 +12,12 @@ const MOST_READS: u64 = 2000;
 /// More than the calls that a writer gets.
 const MOST_WRITES: u64 = 100;
 
-// What came of a check.
+// The outcome of a check.
 #[derive(Clone, Copy, PartialEq, Eq, Debug)]
 enum Outcome {
-    /// The expected fault, with all that goes with it.
+    /// The expected error, with its marks.
     Fault,
-    /// What is expected where nothing fails.
+    /// The expected result without a failure.
     Met,
     /// Anything else.
     Other,
@@ -33,7 +33,7 @@ fn judged(fault: bool, met: bool) -> Outcome {
     }
 }
 
-// What comes of a reader. The mark is set at a fault, and where a call was interrupted; nothing is written at a fault.
+// The outcome for a reader. The mark is set at an error and if a call was interrupted; nothing is written after an error.
 fn read_once(alloc: Global, row: Row<'_>, script: Script<'_>) -> Outcome {
     let halting = script.halting;
     let mut written: Vec<u8> = Vec::new(alloc);
@@ -47,8 +47,7 @@ fn read_once(alloc: Global, row: Row<'_>, script: Script<'_>) -> Outcome {
     freeing(outcome, written)
 }
 
-/// How many calls of a reader may fail before a check comes to its end, each of them with its fault; `None` where anything
-/// else came.
+/// At how many calls a reader may fail before a check succeeds, each with its error; `None` for any other outcome.
 pub fn reader_fails(alloc: Global, row: Row<'_>, step: usize, halting: bool) -> Option<u64> {
     for bad_call in 1..MOST_READS {
         let script = Script {
@@ -67,7 +66,7 @@ pub fn reader_fails(alloc: Global, row: Row<'_>, step: usize, halting: bool) -> 
     None
 }
 
-/// How often a reader is called that gives a byte a call, where what comes is what is expected.
+/// How often a reader that returns a byte per call is called, if the outcome is the expected one.
 pub fn reader_calls(alloc: Global, row: Row<'_>) -> Option<u64> {
     let mut written: Vec<u8> = Vec::new(alloc);
     let mut script = plain(row.input, 1);
@@ -81,7 +80,7 @@ pub fn reader_calls(alloc: Global, row: Row<'_>) -> Option<u64> {
     }
 }
 
-// Whether the page holds a prefix of the expected text, not all of it, and got no call after the one that failed.
+// Whether the output is a proper prefix of the expected text, and the writer was not called after the call that failed.
 fn is_prefix(row: Row<'_>, page: &Page) -> bool {
     let after_bad = if page.bad == Bad::TakesOneThenFails {
         1
@@ -93,7 +92,7 @@ fn is_prefix(row: Row<'_>, page: &Page) -> bool {
         && page.calls.checked_sub(page.bad_call) == Some(after_bad)
 }
 
-// What came of a writer, with the marks of the reader and the writer.
+// The outcome for a writer, with the marks of the reader and the writer.
 fn judged_page(row: Row<'_>, page: &Page, checked: Checked) -> Outcome {
     let is_fault = checked.answer == Err(Fault::Write)
         && checked.write_failed
@@ -117,8 +116,7 @@ fn write_once(alloc: Global, row: Row<'_>, step: usize, bad_call: u64, bad: Bad)
     freeing(judged_page(row, &page, checked), page)
 }
 
-/// How many calls of a writer may fail before a check comes to its end, each of them with its fault; `None` where anything
-/// else came.
+/// At how many calls a writer may fail before a check succeeds, each with its error; `None` for any other outcome.
 pub fn writer_fails(alloc: Global, row: Row<'_>, step: usize, bad: Bad) -> Option<u64> {
     for bad_call in 1..MOST_WRITES {
         match write_once(alloc, row, step, bad_call, bad) {

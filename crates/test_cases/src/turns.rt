@@ -10,7 +10,7 @@ use std::alloc::{AllocError, Global};
 use test_support::call::{completed, freeing, items, told};
 use typing_infos::ModuleInfo;
 
-/// What a validator answers.
+/// The result of a validator.
 #[derive(Clone, Copy, Debug, PartialEq, Eq)]
 enum Answered {
     Accepted,
@@ -18,7 +18,7 @@ enum Answered {
     Memory,
 }
 
-// A validator by the settings of a document.
+// A validator with the settings of a document.
 fn validator_for(alloc: Global, settings: Settings) -> Validator<RealLower> {
     let lower = RealLower::new(ModuleInfo::new(alloc));
     let mut validator = Validator::new(alloc, lower, settings.flags, settings.capabilities);
@@ -40,7 +40,7 @@ fn judged(validator: &mut Validator<RealLower>, module: &Module) -> Answered {
     freeing(answer_of(&answer), answer)
 }
 
-// Puts the documents that these texts spell after a list, up to one that spells none.
+// Appends the documents in these strings to a list, up to one that is not a document.
 fn add_documents(
     alloc: Global,
     documents: &mut Vec<Document>,
@@ -56,7 +56,7 @@ fn add_documents(
     Ok(())
 }
 
-// Puts what a validator answers to the modules of these documents, in turn, into a list.
+// Appends the results of a validator for the modules of these documents, in turn, to a list.
 fn add_answers(
     validator: &mut Validator<RealLower>,
     documents: &[Document],
@@ -68,7 +68,7 @@ fn add_answers(
     Ok(())
 }
 
-// What a validator answers to the modules of these documents, in turn.
+// The results of a validator for the modules of these documents, in turn.
 fn answers_of(
     alloc: Global,
     validator: &mut Validator<RealLower>,
@@ -81,7 +81,7 @@ fn answers_of(
     )
 }
 
-// The same of one validator by the settings of the first.
+// The same for one validator with the settings of the first.
 fn judged_in_turn(alloc: Global, documents: &[Document]) -> Result<String, AllocError> {
     let Some(first) = documents.first() else {
         return String::from_str(alloc, "no document");
@@ -90,7 +90,7 @@ fn judged_in_turn(alloc: Global, documents: &[Document]) -> Result<String, Alloc
     freeing(answers_of(alloc, &mut validator, documents), validator)
 }
 
-// The same of the documents that these texts spell, which are read into this list.
+// The same for the documents in these strings, which are read into this list.
 fn read_and_judged(
     alloc: Global,
     documents: &mut Vec<Document>,
@@ -100,13 +100,13 @@ fn read_and_judged(
     judged_in_turn(alloc, documents)
 }
 
-// The same of a list of texts.
+// The same for a list of strings.
 fn turns_of(alloc: Global, texts: &[Value]) -> Result<String, AllocError> {
     let mut documents = Vec::new(alloc);
     freeing(read_and_judged(alloc, &mut documents, texts), documents)
 }
 
-/// What one validator answers to the modules of the documents in this list, in turn, by the settings of the first.
+/// The results of one validator for the modules of the documents in this list, in turn, with the settings of the first.
 pub fn turns_told(alloc: Global, list: &str) -> Result<String, AllocError> {
     match Value::from_str(alloc, list) {
         Ok(texts) => freeing(turns_of(alloc, items(&texts)), texts),

@@ -1,4 +1,4 @@
-// Whether a document is accepted, and why it is not.
+// Whether a document is valid, and its error.
 use crate::modules::error_told;
 use crate::refusals::refusal_reported;
 use document_reader::Document;
@@ -9,7 +9,7 @@ use shader_check::{
 use std::alloc::{AllocError, Global};
 use test_support::call::freeing;
 
-// Why an entry point is refused: what is wrong with its function in words, anything else by its name.
+// The error of an entry point: that of its function in words, any other by name.
 fn entry_told(alloc: Global, refused: &InvalidEntryPoint) -> Result<String, AllocError> {
     match &refused.error {
         EntryPointError::Function(error) => refusal_reported(alloc, "entry", refused.index, error),
@@ -17,7 +17,7 @@ fn entry_told(alloc: Global, refused: &InvalidEntryPoint) -> Result<String, Allo
     }
 }
 
-// Why a module is refused: what is wrong with a function in words.
+// The error of a module: that of a function in words.
 fn told_in_words(alloc: Global, error: &ValidationError) -> Result<String, AllocError> {
     match error {
         ValidationError::Module(error) => error_told(alloc, error),
@@ -31,7 +31,7 @@ fn told_in_words(alloc: Global, error: &ValidationError) -> Result<String, Alloc
     }
 }
 
-// The verdict, and the error by its name with all that it holds.
+// The verdict, and the error by name with its fields.
 fn told_by_name(alloc: Global, error: &ValidationError) -> Result<String, AllocError> {
     match refused_by(error) {
         Finding::Refused(step, index) => {
@@ -41,7 +41,7 @@ fn told_by_name(alloc: Global, error: &ValidationError) -> Result<String, AllocE
     }
 }
 
-// Whether a document is accepted, or why it is not.
+// Whether a document is valid, or its error.
 fn found_told(alloc: Global, question: &str, found: &Examined) -> Result<String, AllocError> {
     match found {
         Examined::Accepted { .. } => String::from_str(alloc, "accepted"),
@@ -52,8 +52,8 @@ fn found_told(alloc: Global, question: &str, found: &Examined) -> Result<String,
     }
 }
 
-/// Whether a document is accepted, or why it is not: with what is wrong with a function in words where the question is
-/// `functions`, or else the verdict and the error by its name. Returns are put in where it requires them.
+/// Whether a document is valid, or its error: that of a function in words if the question is `functions`, else the verdict and
+/// the error by name. Missing returns are inserted if the document asks for it.
 pub fn refusal_told(
     alloc: Global,
     question: &str,

@@ -1,4 +1,4 @@
-// The calls of a block of statements that compute from some places on, each with a span of its own or with none.
+// Calls on a block of statements, where those from some index on only compute, each with its own span or none.
 ghost use Rattle.std.specs.Prelude.{◌≤◌, length};
 ghost use Rattle.ir_blocks.specs.found.View.{statements_of};
 
@@ -13,7 +13,7 @@ fn emit(place: u32) -> Statement {
     Statement::Emit(Range::new(place, 50))
 }
 
-// The span of the statement of this place, which the first has not.
+// The span of the statement with this number; the first has none.
 fn span(place: u32) -> Span {
     if place == 0 {
         return Span::UNDEFINED;
@@ -21,12 +21,12 @@ fn span(place: u32) -> Span {
     Span::new(place, 90)
 }
 
-// The place that a value names.
+// The number of a value.
 fn place(value: &Value) -> u32 {
     value.as_u64().unwrap_or(0).min(50) as u32
 }
 
-// Puts the statements of these places after a block, one by one.
+// Appends the statements with these numbers to a block, one by one.
 fn push(block: &mut Block, places: &[Value]) -> Result<(), AllocError> {
     for value in places {
         let place = place(value);
@@ -35,13 +35,13 @@ fn push(block: &mut Block, places: &[Value]) -> Result<(), AllocError> {
     Ok(())
 }
 
-// The block of these places.
+// The block with these numbers.
 fn block(alloc: Global, places: &[Value]) -> Result<Block, AllocError> {
     let mut block = Block::new(alloc);
     completed(push(&mut block, places), block)
 }
 
-// Of a statement and its span: the first place where it computes, and the span.
+// Of a statement and its span: the first number where it computes, and the span.
 fn shown(statement: &Statement, span: Span) -> (Option<u32>, Span) {
     match statement {
         Statement::Emit(range) => (Some(range.index_range().start), span),
@@ -51,7 +51,7 @@ fn shown(statement: &Statement, span: Span) -> (Option<u32>, Span) {
 
 type Shown = Vec<(Option<u32>, Span)>;
 
-// What a block holds, and how many statements and spans.
+// The contents of a block, and the number of statements and spans.
 fn seen(alloc: Global, block: &Block) -> Result<(usize, usize, Shown), AllocError> {
     let mut entries = Vec::new(alloc);
     for (statement, span) in block.span_iter() {
@@ -60,7 +60,7 @@ fn seen(alloc: Global, block: &Block) -> Result<(usize, usize, Shown), AllocErro
     Ok((block.len(), entries.len(), entries))
 }
 
-// Puts in the statements of these places by one call each, and then none.
+// Inserts the statements with these numbers by one call each, and then none.
 fn extend(subject: &mut Block, places: &[Value]) -> Result<bool, AllocError> {
     for value in places {
         let place = place(value);
@@ -70,7 +70,7 @@ fn extend(subject: &mut Block, places: &[Value]) -> Result<bool, AllocError> {
     Ok(true)
 }
 
-// Whether a call could be made: it could where memory sufficed.
+// Whether a call succeeded: it does if memory suffices.
 fn made(answer: Result<(), AllocError>) -> Result<bool, AllocError> {
     match answer {
         Ok(()) => Ok(true),
@@ -78,7 +78,7 @@ fn made(answer: Result<(), AllocError>) -> Result<bool, AllocError> {
     }
 }
 
-// Moves the statements of these places, which another block gets, after this one. Returns whether none is left there.
+// Appends the statements with these numbers, moved from another block. Returns whether that one is empty.
 fn append_from(
     subject: &mut Block,
     other: &mut Block,
@@ -99,7 +99,7 @@ fn extend_block(alloc: Global, subject: &mut Block, places: &[Value]) -> Result<
     made(subject.extend_block(other))
 }
 
-// Takes out the statements of the range that stands after its form in a line, if the block has them.
+// Culls the statements of the range after its form in a line, if the block has them.
 fn cull(subject: &mut Block, call: &Value) -> bool {
     let (start, end) = (number(call, 4) as usize, number(call, 5) as usize);
     if start > end || end >= subject.len() {
@@ -114,7 +114,7 @@ fn cull(subject: &mut Block, call: &Value) -> bool {
     true
 }
 
-// Puts another block in the place of a range that the block has.
+// Replaces a range of the block by another block.
 fn spliced(
     subject: &mut Block,
     form: &str,
@@ -133,7 +133,7 @@ fn spliced(
     }
 }
 
-// Puts another block in the place of the range that stands after its form in a line, if the block has it.
+// Replaces the range after its form in a line by another block, if the block has it.
 fn splice(alloc: Global, subject: &mut Block, call: &Value) -> Result<bool, AllocError> {
     let (start, end) = (number(call, 4) as usize, number(call, 5) as usize);
     if start > end || end > subject.len() {
@@ -143,7 +143,7 @@ fn splice(alloc: Global, subject: &mut Block, call: &Value) -> Result<bool, Allo
     made(spliced(subject, text(call, 3), start, end, other))
 }
 
-// Makes the second place's statement a kill with another span, and answers whether there is one.
+// Sets the second statement to `Kill` with another span. Returns whether there is one.
 fn change(subject: &mut Block) -> Result<bool, AllocError> {
     let mut is_changed = false;
     for (statement, mark) in subject.span_iter_mut()? {
@@ -156,7 +156,7 @@ fn change(subject: &mut Block) -> Result<bool, AllocError> {
     Ok(is_changed)
 }
 
-// Makes all statements breaks, and answers whether they are.
+// Sets all statements to `Break`, and returns whether they are.
 fn change_all(subject: &mut Block) -> bool {
     for statement in subject.as_mut_slice() {
         *statement = Statement::Break;
@@ -167,7 +167,7 @@ fn change_all(subject: &mut Block) -> bool {
         .all(|statement| *statement == Statement::Break)
 }
 
-// Makes the call of a line. Answers what it reported, or whether it could be made.
+// Makes the call of a line. Returns its result, or whether it succeeded.
 fn called(alloc: Global, subject: &mut Block, call: &Value) -> Result<bool, AllocError> {
     match text(call, 1) {
         "extend" => extend(subject, list(call, 3)),
@@ -181,7 +181,7 @@ fn called(alloc: Global, subject: &mut Block, call: &Value) -> Result<bool, Allo
     }
 }
 
-// What a call of a block that was made for it tells, and what the block holds then.
+// The result of a call on a block built for it, and the block's contents afterwards.
 fn of_subject(alloc: Global, subject: &mut Block, call: &Value) -> Result<String, AllocError> {
     if text(call, 1) == "extend_block" {
         *subject = Block::with_capacity(alloc, 2)?;
@@ -191,13 +191,13 @@ fn of_subject(alloc: Global, subject: &mut Block, call: &Value) -> Result<String
     told(alloc, (is_made, seen(alloc, subject)))
 }
 
-/// The result of a call of a block: what it tells, and what the block holds then.
+/// The result of a call on a block, and its contents afterwards.
 pub fn of_block(alloc: Global, call: &Value) -> Result<String, AllocError> {
     let mut subject = Block::new(alloc);
     freeing(of_subject(alloc, &mut subject, call), subject)
 }
 
-// Puts the statements of these places into a list, and a kill after them.
+// Appends the statements with these numbers to a list, followed by `Kill`.
 fn add_statements(statements: &mut Vec<Statement>, places: &[Value]) -> Result<(), AllocError> {
     for value in places {
         statements.push(emit(place(value)))?;
@@ -206,13 +206,13 @@ fn add_statements(statements: &mut Vec<Statement>, places: &[Value]) -> Result<(
     Ok(())
 }
 
-// The statements of these places, and a kill after them.
+// The statements with these numbers, followed by `Kill`.
 fn statements(alloc: Global, places: &[Value]) -> Result<Vec<Statement>, AllocError> {
     let mut statements = Vec::new(alloc);
     completed(add_statements(&mut statements, places), statements)
 }
 
-/// What a block holds that is made of statements without spans.
+/// The contents of a block built from statements without spans.
 pub fn of_statements(alloc: Global, call: &Value) -> Result<String, AllocError> {
     let subject = Block::from_vec(statements(alloc, list(call, 1))?);
     freeing(told(alloc, seen(alloc, &subject)), subject)

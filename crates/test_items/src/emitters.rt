@@ -36,7 +36,7 @@ fn range_of(statement: &Statement, span: Span) -> Emitted {
     }
 }
 
-// What an emitter gives that ran while these were appended, and whether it ran before, meanwhile and afterwards.
+// The range of an emitter that ran while these were appended, and whether it was running before, during and after.
 fn emitted(
     arena: &mut Expressions,
     spans: &[Value],
@@ -57,13 +57,13 @@ fn emitted(
     Ok(((before, meanwhile, emitter.is_running()), emitted))
 }
 
-// The same of an arena, which first gets the expressions with the first spans.
+// The same for an arena that first gets the expressions with the first spans.
 fn of_arena(alloc: Global, arena: &mut Expressions, call: &Value) -> Result<String, AllocError> {
     append_all(arena, list(call, 1))?;
     told(alloc, emitted(arena, list(call, 2)))
 }
 
-/// What is emitted of the expressions with the second spans, which come after those with the first.
+/// The emitted range of the expressions with the second spans, after those with the first.
 pub fn of_emitter(alloc: Global, call: &Value) -> Result<String, AllocError> {
     let mut arena = Arena::new(alloc);
     freeing(of_arena(alloc, &mut arena, call), arena)

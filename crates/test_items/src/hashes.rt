@@ -1,5 +1,4 @@
-// Hashers that know a key. What is due was computed by a SipHash-1-3 written apart, which gives the values that are published
-// with that function.
+// Keyed hashers. The expected values come from a separate SipHash-1-3, which gives the published values of that function.
 use ir_sets::keyed::KeyedState;
 use std::hash::{BuildHasher, Hasher};
 use std::io;

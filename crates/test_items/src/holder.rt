@@ -1,4 +1,4 @@
-// Items that hold others with spans.
+// Items that contain others with spans.
 use crate::item::{Item, read_at};
 use ir_arena::arena::Arena;
 use ir_arena::span::Span;
@@ -7,12 +7,12 @@ use serde_json::Value;
 use std::alloc::{AllocError, Global};
 use test_support::call::{completed, freeing, list, no_call, span, text, told};
 
-/// An item to which others are added, each with a span that no document tells.
+/// An item to which others are added, each with a span that no document has.
 pub trait Holder: Item {
-    /// Adds what a part of a line gives: a word, the thing, and where its span starts and ends.
+    /// Adds the part that a line gives: a word, the item, and the start and end of its span.
     fn add(&mut self, alloc: Global, part: &Value) -> Result<(), AllocError>;
 
-    /// Puts the spans of what it holds after a list.
+    /// Appends the spans of its contents to a list.
     fn tell_spans(&self, spans: &mut Vec<Span>) -> Result<(), AllocError>;
 }
 
@@ -30,7 +30,7 @@ fn filled<T: Holder>(alloc: Global, holder: T, parts: &[Value]) -> Result<Option
     Ok(Some(completed(add_all(alloc, &mut holder, parts), holder)?))
 }
 
-// The item that a line gives with what is added to it.
+// The item of a line with what is added to it.
 fn read_with_parts<T: Holder>(
     alloc: Global,
     call: &Value,
@@ -55,7 +55,7 @@ fn equals<T: Holder>(copy: &T, other: &Option<T>) -> Option<bool> {
     }
 }
 
-// What is reported of an item and a copy of it, beside another one.
+// The report on an item and a copy of it, beside another one.
 fn of_copy<T: Holder>(
     alloc: Global,
     source: &T,
@@ -66,7 +66,7 @@ fn of_copy<T: Holder>(
     told(alloc, (*copy == *source, equals(copy, other), spans))
 }
 
-// The same beside the one that a line gives.
+// The same beside the one of a line.
 fn of_other<T: Holder>(
     alloc: Global,
     source: &T,
@@ -77,13 +77,13 @@ fn of_other<T: Holder>(
     freeing(of_copy(alloc, source, copy, &other), other)
 }
 
-// The same of an item and a copy of it.
+// The same for an item and a copy of it.
 fn of_source<T: Holder>(alloc: Global, source: &T, call: &Value) -> Result<String, AllocError> {
     let copy = source.copy(alloc)?;
     freeing(of_other(alloc, source, &copy, call), copy)
 }
 
-/// What is reported of an item that is copied with all that was added to it, and of another one.
+/// The report on an item copied with all that was added to it, and on another one.
 pub fn compared<T: Holder>(alloc: Global, call: &Value) -> Result<String, AllocError> {
     match read_with_parts::<T>(alloc, call, 1)? {
         Some(source) => freeing(of_source(alloc, &source, call), source),
@@ -91,7 +91,7 @@ pub fn compared<T: Holder>(alloc: Global, call: &Value) -> Result<String, AllocE
     }
 }
 
-// Puts the statements of a body after a block, each with this span.
+// Appends the statements of a body to a block, each with this span.
 fn push_all(block: &mut Block, body: Block, span: Span) -> Result<(), AllocError> {
     for (statement, _) in body.span_into_iter() {
         block.push(statement, span)?;

@@ -1,4 +1,4 @@
-// Items of the IR: how a line of the input gives them, how they are copied, and what is reported of them.
+// IR items: how a line of the input gives them, how they are copied, and the report on them.
 use crate::modules::document_of;
 use document_expressions::ExpressionForm;
 use document_items::{ConstantForm, FilterForm, GlobalForm, OverrideForm, SpecialForm, TypeForm};
@@ -13,14 +13,14 @@ use test_support::call::{found, freeing, no_call, told};
 
 /// What a line can give, and what can be copied.
 pub trait Item: PartialEq + Drop + Sized {
-    /// The item that is written so.
+    /// The item in this form.
     fn read(alloc: Global, value: &Value) -> Result<Option<Self>, AllocError>;
 
     /// A copy of it.
     fn copy(&self, alloc: Global) -> Result<Self, AllocError>;
 }
 
-/// The item at a place of a line, or `None` where none stands there.
+/// The item at an index of a line, or `None`.
 pub fn read_at<T: Item>(
     alloc: Global,
     call: &Value,
@@ -40,20 +40,20 @@ fn comparison<T: Item>(source: &T, copy: &T, other: &Option<T>) -> (bool, Option
     }
 }
 
-// What is reported of an item and a copy of it, beside another one.
+// The report on an item and a copy of it, beside another one.
 fn of_copy<T: Item>(alloc: Global, source: &T, other: &Option<T>) -> Result<String, AllocError> {
     let copy = source.copy(alloc)?;
     freeing(told(alloc, comparison(source, &copy, other)), copy)
 }
 
-// The same beside the one that a line gives.
+// The same beside the one of a line.
 fn of_source<T: Item>(alloc: Global, source: &T, call: &Value) -> Result<String, AllocError> {
     let other: Option<T> = read_at(alloc, call, 2)?;
     freeing(of_copy(alloc, source, &other), other)
 }
 
-/// What is reported of an item that is copied, and of another one. Each is freed by a call of its own, which is cheaper to prove
-/// than on every way out.
+/// The report on a copied item, and on another one. Each is freed by a call of its own, which is cheaper to prove than a drop
+/// on every way out.
 pub fn compared<T: Item>(alloc: Global, call: &Value) -> Result<String, AllocError> {
     match read_at::<T>(alloc, call, 1)? {
         Some(source) => freeing(of_source(alloc, &source, call), source),

@@ -1,4 +1,4 @@
-// What expressions, types and special types answer.
+// Calls on expressions, types and special types.
 use crate::told::Told;
 use document_forms::Each;
 use document_items::TypeForm;
@@ -11,8 +11,7 @@ use serde_json::Value;
 use std::alloc::{AllocError, Global};
 use test_support::call::{found, freeing, text, told};
 
-// Whether an expression is always in scope, whether it is a dynamic index, and whether the level of a sample requires
-// derivatives.
+// Whether an expression needs no emit, whether it is a dynamic index, and whether the level of a sample uses derivatives.
 fn traits_of(expression: &Expression) -> (bool, bool, Option<bool>) {
     let asks = match expression {
         Expression::ImageSample { level, .. } => Some(level.implicit_derivatives()),
@@ -34,7 +33,7 @@ fn inner_of(literal: &Expression) -> Option<TypeInner> {
 }
 
 impl Told for Expression {
-    // Whether a copy equals its source, and what it is, or the type of a literal.
+    // Whether a copy equals its source, and the copy, or the type of a literal.
     fn tell(
         &mut self,
         alloc: Global,
@@ -50,7 +49,7 @@ impl Told for Expression {
 }
 
 impl Told for IrType {
-    // What the equality of types that is proved says of two types and a copy.
+    // The proved equality of types, for two types and a copy.
     fn tell(
         &mut self,
         alloc: Global,
@@ -66,7 +65,7 @@ impl Told for IrType {
     }
 }
 
-// The places of the types of two lists that are made of the same.
+// The indices of the types of two lists with equal inner types.
 fn alike(
     alloc: Global,
     types: &[IrType],
@@ -90,31 +89,31 @@ fn list_of(alloc: Global, call: &Value) -> Result<Vec<IrType>, AllocError> {
     }
 }
 
-// Which types of a list are made of the same as which of the list that a line gives.
+// Which types of a list have the same inner type as which of the list of a line.
 fn alike_again(alloc: Global, types: &[IrType], call: &Value) -> Result<String, AllocError> {
     let others = list_of(alloc, call)?;
     freeing(told(alloc, alike(alloc, types, &others)), others)
 }
 
-/// Which types of a list are made of the same as which of the list again.
+/// The same, again.
 pub fn of_types(alloc: Global, call: &Value) -> Result<String, AllocError> {
     let types = list_of(alloc, call)?;
     freeing(alike_again(alloc, &types, call), types)
 }
 
-// The key of the parts of a float, which a line may have.
+// The key of the fields of `frexp`, which a line may have.
 const PARTS: PredeclaredType = PredeclaredType::ModfResult {
     size: None,
     scalar: Scalar::F32,
 };
 
-// The place of the type of the parts of a float, if there is one.
+// The index of the type of the fields of `frexp`, if any.
 fn parts_of(special: &SpecialTypes) -> Option<usize> {
     Some(special.predeclared_types.get(&PARTS)?.index())
 }
 
 impl Told for SpecialTypes {
-    // What a copy of special types has.
+    // The contents of a copy of special types.
     fn tell(
         &mut self,
         alloc: Global,

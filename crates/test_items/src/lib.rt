@@ -1,7 +1,7 @@
-//! Reads items of the IR of every kind, copies and compares them, and makes the calls of blocks, emitters, walks, spans and hashers
-//! that know a key; and makes the calls that need memory with little of it, and a little more each time.
+//! Reads IR items of every kind, copies and compares them, and makes calls on blocks, emitters, walks, spans and keyed hashers;
+//! and makes the calls that allocate with little memory, and a little more each time.
 //!
-//! A call is a list: what is required, and what it is required of, written as in a document.
+//! A call is a list: its name and its inputs, in the form of a document.
 #![tactic(auto)]
 
 mod blocks;
@@ -27,7 +27,7 @@ pub use spans::{of_number, of_span};
 use std::alloc::{AllocError, Global};
 use test_support::call::{no_call, text};
 
-/// The result of a call of items.
+/// The result of a call on items.
 pub fn answer(alloc: Global, call: &Value) -> Result<String, AllocError> {
     match text(call, 0) {
         "type" => told::of_item::<IrType>(alloc, call),

@@ -1,4 +1,4 @@
-// What modules and documents hold.
+// The contents of modules and documents.
 use crate::told::Told;
 use document_reader::{Document, DocumentError, read_document};
 use ir_items::Module;
@@ -8,7 +8,7 @@ use test_support::call::{freeing, no_call, text, told};
 
 type Counts = (usize, usize, usize, usize);
 
-/// The document that the bytes spell, if they spell one.
+/// The document in these bytes, if they are one.
 pub fn document_of(alloc: Global, bytes: &[u8]) -> Result<Option<Document>, AllocError> {
     match read_document(alloc, bytes) {
         Ok(document) => Ok(Some(document)),
@@ -37,7 +37,7 @@ fn counts(module: &Module) -> Counts {
 }
 
 impl Told for Module {
-    // How much of each list a module has, or its context shows.
+    // The length of each list of a module, or of its context.
     fn tell(
         &mut self,
         alloc: Global,
@@ -52,13 +52,13 @@ impl Told for Module {
     }
 }
 
-// How much of each list the copy of a document has.
+// The length of each list of a copy of a document.
 fn of_copy(alloc: Global, document: &Document) -> Result<String, AllocError> {
     let copy = document.clone(alloc)?;
     freeing(told(alloc, counts(&copy.module)), copy)
 }
 
-/// How much of each list the copy of a document has.
+/// The length of each list of a copy of a document.
 pub fn of_document(alloc: Global, call: &Value) -> Result<String, AllocError> {
     match document_of(alloc, text(call, 1).as_bytes())? {
         Some(document) => freeing(of_copy(alloc, &document), document),

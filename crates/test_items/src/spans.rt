@@ -1,4 +1,4 @@
-// Spans, and numbers below the greatest.
+// Spans, and numbers below the maximum.
 use ir_arena::handle::NonMaxU32;
 use ir_arena::span::Span;
 use serde_json::Value;
@@ -10,12 +10,12 @@ fn joined(mut left: Span, right: Span) -> Span {
     left
 }
 
-// The span that holds those of a list.
+// The span that covers those of a list.
 fn total(list: &[Value]) -> Span {
     Span::total_span(list.iter().map(|pair| span(pair, 0)))
 }
 
-/// The result of a call of a span.
+/// The result of a call on a span.
 pub fn of_span(alloc: Global, call: &Value) -> Result<String, AllocError> {
     let left = span(call, 2);
     let right = span(call, 4);
@@ -30,7 +30,7 @@ pub fn of_span(alloc: Global, call: &Value) -> Result<String, AllocError> {
     }
 }
 
-// The sum of two numbers, where both and it are below the greatest.
+// The sum of two numbers, if both and it are below the maximum.
 fn sum(left: u32, right: u32) -> Option<u32> {
     let sum = NonMaxU32::new(left)?.checked_add(right)?;
     Some(sum.get())
@@ -40,7 +40,7 @@ fn kept(number: u32) -> Option<u32> {
     Some(NonMaxU32::new(number)?.get())
 }
 
-/// The result of a call of a number below the greatest.
+/// The result of a call on a number below the maximum.
 pub fn of_number(alloc: Global, call: &Value) -> Result<String, AllocError> {
     let left = number(call, 2);
     match text(call, 1) {

@@ -1,12 +1,12 @@
-// What is reported of an item that a line gives: of its copy, beside it and beside another one.
+// The report on an item of a line: on its copy, beside it and beside another one.
 use crate::item::{Item, read_at};
 use serde_json::Value;
 use std::alloc::{AllocError, Global};
 use test_support::call::{freeing, no_call};
 
-/// An item of which a line requires something.
+/// An item that a line has a question about.
 pub trait Told: Item {
-    /// What is reported of a copy of an item, which may be changed.
+    /// The report on a copy of an item, which may be changed.
     fn tell(
         &mut self,
         alloc: Global,
@@ -16,7 +16,7 @@ pub trait Told: Item {
     ) -> Result<String, AllocError>;
 }
 
-// What is reported of an item, and of another one.
+// The report on an item, and on another one.
 fn of_copy<T: Told>(
     alloc: Global,
     source: &T,
@@ -27,13 +27,13 @@ fn of_copy<T: Told>(
     freeing(copy.tell(alloc, source, other, call), copy)
 }
 
-// What is reported of an item, and of the other one that stands after it.
+// The report on an item, and on the one after it.
 fn of_source<T: Told>(alloc: Global, source: &T, call: &Value) -> Result<String, AllocError> {
     let other: Option<T> = read_at(alloc, call, 2)?;
     freeing(of_copy(alloc, source, &other, call), other)
 }
 
-/// What is reported of the item that stands after a call's name. It is freed here, where nothing is known of its type.
+/// The report on the item after a call's name. It is freed here, where its type is a parameter.
 pub fn of_item<T: Told>(alloc: Global, call: &Value) -> Result<String, AllocError> {
     match read_at::<T>(alloc, call, 1)? {
         Some(source) => freeing(of_source(alloc, &source, call), source),

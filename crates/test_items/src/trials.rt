@@ -1,5 +1,4 @@
-// Calls that are made with little memory, and a little more each time: copies, compositions and, in a file of their own,
-// calls of blocks.
+// Calls with little memory, and a little more each time: copies, compositions and, in another file, calls on blocks.
 use crate::item::{Item, read_at};
 use crate::walks::{Composition, leaves_of};
 use ir_items::{Block, Expression, FlattenCompose, Function, IrType, Module};
@@ -31,7 +30,7 @@ impl<T: Item> Trial for Copying<'_, T> {
     }
 }
 
-// Whether a copy is refused more often than a line says, with so many bytes more each time.
+// Whether a copy fails more often than a line says, with this many bytes more each time.
 fn is_copy_refused<T: Item>(
     alloc: Global,
     source: &T,
@@ -49,7 +48,7 @@ fn is_copy_refused<T: Item>(
     )
 }
 
-// What is reported of copies of the item that stands after its sort.
+// The report on copies of the item after its kind.
 fn of_copies<T: Item>(alloc: Global, call: &Value) -> Result<String, AllocError> {
     match read_at::<T>(alloc, call, 3)? {
         Some(source) => freeing(told(alloc, is_copy_refused(alloc, &source, call)), source),
@@ -57,7 +56,7 @@ fn of_copies<T: Item>(alloc: Global, call: &Value) -> Result<String, AllocError>
     }
 }
 
-// The same of an item of a sort.
+// The same for an item of a kind.
 fn of_sort(alloc: Global, sort: &str, call: &Value) -> Result<String, AllocError> {
     match sort {
         "type" => of_copies::<IrType>(alloc, call),
@@ -69,7 +68,7 @@ fn of_sort(alloc: Global, sort: &str, call: &Value) -> Result<String, AllocError
     }
 }
 
-/// The result of a call that is made with little memory.
+/// The result of a call with little memory.
 pub fn answer(alloc: Global, call: &Value) -> Result<String, AllocError> {
     match text(call, 1) {
         "copy" => of_sort(alloc, text(call, 2), call),
@@ -77,7 +76,7 @@ pub fn answer(alloc: Global, call: &Value) -> Result<String, AllocError> {
     }
 }
 
-// What a composition comes to, beside what is expected.
+// The components of a composition, beside the expected ones.
 #[derive(Drop)]
 struct Flattening<'a> {
     composition: &'a Composition<'a>,
@@ -85,7 +84,7 @@ struct Flattening<'a> {
     leaves: Option<FlattenCompose>,
 }
 
-// Whether these are the handles of these places.
+// Whether these handles have these indices.
 fn are_at(leaves: &mut FlattenCompose, places: &[usize]) -> bool {
     for place in places {
         match leaves.next() {
@@ -120,7 +119,7 @@ impl Trial for Flattening<'_> {
     }
 }
 
-/// Whether a composition is refused memory more often than this before it comes to these places.
+/// Whether a composition fails more often than this before it gives these components.
 pub fn is_composition_refused(
     alloc: Global,
     composition: &Composition<'_>,

@@ -18,7 +18,7 @@ use test_support::checks::{all_before, bases_precede, parents_precede, parts_pre
 
 type Nodes = Arena<DiagnosticFilterNode, key::DiagnosticFilterNode>;
 
-// Puts the filters of a list into an arena.
+// Appends the filters of a list to an arena.
 fn add_nodes(alloc: Global, nodes: &mut Nodes, filters: &[Value]) -> Result<(), AllocError> {
     for filter in filters {
         if let Some(node) = Item::read(alloc, filter)? {
@@ -36,7 +36,7 @@ fn start(call: &Value) -> Option<Handle<key::DiagnosticFilterNode>> {
     }
 }
 
-// What a search finds, or `None` where a handle is not in order.
+// The result of a search, or `None` if a handle is out of order.
 fn found(nodes: &Nodes, start: Option<Handle<key::DiagnosticFilterNode>>) -> Option<Severity> {
     let in_arena = match start {
         Some(handle) => handle.index() < nodes.len(),
@@ -50,19 +50,19 @@ fn found(nodes: &Nodes, start: Option<Handle<key::DiagnosticFilterNode>>) -> Opt
     }
 }
 
-// What a search finds of the filters that a line gives, which are put into an arena.
+// The result of a search over the filters of a line, which are appended to an arena.
 fn of_nodes(alloc: Global, nodes: &mut Nodes, call: &Value) -> Result<String, AllocError> {
     add_nodes(alloc, nodes, list(call, 1))?;
     told(alloc, found(nodes, start(call)))
 }
 
-/// What a search of filters finds.
+/// The result of a search over filters.
 pub fn of_search(alloc: Global, call: &Value) -> Result<String, AllocError> {
     let mut nodes = Arena::new(alloc);
     freeing(of_nodes(alloc, &mut nodes, call), nodes)
 }
 
-// Whether the handles are in order, and the global where a pointer starts.
+// Whether the handles are in order, and the global that a pointer originates from.
 fn origin(function: &Function, pointer: Handle<key::Expression>) -> (bool, Option<usize>) {
     let in_arena = pointer.index() < function.expressions.len();
     if in_arena && bases_precede(&function.expressions) {
@@ -87,7 +87,7 @@ fn add_types(alloc: Global, types: &mut Types, list: &[Value]) -> Result<(), All
     Ok(())
 }
 
-// Puts the handles of a list into another.
+// Appends the handles of a list to another.
 fn add_components(
     components: &mut Vec<Handle<key::Expression>>,
     list: &[Value],
@@ -105,7 +105,7 @@ fn components(alloc: Global, list: &[Value]) -> Result<Vec<Handle<key::Expressio
     completed(add_components(&mut components, list), components)
 }
 
-/// A composition of a function's expressions.
+/// A composition in a function's expressions.
 #[derive(Clone, Copy)]
 pub struct Composition<'a> {
     pub function: &'a Function,
@@ -114,7 +114,7 @@ pub struct Composition<'a> {
     pub components: &'a [Handle<key::Expression>],
 }
 
-// Puts the places of handles into a list.
+// Appends the indices of handles to a list.
 fn add_places(places: &mut Vec<usize>, leaves: FlattenCompose) -> Result<(), AllocError> {
     for leaf in leaves {
         places.push(leaf.index())?;
@@ -127,7 +127,7 @@ fn places_of(alloc: Global, leaves: FlattenCompose) -> Result<Vec<usize>, AllocE
     completed(add_places(&mut places, leaves), places)
 }
 
-/// The handles that a composition comes to, or `None` where a handle is not in order.
+/// The components of a composition, or `None` if a handle is out of order.
 pub fn leaves_of(
     alloc: Global,
     composition: &Composition<'_>,
@@ -145,7 +145,7 @@ pub fn leaves_of(
     Ok(None)
 }
 
-// The places of the handles that a composition comes to.
+// The indices of the components of a composition.
 fn flattened(
     alloc: Global,
     composition: &Composition<'_>,
@@ -156,7 +156,7 @@ fn flattened(
     }
 }
 
-// Whether a composition is refused memory more often than this, and what it comes to.
+// Whether a composition fails more often than this, and its components.
 fn in_little(
     alloc: Global,
     composition: &Composition<'_>,
@@ -171,7 +171,7 @@ fn in_little(
     }
 }
 
-// What a composition comes to, or whether that is refused memory.
+// The components of a composition, or whether its allocation fails.
 fn answered(
     alloc: Global,
     composition: &Composition<'_>,
@@ -183,7 +183,7 @@ fn answered(
     }
 }
 
-// The same for the types and components that a line gives.
+// The same for the types and components of a line.
 fn of_types(
     alloc: Global,
     function: &Function,
@@ -201,14 +201,14 @@ fn of_types(
     freeing(answered(alloc, &composition, call), components)
 }
 
-// What a composition of a function's expressions comes to.
+// The components of a composition in a function.
 fn of_composition(alloc: Global, function: &Function, call: &Value) -> Result<String, AllocError> {
     let mut types: Types = UniqueArena::new(alloc);
     freeing(of_types(alloc, function, &mut types, call), types)
 }
 
 impl Told for Function {
-    // Where a pointer of a function starts, or what a composition comes to.
+    // The global that a pointer of a function originates from, or the components of a composition.
     fn tell(
         &mut self,
         alloc: Global,

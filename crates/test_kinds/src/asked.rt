@@ -1,10 +1,8 @@
-// Looks up in the overload sets of all math functions what a case names, and says whether the answers are those that are
-// known.
+// Looks up the overload sets of all math functions for each case, and tells whether the results are the expected ones.
 //
-// A case is `["rules", function, [rule..]]`, the rules of a function in order, or
-// `["arg", function, [[place, type]..], left, preferred, concrete]`: after these arguments the number of rules that are
-// left, the preferred one, and the preferred one among those without abstract arguments. A list of the function's rules,
-// one by one, has to answer every call as the set does.
+// A case is `["rules", function, [rule..]]`, the rules of a function in order, or `["arg", function, [[index, type]..], left,
+// preferred, concrete]`: after these arguments the number of rules left, the preferred one, and the preferred one among those
+// without abstract arguments. A list of the function's rules, one by one, must give the same results as the set.
 use crate::types::{number, rule, value_type};
 use document_words::find_word;
 use ir_kinds::MathFunction;
@@ -14,7 +12,7 @@ use std::alloc::{AllocError, Global};
 use test_support::call::{freeing, list, text};
 use typing_overloads::{AnyOverloadSet, List, MathFunctionExt, OverloadSet, Rule, ValueType};
 
-/// One more than the greatest number of arguments of a rule.
+/// One more than the maximum number of arguments of a rule.
 const PLACES: usize = 5;
 
 /// The preferred rule, if one is left.
@@ -26,7 +24,7 @@ pub fn preferred(set: &AnyOverloadSet) -> Option<Rule> {
     }
 }
 
-// The least and the greatest number of arguments, if a rule is left.
+// The minimum and maximum number of arguments, if a rule is left.
 fn argument_counts(set: &AnyOverloadSet) -> Option<(usize, usize)> {
     if set.is_empty() {
         None
@@ -35,13 +33,13 @@ fn argument_counts(set: &AnyOverloadSet) -> Option<(usize, usize)> {
     }
 }
 
-// A list of the rules of a set.
+// The rules of a set as a list.
 fn listed(alloc: Global, set: &AnyOverloadSet) -> Result<AnyOverloadSet, AllocError> {
     let list = List::from_rules(alloc, set.overload_list(alloc)?)?;
     Ok(AnyOverloadSet::List(list))
 }
 
-// The set of a function, and a list of its rules.
+// The overload set of a function, and its rules as a list.
 #[derive(Drop)]
 struct Both {
     set: AnyOverloadSet,
@@ -60,7 +58,7 @@ impl Both {
         }
     }
 
-    // Supplies an argument to both.
+    // Adds an argument to both.
     fn arg(&mut self, alloc: Global, place: usize, given: &TypeInner) -> Result<bool, AllocError> {
         self.set = self.set.arg(alloc, place, given)?;
         self.list = self.list.arg(alloc, place, given)?;
@@ -74,7 +72,7 @@ impl Both {
         }
     }
 
-    // Whether both answer each call alike.
+    // Whether both give the same result for each call.
     fn agree(&self, alloc: Global) -> Result<bool, AllocError> {
         Ok(
             ask_all_alike(alloc, &self.set, &self.list)?
@@ -85,7 +83,7 @@ impl Both {
     }
 }
 
-// Whether two sets require the same types at each place.
+// Whether two sets require the same types at each argument.
 fn ask_all_alike(
     alloc: Global,
     left: &AnyOverloadSet,
@@ -99,7 +97,7 @@ fn ask_all_alike(
     Ok(true)
 }
 
-// Whether a set requires these types at a place.
+// Whether a set requires these types at an argument.
 fn requires_types(
     alloc: Global,
     set: &AnyOverloadSet,
@@ -110,7 +108,7 @@ fn requires_types(
     Ok(freeing(found.as_slice() == types, found))
 }
 
-// Whether two sets require the same types at a place.
+// Whether two sets require the same types at an argument.
 fn ask_alike(
     alloc: Global,
     left: &AnyOverloadSet,
@@ -137,7 +135,7 @@ fn have_alike(
     freeing(has_these(alloc, right, &rules), rules)
 }
 
-// Whether a rule, or none, is what stands at a place of the case.
+// Whether a rule, or none, is the one at an index of the case.
 fn is_rule(found: Option<Rule>, case: &Value, place: usize) -> bool {
     match case.get(place) {
         Some(Value::Null) => found.is_none(),
@@ -161,7 +159,7 @@ fn rules_are(alloc: Global, set: &AnyOverloadSet, known: &[Value]) -> Result<boo
     Ok(freeing(are_rules(&rules, known), rules))
 }
 
-// Whether these are the rules of a set, and the list answers each call alike.
+// Whether these are the rules of a set, and the list gives the same result for each call.
 fn agrees_on_rules(alloc: Global, both: &Both, known: &[Value]) -> Result<bool, AllocError> {
     Ok(rules_are(alloc, &both.set, known)? && both.agree(alloc)?)
 }
@@ -172,13 +170,13 @@ fn has_rules(alloc: Global, function: MathFunction, case: &Value) -> Result<bool
     freeing(agrees_on_rules(alloc, &both, list(case, 2)), both)
 }
 
-// The place and the type of an argument.
+// The index and the type of an argument.
 fn argument_of(argument: &Value) -> Option<(usize, ValueType)> {
     let place = number(argument, 0)? as usize;
     Some((place, value_type(argument.get(1)?)?))
 }
 
-// Supplies an argument, if it is one.
+// Adds an argument, if it is one.
 fn supply(alloc: Global, both: &mut Both, argument: &Value) -> Result<bool, AllocError> {
     match argument_of(argument) {
         Some((place, given)) => both.arg(alloc, place, &given.to_inner()),
@@ -186,7 +184,7 @@ fn supply(alloc: Global, both: &mut Both, argument: &Value) -> Result<bool, Allo
     }
 }
 
-// Supplies these arguments, as far as they are some.
+// Adds these arguments, as far as they are arguments.
 fn supply_all(alloc: Global, both: &mut Both, arguments: &[Value]) -> Result<bool, AllocError> {
     for argument in arguments {
         if !supply(alloc, both, argument)? {
@@ -196,34 +194,34 @@ fn supply_all(alloc: Global, both: &mut Both, arguments: &[Value]) -> Result<boo
     Ok(true)
 }
 
-// Whether so many rules are left, and the preferred one is that of the case.
+// Whether this many rules are left, with the preferred one of the case.
 fn left_is(alloc: Global, set: &AnyOverloadSet, case: &Value) -> Result<bool, AllocError> {
     let left = set.overload_list(alloc)?.len() as u64;
     Ok(number(case, 3) == Some(left) && is_rule(preferred(set), case, 4))
 }
 
-// Whether what is left is what the case says.
+// Whether what is left matches the case.
 fn leaves(alloc: Global, both: &Both, case: &Value) -> Result<bool, AllocError> {
     Ok(left_is(alloc, &both.set, case)? && both.agree(alloc)?)
 }
 
-// Whether what is left of it without abstract arguments is what the case says.
+// Whether what is left without abstract arguments matches the case.
 fn leaves_concrete(alloc: Global, both: &Both, case: &Value) -> Result<bool, AllocError> {
     Ok(is_rule(preferred(&both.set), case, 5) && both.agree(alloc)?)
 }
 
-// Whether what is left of both after the arguments is what the case says.
+// Whether what is left of both after the arguments matches the case.
 fn leaves_both(alloc: Global, both: &mut Both, case: &Value) -> Result<bool, AllocError> {
     Ok(supply_all(alloc, both, list(case, 2))? && leaves(alloc, both, case)?)
 }
 
-// Whether what is left of both without abstract arguments is what the case says.
+// Whether what is left of both without abstract arguments matches the case.
 fn leaves_without_abstract(alloc: Global, both: Both, case: &Value) -> Result<bool, AllocError> {
     let concrete = both.concrete_only();
     freeing(leaves_concrete(alloc, &concrete, case), concrete)
 }
 
-// Whether what is left of a function's rules after the arguments is what the case says.
+// Whether what is left of a function's rules after the arguments matches the case.
 fn leaves_after(alloc: Global, function: MathFunction, case: &Value) -> Result<bool, AllocError> {
     let mut both = Both::of(alloc, function)?;
     match leaves_both(alloc, &mut both, case) {
@@ -235,12 +233,12 @@ fn leaves_after(alloc: Global, function: MathFunction, case: &Value) -> Result<b
     }
 }
 
-// The function that the second word of a case names.
+// The function named by the second word of a case.
 fn function_of(case: &Value) -> Option<MathFunction> {
     find_word(text(case, 1))
 }
 
-/// Whether a case is of its form, and the answers are those of the case.
+/// Whether a case is well-formed and the results match it.
 pub fn is_met(alloc: Global, case: &Value) -> Result<bool, AllocError> {
     match (function_of(case), text(case, 0)) {
         (Some(function), "rules") => has_rules(alloc, function, case),

@@ -9,7 +9,7 @@ use std::mem;
 use test_support::call::{freeing, list, no_call, number, span, text, told};
 use test_support::hog::{Steps, Trial, is_refused_all, is_refused_more_than};
 
-/// An error that is made of another.
+/// An error converted from another.
 #[derive(PartialEq, Debug, Drop)]
 pub enum Trouble {
     Handle(BadHandle),
@@ -22,7 +22,7 @@ impl From<BadHandle> for Trouble {
     }
 }
 
-// Adds a span with its text in one of two ways.
+// Adds a span with a label, in one of two ways.
 fn with<E: Drop>(
     alloc: Global,
     fault: WithSpan<E>,
@@ -53,14 +53,14 @@ fn built<E: Drop>(alloc: Global, inner: E, contexts: &[Value]) -> Result<WithSpa
     Ok(fault)
 }
 
-// The error of a handle that a line names, with its spans.
+// The error of a handle named by a line, with its spans.
 fn bad(alloc: Global, call: &Value) -> Result<WithSpan<BadHandle>, AllocError> {
     let index = number(call, 2) as usize;
     let kind = "handle";
     built(alloc, BadHandle { kind, index }, list(call, 3))
 }
 
-// The spans of an error, with their texts.
+// The spans of an error, with their labels.
 fn spans<E>(alloc: Global, fault: &WithSpan<E>) -> Result<(usize, Vec<(Span, &str)>), AllocError> {
     let mut spans = Vec::new(alloc);
     for context in fault.spans() {
@@ -73,13 +73,13 @@ fn shown(context: &SpanContext) -> (Span, &str) {
     (context.0, context.1.as_str())
 }
 
-// An error whose inner one is a text.
+// An error over a string.
 fn of_text(alloc: Global, call: &Value) -> Result<WithSpan<Trouble>, AllocError> {
     let text = String::from_str(alloc, text(call, 4))?;
     built(alloc, Trouble::Text(text), list(call, 5))
 }
 
-// An error whose inner one is a number, made of one whose inner one is a text.
+// An error over a number, converted from one over a string.
 fn joined(alloc: Global, call: &Value) -> Result<WithSpan<u32>, AllocError> {
     let made = built(alloc, number(call, 2), list(call, 3))?;
     match of_text(alloc, call) {
@@ -106,7 +106,7 @@ fn see_joined(alloc: Global, call: &Value) -> Result<String, AllocError> {
     freeing(told(alloc, (fault.as_inner(), spans(alloc, &fault))), fault)
 }
 
-// Whether a copy equals its source, and what it is.
+// Whether a copy equals its source, and the copy.
 fn copied(alloc: Global, fault: &WithSpan<BadHandle>) -> Result<String, AllocError> {
     let copy = fault.clone(alloc)?;
     freeing(
@@ -123,7 +123,7 @@ fn see_clone(alloc: Global, call: &Value) -> Result<String, AllocError> {
     freeing(copied(alloc, &fault), fault)
 }
 
-/// The result of a call of an error with spans.
+/// The result of a call on an error with spans.
 pub fn of_fault(alloc: Global, call: &Value) -> Result<String, AllocError> {
     match text(call, 1) {
         "spans" => see_spans(alloc, call),
@@ -159,13 +159,13 @@ fn are_equal(alloc: Global, call: &Value) -> bool {
     answer
 }
 
-// Whether that of one is out of memory.
+// Whether a refusal is out of memory.
 fn is_memory(alloc: Global, call: &Value) -> bool {
     let left = fault_at(alloc, number(call, 2));
     freeing(left == Refusal::Memory(AllocError), left)
 }
 
-/// The result of a call of a refusal.
+/// The result of a call on a refusal.
 pub fn of_refusal(alloc: Global, call: &Value) -> Result<String, AllocError> {
     match text(call, 1) {
         "memory" => told(alloc, of_memory()),
@@ -184,7 +184,7 @@ enum Way {
     Other,
 }
 
-// An error to which a span is added with little memory, and with what.
+// An error to which a span is added with little memory.
 #[derive(Drop)]
 struct Adding {
     way: Way,
@@ -193,7 +193,7 @@ struct Adding {
     old: WithSpan<u32>,
 }
 
-// The error after a span was added, or as it was. Returns whether it was refused.
+// The error after a span was added, or unchanged. Returns whether the allocation failed.
 fn left(
     answer: Result<WithSpan<BadHandle>, AllocFailed<WithSpan<BadHandle>>>,
     place: &mut WithSpan<BadHandle>,
@@ -260,7 +260,7 @@ fn new_adding(alloc: Global, way: Way) -> Adding {
     }
 }
 
-// Whether a span is refused more than once.
+// Whether adding a span fails more than once.
 fn more_than_once<T: Trial + Drop>(alloc: Global, trial: T) -> Result<String, AllocError> {
     let steps = Steps {
         most: 300,
@@ -274,13 +274,13 @@ fn more_than_once<T: Trial + Drop>(alloc: Global, trial: T) -> Result<String, Al
     )
 }
 
-// Whether a span is refused where there is no memory.
+// Whether adding a span fails without free memory.
 fn without_memory<T: Trial + Drop>(alloc: Global, trial: T) -> Result<String, AllocError> {
     let mut trial = trial;
     freeing(told(alloc, is_refused_all(alloc, &mut trial)), trial)
 }
 
-// The same of a call that is named.
+// The same for a named call.
 fn in_little(alloc: Global, name: &str) -> Result<String, AllocError> {
     match name {
         "with_span in little memory" => more_than_once(alloc, new_adding(alloc, Way::Text)),

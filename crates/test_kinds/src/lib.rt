@@ -1,4 +1,4 @@
-//! Calls of plain types, of sets of words, of overload sets and of errors.
+//! Calls of plain types, sets of flags, overload sets and errors.
 #![tactic(auto)]
 
 mod asked;
@@ -16,7 +16,7 @@ pub use faults::{of_fault, of_refusal};
 pub use overloads::every_call;
 use std::io;
 
-/// Calls each public function of the plain types and of the sets of words, and prints the answers.
+/// Calls each public function of the plain types and the sets of flags, and prints the results.
 pub fn print_all(rt: &impl Print) -> io::Result<()> {
     literals::run(rt)?;
     scalars::run(rt)?;

@@ -64,7 +64,7 @@ fn print_scalar(rt: &impl Print, literal: Literal) -> io::Result<()> {
     )
 }
 
-/// Prints the units of each scalar, and the scalar of each kind of literal.
+/// Prints zero, one and minus one of each scalar, and the scalar of each literal kind.
 pub fn run(rt: &impl Print) -> io::Result<()> {
     for scalar in &SCALARS {
         print_units(rt, *scalar)?;

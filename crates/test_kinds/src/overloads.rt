@@ -21,7 +21,7 @@ const fn one(scalar: Scalar) -> ValueType {
     of(ConstructorSize::Scalar, scalar)
 }
 
-// Supplies these arguments.
+// Adds these arguments.
 fn supply_all(
     alloc: Global,
     set: &mut AnyOverloadSet,
@@ -33,7 +33,7 @@ fn supply_all(
     Ok(())
 }
 
-// What is left of the rules of a function after these arguments.
+// What is left of a function's rules after these arguments.
 fn after(
     alloc: Global,
     function: MathFunction,
@@ -56,7 +56,7 @@ const fn gives(arguments: Arguments, value: ValueType) -> Option<Rule> {
     })
 }
 
-// Whether the rule that is preferred after these arguments is the expected one.
+// Whether the preferred rule after these arguments is the expected one.
 fn prefers(
     alloc: Global,
     function: MathFunction,
@@ -145,18 +145,18 @@ fn shapes() -> bool {
         && ConstructorSet::singleton(&sampler) == ConstructorSet(0)
 }
 
-// How many rules a set has.
+// The number of rules of a set.
 fn count(set: &AnyOverloadSet, alloc: Global) -> Result<usize, AllocError> {
     Ok(set.overload_list(alloc)?.len())
 }
 
-// How many rules a clone has.
+// The number of rules of a clone.
 fn cloned(set: &AnyOverloadSet, alloc: Global) -> Result<usize, AllocError> {
     let same = set.clone()?;
     freeing(count(&same, alloc), same)
 }
 
-// Whether the types that are required at a third place are the expected ones.
+// Whether the types required at the third argument are the expected ones.
 fn requires_third(set: &AnyOverloadSet, alloc: Global) -> Result<bool, AllocError> {
     let found = set.allowed_args(alloc, 2)?;
     Ok(freeing(
@@ -175,7 +175,7 @@ fn of_mix(alloc: Global) -> Result<bool, AllocError> {
     freeing(is_mix(&mix, alloc), mix)
 }
 
-// Whether a sampler leaves no rule of a set, and no type is allowed at a fourth place.
+// Whether a sampler leaves no rule of a set, and no type is allowed at the fourth argument.
 fn leaves_nothing(mix: &AnyOverloadSet, alloc: Global) -> Result<bool, AllocError> {
     let none = mix.arg(alloc, 0, &TypeInner::Sampler { comparison: false })?;
     let is_empty = none.is_empty();
@@ -208,7 +208,7 @@ fn value_types() -> bool {
         && VEC3.place() == 2
 }
 
-// The first of the calls that need no memory which does not answer what is expected.
+// The first call without allocation whose result is unexpected.
 fn wrong_without_memory() -> Option<&'static str> {
     if !one_bits() {
         Some("the one bits of 11")
@@ -238,7 +238,7 @@ fn wrong_with_memory(alloc: Global) -> Result<Option<&'static str>, AllocError> 
     }
 }
 
-/// Makes each call of overload sets once. Answers what does not answer what is expected, if something does not.
+/// Makes each call of overload sets once. Returns the call whose result is unexpected, if any.
 pub fn every_call(alloc: Global) -> Result<Option<&'static str>, AllocError> {
     match wrong_without_memory() {
         Some(wrong) => Ok(Some(wrong)),

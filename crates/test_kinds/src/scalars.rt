@@ -1,4 +1,4 @@
-// Scalars, sizes of vectors, components.
+// Scalars, vector sizes, components.
 use ir_kinds::{
     ABSTRACT_WIDTH, BOOL_WIDTH, CooperativeSize, Scalar, ScalarKind, SwizzleComponent, VectorSize,
     laws,
@@ -55,7 +55,7 @@ fn print_components(rt: &impl Print) -> io::Result<()> {
     Ok(())
 }
 
-/// Prints kinds of scalars, sizes of vectors and components.
+/// Prints scalar kinds, vector sizes and components.
 pub fn run(rt: &impl Print) -> io::Result<()> {
     laws::scalar_constants();
     laws::vector_constants(VectorSize::Bi);

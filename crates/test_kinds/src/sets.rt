@@ -1,4 +1,4 @@
-// Sets of words, through the calls of `Flags` and through operators.
+// Sets of flags, by the calls of `Flags` and by operators.
 use crate::uses;
 use bitflags::Flags;
 use ir_flags::{
@@ -7,7 +7,7 @@ use ir_flags::{
 };
 use std::io;
 
-// Of each set: its name, how many words it has, and the bits of all of them.
+// Of each set: its name, the number of its flags, and the bits of all of them.
 fn whole_sets() -> [(&'static str, usize, u64); 7] {
     [
         (
@@ -55,7 +55,7 @@ fn print_whole(rt: &impl Print) -> io::Result<()> {
     Ok(())
 }
 
-// Constants by their names, as numbers.
+// Constants by name, as numbers.
 fn constants() -> [(&'static str, u64); 3] {
     [
         ("compute-like", u64::from(ShaderStages::COMPUTE_LIKE.bits())),
@@ -83,7 +83,7 @@ fn print_constants(rt: &impl Print) -> io::Result<()> {
     Ok(())
 }
 
-// What is made of two sets, by a call and by an operator.
+// The results for two sets, by a call and by an operator.
 fn operations(some: ShaderStages, other: ShaderStages) -> [(&'static str, u16, u16); 4] {
     [
         (
@@ -114,7 +114,7 @@ fn print_operations(rt: &impl Print, some: ShaderStages, other: ShaderStages) ->
     Ok(())
 }
 
-// What sets answer, each question put to two.
+// The results of each predicate for two sets.
 fn questions(some: ShaderStages, other: ShaderStages) -> [(&'static str, bool, bool); 4] {
     [
         (
@@ -144,7 +144,7 @@ fn print_questions(rt: &impl Print, some: ShaderStages, other: ShaderStages) -> 
     Ok(())
 }
 
-// The bits of a set that is changed, after each step.
+// The bits of a set after each change.
 fn changes() -> [(&'static str, u64); 3] {
     let mut checks = ValidationFlags::empty();
     uses::add_blocks(&mut checks);
@@ -160,7 +160,7 @@ fn changes() -> [(&'static str, u64); 3] {
     ]
 }
 
-// What is made of bits of which some are unknown.
+// The results for bits of which some are unknown.
 fn made_of_bits() -> [(&'static str, u64); 2] {
     [
         (
@@ -188,7 +188,7 @@ fn print_changes(rt: &impl Print) -> io::Result<()> {
     Ok(())
 }
 
-/// Prints what the sets of words answer.
+/// Prints the results of the sets of flags.
 pub fn run(rt: &impl Print) -> io::Result<()> {
     laws::compute_like();
     laws::all_words();

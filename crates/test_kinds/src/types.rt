@@ -1,11 +1,11 @@
-// The types and rules of overload sets as data have them. What is not of its form is `None`.
+// The types and rules of overload sets as in data. `None` if malformed.
 use document_words::find_word;
 use ir_kinds::{PredeclaredType, Scalar, VectorSize};
 use serde_json::Value;
 use test_support::call::text;
 use typing_overloads::{Arguments, Conclusion, ConstructorSize, Rule, ValueType};
 
-/// The number at a place.
+/// The number at an index.
 pub fn number(list: &Value, place: usize) -> Option<u64> {
     list.get(place)?.as_u64()
 }
@@ -14,7 +14,7 @@ fn scalar(list: &Value, place: usize) -> Option<Scalar> {
     find_word(text(list, place))
 }
 
-// The size that stands at a place as a number.
+// The vector size at an index, as a number.
 fn size(list: &Value, place: usize) -> Option<VectorSize> {
     match number(list, place) {
         Some(2) => Some(VectorSize::Bi),
@@ -38,7 +38,7 @@ fn matrix_size(list: &Value) -> Option<ConstructorSize> {
     })
 }
 
-/// A type as the data file has it.
+/// A type as in the data file.
 pub fn value_type(value: &Value) -> Option<ValueType> {
     match text(value, 0) {
         "Scalar" => typed(ConstructorSize::Scalar, value, 1),
@@ -62,7 +62,7 @@ fn conclusion(value: &Value) -> Option<Conclusion> {
     }
 }
 
-// The type at a place of a list.
+// The type at an index of a list.
 fn type_at(list: &Value, place: usize) -> Option<ValueType> {
     value_type(list.get(place)?)
 }
@@ -81,7 +81,7 @@ fn arguments(list: &Value) -> Option<Arguments> {
     Some(Arguments::Four(first, second, third, fourth))
 }
 
-/// A rule as the data file has it.
+/// A rule as in the data file.
 pub fn rule(value: &Value) -> Option<Rule> {
     Some(Rule {
         arguments: arguments(value.get(0)?)?,

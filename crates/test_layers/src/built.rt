@@ -7,7 +7,7 @@ use shader_ir::{
 };
 use std::alloc::{AllocError, Global};
 
-// A variable in a space, at group 0 and binding 0.
+// A variable in an address space, at group 0 and binding 0.
 fn variable(ty: Handle<key::IrType>, space: AddressSpace) -> GlobalVariable {
     GlobalVariable {
         name: None,
@@ -22,7 +22,7 @@ fn variable(ty: Handle<key::IrType>, space: AddressSpace) -> GlobalVariable {
     }
 }
 
-// Has a function store 1 in a variable.
+// Appends a store of 1 in a variable to a function.
 fn store_one(
     function: &mut Function,
     variable: Handle<key::GlobalVariable>,
@@ -35,7 +35,7 @@ fn store_one(
     function.body.push(store, Span::UNDEFINED)
 }
 
-// Has a function call another one that has no arguments.
+// Appends a call of a function without arguments to a function.
 fn call(
     alloc: Global,
     function: &mut Function,
@@ -63,7 +63,7 @@ fn entry(alloc: Global) -> Result<EntryPoint, AllocError> {
     })
 }
 
-// Puts the type and the variable into a module.
+// Appends the type and the variable to a module.
 fn declare(
     module: &mut Module,
     space: AddressSpace,
@@ -78,8 +78,8 @@ fn declare(
         .append(variable(ty, space), Span::UNDEFINED)
 }
 
-/// Puts the parts of the shader into a module: a global expression, a number of 32 bits in this space, a function that does nothing,
-/// and an entry point that stores into the variable and calls the function. Returns the variable.
+/// Appends the parts of the shader to a module: a global expression, a `u32` variable in this address space, a function that
+/// does nothing, and an entry point that stores into the variable and calls the function. Returns the variable.
 pub fn build(
     alloc: Global,
     module: &mut Module,

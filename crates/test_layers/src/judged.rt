@@ -1,4 +1,4 @@
-//! What each layer says of a module.
+//! The results of each layer for a module.
 
 use function_validator::laws::{
     Leaf, accepted_is_laid, buffer_leaves, entry_depth_bound, made_for_accepted,
@@ -16,13 +16,13 @@ use shader_typing::{
 };
 use std::alloc::{AllocError, Global};
 
-/// An answer, after what it was found of is freed.
+/// A result, after the value it was computed from is freed.
 pub fn freeing<A, T: Drop>(answer: A, value: T) -> A {
     drop(value);
     answer
 }
 
-// Whether nothing is refused. The error is out of memory.
+// Whether the result is no error. The error is out of memory.
 fn is_accepted<T, E>(answer: &Result<T, Refusal<E>>) -> Result<bool, AllocError> {
     match answer {
         Ok(_) => Ok(true),
@@ -45,7 +45,7 @@ pub fn is_in_order(module: &Module) -> bool {
     validate_module_handles(module).is_ok()
 }
 
-/// Whether the steps up to overrides accept the module. The error is out of memory.
+/// Whether the module is valid up to its overrides. The error is out of memory.
 pub fn accepts_items(
     alloc: Global,
     settings: Settings,
@@ -56,8 +56,8 @@ pub fn accepts_items(
     freeing(freeing(is_accepted(&answer), answer), validator)
 }
 
-/// Whether they do, and the functions of the module are accepted over the layer that is made of what they keep. The error is out
-/// of memory.
+/// Whether it is, and the functions of the module are valid over the layer made of its `ModuleInfo`. The error is out of
+/// memory.
 pub fn accepts_functions(
     alloc: Global,
     settings: Settings,
@@ -77,7 +77,7 @@ pub fn accepts_functions(
     }
 }
 
-/// The leaves of a variable, where the steps up to overrides accept the module. The error is out of memory.
+/// The leaves of a variable, if the module is valid up to its overrides. The error is out of memory.
 pub fn leaves_of(
     alloc: Global,
     settings: Settings,
@@ -102,7 +102,7 @@ pub fn leaves_of(
     }
 }
 
-// Whether the type of an expression is a number of 32 bits without a sign.
+// Whether the type of an expression is `u32`.
 fn is_number<E>(answer: &Result<TypeResolution, E>) -> bool {
     match answer {
         Ok(TypeResolution::Value(TypeInner::Scalar(scalar))) => *scalar == Scalar::U32,
@@ -110,7 +110,7 @@ fn is_number<E>(answer: &Result<TypeResolution, E>) -> bool {
     }
 }
 
-/// Whether the first global expression is a number of 32 bits without a sign, as the typing of global expressions has it.
+/// Whether the type of the first global expression is `u32`.
 pub fn begins_with_number(alloc: Global, module: &Module) -> bool {
     order_gives_expressions();
     match validate_module_handles(module) {
@@ -125,7 +125,7 @@ pub fn begins_with_number(alloc: Global, module: &Module) -> bool {
     }
 }
 
-/// Whether a variable holds what a mesh shader gives.
+/// Whether a variable is a valid mesh output.
 pub fn is_mesh_output(alloc: Global, module: &Module, global: Handle<key::GlobalVariable>) -> bool {
     match module.global_variables.check_contains_handle(global) {
         Ok(()) => {
@@ -136,18 +136,18 @@ pub fn is_mesh_output(alloc: Global, module: &Module, global: Handle<key::Global
     }
 }
 
-/// What all steps keep of a module.
+/// The information on a valid module.
 #[derive(Clone, Copy)]
 pub struct Kept {
-    /// How many of its types may be in a buffer.
+    /// The number of its host-shareable types.
     pub shareable: usize,
-    /// How many expressions its functions have.
+    /// The number of expressions of its functions.
     pub expressions: usize,
     /// How many of its functions use each global variable in each way in which the first one does.
     pub dominating: usize,
 }
 
-/// What is kept of a module that all steps accept. The error is out of memory.
+/// The information on a module, if it is valid. The error is out of memory.
 pub fn kept_of(
     alloc: Global,
     settings: Settings,
@@ -164,7 +164,7 @@ pub fn kept_of(
     freeing(freeing(kept, answer), validator)
 }
 
-// Counts what is kept of a module.
+// Counts the information on a module.
 fn counted(info: &ModuleInfo, module: &Module) -> Kept {
     let mut kept = Kept {
         shareable: 0,
@@ -188,7 +188,7 @@ fn counted(info: &ModuleInfo, module: &Module) -> Kept {
     kept
 }
 
-/// Whether all steps accept the module. The error is out of memory.
+/// Whether the module is valid. The error is out of memory.
 pub fn accepts(alloc: Global, settings: Settings, module: &Module) -> Result<bool, AllocError> {
     let lower = RealLower::new(ModuleInfo::new(alloc));
     let mut validator = Validator::new(alloc, lower, settings.flags, settings.capabilities);
@@ -196,8 +196,8 @@ pub fn accepts(alloc: Global, settings: Settings, module: &Module) -> Result<boo
     freeing(freeing(is_accepted(&answer), answer), validator)
 }
 
-/// Whether scalars of a width without its capability, a literal, and a value composed of nothing for each type of the module may
-/// be used; and how many bytes of immediate data the module takes.
+/// Whether a scalar of a width without its capability, a literal, and a `Compose` of nothing for each type of the module are
+/// valid; and the bytes of immediate data of the module.
 pub fn smaller_answers(
     alloc: Global,
     settings: Settings,
@@ -214,7 +214,7 @@ pub fn smaller_answers(
     freeing((half, literal, composed, bytes), validator)
 }
 
-/// How deep calls nest in a run of an entry point of the module at most.
+/// The maximum call depth in a run of an entry point of the module.
 pub fn depth_of(module: &Module) -> usize {
     entry_depth_bound(module)
 }

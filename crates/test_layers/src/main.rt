@@ -1,6 +1,6 @@
-//! Builds a module by calls and judges it, by what the layers hand on and nothing else: whether its handles are in order, the steps
-//! up to overrides, and all steps. Prints what each says of the module with a variable in a storage buffer, and of the same with
-//! one in no space for its type.
+//! Builds a module by calls and validates it, by what the layers re-export and nothing else: whether its handles are in order,
+//! the steps up to overrides, and all steps. Prints the results for the module with a variable in a storage buffer, and for the
+//! same with one in an address space that its type excludes.
 #![tactic(auto)]
 
 mod built;
@@ -20,7 +20,7 @@ use shader_ir::{
 };
 use std::alloc::{AllocError, Global};
 
-// What the layers say of a module.
+// The results of the layers for a module.
 #[derive(Clone, Copy)]
 struct Said {
     in_order: bool,
@@ -35,7 +35,7 @@ struct Said {
     kept: Option<Kept>,
 }
 
-// Where the first of these leaves lies, how long it is, and its alignment, in bytes.
+// The offset of the first of these leaves, its length, and its alignment, in bytes.
 fn first_of(leaves: Option<Vec<Leaf>>) -> Option<(u64, u64, u64)> {
     let leaves = leaves?;
     let first = match leaves.first() {
@@ -45,7 +45,7 @@ fn first_of(leaves: Option<Vec<Leaf>>) -> Option<(u64, u64, u64)> {
     freeing(first, leaves)
 }
 
-// Asks all of them of a module with a variable in a space.
+// The results of all of them for a module with a variable in an address space.
 fn ask(alloc: Global, module: &mut Module, space: AddressSpace) -> Result<Said, AllocError> {
     let settings = Settings {
         flags: ValidationFlags::default(),

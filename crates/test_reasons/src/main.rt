@@ -1,7 +1,7 @@
-//! Explains the documents on standard input, each of which is refused for a slip that is known, and prints how often the path that is
-//! reported leads to it.
+//! Explains the documents on standard input, each invalid for a known reason, and prints how often the reported path leads to
+//! it.
 //!
-//! A line is the steps to the slip, a tab, and the document. `try_reasons.py --write` of crates/test_cases makes the lines.
+//! A line is the path of the fault, a tab, and the document. `try_reasons.py --write` of crates/test_cases makes the lines.
 #![tactic(auto)]
 
 mod measure;
@@ -11,7 +11,7 @@ use check_ports::{Source, TakeError};
 use measure::Measured;
 use std::str::from_utf8;
 
-// The most bytes that are read.
+// The maximum number of bytes read.
 const MAX_TAKEN: usize = 16_777_216;
 
 fn main(rt: HostRuntime) -> Result<()> {

@@ -1,5 +1,5 @@
-// How often the path that is reported leads to a slip that is known: over lines with the steps to the slip, a tab, and the document
-// that is refused for it.
+// How often the reported path leads to a known fault: over lines with the path of the fault, a tab, and the document that is
+// invalid for it.
 
 use check_explanation::{DocumentError, Explanation, Requested, explain};
 use check_faults::document::{at, number, parts};
@@ -7,7 +7,8 @@ use serde_json::Value;
 use std::alloc::{AllocError, Global};
 use std::fmt::{self, Display};
 
-/// How many documents are refused, and how many of their paths lead to the slip, or to a part that names the item in which it is.
+/// The number of invalid documents, and of those whose path leads to the fault, or to a part that references the item with the
+/// fault.
 #[derive(Clone, Copy)]
 pub struct Measured {
     refused: usize,
@@ -15,7 +16,7 @@ pub struct Measured {
     naming: usize,
 }
 
-// The number at a place of the steps to a slip.
+// The number at an index of a path.
 fn slip_at(slip: &str, place: usize) -> Option<u32> {
     match slip.split(' ').nth(place) {
         Some(word) => word.parse::<u32>().ok(),
@@ -23,7 +24,7 @@ fn slip_at(slip: &str, place: usize) -> Option<u32> {
     }
 }
 
-// Whether the path and the slip begin with the same steps, so many.
+// Whether the two paths start with the same steps, this many.
 fn same(path: &[u32], slip: &str, count: usize) -> bool {
     for place in 0..count {
         let step = path.get(place).copied();
@@ -34,13 +35,13 @@ fn same(path: &[u32], slip: &str, count: usize) -> bool {
     true
 }
 
-// Whether the slip is in the part that the path leads to, or around it.
+// Whether the fault is in the part that the path leads to, or around it.
 fn leads(path: &[u32], slip: &str) -> bool {
     let count = slip.split(' ').count().min(path.len());
     count > 0 && same(path, slip, count)
 }
 
-// Whether a number stands in a value, so deep at most.
+// Whether a number is in a value, at most this deep.
 fn has_number(value: &Value, wanted: usize, depth: u32) -> bool {
     if number(value) == Some(wanted) {
         return true;
@@ -56,7 +57,7 @@ fn has_number(value: &Value, wanted: usize, depth: u32) -> bool {
     false
 }
 
-// Whether a part names the item that a slip leads into, by its list and its index at these places of the slip.
+// Whether a part references the item with the fault, by its list and its index at these indices of the path.
 fn names_item(part: &Value, slip: &str, place: usize) -> bool {
     match slip_at(slip, place.saturating_add(1)) {
         Some(index) => has_number(part, index as usize, 3),
@@ -73,7 +74,7 @@ fn part_at<'a>(document: &'a Value, path: &[u32]) -> Option<&'a Value> {
     Some(found)
 }
 
-// Whether the part that the path leads to names the item in which the slip is.
+// Whether the part that the path leads to references the item with the fault.
 fn names(document: &Value, path: &[u32], slip: &str) -> bool {
     let Some(part) = part_at(document, path) else {
         return false;
@@ -91,7 +92,7 @@ fn names(document: &Value, path: &[u32], slip: &str) -> bool {
         && names_item(part, slip, inside)
 }
 
-// The path to what is refused.
+// The path to the invalid item.
 fn path_of(explanation: &Explanation) -> &[u32] {
     match explanation {
         Explanation::Refused(_, item) => &item.path,
@@ -105,7 +106,7 @@ fn path_of(explanation: &Explanation) -> &[u32] {
 }
 
 impl Measured {
-    /// Nothing yet.
+    /// Empty counts.
     pub fn new() -> Measured {
         Measured {
             refused: 0,
@@ -114,7 +115,7 @@ impl Measured {
         }
     }
 
-    // Notes what is explained of a document, where it is refused.
+    // Counts the explanation of a document, if it is invalid.
     fn note(
         &mut self,
         alloc: Global,

@@ -1,4 +1,4 @@
-// Calls of arenas and sets where there is no memory: those that need none, and those that are refused it.
+// Calls on arenas and sets without free memory: those that allocate nothing, and those whose allocation fails.
 ghost use Rattle.std.specs.Prelude.{◌<◌, length};
 
 use crate::call::{freeing, no_call, told};
@@ -14,7 +14,7 @@ use ir_sets::handle_vec::HandleVec;
 use ir_sets::unique_arena::UniqueArena;
 use std::alloc::{AllocError, Global};
 
-// A first value that is kept by handle.
+// The first value of a `HandleVec`.
 #[derive(Drop)]
 struct Kept(HandleVec<Tag, u64>);
 
@@ -31,7 +31,7 @@ impl Trial for Kept {
     }
 }
 
-// Three values of which two are retained.
+// Three values, two of which are retained.
 #[derive(Drop)]
 struct Retained(Arena<u32>);
 
@@ -46,7 +46,7 @@ impl Trial for Retained {
     }
 }
 
-// Texts that are taken out, and how many they were.
+// Drained strings, and their number.
 #[derive(Drop)]
 struct Drained {
     texts: Arena<String, Tag>,
@@ -83,7 +83,7 @@ impl Trial for Drained {
     }
 }
 
-// Puts a value in the place of another, if the arena has that one and not the value. Answers whether that was done.
+// Replaces a value if the arena contains it and not the new one. Returns whether it was replaced.
 #[tactic(auto, using(ir_arena::proofs::Found::passes_nowhere))]
 fn put(unique: &mut UniqueArena<u32>, old: Handle<u32>, value: u32) -> bool {
     if old.index() >= unique.len() {
@@ -95,7 +95,7 @@ fn put(unique: &mut UniqueArena<u32>, old: Handle<u32>, value: u32) -> bool {
     }
 }
 
-// An arena that has room for a value that replaces another, and what is taken of it.
+// An arena with room for a replacement, and what is drained from it.
 #[derive(Drop)]
 struct Replaced {
     subject: UniqueArena<u32>,
@@ -119,7 +119,7 @@ impl Trial for Replaced {
     }
 }
 
-// As many numbers from 0 on as a set takes into its first table.
+// The numbers from 0 that fill the first table of a set.
 fn fill(unique: &mut UniqueArena<u32>) -> Result<(), AllocError> {
     for value in 0..9u32 {
         unique.insert(value, Span::new(value, 5000))?;
@@ -127,7 +127,7 @@ fn fill(unique: &mut UniqueArena<u32>) -> Result<(), AllocError> {
     Ok(())
 }
 
-// A full arena of which a value is replaced, and another one.
+// A full arena with one value replaced, and another arena.
 #[derive(Drop)]
 struct Full {
     subject: UniqueArena<u32>,
@@ -149,13 +149,13 @@ impl Trial for Full {
     }
 }
 
-// Whether a call is refused, of which this is made. It is freed here, where nothing is known of its type.
+// Whether the allocation of a call fails. The call is freed here, where its type is a parameter.
 fn of<T: Trial + Drop>(alloc: Global, trial: T) -> Result<String, AllocError> {
     let mut trial = trial;
     freeing(told(alloc, is_refused_all(alloc, &mut trial)), trial)
 }
 
-// The same of what grows.
+// The same for what grows.
 fn grown<G: Growing>(alloc: Global, subject: G) -> Result<String, AllocError> {
     of(
         alloc,
@@ -167,10 +167,10 @@ fn grown<G: Growing>(alloc: Global, subject: G) -> Result<String, AllocError> {
     )
 }
 
-// The numbers that arenas begin with.
+// The initial numbers of arenas.
 const BEGIN: [u32; 2] = [2000, 3000];
 
-/// Whether the call of this name is refused where there is no memory, as is expected of it.
+/// Whether the call with this name fails without free memory, as expected.
 pub fn without_memory(alloc: Global, name: &str) -> Result<String, AllocError> {
     match name {
         "append" => grown(alloc, Appended(numbers(alloc, &BEGIN)?)),
@@ -182,7 +182,7 @@ pub fn without_memory(alloc: Global, name: &str) -> Result<String, AllocError> {
     }
 }
 
-// The same of calls that change what is there.
+// The same for calls that change a value.
 fn changed(alloc: Global, name: &str) -> Result<String, AllocError> {
     match name {
         "keep" => of(alloc, Kept(HandleVec::new(alloc))),

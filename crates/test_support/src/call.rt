@@ -1,5 +1,4 @@
-//! A call as a line of a test's input has it: a list of words, numbers and lists. Where it lacks a part, that is taken as
-//! empty or as 0.
+//! A call as a line of test input: a list of words, numbers and lists. A missing part counts as empty or as 0.
 
 use document_forms::{Form, ReadError};
 use ir_arena::handle::Handle;
@@ -9,7 +8,7 @@ use serde_json::Value;
 use std::alloc::{AllocError, Global};
 use std::fmt::Debug;
 
-/// The text at a place.
+/// The string at an index.
 pub fn text(call: &Value, place: usize) -> &str {
     match call.get(place) {
         Some(item) => item.as_str().unwrap_or(""),
@@ -17,7 +16,7 @@ pub fn text(call: &Value, place: usize) -> &str {
     }
 }
 
-/// The items of the list at a place.
+/// The items of the list at an index.
 pub fn list(call: &Value, place: usize) -> &[Value] {
     match call.get(place) {
         Some(item) => items(item),
@@ -33,7 +32,7 @@ pub fn items(list: &Value) -> &[Value] {
     }
 }
 
-/// The number at a place, or the greatest where it is greater.
+/// The number at an index, capped at the maximum.
 pub fn number(call: &Value, place: usize) -> u32 {
     match call.get(place) {
         Some(item) => item.as_u64().unwrap_or(0).min(4294967295) as u32,
@@ -41,28 +40,28 @@ pub fn number(call: &Value, place: usize) -> u32 {
     }
 }
 
-/// The handle of the place that stands at a place, or the last one where it is greater.
+/// The handle of the number at an index, or the last handle if it is greater.
 pub fn handle<K>(call: &Value, place: usize) -> Handle<K> {
     Handle::at(number(call, place).min(4294967294) as usize)
 }
 
-/// The span of which the start stands at a place and the end after it.
+/// The span whose start is at an index and whose end follows it.
 pub fn span(call: &Value, place: usize) -> Span {
     Span::new(number(call, place), number(call, place.saturating_add(1)))
 }
 
-/// The range of which the first place stands at a place and the end after it.
+/// The range whose first handle is at an index and whose last follows it.
 pub fn range<K>(call: &Value, place: usize) -> Range<K> {
     Range::new(number(call, place), number(call, place.saturating_add(1)))
 }
 
-/// An answer, after what it was found of is freed: in a call of its own, which is cheaper to prove than on every way out.
+/// A result, after the value it was computed from is freed: one call, which is cheaper to prove than a drop on every way out.
 pub fn freeing<A, T: Drop>(answer: A, value: T) -> A {
     drop(value);
     answer
 }
 
-/// A value, or the error of what was done to it, which frees the value.
+/// A value, or the error of an operation on it, after which the value is freed.
 pub fn completed<T: Drop>(done: Result<(), AllocError>, value: T) -> Result<T, AllocError> {
     match done {
         Ok(()) => Ok(value),
@@ -73,7 +72,7 @@ pub fn completed<T: Drop>(done: Result<(), AllocError>, value: T) -> Result<T, A
     }
 }
 
-/// Puts a text after another, unless there was no memory for it.
+/// Appends a string, unless memory runs out.
 pub fn push(text: &mut String, piece: Result<String, AllocError>) -> Result<(), AllocError> {
     match piece {
         Ok(piece) => freeing(text.push_str(&piece), piece),
@@ -81,17 +80,17 @@ pub fn push(text: &mut String, piece: Result<String, AllocError>) -> Result<(), 
     }
 }
 
-/// The result of a call as it is printed.
+/// The printed result of a call.
 pub fn told<A: Debug + Drop>(alloc: Global, answer: A) -> Result<String, AllocError> {
     format!(in alloc; "{answer:?}")
 }
 
-/// What is printed where there is no such call.
+/// The printed result of an unknown call.
 pub fn no_call(alloc: Global) -> Result<String, AllocError> {
     String::from_str(alloc, "no such call")
 }
 
-/// The item that is written so, or `None` where the value is of another form.
+/// The item in this form, or `None` if the value has another form.
 pub fn found<F: Form>(alloc: Global, value: &Value) -> Result<Option<F::Item>, AllocError> {
     match F::read(alloc, value) {
         Ok(item) => Ok(Some(item)),

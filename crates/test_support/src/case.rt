@@ -1,23 +1,23 @@
-//! Cases as lines of data have them: lists of texts.
+//! Cases as lines of data: lists of strings.
 
 use serde_json::Value;
 
-/// What is required of a document, and the answer.
+/// A question about a document, and its answer.
 #[derive(Clone, Copy)]
 pub struct Case<'a> {
     /// The name of the case.
     pub name: &'a str,
-    /// What is required.
+    /// The question.
     pub question: &'a str,
     /// The document.
     pub document: &'a str,
-    /// The answer.
+    /// The expected result.
     pub answer: &'a str,
-    // Another answer that is right, too.
+    // An alternative expected result.
     also: Option<&'a str>,
 }
 
-// The text at a place of a line, or the empty one.
+// The string at an index of a line, or the empty string.
 fn text(line: &Value, place: usize) -> &str {
     match line.get(place) {
         Some(item) => item.as_str().unwrap_or(""),
@@ -25,7 +25,7 @@ fn text(line: &Value, place: usize) -> &str {
     }
 }
 
-// The second of two answers that are right.
+// The second of two expected results.
 fn another(line: &Value) -> Option<&str> {
     match line.get(4) {
         Some(item) => item.as_str(),
@@ -33,7 +33,7 @@ fn another(line: &Value) -> Option<&str> {
     }
 }
 
-// Whether a text begins with these words.
+// Whether a string starts with these words.
 fn begins_with(text: &str, words: &str) -> bool {
     match text.strip_prefix(words) {
         Some(rest) => rest.is_empty() || rest.starts_with(' '),
@@ -42,7 +42,7 @@ fn begins_with(text: &str, words: &str) -> bool {
 }
 
 impl Case<'_> {
-    /// A case as a line has it: name, what is required, document, answer and, where there are two, the second one.
+    /// A case from a line: name, question, document, expected result and optionally an alternative.
     pub fn read(line: &Value) -> Case<'_> {
         Case {
             name: text(line, 0),
@@ -53,8 +53,8 @@ impl Case<'_> {
         }
     }
 
-    /// Whether an answer is right. Of why a function is refused the types that an error ends with, and what makes control flow
-    /// differ, are not compared.
+    /// Whether a result is right. For an error of a function, the types at the end of the error and the cause of non-uniform
+    /// control flow are not compared.
     pub fn is_right(&self, found: &str) -> bool {
         let second = match self.also {
             Some(also) => self.agrees(found, also),
@@ -63,7 +63,7 @@ impl Case<'_> {
         second || self.agrees(found, self.answer)
     }
 
-    // Whether an answer is this one, or, of why a function is refused, goes on with a further word.
+    // Whether a result equals this one or, for an error of a function, continues with another word.
     fn agrees(&self, found: &str, right: &str) -> bool {
         if self.question == "functions" {
             begins_with(found, right)

@@ -1,4 +1,4 @@
-//! Whether handles are in their arena and lead to earlier places, found out by looking at each.
+//! Whether handles are in their arena and reference earlier items, by looking at each.
 ghost use Rattle.std.specs.Prelude.{◌≡◌, ◌<◌, length, IsTrue};
 ghost use Rattle.std.specs.List.{All};
 ghost use Rattle.std.specs.Option.{ForSome};
@@ -11,7 +11,7 @@ use ir_arena::arena::Arena;
 use ir_arena::handle::Handle;
 use ir_items::{DiagnosticFilterNode, Expression, key};
 
-/// Whether the parent of each node comes before it.
+/// Whether each node comes after its parent.
 pub fn parents_precede(arena: &Arena<DiagnosticFilterNode, key::DiagnosticFilterNode>) -> bool
     ensures { IsTrue result → ParentsPrecede (nodes_of arena.now) }
 {
@@ -32,7 +32,7 @@ fn parent_is_before(node: &DiagnosticFilterNode, place: usize) -> bool
     }
 }
 
-/// Whether the base of each access comes before it.
+/// Whether each access comes after its base.
 pub fn bases_precede(arena: &Arena<Expression, key::Expression>) -> bool
     ensures { IsTrue result → BasesPrecede (expressions_of arena.now) }
 {
@@ -85,7 +85,7 @@ fn base_is_before(expression: &Expression, place: usize) -> bool
     }
 }
 
-/// Whether the parts of each composition and splat come before it.
+/// Whether each `Compose` and `Splat` comes after its components.
 pub fn parts_precede(arena: &Arena<Expression, key::Expression>) -> bool
     ensures { IsTrue result → PartsPrecede (expressions_of arena.now) }
 {
@@ -138,7 +138,7 @@ fn parts_are_before(expression: &Expression, place: usize) -> bool
     }
 }
 
-/// Whether each of the handles is one of a place before this.
+/// Whether each handle has an index below this one.
 pub fn all_before(handles: &[Handle<key::Expression>], place: usize) -> bool
     ensures { IsTrue result → All (λ handle. handle < place) handles.now }
 {

@@ -1,10 +1,10 @@
-//! Readers and writers that fail at one call, and readers that give more than is taken.
+//! Readers and writers that fail at one call, and readers that return more than the limit.
 ghost use Rattle.std.specs.Prelude.{◌≡◌, Some};
 
 use std::io::{self, Error, ErrorKind, Read, Write};
 
-/// A reader that gives `step` bytes a call, fails at call `bad_call`, and is interrupted at each odd call where
-/// `halting` is set. Calls are counted from 1.
+/// A reader that returns `step` bytes per call, fails at call `bad_call`, and is interrupted at each odd call if `halting` is
+/// set. Calls are counted from 1.
 #[derive(Drop)]
 pub struct Script<'a> {
     pub rest: &'a [u8],
@@ -30,7 +30,7 @@ impl Read for Script<'_> {
     }
 }
 
-/// A reader of a text that gives `step` bytes a call, and fails at no call.
+/// A reader over a string that returns `step` bytes per call and never fails.
 pub fn plain(input: &str, step: usize) -> Script<'_> {
     Script {
         rest: input.as_bytes(),
@@ -41,7 +41,7 @@ pub fn plain(input: &str, step: usize) -> Script<'_> {
     }
 }
 
-/// A reader that gives a text, and then a number of spaces.
+/// A reader that returns a string followed by spaces.
 #[derive(Drop)]
 pub struct Padded<'a> {
     pub text: &'a [u8],
@@ -60,7 +60,7 @@ impl Read for Padded<'_> {
     }
 }
 
-/// A reader that gives spaces for ever.
+/// A reader that returns spaces forever.
 #[derive(Drop)]
 pub struct Spaces {
     pub step: usize,
@@ -78,7 +78,7 @@ impl Read for Spaces {
     }
 }
 
-/// A reader that is interrupted for ever.
+/// A reader that is interrupted forever.
 #[derive(Drop)]
 pub struct Interrupted {
     pub calls: u64,
@@ -91,17 +91,17 @@ impl Read for Interrupted {
     }
 }
 
-/// What a writer does at its bad call.
+/// What a writer does at its failing call.
 #[derive(Clone, Copy, Debug, PartialEq, Eq)]
 pub enum Bad {
     Fails,
     Interrupted,
     TakesNothing,
-    /// It takes one byte, and fails at the next call.
+    /// It writes one byte, and fails at the next call.
     TakesOneThenFails,
 }
 
-/// A writer that takes `step` bytes a call, until its bad call. Calls are counted from 1.
+/// A writer that writes `step` bytes per call until its failing call. Calls are counted from 1.
 #[derive(Drop)]
 pub struct Page {
     pub held: Vec<u8>,

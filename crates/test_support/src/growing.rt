@@ -1,4 +1,4 @@
-// Arenas and sets that grow until memory is refused.
+// Arenas and sets that grow until an allocation fails.
 use crate::hog::Trial;
 use ir_arena::arena::Arena;
 use ir_arena::handle::Handle;
@@ -7,35 +7,35 @@ use ir_sets::handle_set::HandleSet;
 use ir_sets::unique_arena::UniqueArena;
 use std::alloc::{AllocError, Global};
 
-// A growing call is made so often at most. A list makes room for several values together.
+// The maximum number of growing calls. A list allocates room for several values at once.
 const MOST_CALLS: u32 = 1000;
 
-/// A tag of handles.
+/// A handle tag.
 #[derive(Clone, Copy)]
 pub enum Tag {}
 
-/// What grows by a value a call.
+/// A container that grows by one value per call.
 pub trait Growing: Drop {
     fn grow(&mut self, value: u32) -> Result<(), AllocError>;
 
-    /// Whether a call that needs no memory is answered.
+    /// Whether a call without allocation works.
     fn answers(&mut self) -> bool;
 
-    /// Whether it has what it had, and so many values more, where this was the first that was refused.
+    /// Whether it has its initial values and this many more, if this value was the first that failed.
     fn holds(&mut self, more: u32) -> bool;
 }
 
-/// What grows until it is refused memory.
+/// What grows until an allocation fails.
 #[derive(Drop)]
 pub struct Growth<G: Growing> {
     pub subject: G,
-    /// The value that was refused.
+    /// The value whose call failed.
     pub refused: Option<u32>,
-    /// Whether a call that needs no memory is answered then.
+    /// Whether a call without allocation works afterwards.
     pub answers: bool,
 }
 
-// Makes the calls until one is refused, and answers how many were not.
+// Calls until an allocation fails. Returns the number of calls before it.
 fn grow_all<G: Growing>(subject: &mut G) -> Option<u32> {
     for value in 0..MOST_CALLS {
         if subject.grow(value).is_err() {
@@ -60,7 +60,7 @@ impl<G: Growing> Trial for Growth<G> {
     }
 }
 
-/// An arena of these numbers, each with a span from itself up to 5000.
+/// An arena of these numbers, each with a span from itself to 5000.
 pub fn numbers(alloc: Global, values: &[u32]) -> Result<Arena<u32>, AllocError> {
     let mut arena = Arena::new(alloc);
     for value in values {
@@ -74,7 +74,7 @@ fn begins_with(arena: &Arena<u32>, value: u32) -> bool {
     arena.len() > 0 && arena[Handle::at(0)] == value
 }
 
-// Whether an arena of 2000 and 3000 holds so many more values.
+// Whether an arena of 2000 and 3000 has this many more values.
 fn holds_more(arena: &Arena<u32>, more: u32) -> bool {
     arena.len().checked_sub(2) == Some(more as usize)
         && begins_with(arena, 2000)
@@ -139,7 +139,7 @@ impl Growing for FetchedEqual {
     }
 }
 
-// It begins with 2000.
+// It starts with 2000.
 #[derive(Drop)]
 pub struct Inserted(pub UniqueArena<u32>);
 
@@ -160,7 +160,7 @@ impl Growing for Inserted {
     }
 }
 
-// It begins with 2.
+// It starts with 2.
 #[derive(Drop)]
 pub struct Members(pub HandleSet<Tag>);
 

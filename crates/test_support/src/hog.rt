@@ -1,4 +1,4 @@
-//! Memory that is taken, so that none is left, or only a little.
+//! Allocates all memory, so that none or only a little is free.
 
 use crate::call::freeing;
 use std::alloc::{AllocError, Global};
@@ -7,12 +7,12 @@ const MOST_BLOCKS: usize = 1 << 17;
 
 const GREATEST: usize = 1 << 46;
 
-/// What [`Hog::new`] leaves, in bytes: tests make their values of it.
+/// The bytes that [`Hog::new`] leaves free, for the values of tests.
 const NEAR: usize = 1 << 23;
 
 const SMALL: usize = 2048;
 
-/// What holds all the memory there is, but some megabytes, and of these all but a little for as long as a test wants it.
+/// Holds all memory but some megabytes, and on request all but a little of these.
 #[derive(Drop)]
 pub struct Hog {
     far: Vec<Vec<u8>>,
@@ -20,9 +20,8 @@ pub struct Hog {
 }
 
 impl Hog {
-    /// Takes all memory but some megabytes. These are thousands of the greatest blocks that the system gives, which takes
-    /// tenths of a second: once for all the times that a test wants little memory. `None` where the least block was not
-    /// refused in the end.
+    /// Allocates all memory but some megabytes: thousands of the largest blocks of the system, which takes tenths of a second,
+    /// so once for all uses. `None` if the smallest block could still be allocated at the end.
     pub fn new(alloc: Global) -> Result<Option<Hog>, AllocError> {
         let mut hog = Hog {
             far: Vec::new(alloc),
@@ -41,8 +40,7 @@ impl Hog {
         }
     }
 
-    // Makes room for the blocks that are taken, and takes all but some megabytes. Returns whether the least block was refused
-    // in the end.
+    // Allocates room for the blocks, and then all but some megabytes. Returns whether the smallest block failed in the end.
     fn begin(&mut self, alloc: Global) -> Result<bool, AllocError> {
         self.far.reserve(MOST_BLOCKS)?;
         self.near.reserve(MOST_BLOCKS)?;
@@ -50,14 +48,14 @@ impl Hog {
         Ok(freeing(fill(alloc, &mut self.far, GREATEST), spare))
     }
 
-    /// Takes what is left, but so many bytes. Returns whether the least block was refused in the end.
+    /// Allocates what is free but this many bytes. Returns whether the smallest block failed in the end.
     pub fn leave(&mut self, alloc: Global, room: usize) -> Result<bool, AllocError> {
         let spare: Vec<u8> = Vec::with_capacity(alloc, room)?;
         Ok(freeing(fill(alloc, &mut self.near, NEAR), spare))
     }
 
-    /// Takes what is left, gives `most` bytes of it back, and takes all of these again but so many. What is left is then
-    /// the rest of a greater block, which the C library cuts up as it is needed. Answers as [`Hog::leave`].
+    /// Allocates what is free, frees `most` bytes of it, and allocates these again but this many. The rest is then the
+    /// remainder of a larger block, which the C library splits on demand. Returns the same as [`Hog::leave`].
     pub fn leave_of(
         &mut self,
         alloc: Global,
@@ -69,13 +67,13 @@ impl Hog {
         Ok(filled && self.near.push(plug).is_ok())
     }
 
-    /// Gives back what was taken since [`Hog::new`].
+    /// Frees what was allocated since [`Hog::new`].
     pub fn release(&mut self) {
         self.near.clear();
     }
 }
 
-// Takes all that is left, the greatest blocks first. Returns whether the least block was refused in the end.
+// Allocates all that is free, the largest blocks first. Returns whether the smallest block failed in the end.
 fn fill(alloc: Global, blocks: &mut Vec<Vec<u8>>, greatest: usize) -> bool {
     let mut size = greatest;
     for _ in 0..MOST_BLOCKS {
@@ -91,7 +89,7 @@ fn fill(alloc: Global, blocks: &mut Vec<Vec<u8>>, greatest: usize) -> bool {
     false
 }
 
-// Takes a block of this size, and answers whether it was kept: `None` where it was refused.
+// Allocates a block of this size, and returns whether it was kept; `None` if the allocation failed.
 fn take(alloc: Global, blocks: &mut Vec<Vec<u8>>, size: usize) -> Option<bool> {
     match Vec::with_capacity(alloc, size) {
         Ok(block) => Some(blocks.push(block).is_ok()),
@@ -99,8 +97,8 @@ fn take(alloc: Global, blocks: &mut Vec<Vec<u8>>, size: usize) -> Option<bool> {
     }
 }
 
-// The size to try where this one is refused, or `None` after the least. The C library keeps freed blocks by their size:
-// each is a call of its own.
+// The size to try after this one failed, or `None` after the smallest. The C library keeps freed blocks by size: each is a call
+// of its own.
 fn smaller(size: usize) -> Option<usize> {
     if size > SMALL {
         Some(size / 2)
@@ -113,30 +111,30 @@ fn smaller(size: usize) -> Option<usize> {
 
 /// A call that is made with little memory, and with a little more each time.
 pub trait Trial {
-    /// Makes what the call is made of, while there is memory: nothing, unless an impl says what.
+    /// Builds the inputs of the call while there is memory; by default none.
     fn begin(&mut self, _alloc: Global) -> Result<(), AllocError> {
         Ok(())
     }
 
-    /// Makes the call. Returns whether it was refused memory.
+    /// Makes the call. Returns whether an allocation failed.
     fn is_refused(&mut self, alloc: Global) -> bool;
 
-    /// Whether all is as it was where the call was refused, and what is expected where it was not.
+    /// Whether nothing changed if the call failed, and the result is as expected if it did not.
     fn is_right(&mut self, refused: bool) -> bool;
 }
 
-/// How much memory is left at each step.
+/// The free memory at each step.
 #[derive(Clone, Copy)]
 pub struct Steps {
-    /// How many steps there are at most.
+    /// The maximum number of steps.
     pub most: usize,
-    /// How many bytes more are left at each.
+    /// The bytes added at each step.
     pub more: usize,
-    /// The bytes of the block of which they are left, or 0 where they are left of all.
+    /// The size of the block that these bytes are left of, or 0 for all memory.
     pub spare: usize,
 }
 
-// Takes all memory but so much.
+// Allocates all memory but this much.
 fn leave(alloc: Global, hog: &mut Hog, spare: usize, room: usize) -> Result<bool, AllocError> {
     if spare == 0 {
         hog.leave(alloc, room)
@@ -145,7 +143,7 @@ fn leave(alloc: Global, hog: &mut Hog, spare: usize, room: usize) -> Result<bool
     }
 }
 
-// Makes a call with so much memory. Answers whether it was refused, or `None` where something else came.
+// Makes a call with this much memory. Returns whether an allocation failed, or `None` if the result is unexpected.
 fn tried<T: Trial>(
     alloc: Global,
     hog: &mut Hog,
@@ -164,7 +162,7 @@ fn tried<T: Trial>(
     })
 }
 
-// Whether more steps than these refuse a call memory before one that does not.
+// Whether a call fails at more steps than these before it succeeds.
 fn counted<T: Trial>(
     alloc: Global,
     hog: &mut Hog,
@@ -188,8 +186,8 @@ fn counted<T: Trial>(
     Ok(None)
 }
 
-/// Whether more steps than these refuse a call memory before one that does not. `None` where something else than what is
-/// expected came, or no step left enough.
+/// Whether a call fails at more steps than these before it succeeds. `None` if the result is unexpected, or no step leaves
+/// enough.
 pub fn is_refused_more_than<T: Trial>(
     alloc: Global,
     least: usize,
@@ -202,7 +200,7 @@ pub fn is_refused_more_than<T: Trial>(
     }
 }
 
-/// Whether a call is refused where there is no memory. `None` where something else than what is expected came.
+/// Whether a call fails without free memory. `None` if the result is unexpected.
 pub fn is_refused_all<T: Trial>(alloc: Global, trial: &mut T) -> Result<Option<bool>, AllocError> {
     match Hog::new(alloc)? {
         Some(mut hog) => freeing(tried(alloc, &mut hog, 0, 0, trial), hog),

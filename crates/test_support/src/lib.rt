@@ -1,5 +1,5 @@
-//! What several crates of tests use: programs that make the calls of their input or answer the questions of
-//! files, memory that is refused, readers and writers that fail, and whether handles are in order.
+//! Support for several test crates: programs that make the calls of their input or answer the questions of files, failing
+//! allocations, failing readers and writers, and tests of the order of handles.
 #![tactic(auto)]
 
 mod arenas;

@@ -1,17 +1,17 @@
-//! Programs that make the calls of standard input, a line each, and print the answers.
+//! Programs that make the calls of standard input, one per line, and print the results.
 
 use crate::call::{freeing, no_call};
 use serde_json::Value;
 use std::alloc::{AllocError, Global};
 use std::io;
 
-/// What the calls of a program are made of.
+/// The inputs of a program's calls.
 pub trait Answers {
-    /// The result of a call, as it is printed.
+    /// The printed result of a call.
     fn answer(&mut self, alloc: Global, call: &Value) -> Result<String, AllocError>;
 }
 
-// The answer of a call, or `None` where it is a text, which is a heading.
+// The result of a call, or `None` for a string, which is a heading.
 fn answered<S: Answers>(
     alloc: Global,
     subject: &mut S,
@@ -23,7 +23,7 @@ fn answered<S: Answers>(
     Ok(Some(subject.answer(alloc, call)?))
 }
 
-// The same of a line.
+// The same for a line.
 fn line_answered<S: Answers>(
     alloc: Global,
     subject: &mut S,
@@ -46,8 +46,7 @@ fn print_line<S: Answers>(
     }
 }
 
-/// Makes the call of each line of standard input, and prints the line with the answer beside it. A line that is a text is a
-/// heading.
+/// Makes the call of each line of standard input, and prints the line with its result. A line that is a string is a heading.
 pub fn answer_lines<S: Answers>(
     rt: &(impl Input + Print + AllocGlobal),
     subject: &mut S,

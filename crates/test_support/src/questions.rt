@@ -1,5 +1,5 @@
-//! Questions about documents with the right answers, as the lines of a file have them, and an answer to some: what a call leaves
-//! that is refused memory.
+//! Questions about documents with expected results, as lines of a file, and one kind of question: what a call leaves after its
+//! allocation failed.
 
 use crate::call::freeing;
 use crate::case::Case;
@@ -7,13 +7,13 @@ use serde_json::Value;
 use std::alloc::{AllocError, Global};
 use std::io;
 
-/// What answers questions.
+/// Something that answers questions.
 pub trait Questions {
     /// The answer to a question about a document.
     fn answer(&self, alloc: Global, question: &str, document: &str) -> Result<String, AllocError>;
 }
 
-/// Says how many cases of a file there are, and how many differ, which is the answer.
+/// Prints how many cases a file has and how many differ. Returns the latter.
 pub fn print_count(
     rt: &impl Print,
     name: &str,
@@ -24,7 +24,7 @@ pub fn print_count(
     Ok(differing)
 }
 
-// Whether an answer is another one than that of the case, which is printed then.
+// Whether a result differs from that of the case; it is then printed.
 fn is_other(rt: &impl Print, case: &Case<'_>, answer: &str) -> io::Result<bool> {
     if case.is_right(answer) {
         return Ok(false);
@@ -33,7 +33,7 @@ fn is_other(rt: &impl Print, case: &Case<'_>, answer: &str) -> io::Result<bool> 
     Ok(true)
 }
 
-// Answers the question of a case. Returns whether the answer is another one.
+// Answers the question of a case. Returns whether the result differs.
 fn differs<Q: Questions>(
     rt: &(impl Print + AllocGlobal),
     subject: &Q,
@@ -43,7 +43,7 @@ fn differs<Q: Questions>(
     freeing(is_other(rt, case, &answer), answer)
 }
 
-// The same of a line. One that is no case differs.
+// The same for a line. A line that is not a case differs.
 fn line_differs<Q: Questions>(
     rt: &(impl Print + AllocGlobal),
     subject: &Q,
@@ -58,7 +58,7 @@ fn line_differs<Q: Questions>(
     }
 }
 
-/// Answers the questions of the lines of a file of this name. Returns how many answers differ, and says it.
+/// Answers the questions of the lines of a file with this name. Prints and returns how many results differ.
 pub fn ask_lines<Q: Questions>(
     rt: &(impl Print + AllocGlobal),
     subject: &Q,
@@ -76,18 +76,18 @@ pub fn ask_lines<Q: Questions>(
     print_count(rt, name, count, differing)
 }
 
-/// What came of a call.
+/// The outcome of a call.
 #[derive(Clone, Copy, Debug, PartialEq, Eq)]
 pub enum Left {
-    /// It was not refused.
+    /// No allocation failed.
     Done,
-    /// It was refused, and all was as before. Made again it was not, and came to the same.
+    /// An allocation failed and nothing had changed; repeated, the call succeeded with the same result.
     AsBefore,
-    /// Something else.
+    /// Anything else.
     Changed,
 }
 
-/// What came of a call that was refused or not, after which all is as it has to be or not.
+/// The outcome of a call, from whether it failed and whether the state afterwards is right.
 pub fn came_of(refused: bool, right: bool) -> Left {
     match (refused, right) {
         (false, true) => Left::Done,

@@ -1,4 +1,4 @@
-// The calls by which a block grows, with little memory.
+// The calls that grow a block, with little memory.
 use crate::call::{completed, freeing, no_call, told};
 use crate::hog::{Steps, Trial, is_refused_more_than};
 use ir_arena::handle::Handle;
@@ -8,15 +8,15 @@ use ir_items::{Block, Statement, ensure_block_returns};
 use std::alloc::{AllocError, Global};
 use std::mem;
 
-/// How many bytes more are left at each step, the least by which the C library tells two blocks apart, of a block of more
-/// than the calls need.
+/// The bytes added at each step, the least by which the C library distinguishes two blocks, of a block larger than the calls
+/// need.
 const STEPS: Steps = Steps {
     most: 2000,
     more: 32,
     spare: 1 << 16,
 };
 
-/// As many as a list first has room for, so that one more needs memory.
+/// The first capacity of a list, so that one more value allocates.
 const FEW: [u32; 4] = [1, 2, 3, 4];
 
 const MANY: [u32; 12] = [11, 12, 13, 14, 15, 16, 17, 18, 19, 20, 21, 22];
@@ -29,7 +29,7 @@ fn span(place: u32) -> Span {
     Span::new(place, 90)
 }
 
-// Puts the statements of these places after a block, each with a span of its own.
+// Appends the statements with these numbers to a block, each with its own span.
 fn push(block: &mut Block, places: &[u32]) -> Result<(), AllocError> {
     for place in places {
         block.push(emit(*place), span(*place))?;
@@ -37,7 +37,7 @@ fn push(block: &mut Block, places: &[u32]) -> Result<(), AllocError> {
     Ok(())
 }
 
-// Makes a block the one of these places, and then of those.
+// Sets a block to the first numbers, and then to the second.
 fn put(alloc: Global, block: &mut Block, first: &[u32], second: &[u32]) -> Result<(), AllocError> {
     *block = Block::new(alloc);
     push(block, first)?;
@@ -49,8 +49,7 @@ fn taken(alloc: Global, block: &mut Block) -> Block {
     mem::replace(block, Block::new(alloc))
 }
 
-// The blocks of which a call is made: the one that grows, what it was, what it is then, two that are put into it, and what both
-// of these were.
+// The blocks of a call: the growing one, its old and new contents, two that are inserted into it, and the contents of both.
 #[derive(Drop)]
 struct Growth<'a> {
     name: &'a str,
@@ -110,7 +109,7 @@ impl Trial for Room {
     }
 }
 
-// A body into which returns are put, or into a copy of it, what it was, and what it is then.
+// A body into which returns are inserted, in place or in a copy, with its old and new contents.
 #[derive(Drop)]
 struct Returning {
     in_place: bool,
@@ -119,7 +118,7 @@ struct Returning {
     after: Block,
 }
 
-// Puts four statements into a block, and a return.
+// Appends four statements and a return to a block.
 fn fill_side(side: &mut Block, returns: bool) -> Result<(), AllocError> {
     for _ in 0..4 {
         side.push(Statement::Emit(Range::new(0, 1)), Span::UNDEFINED)?;
@@ -130,13 +129,13 @@ fn fill_side(side: &mut Block, returns: bool) -> Result<(), AllocError> {
     Ok(())
 }
 
-// A block of four statements that has room for no other, or for a return, which it then has.
+// A block of four statements without room for another, or for a return, which it has afterwards.
 fn side(alloc: Global, returns: bool) -> Result<Block, AllocError> {
     let mut side = Block::with_capacity(alloc, if returns { 5 } else { 4 })?;
     completed(fill_side(&mut side, returns), side)
 }
 
-// A choice between two such blocks.
+// An `If` with two such blocks.
 fn choice(alloc: Global, returns: bool) -> Result<Statement, AllocError> {
     let accept = side(alloc, returns)?;
     match side(alloc, returns) {
@@ -152,13 +151,13 @@ fn choice(alloc: Global, returns: bool) -> Result<Statement, AllocError> {
     }
 }
 
-// Makes a body the one of such a choice.
+// Sets a body to such an `If`.
 fn put_choice(alloc: Global, body: &mut Block, returns: bool) -> Result<(), AllocError> {
     *body = Block::new(alloc);
     body.push(choice(alloc, returns)?, Span::UNDEFINED)
 }
 
-// Puts returns into a copy of a body, which is left in its place. Returns whether it was refused memory.
+// Replaces a body by a copy with returns inserted. Returns whether an allocation failed.
 fn is_copy_refused(alloc: Global, body: &mut Block, source: &Block) -> bool {
     match source.clone(alloc) {
         Ok(copy) => {
@@ -192,7 +191,7 @@ impl Trial for Returning {
     }
 }
 
-// Whether a call is refused more often than this. It is freed here, where nothing is known of its type.
+// Whether a call fails more often than this. It is freed here, where its type is a parameter.
 fn of<T: Trial + Drop>(alloc: Global, least: usize, trial: T) -> Result<String, AllocError> {
     let mut trial = trial;
     freeing(
@@ -222,7 +221,7 @@ fn new_returning(alloc: Global, in_place: bool) -> Returning {
     }
 }
 
-/// Whether a call of a block is refused memory more often than this.
+/// Whether a call on a block fails more often than this.
 pub fn of_block(alloc: Global, name: &str, least: usize) -> Result<String, AllocError> {
     match name {
         "push" | "extend" | "extend_block" | "append" | "splice" => {

@@ -1,4 +1,4 @@
-// The questions on the types, the expressions and the functions of a document.
+// The questions about the types, the expressions and the functions of a document.
 use crate::conditions::{Test, tests_told};
 use crate::constness::{kinds_told, tracked};
 use crate::infos::{Reported, infos_told};
@@ -10,7 +10,7 @@ use document_reader::{Document, DocumentError, read_document};
 use std::alloc::{AllocError, Global};
 use test_support::call::freeing;
 
-// What is required of the types of a document, or why one is refused.
+// The answer about the types of a document, or the error of the first invalid one.
 fn infos_of(alloc: Global, reported: Reported, document: &Document) -> Result<String, AllocError> {
     let capabilities = document.settings.capabilities;
     infos_told(alloc, reported, capabilities, &document.module.types)
@@ -48,9 +48,8 @@ fn answer_unchanged(
     }
 }
 
-// The answer to a question that is there to measure by: whether all types can be laid out, or all kinds or all types of
-// expressions are found, whether the handles of all functions are in order, or besides something is kept of each; or nothing is
-// done. They are answered by themselves.
+// The answer to a question for measurements: whether all types can be laid out, all kinds or all types of expressions are
+// found, the handles of all functions are in order, and each function is analysed; or nothing is done. Each is measured alone.
 fn measured(alloc: Global, question: &str, document: &Document) -> Result<String, AllocError> {
     let module = &document.module;
     let word = match question {
@@ -65,7 +64,7 @@ fn measured(alloc: Global, question: &str, document: &Document) -> Result<String
     String::from_str(alloc, word?)
 }
 
-/// The answer to a question about the document that a text spells.
+/// The answer to a question about the document in a string.
 pub fn answer(alloc: Global, question: &str, text: &str) -> Result<String, AllocError> {
     match read_document(alloc, text.as_bytes()) {
         Ok(mut document) => freeing(answer_of(alloc, question, &mut document), document),

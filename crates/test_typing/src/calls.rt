@@ -1,4 +1,4 @@
-// Each call of alignments, of layouters and of slots of immediate data, once.
+// Each call on alignments, layouters and slots of immediate data, once.
 use ir_kinds::{CooperativeSize, Scalar, VectorSize};
 use ir_sets::unique_arena::UniqueArena;
 use ir_types::{IrType, TypeInner, key};
@@ -13,7 +13,7 @@ fn say(rt: &HostRuntime, call: &str, answer: u32) -> io::Result<()> {
     println!(rt; "{call}: {answer}")
 }
 
-// How many bytes an alignment is, or 0 where there is none.
+// The bytes of an alignment, or 0 without one.
 fn bytes_of(alignment: Option<Alignment>) -> u32 {
     match alignment {
         Some(alignment) => alignment.get(),
@@ -21,7 +21,7 @@ fn bytes_of(alignment: Option<Alignment>) -> u32 {
     }
 }
 
-// The calls that make an alignment, each with its answer.
+// The calls that construct an alignment, each with its result.
 fn made_ones() -> [(&'static str, u32); 8] {
     let sixteen = Alignment::from(CooperativeSize::Sixteen);
     [
@@ -43,7 +43,7 @@ fn made(rt: &HostRuntime) -> io::Result<()> {
     Ok(())
 }
 
-// The calls of an alignment, each with its answer.
+// The calls on an alignment, each with its result.
 fn asked_ones() -> [(&'static str, u32); 6] {
     let four = Alignment::from(VectorSize::Quad);
     [
@@ -65,7 +65,7 @@ fn asked(rt: &HostRuntime) -> io::Result<()> {
 
 type Types = UniqueArena<IrType, key::IrType>;
 
-// Lays out no types, which they all are.
+// Lays out no types, which are all types.
 fn lay_out(rt: &HostRuntime, layouter: &mut Layouter, types: &Types) -> io::Result<()> {
     layouter.clear();
     if !types_go_back(types) || layouter.update(types).is_err() {
@@ -74,18 +74,18 @@ fn lay_out(rt: &HostRuntime, layouter: &mut Layouter, types: &Types) -> io::Resu
     println!(rt; "{layouter:?}")
 }
 
-// A layouter that is cleared, and laid out again.
+// A layouter that is cleared and updated again.
 fn cleared(rt: &HostRuntime, types: &Types) -> io::Result<()> {
     let mut layouter = Layouter::new(rt.alloc());
     freeing(lay_out(rt, &mut layouter, types), layouter)
 }
 
-// Prints slots that a call answers.
+// Prints the slots that a call returns.
 fn say_slots(rt: &HostRuntime, call: &str, answer: ImmediateSlots) -> io::Result<()> {
     println!(rt; "{call}: {answer:?}")
 }
 
-// The calls of slots, of which 1 and 2 are 6.
+// The calls on slots, of which 1 and 2 are 6.
 fn slots_of_bytes(rt: &HostRuntime) -> io::Result<()> {
     let pair = ImmediateSlots::from_raw(6);
     let range = ImmediateSlots::from_range(2, 8);
@@ -113,7 +113,7 @@ fn slots_of_type(rt: &HostRuntime, types: &Types) -> io::Result<()> {
     freeing(say_slots(rt, "a vector from 6", slots), vector)
 }
 
-// The texts of errors, and the calls of layouters and slots over these types, which are none.
+// The error messages, and the calls on layouters and slots over these types, of which there are none.
 fn over_none(rt: &HostRuntime, types: &Types) -> io::Result<()> {
     for error in [
         LayoutErrorInner::TooLarge,
@@ -126,7 +126,7 @@ fn over_none(rt: &HostRuntime, types: &Types) -> io::Result<()> {
     slots_of_type(rt, types)
 }
 
-/// Makes each call, and prints the answers.
+/// Makes each call, and prints the results.
 pub fn every_call(rt: &HostRuntime) -> io::Result<()> {
     made(rt)?;
     asked(rt)?;

@@ -6,7 +6,7 @@ use typing_handles::{
     arities_match, callees_precede, filter_parents_precede, handles_in_range, operands_precede,
 };
 
-/// The tests, in the order in which they are reported.
+/// The tests, in the order in which they are printed.
 #[derive(Clone, Copy, PartialEq)]
 pub enum Test {
     Handles,
@@ -24,7 +24,7 @@ const TESTS: [Test; 5] = [
     Test::Arities,
 ];
 
-// Whether a function that so many others come before passes.
+// Whether a function after this many others passes.
 fn passes(test: Test, function: &Function, module: &Module, before: usize) -> bool {
     match test {
         Test::Handles => handles_in_range(function, module),
@@ -35,7 +35,7 @@ fn passes(test: Test, function: &Function, module: &Module, before: usize) -> bo
     }
 }
 
-// Writes each test of a function as a letter, one that is not made as a dot.
+// Prints each test of a function as a letter, or as a dot if it was not run.
 fn tell(
     told: &mut String,
     function: &Function,
@@ -56,7 +56,7 @@ fn tell(
     told.push_str(";")
 }
 
-// Writes the tests of each function and each entry point.
+// Prints the tests of each function and each entry point.
 fn tell_all(told: &mut String, module: &Module, unasked: Option<Test>) -> Result<(), AllocError> {
     for (handle, function) in module.functions.iter() {
         tell(told, function, module, handle.index(), unasked)?;
@@ -68,7 +68,7 @@ fn tell_all(told: &mut String, module: &Module, unasked: Option<Test>) -> Result
     Ok(())
 }
 
-/// The tests of each function and each entry point, but one that is not made.
+/// The tests of each function and each entry point, except one that is not run.
 pub fn tests_told(
     alloc: Global,
     module: &Module,

@@ -21,7 +21,7 @@ fn letter(tracker: &ExpressionKindTracker, handle: Handle<key::Expression>) -> &
     "r"
 }
 
-// Tells a letter for each of the first expressions.
+// Prints a letter for each of the first expressions.
 fn tell_letters(
     told: &mut String,
     tracker: &ExpressionKindTracker,
@@ -36,7 +36,7 @@ fn tell_letters(
     told.push_str(";")
 }
 
-// Tells the kinds of the expressions of an arena.
+// Prints the kinds of the expressions of an arena.
 fn tell_arena(
     alloc: Global,
     told: &mut String,
@@ -49,7 +49,7 @@ fn tell_arena(
     freeing(tell_letters(told, &tracker, arena.len()), tracker)
 }
 
-// Tells the kinds of all expressions of a module.
+// Prints the kinds of all expressions of a module.
 fn tell_kinds(alloc: Global, told: &mut String, module: &Module) -> Result<(), AllocError> {
     tell_arena(alloc, told, &module.global_expressions)?;
     for (_, function) in module.functions.iter() {

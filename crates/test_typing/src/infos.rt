@@ -1,4 +1,4 @@
-// What is reported of types, and why one is refused.
+// The `TypeInfo`s of types, and the error of the first invalid one.
 ghost use Rattle.std.specs.Prelude.{◌≡◌, length};
 ghost use Rattle.typing_forms.specs.judged.Order.{TypesGoBack};
 ghost use Rattle.typing_forms.specs.judged.Resolutions.{types_view};
@@ -14,16 +14,16 @@ use test_support::call::{completed, freeing, push};
 use typing_forms::types_go_back;
 use typing_layout::{LayoutError, Layouter, TypeError, TypeInfo};
 
-/// What is required of the types of a module.
+/// The answer about the types of a module.
 #[derive(Clone, Copy)]
 pub enum Reported {
-    /// What is reported of each, or why the first that is refused is.
+    /// The `TypeInfo` of each, or the error of the first invalid one.
     Infos,
-    /// Which is refused, if one is.
+    /// The invalid one, if any.
     Refusal,
 }
 
-// The flags of a type, and whether it lies in storage buffers, in uniform buffers and in immediate data.
+// The flags of a type, and whether it is valid in storage buffers, in uniform buffers and in immediate data.
 fn info_told(alloc: Global, info: &TypeInfo) -> Result<String, AllocError> {
     format!(in alloc;
         "{} {} {} {};",
@@ -34,7 +34,7 @@ fn info_told(alloc: Global, info: &TypeInfo) -> Result<String, AllocError> {
     )
 }
 
-// Tells the infos of types.
+// Prints the `TypeInfo`s of types.
 fn tell_infos(alloc: Global, told: &mut String, infos: &[TypeInfo]) -> Result<(), AllocError> {
     for info in infos {
         push(told, info_told(alloc, info))?;
@@ -42,7 +42,7 @@ fn tell_infos(alloc: Global, told: &mut String, infos: &[TypeInfo]) -> Result<()
     Ok(())
 }
 
-// The infos of types.
+// The `TypeInfo`s of types.
 fn accepted_told(alloc: Global, asked: Reported, infos: &[TypeInfo]) -> Result<String, AllocError> {
     if let Reported::Refusal = asked {
         return String::from_str(alloc, "accepted");
@@ -51,7 +51,7 @@ fn accepted_told(alloc: Global, asked: Reported, infos: &[TypeInfo]) -> Result<S
     completed(tell_infos(alloc, &mut told, infos), told)
 }
 
-// The first type that is refused, and why; which fault it is that sources of a blend have is not reported.
+// The first invalid type, and its error; the fields of the error of blend sources are not printed.
 fn refused_reported(
     alloc: Global,
     asked: Reported,
@@ -66,7 +66,7 @@ fn refused_reported(
     format!(in alloc; "refused {} {:?}", refused.ty.index(), refused.error)
 }
 
-// The infos of types that are laid out, or why one is refused.
+// The `TypeInfo`s of types with layouts, or the error of the first invalid one.
 fn validated_told(
     alloc: Global,
     asked: Reported,
@@ -87,7 +87,7 @@ fn validated_told(
     }
 }
 
-// What is said of types that are not laid out.
+// The answer for types without layouts.
 fn unlaid(alloc: Global, refusal: Refusal<LayoutError>) -> Result<String, AllocError> {
     match refusal {
         Refusal::Memory(error) => Err(error),
@@ -95,7 +95,7 @@ fn unlaid(alloc: Global, refusal: Refusal<LayoutError>) -> Result<String, AllocE
     }
 }
 
-/// What is required of the types.
+/// The answer about the types.
 pub fn infos_told(
     alloc: Global,
     asked: Reported,

@@ -22,7 +22,7 @@ fn layout_told(alloc: Global, layout: TypeLayout) -> Result<String, AllocError> 
     )
 }
 
-// Tells the layouts of the first types.
+// Prints the layouts of the first types.
 fn tell_first(
     alloc: Global,
     told: &mut String,
@@ -38,7 +38,7 @@ fn tell_first(
     Ok(())
 }
 
-// Tells the layouts of the types before one that has none, and why it has none.
+// Prints the layouts of the types before one that has none, and its error.
 fn tell_refused(
     alloc: Global,
     told: &mut String,
@@ -52,7 +52,7 @@ fn tell_refused(
     push(told, format!(in alloc; "{index} {:?}", error.inner))
 }
 
-// Tells the layouts of types by a new layouter, and the first type that has none.
+// Prints the layouts of types by a new layouter, and the first type that has none.
 fn tell_layouts(
     alloc: Global,
     told: &mut String,

@@ -1,6 +1,6 @@
-// What a call leaves that is refused memory: each is made, and where it is refused once more, and all is compared.
+// What a call leaves after its allocation failed: each is made, made again after a failure, and all is compared.
 //
-// Where no request is refused, each call is made once. `bench/rows.py` refuses each request in turn.
+// If no allocation fails, each call is made once. `bench/rows.py` makes each allocation fail in turn.
 ghost use Rattle.typing_forms.specs.judged.Resolutions.{types_view};
 ghost use Rattle.typing_layout.specs.found.Held.{AreLayouts};
 
@@ -16,12 +16,12 @@ use typing_layout::Layouter;
 
 type Types = UniqueArena<IrType, key::IrType>;
 
-// Layouts that stand before a refusal stand after it: as texts, one begins like the other, but for what closes it.
+// Layouts before a failure remain after it: as strings, one starts with the other, but for its end.
 fn stand(before: &str, after: &str) -> bool {
     after.starts_with(before.strip_suffix("] }").unwrap_or(after))
 }
 
-// What a second `update` leaves of a layouter that was as this text says.
+// What a second `update` leaves of a layouter that printed this.
 fn updated_again(
     alloc: Global,
     layouter: &mut Layouter,
@@ -52,7 +52,7 @@ fn updated(alloc: Global, layouter: &mut Layouter, types: &Types) -> Result<Left
     )
 }
 
-// The same of a new one.
+// The same for a new one.
 fn of_layouts(alloc: Global, document: &Document) -> Result<Left, AllocError> {
     let mut layouter = Layouter::new(alloc);
     freeing(
@@ -61,7 +61,7 @@ fn of_layouts(alloc: Global, document: &Document) -> Result<Left, AllocError> {
     )
 }
 
-// What is kept of a function without expressions.
+// The information on a function without expressions.
 fn function_info(alloc: Global, may_kill: bool) -> Result<FunctionInfo, AllocError> {
     let sampling = SampledPairs::new(alloc);
     match sampling.keys(alloc) {
@@ -79,7 +79,7 @@ fn function_info(alloc: Global, may_kill: bool) -> Result<FunctionInfo, AllocErr
     }
 }
 
-// Whether there are so many functions, of which each second may end the fragment.
+// Whether there are this many functions, of which every second may end the fragment.
 fn has_functions(info: &ModuleInfo, count: usize) -> bool {
     info.functions().len() == count
         && info
@@ -89,8 +89,8 @@ fn has_functions(info: &ModuleInfo, count: usize) -> bool {
             .all(|(place, function)| function.may_kill == (place % 2 == 1))
 }
 
-// What `push_function` leaves of the infos of so many functions: whether it was refused, and made again was not; `None` where
-// the infos are others then.
+// What `push_function` leaves of a `ModuleInfo` of this many functions: whether it failed and succeeded when repeated; `None`
+// if the `ModuleInfo` differs then.
 fn push_function(
     alloc: Global,
     info: &mut ModuleInfo,
@@ -107,7 +107,7 @@ fn push_function(
     Ok(Some(true))
 }
 
-// What `push_entry_point` leaves: whether it was refused, and made again was not.
+// What `push_entry_point` leaves: whether it failed and succeeded when repeated.
 fn push_entry_point(
     alloc: Global,
     info: &mut ModuleInfo,
@@ -121,7 +121,7 @@ fn push_entry_point(
     Ok(true)
 }
 
-// What both leave of the infos of no functions.
+// What both leave of a `ModuleInfo` without functions.
 fn pushed(alloc: Global, info: &mut ModuleInfo) -> Result<Left, AllocError> {
     let mut refused = false;
     for place in 0..20usize {
@@ -134,19 +134,19 @@ fn pushed(alloc: Global, info: &mut ModuleInfo) -> Result<Left, AllocError> {
     Ok(came_of(refused, has_functions(info, 20)))
 }
 
-// The same of new infos.
+// The same for a new one.
 fn of_infos(alloc: Global) -> Result<Left, AllocError> {
     let mut info = ModuleInfo::new(alloc);
     freeing(pushed(alloc, &mut info), info)
 }
 
-// Whether a module of its own is refused.
+// Whether building a module of its own fails.
 fn is_build_refused(alloc: Global, document: &Document) -> bool {
     let built = build_module(alloc, document);
     freeing(built.is_err(), built)
 }
 
-// Whether a module of its own is the document's.
+// Whether a module of its own equals the document's.
 fn is_built(alloc: Global, document: &Document) -> Result<bool, AllocError> {
     let again = build_module(alloc, document)?;
     Ok(freeing(again == document.module, again))
@@ -159,7 +159,7 @@ fn of_module(alloc: Global, document: &Document, copy: &Document) -> Result<Left
     Ok(came_of(refused, again && copy.module == document.module))
 }
 
-// What `ensure_block_returns` leaves of the module, into which they are put.
+// What `ensure_block_returns` leaves of the module, in which they are inserted.
 fn of_returns(
     alloc: Global,
     document: &mut Document,
@@ -173,7 +173,7 @@ fn of_returns(
     Ok(came_of(refused, kept && copy.module == *module))
 }
 
-// What a call leaves of the document, of which this is a copy.
+// What a call leaves of the document, compared with this copy.
 fn came_of_question(
     alloc: Global,
     question: &str,
@@ -199,7 +199,7 @@ fn left_in_words(
     told(alloc, came)
 }
 
-/// What a call leaves where it is refused memory.
+/// What a call leaves after its allocation failed.
 pub fn left_told(
     alloc: Global,
     question: &str,

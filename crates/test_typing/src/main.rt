@@ -1,12 +1,11 @@
-// Answers the questions of the files of data/ on the parts of modules: layouts, kinds of expressions, their types, tests of
-// handles, what types may be used for and why they are refused, what the analysis keeps of functions, and what a call leaves that
-// is refused memory. Says which answers are others than those that stand there.
+// Answers the questions of the files of data/ about the parts of modules: layouts, kinds of expressions, their types, tests of
+// handles, the `TypeInfo`s of types and their errors, the analysis of functions, and what a call leaves after its allocation
+// failed. Prints which results differ from the expected ones.
 //
-// A line of a data file is a list of texts: the case's name, the question, a document, and the answer, or two of which either
-// is right. `make_data.py`, `make_types.py`, `make_tests.py`, `make_infos.py`, `make_summaries.py`, `make_chains.py` and
-// `make_turns.py` write these files. The answers come from two implementations that were written independently of this one, those
-// of chains of calls from the model in `make_chains.py`. Beside that it makes each call of layouts, of kinds and of slots of
-// immediate data once.
+// A line of a data file is a list of strings: the case's name, the question, a document, and the answer, or two that are both
+// right. `make_data.py`, `make_types.py`, `make_tests.py`, `make_infos.py`, `make_summaries.py`, `make_chains.py` and
+// `make_turns.py` write these files. The answers come from two independent implementations, those of chains of calls from the
+// model in `make_chains.py`. It also makes each call on layouts, kinds and slots of immediate data once.
 #![tactic(auto)]
 
 mod asked;
@@ -37,7 +36,7 @@ const FILES: [&str; 8] = [
     "left.jsonl",
 ];
 
-// What answers the questions.
+// Answers the questions.
 #[derive(Clone, Copy)]
 struct Typing;
 
@@ -47,7 +46,7 @@ impl Questions for Typing {
     }
 }
 
-// Answers the questions of a file. Returns how many answers differ.
+// Answers the questions of a file. Returns how many results differ.
 fn ask_file(rt: &HostRuntime, name: &str) -> Result<usize> {
     let text = fs::read_to_string(rt, name).context(format_args!("reading {name}"))?;
     Ok(freeing(ask_lines(rt, &Typing, name, &text), text)?)

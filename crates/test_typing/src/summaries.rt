@@ -1,4 +1,4 @@
-// What is found of functions, from their own bodies and from what is found of the functions that they call.
+// The analysis of functions, from their own bodies and from the analysis of the functions that they call.
 ghost use Rattle.std.specs.Prelude.{IsTrue};
 ghost use Rattle.ir_items.specs.found.View.{function_view, module_view};
 ghost use Rattle.ir_items.specs.found.Filters.{ParentsPrecede};
@@ -17,8 +17,8 @@ use typing_handles::{
 };
 use typing_infos::FunctionInfo;
 
-// Tells of an expression how often it is used, which global variable it starts at, whether it is the same in all invocations,
-// and what it requires.
+// Prints of an expression its reference count, the global variable it originates from, whether it is uniform, and what it
+// requires.
 fn tell_expression(
     alloc: Global,
     told: &mut String,
@@ -37,7 +37,7 @@ fn tell_expression(
     )
 }
 
-// Tells the expressions of a function, a piece each.
+// Prints the expressions of a function, one by one.
 fn tell_expressions(
     alloc: Global,
     told: &mut String,
@@ -49,7 +49,7 @@ fn tell_expressions(
     Ok(())
 }
 
-// Tells the use of each global variable, as the number of its bits.
+// Prints the use of each global variable, as the number of its bits.
 fn tell_uses(alloc: Global, told: &mut String, uses: &[GlobalUse]) -> Result<(), AllocError> {
     for kind in uses {
         push(told, format!(in alloc; "{}.", kind.0))?;
@@ -57,7 +57,7 @@ fn tell_uses(alloc: Global, told: &mut String, uses: &[GlobalUse]) -> Result<(),
     Ok(())
 }
 
-// The place of an image or a sampler in the row of all global variables and then all arguments.
+// The index of an image or a sampler among all global variables followed by all arguments.
 fn place_of(part: GlobalOrArgument, globals: usize) -> usize {
     match part {
         GlobalOrArgument::Global(global) => global.index(),
@@ -65,7 +65,7 @@ fn place_of(part: GlobalOrArgument, globals: usize) -> usize {
     }
 }
 
-// Whether the image and the sampler at these places are a pair.
+// Whether the image and the sampler at these indices are a sampling pair.
 fn is_pair(pairs: &[SamplingPair], image: usize, sampler: usize, globals: usize) -> bool {
     for pair in pairs {
         if place_of(pair.0, globals) == image && place_of(pair.1, globals) == sampler {
@@ -75,7 +75,7 @@ fn is_pair(pairs: &[SamplingPair], image: usize, sampler: usize, globals: usize)
     false
 }
 
-// Tells the pairs of the image at a place with each sampler.
+// Prints the sampling pairs of the image at an index.
 fn tell_pairs_of(
     alloc: Global,
     told: &mut String,
@@ -92,7 +92,7 @@ fn tell_pairs_of(
     Ok(())
 }
 
-// Tells the pairs of images and samplers, by their places.
+// Prints the sampling pairs, by indices.
 fn tell_pairs(
     alloc: Global,
     told: &mut String,
@@ -105,7 +105,7 @@ fn tell_pairs(
     Ok(())
 }
 
-// Says what is kept of a function.
+// Prints the information on a function.
 fn tell_info(
     alloc: Global,
     told: &mut String,
@@ -124,7 +124,7 @@ fn tell_info(
     told.push_str("\n")
 }
 
-// Says why an expression is refused.
+// Prints the error of an expression.
 fn tell_expression_error(
     alloc: Global,
     told: &mut String,
@@ -142,7 +142,7 @@ fn tell_expression_error(
     }
 }
 
-// Says why a function is refused.
+// Prints the error of a function.
 fn tell_error(alloc: Global, told: &mut String, error: &FunctionError) -> Result<(), AllocError> {
     match error {
         FunctionError::Expression { handle, source } => {
@@ -161,7 +161,7 @@ fn tell_error(alloc: Global, told: &mut String, error: &FunctionError) -> Result
     }
 }
 
-// Whether the handles of a function are in order, as its analysis requires it.
+// Whether the handles of a function are in order, as its analysis requires.
 fn is_in_order(function: &Function, module: &Module, before: usize) -> bool
     ensures handles { IsTrue result → HandlesInRange (module_view «module».now) (function_view function.now) }
     ensures precede { IsTrue result → OperandsPrecede (function_view function.now).expressions }
@@ -174,7 +174,7 @@ fn is_in_order(function: &Function, module: &Module, before: usize) -> bool
         && arities_match(function, module)
 }
 
-// Says what is found of a function, and answers what is kept of it.
+// Prints the analysis of a function, and returns its information.
 fn reported_info(
     alloc: Global,
     told: &mut String,
@@ -197,7 +197,7 @@ fn reported_info(
     }
 }
 
-// Says what is found of the functions of a module, up to the first of which nothing is, and answers whether there is none.
+// Prints the analysis of the functions of a module, up to the first that fails, and returns whether none does.
 fn tell_functions(
     alloc: Global,
     told: &mut String,
@@ -214,7 +214,7 @@ fn tell_functions(
     Ok(true)
 }
 
-// Says what is found of the entry points of a module.
+// Prints the analysis of the entry points of a module.
 fn tell_entries(
     alloc: Global,
     told: &mut String,
@@ -228,7 +228,7 @@ fn tell_entries(
     Ok(())
 }
 
-// Says what is found of the functions of a module, and then of its entry points.
+// Prints the analysis of the functions of a module, and then of its entry points.
 fn tell_all(
     alloc: Global,
     told: &mut String,
@@ -242,7 +242,7 @@ fn tell_all(
     Ok(())
 }
 
-/// What is found of the functions of a module in order, up to the first of which nothing is, and then of its entry points.
+/// The analysis of the functions of a module in order, up to the first that fails, and then of its entry points.
 pub fn summaries_told(
     alloc: Global,
     module: &Module,
@@ -254,7 +254,7 @@ pub fn summaries_told(
     completed(freeing(done, infos), told)
 }
 
-// What is kept of a function, or nothing where its handles are not in order or it is refused.
+// The information on a function, or nothing if its handles are not in order or its analysis fails.
 fn kept_of(
     alloc: Global,
     module: &Module,
@@ -272,7 +272,7 @@ fn kept_of(
     }
 }
 
-// Keeps what is found of each function in a list, up to one of which nothing is. Returns whether there is none.
+// Appends the information on each function to a list, up to one without. Returns whether there is none.
 fn keep_all(
     alloc: Global,
     module: &Module,
@@ -288,7 +288,7 @@ fn keep_all(
     Ok(true)
 }
 
-/// Whether something is kept of each function, as a word.
+/// Whether each function has information, as a word.
 pub fn summarized(
     alloc: Global,
     module: &Module,

@@ -11,7 +11,7 @@ use typing_resolve::ResolveContext;
 
 type Expressions = Arena<Expression, key::Expression>;
 
-// The type of an operand, or another one where the operand does not come before.
+// The type of an operand, or another one if the operand does not come before.
 fn found_at<'a>(
     found: &'a [TypeResolution],
     handle: Handle<key::Expression>,
@@ -39,7 +39,7 @@ fn type_pointed(
     Some(given)
 }
 
-// Tells the types of these expressions, a line each, up to the first that has none, and puts them into a list.
+// Prints the types of these expressions, one per line, up to the first without, and appends them to a list.
 fn tell(
     alloc: Global,
     told: &mut String,
@@ -64,7 +64,7 @@ fn tell(
     Ok(())
 }
 
-// Tells the types of a function's expressions, after this word.
+// Prints the types of a function's expressions, after this word.
 fn tell_function(
     alloc: Global,
     told: &mut String,
@@ -85,7 +85,7 @@ fn tell_function(
     )
 }
 
-// Tells the types of the global expressions.
+// Prints the types of the global expressions.
 fn tell_globals(alloc: Global, told: &mut String, module: &Module) -> Result<(), AllocError> {
     told.push_str("globals\n")?;
     let none = Arena::new(alloc);
@@ -101,7 +101,7 @@ fn tell_globals(alloc: Global, told: &mut String, module: &Module) -> Result<(),
     freeing(freeing(done, found), none)
 }
 
-// Tells the types of all expressions of a module.
+// Prints the types of all expressions of a module.
 fn tell_all(alloc: Global, told: &mut String, module: &Module) -> Result<(), AllocError> {
     tell_globals(alloc, told, module)?;
     for (_, function) in module.functions.iter() {
@@ -119,7 +119,7 @@ pub fn types_told(alloc: Global, module: &Module) -> Result<String, AllocError> 
     completed(tell_all(alloc, &mut told, module), told)
 }
 
-// Whether these expressions have types, which are put into a list.
+// Whether these expressions have types, which are appended to a list.
 fn are_typed(
     alloc: Global,
     context: &ResolveContext<'_>,

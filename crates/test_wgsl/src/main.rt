@@ -1,4 +1,4 @@
-//! Answers for WGSL texts: they stand on standard input one after the other, each after a line `==== NAME`, for its verdict and
+//! Results for WGSL texts: they are on standard input one after the other, each after a line `==== NAME`, for its verdict and
 //! report, `==== NAME --explain`, for its diagnostic, or `==== NAME --json`, for the JSON object of that.
 #![tactic(auto)]
 
@@ -10,10 +10,10 @@ use std::io::{self, Read};
 use std::process::ExitCode;
 use std::str::from_utf8;
 
-// What begins the line before each text.
+// The start of the line before each text.
 const HEAD: &str = "==== ";
 
-// The answer of a diagnostic, or its JSON object.
+// The text of a diagnostic, or its JSON object.
 fn answer_of(
     alloc: Global,
     found: &Diagnosed,
@@ -65,7 +65,7 @@ fn print_verdict(rt: &HostRuntime, text: &[u8]) -> io::Result<()> {
     }
 }
 
-// Prints the answer for a text under its line.
+// Prints the result for a text under its line.
 fn answer(rt: &HostRuntime, part: &str) -> io::Result<()> {
     let (head, text) = match part.split_once('\n') {
         Some(both) => both,
@@ -81,7 +81,7 @@ fn answer(rt: &HostRuntime, part: &str) -> io::Result<()> {
     }
 }
 
-// Prints the answers for all texts.
+// Prints the results for all texts.
 fn answer_all(rt: &HostRuntime, input: &str) -> io::Result<()> {
     for part in input.split(HEAD) {
         if !part.is_empty() {

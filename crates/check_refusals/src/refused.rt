@@ -1,7 +1,7 @@
 // The invalid item, and why it is invalid.
 
 use crate::causes::cause_value;
-use crate::required::{Told, told_in};
+use crate::required::{Requirement, requirement_in};
 use crate::sites::{body_of, site_of};
 use crate::types::{forms_of, operand_types, refused_function, types_in};
 use check_reasons::{OperandType, Reason, Refusal, name_of, path_of};
@@ -59,7 +59,7 @@ fn step_of(finding: Finding) -> (&'static str, Option<usize>) {
 }
 
 /// The bytes of a document as a JSON value; null if they are not JSON. The error is out of memory.
-pub(crate) fn value_of(alloc: Global, bytes: &[u8]) -> Result<Value, AllocError> {
+pub fn value_of(alloc: Global, bytes: &[u8]) -> Result<Value, AllocError> {
     let Ok(text) = from_utf8(bytes) else {
         return Ok(Value::Null);
     };
@@ -182,16 +182,16 @@ fn item_in(
     module: &Module,
     error: &ValidationError,
     types: &[TypeResolution],
-    told: &Told,
+    requirement: &Requirement,
 ) -> Result<RefusedItem, AllocError> {
     let named = name_with_fields(alloc, error)?;
     let (step, index) = step_of(refused_by(error));
     let part = part_path(alloc, module, error)?;
     let operands = operand_types(alloc, module, types)?;
     let body = body_of(alloc, error)?;
-    let required = told.text.as_str();
+    let required = requirement.text.as_str();
     let refusal = refusal_of(document, error, &body, &part, &operands, required);
-    let cause = match &told.cause {
+    let cause = match &requirement.cause {
         Some(cause) => cause_value(alloc, module, cause)?,
         None => Value::Null,
     };
@@ -200,7 +200,7 @@ fn item_in(
 
 /// The item of a module, of the document in the bytes, with this error under these capabilities. The error is out of
 /// memory.
-pub(crate) fn refused_item(
+pub fn refused_item(
     alloc: Global,
     capabilities: Capabilities,
     bytes: &[u8],
@@ -209,9 +209,9 @@ pub(crate) fn refused_item(
 ) -> Result<RefusedItem, AllocError> {
     let types = known_types(alloc, module, error)?;
     let forms = forms_of(alloc, module, &types)?;
-    let told = told_in(alloc, capabilities, &*module, &forms, &*error)?;
+    let requirement = requirement_in(alloc, capabilities, &*module, &forms, &*error)?;
     match value_of(alloc, bytes) {
-        Ok(document) => item_in(alloc, &document, module, error, &types, &told),
+        Ok(document) => item_in(alloc, &document, module, error, &types, &requirement),
         Err(memory) => Err(memory),
     }
 }

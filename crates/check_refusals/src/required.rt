@@ -3,7 +3,7 @@
 ghost use Rattle.std.specs.Prelude.{◌≡◌, IfSome, map};
 ghost use Rattle.ir_items.specs.found.GlobalView.{values_of};
 ghost use Rattle.ir_types.specs.judged.ExpressionPlain.{expression_view};
-ghost use Rattle.check_explanation.specs.Ruled.{IsBrokenAt, ruled, ruled_in};
+ghost use Rattle.check_refusals.specs.Ruled.{IsBrokenAt, ruled, ruled_in};
 ghost use Rattle.module_context.specs.OperandView.{expressions_in, scene_in};
 ghost use Rattle.typing_layout.specs.judged.Constness.{AreKinds};
 
@@ -25,7 +25,7 @@ use typing_layout::{ExpressionKindTracker, origins_precede};
 
 /// The requirement that an error breaks, and the broken rule of an expression.
 #[derive(Drop)]
-pub(crate) struct Told {
+pub(crate) struct Requirement {
     /// The requirement.
     pub text: String,
     /// The rule, if the expression kind has several.
@@ -81,12 +81,12 @@ fn cause_of(context: &CheckContext<'_>, error: &ValidationError) -> Option<Cause
 }
 
 // The requirement at an error, for the expressions of a context.
-fn told_among<'a>(
+fn requirement_among<'a>(
     alloc: Global,
     context: &CheckContext<'a>,
     module: &'a Module,
     error: &'a ValidationError,
-) -> Result<Told, AllocError>
+) -> Result<Requirement, AllocError>
     requires { AreKinds (expressions_in context.now) context.now.kinds.now }
 {
     let cause = cause_of(context, error);
@@ -101,11 +101,11 @@ fn told_among<'a>(
         error,
     };
     let text = format!(in alloc; "{sentence}")?;
-    Ok(Told { text, cause })
+    Ok(Requirement { text, cause })
 }
 
 // The requirement at an error, for expressions with these forms and kinds.
-fn told_by<'a>(
+fn requirement_by<'a>(
     alloc: Global,
     capabilities: Capabilities,
     module: &'a Module,
@@ -113,7 +113,7 @@ fn told_by<'a>(
     forms: &'a [Form],
     kinds: &'a ExpressionKindTracker,
     error: &'a ValidationError,
-) -> Result<Told, AllocError>
+) -> Result<Requirement, AllocError>
     requires { AreKinds (map expression_view (values_of expressions.now)) kinds.now }
 {
     let context = CheckContext {
@@ -125,7 +125,7 @@ fn told_by<'a>(
         kinds,
         callees: &[],
     };
-    told_among(alloc, &context, module, error)
+    requirement_among(alloc, &context, module, error)
 }
 
 // The expressions around the error.
@@ -141,22 +141,22 @@ fn expressions_of<'a>(
 
 /// The requirement at an error, with these capabilities, for expressions whose types have these forms. The error is out of
 /// memory.
-pub(crate) fn told_in(
+pub(crate) fn requirement_in(
     alloc: Global,
     capabilities: Capabilities,
     module: &Module,
     forms: &[Form],
     error: &ValidationError,
-) -> Result<Told, AllocError> {
+) -> Result<Requirement, AllocError> {
     let expressions = expressions_of(module, error);
     if !origins_precede(expressions) {
-        return Ok(Told {
+        return Ok(Requirement {
             text: String::new(alloc),
             cause: None,
         });
     }
     let kinds = ExpressionKindTracker::from_arena(alloc, expressions)?;
-    told_by(
+    requirement_by(
         alloc,
         capabilities,
         &*module,

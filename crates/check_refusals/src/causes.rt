@@ -358,7 +358,7 @@ fn put_inside(
 
 /// The location of a path as a JSON object: the function or the entry point, and in it the expression or the indices inside the
 /// body; null if it is in neither. The error is out of memory.
-pub(crate) fn place_value(alloc: Global, path: &[u32]) -> Result<Value, AllocError> {
+pub fn place_value(alloc: Global, path: &[u32]) -> Result<Value, AllocError> {
     let (list, before) = match path.first() {
         Some(12) => ("function", 2),
         Some(13) => ("entry", 3),
