@@ -135,6 +135,9 @@
         write("item", found.verdict === "refused" ? `at the step ${item}` : "");
         showPath(found);
         $("reason").replaceChildren(...reasonOf(found));
+        const details = Report.detailsOf(found, said);
+        $("details").hidden = details.length === 0;
+        $("details").replaceChildren(...details);
         $("report").replaceChildren(...Report.partsOf(found, said, lines));
         if (found.wgsl) underline(placeIn(found.wgsl));
     }

@@ -7,6 +7,7 @@ const Report = (() => {
     const [GLOBAL_NAME, GLOBAL_SPACE, GLOBAL_RESOURCE, GLOBAL_TYPE] = [0, 1, 2, 3];
     const [ENTRY_STAGE, ENTRY_NAME] = [0, 1];
     const [TYPE_NAME, TYPE_INNER] = [0, 1];
+    const FUNCTIONS = 12, FUNCTION_NAME = 0;
 
     // What is shown is bounded, however much a document has: the rows of a table, entry points, lists of leaves, for how many leaves in
     // all these are open, and how many types inside of each other a text names.
@@ -93,6 +94,43 @@ const Report = (() => {
         }
     }
 
+    // --- what is known of a refusal besides its reason
+
+    // The name of a function or an entry point in a document, where it has one.
+    function nameIn(text, list, index, field) {
+        try {
+            return JSON.parse(text)[list][index][field];
+        } catch {
+            return null;
+        }
+    }
+
+    // The function or the entry point that the part is in, and the part: an expression, or a statement by its index in each block.
+    function placeText({ entry, function: index, expression, body }, text) {
+        const isEntry = entry !== undefined;
+        const name = isEntry ? nameIn(text, ENTRY_POINTS, entry, ENTRY_NAME) : nameIn(text, FUNCTIONS, index, FUNCTION_NAME);
+        const owner = isEntry ? `entry point ${named(entry, name)}` : `function ${named(index, name)}`;
+        if (body?.length) return `${owner}, statement ${body.join(".")}`;
+        return expression === undefined || expression === null ? owner : `${owner}, expression ${expression}`;
+    }
+
+    // The rule that is broken, with the types or the index that break it.
+    function causeText({ name, given, wanted, index, parts }) {
+        const found = [name];
+        if (given !== undefined) found.push(`found ${given}`);
+        if (wanted !== undefined) found.push(`wanted ${wanted}`);
+        if (index !== undefined) found.push(parts ? `index ${index} of ${parts}` : `index ${index}`);
+        return found.join(", ");
+    }
+
+    // The name of the error, the place and the cause, as terms with what they are.
+    function detailsOf(found, text) {
+        const rows = [["Error", found.error]];
+        if (found.place) rows.push(["Place", placeText(found.place, text)]);
+        if (found.cause) rows.push(["Cause", causeText(found.cause)]);
+        return rows.filter(([, it]) => it).flatMap(([term, it]) => [made("dt", term), made("dd", it)]);
+    }
+
     // --- the report of what is accepted
 
     function variables(items) {
@@ -151,5 +189,5 @@ const Report = (() => {
         return parts;
     }
 
-    return { link, made, partsOf };
+    return { detailsOf, link, made, partsOf };
 })();

@@ -62,6 +62,7 @@ function wrongAt(link, found) {
 function shown() {
     const found = { text: at("answer").dataset.text, verdict: at("verdict").textContent, document: at("document").value };
     found.leaves = [...document.querySelectorAll("#report details tbody tr")].map((row) => [...row.cells].map((it) => it.textContent).join(" "));
+    found.details = [...document.querySelectorAll("#details > *")].map((it) => it.textContent);
     found.rows = [...document.querySelectorAll("#report > table[aria-label=Variables] tbody tr")].map((row) => [...row.cells].map((it) => it.textContent));
     if (!at("where").hidden) {
         at("path").click();
