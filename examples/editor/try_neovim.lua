@@ -1,4 +1,5 @@
--- Opens the document of the buffer, breaks it, mends it, and ends with status 1 where something else is shown than is due.
+-- Opens the document of the buffer and a text of WGSL, breaks each, mends it, and ends with status 1 where something else is shown than
+-- is due.
 local function fails(why)
   io.stderr:write(why .. "\n")
   vim.cmd("cquit 1")
@@ -34,15 +35,20 @@ local function is_at(line, column, says)
   end
 end
 
+-- Waits until the buffer has a server.
+local function waits_for_server()
+  local initialized = vim.wait(30000, function()
+    local clients = vim.tbl_values(vim.lsp.buf_get_clients(0))
+    return #clients == 1 and clients[1].initialized
+  end, 50)
+  if not initialized then
+    fails("no server is initialized")
+  end
+end
+
 dofile(vim.env.SHADER_CHECK_LUA)
 vim.cmd("edit")
-local initialized = vim.wait(30000, function()
-  local clients = vim.lsp.get_active_clients()
-  return #clients == 1 and clients[1].initialized
-end, 50)
-if not initialized then
-  fails("no server is initialized")
-end
+waits_for_server()
 
 -- a word that is no scalar
 local column = puts(4, '"f32"', '"f33"')
@@ -64,6 +70,22 @@ waits(1, "after a line that is no JSON")
 is_at(0, 0, "no JSON at line 1, column 1")
 vim.api.nvim_buf_set_lines(0, 0, 1, true, {})
 waits(0, "after the line is taken away")
+
+-- WGSL: a name that is not declared, after a comment with characters of two and of four bytes
+vim.cmd("edit! " .. vim.env.SHADER_CHECK_WGSL)
+waits_for_server()
+column = puts(28, "strength", "/* ü🙂 */ strenght")
+waits(1, "after a name is misspelled")
+is_at(28, column + #"/* ü🙂 */ ", "no definition in scope for identifier: `strenght`")
+puts(28, "strenght", "strength")
+waits(0, "after the name is mended")
+
+-- a module that is read, and is not valid
+column = puts(16, "let size", "if id.x { } let size")
+waits(1, "after a condition is a number")
+is_at(16, column, "the condition of an If must be a bool scalar")
+puts(16, "if id.x { } let size", "let size")
+waits(0, "after the condition is taken away")
 
 vim.lsp.stop_client(vim.lsp.get_active_clients())
 if not vim.wait(30000, function() return #vim.lsp.get_active_clients() == 0 end, 50) then
