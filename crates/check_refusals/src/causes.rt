@@ -7,6 +7,7 @@ use check_causes::{
 };
 use check_sentences::TypeText;
 use ir_items::Module;
+use ir_kinds::VectorSize;
 use serde_json::{Map, Value, push, put};
 use std::alloc::{AllocError, Global};
 use typing_forms::Form;
@@ -88,6 +89,11 @@ fn of_select(cause: &SelectCause) -> Row<'_> {
     }
 }
 
+// The number of components.
+fn size_of(size: VectorSize) -> u32 {
+    u32::from(size)
+}
+
 fn of_swizzle(cause: &SwizzleCause) -> Row<'_> {
     match cause {
         SwizzleCause::NoVector(form) => given("OperandNotVector", form),
@@ -95,7 +101,7 @@ fn of_swizzle(cause: &SwizzleCause) -> Row<'_> {
             bound(
                 "ComponentOutOfBounds",
                 i64::from(letter.index()),
-                u32::from(*size),
+                size_of(*size),
             )
         }
     }
