@@ -103,8 +103,8 @@
 
     // The reason of WGSL that is wrong, with its line and column as a link.
     function wgslReason(found) {
-        const { line, column } = found.wgsl, place = `${line}:${column}`;
-        const shown = Report.link(place, `Show line ${line}, column ${column}`, () => mark(placeIn(found.wgsl)));
+        const place = `${found.wgsl.line}:${found.wgsl.column}`;
+        const shown = Report.link(place, `Show ${place}, line and column, in the text`, () => mark(placeIn(found.wgsl)));
         const text = found.text.endsWith(` at ${place}`) ? found.text.slice(0, -place.length) : `${found.text} at `;
         return [text, shown];
     }
