@@ -123,15 +123,15 @@ const Report = (() => {
         return found.join(", ");
     }
 
-    // The names of the errors inside the fields of an error, from the outside in.
-    function namesIn(fields) {
-        if (typeof fields !== "object" || fields === null) return [];
-        return "fields" in fields ? [fields.name, ...namesIn(fields.fields)] : Object.values(fields).flatMap(namesIn);
+    // The name of an error, and of those that it has as its only field, from the outside in.
+    function errorText(name, fields) {
+        const only = Array.isArray(fields) && fields.length === 1 ? fields[0] : null;
+        return only?.name ? `${name}, ${errorText(only.name, only.fields)}` : name;
     }
 
     // The names of the error, the place and the cause, as terms with what they are.
     function detailsOf(found, text) {
-        const rows = [["Error", found.error && [found.error, ...namesIn(found.fields)].join(", ")]];
+        const rows = [["Error", found.error && errorText(found.error, found.fields)]];
         if (found.place) rows.push(["Place", placeText(found.place, text)]);
         if (found.cause) rows.push(["Cause", causeText(found.cause)]);
         return rows.filter(([, it]) => it).flatMap(([term, it]) => [made("dt", term), made("dd", it)]);
