@@ -93,7 +93,7 @@ fn an_object_of_wgsl_has_the_place() {
         panic!("a value is missing");
     };
     assert!(text.contains("\"verdict\":\"malformed\""), "{text}");
-    assert!(text.contains("\"line\":2,\"column\":13"), "{text}");
+    assert!(text.contains("\"column\":13") && text.contains("\"line\":2,\"offset\":24"), "{text}");
 }
 
 #[test]
