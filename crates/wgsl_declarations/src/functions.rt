@@ -1,7 +1,8 @@
 // Functions and entry points.
 
-use crate::attributes::{binding, early_depth_test, find, stage, workgroup_size};
+use crate::attributes::{binding, early_depth_test, find, named_variable, stage, workgroup_size};
 use crate::builder::{EntryHead, ModuleBuilder};
+use crate::filters::filters;
 use crate::interface::bound;
 use crate::structs::shape_of;
 use ir_items::{FunctionArgument, FunctionResult};
@@ -101,6 +102,24 @@ fn argument_count<B: ModuleBuilder>(lowering: &Lowering<B>) -> u32 {
     u32::try_from(lowering.arguments.len()).unwrap_or(u32::MAX)
 }
 
+// The properties of an entry point.
+fn entry_head<B: ModuleBuilder>(
+    lowering: &mut Lowering<B>,
+    part: Part,
+    stage: ShaderStage,
+    size: [u32; 3],
+) -> EntryHead {
+    // the IR does not keep the payload of an incoming ray
+    let _ = named_variable(lowering, part, AttributeWord::IncomingPayload);
+    EntryHead {
+        stage,
+        size,
+        depth_test: early_depth_test(lowering, part),
+        mesh: named_variable(lowering, part, AttributeWord::Mesh),
+        payload: named_variable(lowering, part, AttributeWord::Payload),
+    }
+}
+
 // Lowers a function.
 pub(crate) fn function<B: ModuleBuilder>(
     lowering: &mut Lowering<B>,
@@ -110,8 +129,12 @@ pub(crate) fn function<B: ModuleBuilder>(
     let name = lowering.extent(item.token);
     let stage = stage(lowering, item.attributes);
     let _ = binding(lowering, item.attributes);
+    filters(lowering, item.attributes, false);
+    let has_size = find(lowering, item.attributes, AttributeWord::WorkgroupSize).is_some();
     let size = match stage {
-        Some(ShaderStage::Compute) => workgroup_size(lowering, item.attributes, name),
+        Some((stage, extent)) if has_size || stage.compute_like() => {
+            workgroup_size(lowering, item.attributes, extent)
+        }
         _ => [0, 0, 0],
     };
     let (gives, shape) = result_of(lowering, item, has_result);
@@ -127,12 +150,8 @@ pub(crate) fn function<B: ModuleBuilder>(
     lowering.join(&failed);
     let title = lowering.name_at(item.token);
     let number = match stage {
-        Some(stage) => {
-            let head = EntryHead {
-                stage,
-                size,
-                depth_test: early_depth_test(lowering, item.attributes),
-            };
+        Some((stage, _)) => {
+            let head = entry_head(lowering, item.attributes, stage, size);
             lowering.builder.end_entry(head, title, arguments, gives);
             None
         }
