@@ -10,7 +10,7 @@ use ir_kinds::ShaderStage;
 use ir_types::Expression;
 use wgsl_expressions::{Declared, FunctionEntry, Lowering, Value};
 use wgsl_statements::lower_body;
-use wgsl_text::{Failure, WgslError};
+use wgsl_text::{Extent, Failure, WgslError};
 use wgsl_tree::{Item, Member, Part};
 use wgsl_types::Shape;
 use wgsl_words::AttributeWord;
@@ -120,6 +120,21 @@ fn entry_head<B: ModuleBuilder>(
     }
 }
 
+// The workgroup size of an entry point; zeros for a function of no stage, or of one without workgroups.
+fn size_in<B: ModuleBuilder>(
+    lowering: &mut Lowering<B>,
+    part: Part,
+    stage: Option<(ShaderStage, Extent)>,
+) -> [u32; 3] {
+    let has_size = find(lowering, part, AttributeWord::WorkgroupSize).is_some();
+    match stage {
+        Some((stage, extent)) if has_size || stage.compute_like() => {
+            workgroup_size(lowering, part, extent)
+        }
+        _ => [0, 0, 0],
+    }
+}
+
 // Lowers a function.
 pub(crate) fn function<B: ModuleBuilder>(
     lowering: &mut Lowering<B>,
@@ -130,13 +145,7 @@ pub(crate) fn function<B: ModuleBuilder>(
     let stage = stage(lowering, item.attributes);
     let _ = binding(lowering, item.attributes);
     filters(lowering, item.attributes, false);
-    let has_size = find(lowering, item.attributes, AttributeWord::WorkgroupSize).is_some();
-    let size = match stage {
-        Some((stage, extent)) if has_size || stage.compute_like() => {
-            workgroup_size(lowering, item.attributes, extent)
-        }
-        _ => [0, 0, 0],
-    };
+    let size = size_in(lowering, item.attributes, stage);
     let (gives, shape) = result_of(lowering, item, has_result);
     let start = argument_count(lowering);
     lowering.builder.set_global(false);
@@ -155,14 +164,7 @@ pub(crate) fn function<B: ModuleBuilder>(
             lowering.builder.end_entry(head, title, arguments, gives);
             None
         }
-        None => {
-            let extent = name;
-            Some(
-                lowering
-                    .builder
-                    .end_function(title, arguments, gives, extent),
-            )
-        }
+        None => Some(lowering.builder.end_function(title, arguments, gives, name)),
     };
     lowering.builder.set_global(true);
     Declared::Function(FunctionEntry {

@@ -11,26 +11,31 @@ use wgsl_tree::{Step, StepKind};
 use wgsl_types::{Builder, Shape};
 
 impl<B: Builder> Lowering<B> {
+    // Begins to skip the right operand in a constant expression, if the left one decides the result; returns whether it does.
+    fn decides(&mut self, left: &Operand, or: bool) -> bool {
+        let is_decided = match left.value {
+            Value::Literal(literal) => self.skips && literal == Literal::Bool(or),
+            _ => false,
+        };
+        if is_decided {
+            self.skipped = Some(Skipped {
+                value: or,
+                extent: left.extent,
+                depth: 1,
+            });
+        }
+        is_decided
+    }
+
     /// Lowers the part between the operands of `||`, or else of `&&`.
     pub fn between(&mut self, or: bool, token: u32) {
         let popped = self.pop();
         let left = self.load(popped);
         let extent = self.extent(token);
-        let is_literal = match left.value {
-            Value::Literal(literal) => {
-                if self.skips && literal == Literal::Bool(or) {
-                    self.skipped = Some(Skipped {
-                        value: or,
-                        extent: left.extent,
-                        depth: 1,
-                    });
-                    return;
-                }
-                true
-            }
-            _ => false,
-        };
-        if is_literal || self.builder.is_global() {
+        if self.decides(&left, or) {
+            return;
+        }
+        if matches!(left.value, Value::Literal(_)) || self.builder.is_global() {
             self.push(left);
             self.push(Operand {
                 value: Value::PendingLiteral,

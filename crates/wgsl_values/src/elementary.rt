@@ -1,5 +1,5 @@
-// Exponentials, logarithms and trigonometric functions of `f64`, in the kit's arithmetic alone, so that each host computes the same. Results
-// are within a few units in the last place.
+// Exponentials, logarithms and trigonometric functions of `f64`, in the kit's arithmetic alone, so that each host computes the
+// same. Results are within a few units in the last place.
 
 use std::num::{f64_from_bits_with_nan, f64_to_bits_with_nan, saturating_f64_to_i32};
 
@@ -19,7 +19,8 @@ const QUARTER_PI: f64 = 0.7853981633974483;
 
 const TWO_OVER_PI: f64 = 0.6366197723675814;
 
-// The logarithm of 2 with what it is more than that, and one with zeros at its end, so that a product with an exponent is exact, with its rest.
+// The logarithm of 2 and what it is more than that; and one with zeros at its end, so that a product with an exponent is exact, with
+// its rest.
 const LN_2: f64 = 0.6931471805599453;
 
 const LN_2_REST: f64 = 2.3190468138462996e-17;
