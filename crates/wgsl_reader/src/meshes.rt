@@ -54,13 +54,13 @@ fn elements_of(types: &Types, ty: Handle<key::IrType>) -> Option<Outputs> {
         Err(_) => return None,
     };
     match &found.inner {
-        TypeInner::Array { base, size, .. } => Some(outputs(*base, *size)),
+        TypeInner::Array { base, size, .. } => Some(elements(*base, *size)),
         _ => None,
     }
 }
 
 // So many elements of a type.
-fn outputs(element: Handle<key::IrType>, size: ArraySize) -> Outputs {
+fn elements(element: Handle<key::IrType>, size: ArraySize) -> Outputs {
     let (most, by) = match size {
         ArraySize::Constant(count) => (count, None),
         ArraySize::Pending(by) => (0, Some(by)),
