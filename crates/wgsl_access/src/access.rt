@@ -280,10 +280,7 @@ pub fn deref<B: Builder>(lowering: &mut Lowering<B>, token: u32) {
     match value {
         Some(value) => lowering.push(Operand { value, extent }),
         None => {
-            lowering.wrong(
-                "the operand of the `*` operator must be a pointer",
-                pointer.extent,
-            );
+            lowering.wrong("the operand of the `*` operator must be a pointer", extent);
             lowering.push(Operand::NOTHING);
         }
     }
@@ -303,7 +300,7 @@ pub fn address_of<B: Builder>(lowering: &mut Lowering<B>, token: u32) {
         _ => {
             lowering.wrong(
                 "the operand of the `&` operator must be a reference",
-                place.extent,
+                extent,
             );
             lowering.push(Operand::NOTHING);
         }

@@ -4,7 +4,7 @@ use crate::directives::filter;
 use crate::items::{Reading, part_from};
 use wgsl_text::WgslError;
 use wgsl_tokens::TokenKind;
-use wgsl_tree::{Attribute, Mode};
+use wgsl_tree::{Attribute, Mode, Part};
 use wgsl_words::{AttributeWord, attribute_of};
 
 // Reads all attributes.
@@ -60,7 +60,7 @@ fn attribute(reading: &mut Reading, first: u32) {
     let mut count = 0;
     if word == AttributeWord::Diagnostic {
         reading.parser.expect(TokenKind::ParenOpen, "expected `(`");
-        filter(&mut reading.parser);
+        count = filter(&mut reading.parser);
     } else if word.has_arguments() {
         count = arguments(reading);
     }
@@ -75,6 +75,23 @@ fn attribute(reading: &mut Reading, first: u32) {
         .parser
         .failed
         .push(&mut reading.attributes, attribute);
+}
+
+// Reports a diagnostic filter on a semicolon.
+pub(crate) fn no_filters(reading: &mut Reading, part: Part) {
+    for place in part.start..part.end {
+        match reading.attributes.get(place as usize) {
+            Some(attribute) if attribute.word == AttributeWord::Diagnostic => {
+                let at = attribute.token.saturating_sub(1);
+                let extent = reading.parser.tokens.at(at as usize).extent();
+                reading.parser.failed.fail(WgslError::malformed(
+                    "`@diagnostic(…)` attribute(s) on semicolons are not supported",
+                    extent,
+                ));
+            }
+            _ => {}
+        }
+    }
 }
 
 // Reads the arguments of an attribute. Returns their number.
