@@ -1,6 +1,6 @@
 // The items of a text.
 
-use crate::attributes::attributes;
+use crate::attributes::{attributes, check_binding};
 use crate::declarations::declaration;
 use crate::directives::directives;
 use ir_flags::Capabilities;
@@ -69,6 +69,7 @@ impl Reading {
             if self.parser.kind() == TokenKind::End && attributes.count() > 0 {
                 break;
             }
+            check_binding(self, attributes);
             declaration(self, attributes);
         }
     }
