@@ -137,7 +137,9 @@ pub fn index<B: Builder>(lowering: &mut Lowering<B>, token: u32) {
         _ => None,
     };
     if let (Some(place), Some(count)) = (known, count) {
-        if place >= count {
+        if place >= count && constant.is_some() {
+            lowering.wrong("Cannot access at the index", extent);
+        } else if place >= count {
             lowering.wrong("Index is out of bounds", index.extent);
         }
     }

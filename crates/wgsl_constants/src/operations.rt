@@ -4,6 +4,7 @@ use crate::lanes::{Evaluated, Lanes, Making};
 use ir_kinds::{
     BinaryOperator, Literal, MathFunction, RelationalFunction, UnaryOperator, VectorSize,
 };
+use wgsl_types::is_comparison;
 use wgsl_values::{Folded, fold_binary, fold_math, fold_unary};
 
 /// Evaluates a unary operator on each component.
@@ -30,6 +31,9 @@ pub fn combine(operator: BinaryOperator, left: &Lanes, right: &Lanes) -> Evaluat
     let Some(size) = size_of(left, right) else {
         return Evaluated::Open;
     };
+    if left.size != right.size && is_comparison(operator) {
+        return Evaluated::Open;
+    }
     let mut making = Making::of(size);
     let count = match size {
         Some(size) => u32::from(size),

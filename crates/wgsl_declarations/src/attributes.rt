@@ -109,21 +109,9 @@ pub(crate) fn binding<B: ModuleBuilder>(
             group: number(lowering, &group),
             binding: number(lowering, &binding),
         }),
-        (None, None) => None,
-        (Some(group), None) => missing(lowering, &group, " needs a 'binding' attribute"),
-        (None, Some(binding)) => missing(lowering, &binding, " needs a 'group' attribute"),
+        // the parser has refused one without the other
+        _ => None,
     }
-}
-
-// Reports that `@group` or `@binding` is missing.
-fn missing<B: ModuleBuilder>(
-    lowering: &mut Lowering<B>,
-    attribute: &Attribute,
-    text: &'static str,
-) -> Option<ResourceBinding> {
-    let whole = whole_extent(lowering, attribute);
-    lowering.fail(WgslError::of_name("variable ", whole, text));
-    None
 }
 
 // The span of an attribute's arguments, without the parentheses.

@@ -18,6 +18,50 @@ pub(crate) fn attributes(reading: &mut Reading) {
     }
 }
 
+// Whether an attribute is in a list.
+fn has(attributes: &[Attribute], word: AttributeWord) -> bool {
+    for attribute in attributes {
+        if attribute.word == word {
+            return true;
+        }
+    }
+    false
+}
+
+// Checks that a declaration has both `@group` and `@binding`, or neither.
+pub(crate) fn check_binding(reading: &mut Reading, part: Part) {
+    let list = reading
+        .attributes
+        .get(part.start as usize..part.end as usize)
+        .unwrap_or(&[]);
+    let (group, binding) = (
+        has(list, AttributeWord::Group),
+        has(list, AttributeWord::Binding),
+    );
+    let Some(first) = list.first() else {
+        return;
+    };
+    if group == binding {
+        return;
+    }
+    let text = if group {
+        " needs a 'binding' attribute"
+    } else {
+        " needs a 'group' attribute"
+    };
+    let start = first.token.saturating_sub(1);
+    let end = reading.parser.token().saturating_sub(1);
+    let tokens = &reading.parser.tokens;
+    let whole = tokens
+        .at(start as usize)
+        .extent()
+        .until(tokens.at(end as usize).extent());
+    reading
+        .parser
+        .failed
+        .fail(WgslError::of_name("variable ", whole, text));
+}
+
 // Whether the attributes from an index on contain this one.
 fn is_repeated(reading: &Reading, first: u32, word: AttributeWord) -> bool {
     let part = part_from(first, &reading.attributes);

@@ -1,6 +1,6 @@
 // The items of a text.
 
-use crate::attributes::{attributes, no_filters};
+use crate::attributes::{attributes, check_binding, no_filters};
 use crate::declarations::declaration;
 use crate::directives::directives;
 use ir_flags::Capabilities;
@@ -77,6 +77,7 @@ impl Reading {
                 no_filters(self, attributes);
                 continue;
             }
+            check_binding(self, attributes);
             declaration(self, attributes);
         }
     }
