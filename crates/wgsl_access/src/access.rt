@@ -137,7 +137,9 @@ pub fn index<B: Builder>(lowering: &mut Lowering<B>, token: u32) {
         _ => None,
     };
     if let (Some(place), Some(count)) = (known, count) {
-        if place >= count {
+        if place >= count && constant.is_some() {
+            lowering.wrong("Cannot access at the index", extent);
+        } else if place >= count {
             lowering.wrong("Index is out of bounds", index.extent);
         }
     }
@@ -280,10 +282,7 @@ pub fn deref<B: Builder>(lowering: &mut Lowering<B>, token: u32) {
     match value {
         Some(value) => lowering.push(Operand { value, extent }),
         None => {
-            lowering.wrong(
-                "the operand of the `*` operator must be a pointer",
-                pointer.extent,
-            );
+            lowering.wrong("the operand of the `*` operator must be a pointer", extent);
             lowering.push(Operand::NOTHING);
         }
     }
@@ -303,7 +302,7 @@ pub fn address_of<B: Builder>(lowering: &mut Lowering<B>, token: u32) {
         _ => {
             lowering.wrong(
                 "the operand of the `&` operator must be a reference",
-                place.extent,
+                extent,
             );
             lowering.push(Operand::NOTHING);
         }

@@ -111,7 +111,7 @@ static MATH: [(&str, MathFunction); 77] = [
     ("unpack4xU8", MathFunction::Unpack4xU8),
 ];
 
-static FUNCTIONS: [(&str, FunctionWord); 24] = [
+static FUNCTIONS: [(&str, FunctionWord); 23] = [
     ("all", FunctionWord::Relational(RelationalFunction::All)),
     ("any", FunctionWord::Relational(RelationalFunction::Any)),
     ("select", FunctionWord::Select),
@@ -157,7 +157,6 @@ static FUNCTIONS: [(&str, FunctionWord); 24] = [
     ("workgroupBarrier", FunctionWord::Barrier(Barrier(2))),
     ("subgroupBarrier", FunctionWord::Barrier(Barrier(4))),
     ("textureBarrier", FunctionWord::Barrier(Barrier(8))),
-    ("traceRay", FunctionWord::Other),
     ("coopLoad", FunctionWord::Other),
     ("coopLoadT", FunctionWord::Other),
     ("coopStore", FunctionWord::Other),

@@ -15,7 +15,7 @@ pub enum RayWord {
     Intersection,
 }
 
-/// A ray query function.
+/// A function of ray queries or of ray tracing pipelines.
 #[derive(Clone, Copy, PartialEq, Eq)]
 pub enum RayFunction {
     /// `rayQueryInitialize`.
@@ -32,6 +32,8 @@ pub enum RayFunction {
     Intersection(bool),
     /// `getCommittedHitVertexPositions`, or else `getCandidateHitVertexPositions`.
     Vertices(bool),
+    /// `traceRay`.
+    Trace,
 }
 
 impl RayFunction {
@@ -44,7 +46,7 @@ impl RayFunction {
     }
 }
 
-static FUNCTIONS: [(&str, RayFunction); 9] = [
+static FUNCTIONS: [(&str, RayFunction); 10] = [
     ("rayQueryInitialize", RayFunction::Initialize),
     ("rayQueryProceed", RayFunction::Proceed),
     (
@@ -72,9 +74,10 @@ static FUNCTIONS: [(&str, RayFunction); 9] = [
         "getCandidateHitVertexPositions",
         RayFunction::Vertices(false),
     ),
+    ("traceRay", RayFunction::Trace),
 ];
 
-/// The ray query function with this name.
+/// The function of rays with this name.
 pub fn ray_function_of(word: &[u8]) -> Option<RayFunction> {
     find(&FUNCTIONS, word)
 }

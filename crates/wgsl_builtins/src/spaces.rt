@@ -4,7 +4,7 @@ use ir_flags::StorageAccess;
 use ir_kinds::AddressSpace;
 use wgsl_words::find;
 
-static SPACES: [(&str, AddressSpace); 6] = [
+static SPACES: [(&str, AddressSpace); 9] = [
     ("function", AddressSpace::Function),
     ("private", AddressSpace::Private),
     ("workgroup", AddressSpace::WorkGroup),
@@ -16,6 +16,9 @@ static SPACES: [(&str, AddressSpace); 6] = [
         },
     ),
     ("immediate", AddressSpace::Immediate),
+    ("task_payload", AddressSpace::TaskPayload),
+    ("ray_payload", AddressSpace::RayPayload),
+    ("incoming_ray_payload", AddressSpace::IncomingRayPayload),
 ];
 
 /// The address space with this name; `storage` has no access yet.

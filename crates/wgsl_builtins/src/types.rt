@@ -32,6 +32,8 @@ pub enum TypeWord {
     BindingArray,
     /// A ray query type.
     Ray(RayWord),
+    /// A cooperative matrix.
+    Cooperative,
     /// An unsupported type.
     Other,
 }
@@ -230,8 +232,8 @@ static TYPES: [(&str, TypeWord); 81] = [
     ("RayDesc", TypeWord::Ray(RayWord::Descriptor)),
     ("RayIntersection", TypeWord::Ray(RayWord::Intersection)),
     ("binding_array", TypeWord::BindingArray),
-    ("coop_mat8x8", TypeWord::Other),
-    ("coop_mat16x16", TypeWord::Other),
+    ("coop_mat8x8", TypeWord::Cooperative),
+    ("coop_mat16x16", TypeWord::Cooperative),
 ];
 
 /// The predeclared type or type generator with this name.

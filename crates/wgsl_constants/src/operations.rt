@@ -2,8 +2,9 @@
 
 use crate::lanes::{Evaluated, Lanes, Making};
 use ir_kinds::{
-    BinaryOperator, Literal, MathFunction, RelationalFunction, Scalar, UnaryOperator, VectorSize,
+    BinaryOperator, Literal, MathFunction, RelationalFunction, UnaryOperator, VectorSize,
 };
+use wgsl_types::is_comparison;
 use wgsl_values::{Folded, fold_binary, fold_math, fold_unary};
 
 /// Evaluates a unary operator on each component.
@@ -30,6 +31,9 @@ pub fn combine(operator: BinaryOperator, left: &Lanes, right: &Lanes) -> Evaluat
     let Some(size) = size_of(left, right) else {
         return Evaluated::Open;
     };
+    if left.size != right.size && is_comparison(operator) {
+        return Evaluated::Open;
+    }
     let mut making = Making::of(size);
     let count = match size {
         Some(size) => u32::from(size),
@@ -79,7 +83,8 @@ fn length(value: &Lanes) -> Folded {
     }
     match products(value, value) {
         Folded::Made(sum) => fold_math(MathFunction::Sqrt, &[sum]),
-        other => other,
+        Folded::Wrong(_) => Folded::Wrong("length operation overflowed"),
+        Folded::Open => Folded::Open,
     }
 }
 
@@ -119,7 +124,31 @@ fn cross(left: &Lanes, right: &Lanes) -> Evaluated {
 fn scalar_of(folded: Folded) -> Evaluated {
     match folded {
         Folded::Made(literal) => Evaluated::Made(Lanes::of_scalar(literal)),
-        Folded::Wrong(_) | Folded::Open => Evaluated::Open,
+        Folded::Wrong(text) => Evaluated::Wrong(text),
+        Folded::Open => Evaluated::Open,
+    }
+}
+
+// Whether a float is zero.
+fn is_zero(literal: Literal) -> bool {
+    match literal {
+        Literal::AbstractFloat(bits) => bits & 0x7fff_ffff_ffff_ffff == 0,
+        Literal::F64(bits) => bits & 0x7fff_ffff_ffff_ffff == 0,
+        Literal::F32(bits) => bits & 0x7fff_ffff == 0,
+        Literal::F16(bits) => bits & 0x7fff == 0,
+        _ => false,
+    }
+}
+
+// `normalize` of a vector.
+fn normalize(value: &Lanes) -> Evaluated {
+    match length(value) {
+        Folded::Made(long) if is_zero(long) => {
+            Evaluated::Wrong("normalize built-in function argument is out of valid range")
+        }
+        Folded::Made(long) => combine(BinaryOperator::Divide, value, &Lanes::of_scalar(long)),
+        Folded::Wrong(_) => Evaluated::Wrong("normalize operation overflowed"),
+        Folded::Open => Evaluated::Open,
     }
 }
 
@@ -132,13 +161,10 @@ pub fn geometric(function: MathFunction, first: &Lanes, second: Option<Lanes>) -
         (MathFunction::Distance, Some(second)) => {
             match combine(BinaryOperator::Subtract, first, &second) {
                 Evaluated::Made(between) => scalar_of(length(&between)),
-                _ => Evaluated::Open,
+                other => other,
             }
         }
-        (MathFunction::Normalize, None) => match scalar_of(length(first)) {
-            Evaluated::Made(long) => combine(BinaryOperator::Divide, first, &long),
-            other => other,
-        },
+        (MathFunction::Normalize, None) => normalize(first),
         _ => Evaluated::Open,
     }
 }
@@ -156,6 +182,8 @@ fn products(left: &Lanes, right: &Lanes) -> Folded {
             (Folded::Made(sum), Folded::Made(product)) => {
                 fold_binary(BinaryOperator::Add, sum, product)
             }
+            (Folded::Wrong(text), _) => Folded::Wrong(text),
+            (_, Folded::Wrong(text)) => Folded::Wrong(text),
             _ => Folded::Open,
         };
     }
@@ -169,10 +197,8 @@ fn dot(left: &Lanes, right: &Lanes) -> Evaluated {
     }
     match products(left, right) {
         Folded::Made(literal) => Evaluated::Made(Lanes::of_scalar(literal)),
-        _ if left.scalar() == Scalar::ABSTRACT_INT => {
-            Evaluated::Wrong("in dot built-in operation overflowed")
-        }
-        _ => Evaluated::Open,
+        Folded::Wrong(_) => Evaluated::Wrong("in dot built-in operation overflowed"),
+        Folded::Open => Evaluated::Open,
     }
 }
 

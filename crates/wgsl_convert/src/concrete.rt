@@ -11,8 +11,8 @@ use wgsl_text::{Extent, WgslError};
 use wgsl_types::{Builder, RowKind, Shape, TypeTable};
 use wgsl_values::{concrete_scalar, converted};
 
-// A value is not representable in a type.
-const UNFIT: &str = "the concrete type cannot represent the abstract value accurately";
+/// The message for a value that is not representable in a type.
+pub const UNFIT: &str = "the concrete type cannot represent the abstract value accurately";
 
 // Whether there is no automatic conversion between the scalar types, whatever the value.
 pub(crate) fn is_lossy(from: Scalar, to: Scalar) -> bool {

@@ -36,7 +36,7 @@ pub enum Value {
     BuiltIn(FunctionWord),
     /// Between the operands of `&&` or `||`: the local variable of the result.
     Pending(u32),
-    /// Between the operands of `&&` or `||` if the first operand is constant.
+    /// Between the operands of `&&` or `||` if the first operand is constant, or if both are part of an override's value.
     PendingLiteral,
 }
 

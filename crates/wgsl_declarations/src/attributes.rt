@@ -2,11 +2,12 @@
 
 use crate::builder::ModuleBuilder;
 use ir_flags::Capabilities;
-use ir_kinds::{EarlyDepthTest, Literal, ResourceBinding, ShaderStage};
-use wgsl_expressions::{Lowering, Operand, Value};
+use ir_kinds::{EarlyDepthTest, Literal, ResourceBinding, Scalar, ShaderStage};
+use wgsl_expressions::{Declared, Lowering, Operand, Value};
 use wgsl_functions::lower_steps;
 use wgsl_text::{Extent, WgslError};
 use wgsl_tree::{Attribute, Part, StepKind};
+use wgsl_types::Shape;
 use wgsl_words::{AttributeWord, depth_test_of};
 
 // The attribute with this name in this list.
@@ -63,7 +64,10 @@ pub(crate) fn number<B: ModuleBuilder>(lowering: &mut Lowering<B>, attribute: &A
     match found {
         Some(number) => number,
         None => {
-            let extent = arguments_extent(lowering, attribute);
+            let extent = match given.first() {
+                Some(first) if given.len() == 1 => first.extent,
+                _ => arguments_extent(lowering, attribute),
+            };
             if is_negative {
                 lowering.wrong("must be non-negative (>= 0)", extent);
             }
@@ -105,21 +109,9 @@ pub(crate) fn binding<B: ModuleBuilder>(
             group: number(lowering, &group),
             binding: number(lowering, &binding),
         }),
-        (None, None) => None,
-        (Some(group), None) => missing(lowering, &group, " needs a 'binding' attribute"),
-        (None, Some(binding)) => missing(lowering, &binding, " needs a 'group' attribute"),
+        // the parser has refused one without the other
+        _ => None,
     }
-}
-
-// Reports that `@group` or `@binding` is missing.
-fn missing<B: ModuleBuilder>(
-    lowering: &mut Lowering<B>,
-    attribute: &Attribute,
-    text: &'static str,
-) -> Option<ResourceBinding> {
-    let whole = whole_extent(lowering, attribute);
-    lowering.fail(WgslError::of_name("variable ", whole, text));
-    None
 }
 
 // The span of an attribute's arguments, without the parentheses.
@@ -154,12 +146,20 @@ pub(crate) fn whole_extent<B: ModuleBuilder>(
     }
 }
 
-// Whether it is a shader stage attribute.
-fn is_stage(word: AttributeWord) -> bool {
-    matches!(
-        word,
-        AttributeWord::Compute | AttributeWord::Vertex | AttributeWord::Fragment
-    )
+// The shader stage of an attribute, if it is for one.
+fn stage_of(word: AttributeWord) -> Option<ShaderStage> {
+    match word {
+        AttributeWord::Compute => Some(ShaderStage::Compute),
+        AttributeWord::Vertex => Some(ShaderStage::Vertex),
+        AttributeWord::Fragment => Some(ShaderStage::Fragment),
+        AttributeWord::Task => Some(ShaderStage::Task),
+        AttributeWord::Mesh => Some(ShaderStage::Mesh),
+        AttributeWord::RayGeneration => Some(ShaderStage::RayGeneration),
+        AttributeWord::AnyHit => Some(ShaderStage::AnyHit),
+        AttributeWord::ClosestHit => Some(ShaderStage::ClosestHit),
+        AttributeWord::Miss => Some(ShaderStage::Miss),
+        _ => None,
+    }
 }
 
 // Whether it applies to members, parameters and results.
@@ -203,14 +203,6 @@ fn extension_of(word: AttributeWord) -> Option<(Capabilities, &'static str)> {
     }
 }
 
-// Whether it belongs to an unsupported shader stage.
-fn is_untranslated(word: AttributeWord) -> bool {
-    match extension_of(word) {
-        Some(_) => !matches!(word, AttributeWord::BlendSrc | AttributeWord::PerPrimitive),
-        None => false,
-    }
-}
-
 // Checks that each attribute applies to its declaration, and that its extension is enabled.
 pub(crate) fn check<B: ModuleBuilder>(lowering: &mut Lowering<B>, part: Part, members: bool) {
     for place in part.start..part.end {
@@ -226,9 +218,6 @@ pub(crate) fn check<B: ModuleBuilder>(lowering: &mut Lowering<B>, part: Part, me
             if lowering.tree.enabled.0 & capability.0 == 0 {
                 lowering.wrong(text, extent);
             }
-        }
-        if is_untranslated(word) {
-            lowering.unsupported_name("the attribute ", extent);
         }
         if word == AttributeWord::EarlyDepthTest {
             let _ = depth_test(lowering, &attribute);
@@ -262,55 +251,100 @@ pub(crate) fn early_depth_test<B: ModuleBuilder>(
     depth_test(lowering, &attribute)
 }
 
-// The shader stage of a function, if it is an entry point.
+// The shader stage of a function with the span of its attribute, if it is an entry point.
 pub(crate) fn stage<B: ModuleBuilder>(
     lowering: &mut Lowering<B>,
     part: Part,
-) -> Option<ShaderStage> {
+) -> Option<(ShaderStage, Extent)> {
     let mut found = None;
     for place in part.start..part.end {
         let Some(attribute) = lowering.tree.attributes.get(place as usize).copied() else {
             break;
         };
-        if found.is_some() && is_stage(attribute.word) {
+        if let Some(stage) = stage_of(attribute.word) {
             let extent = lowering.extent(attribute.token);
-            lowering.fail(WgslError::of_name("repeated attribute: ", extent, ""));
-        }
-        match attribute.word {
-            AttributeWord::Compute => found = Some(ShaderStage::Compute),
-            AttributeWord::Vertex => found = Some(ShaderStage::Vertex),
-            AttributeWord::Fragment => found = Some(ShaderStage::Fragment),
-            _ => {}
+            if found.is_some() {
+                lowering.fail(WgslError::of_name("repeated attribute: ", extent, ""));
+            }
+            found = Some((stage, extent));
         }
     }
     found
+}
+
+// The index of the variable that an attribute names, if there is one.
+pub(crate) fn named_variable<B: ModuleBuilder>(
+    lowering: &mut Lowering<B>,
+    part: Part,
+    word: AttributeWord,
+) -> Option<u32> {
+    let attribute = find(lowering, part, word)?;
+    let Some((name, extent)) = word_of(lowering, &attribute, 0) else {
+        let extent = arguments_extent(lowering, &attribute);
+        lowering.wrong("expected identifier", extent);
+        return None;
+    };
+    match lowering.item(name) {
+        Some(Declared::Variable(number, _, _)) => Some(number),
+        Some(_) => {
+            lowering.wrong("expected global variable", extent);
+            None
+        }
+        None => {
+            lowering.undefined(name, extent);
+            None
+        }
+    }
+}
+
+// The size of workgroups in one dimension. By an override it is 1: the IR does not keep the expression, which is validated as a global
+// expression.
+fn dimension<B: ModuleBuilder>(lowering: &mut Lowering<B>, operand: &Operand) -> u32 {
+    if let Some(number) = number_of(&operand.value) {
+        return number;
+    }
+    let is_negative = match operand.value {
+        Value::Literal(Literal::AbstractInt(number)) => number < 0,
+        Value::Literal(Literal::I32(number)) => number < 0,
+        _ => false,
+    };
+    if is_negative {
+        lowering.wrong("must be non-negative (>= 0)", operand.extent);
+        return 1;
+    }
+    let is_known = lowering.known_of(operand).is_some();
+    let (_, shape) = lowering.value(*operand);
+    if is_known || (shape != Shape::Scalar(Scalar::I32) && shape != Shape::Scalar(Scalar::U32)) {
+        lowering.wrong(
+            "must be a const-expression that resolves to a concrete integer scalar (`u32` or `i32`)",
+            operand.extent,
+        );
+    }
+    1
 }
 
 // The workgroup size.
 pub(crate) fn workgroup_size<B: ModuleBuilder>(
     lowering: &mut Lowering<B>,
     part: Part,
-    name: Extent,
+    stage: Extent,
 ) -> [u32; 3] {
     let Some(attribute) = find(lowering, part, AttributeWord::WorkgroupSize) else {
         lowering.wrong(
             "workgroup size is missing on compute shader entry point",
-            name,
+            stage,
         );
         return [1, 1, 1];
     };
-    let extent = lowering.extent(attribute.token);
     let given = arguments(lowering, &attribute);
     let mut size = [1, 1, 1];
-    if given.len() > 3 {
-        lowering.wrong("too many arguments of `workgroup_size`", extent);
+    if let Some(fourth) = given.get(3) {
+        lowering.wrong("too many arguments of `workgroup_size`", fourth.extent);
     }
     for (place, operand) in given.iter().enumerate() {
-        match (number_of(&operand.value), size.get_mut(place)) {
-            (Some(number), Some(dimension)) => *dimension = number,
-            _ => {
-                lowering.unsupported("a size of workgroups that is no number", operand.extent);
-            }
+        let number = dimension(lowering, operand);
+        if let Some(dimension) = size.get_mut(place) {
+            *dimension = number;
         }
     }
     size

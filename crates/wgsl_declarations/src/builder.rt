@@ -1,7 +1,7 @@
 // The interface through which modules are built.
 
 use ir_flags::Capabilities;
-use ir_items::{Constant, FunctionArgument, FunctionResult, GlobalVariable};
+use ir_items::{Constant, DiagnosticFilter, FunctionArgument, FunctionResult, GlobalVariable};
 use ir_kinds::{EarlyDepthTest, ShaderStage};
 use wgsl_text::Extent;
 use wgsl_types::Builder;
@@ -15,6 +15,10 @@ pub struct EntryHead {
     pub size: [u32; 3],
     /// The early depth test, if it has one.
     pub depth_test: Option<EarlyDepthTest>,
+    /// The index of the output variable of a mesh shader.
+    pub mesh: Option<u32>,
+    /// The index of the variable with the task payload.
+    pub payload: Option<u32>,
 }
 
 /// The target that a module is emitted into.
@@ -24,6 +28,12 @@ pub trait ModuleBuilder: Builder {
 
     /// Adds a global variable; returns its index.
     fn variable(&mut self, variable: GlobalVariable, extent: Extent) -> u32;
+
+    /// Adds a diagnostic filter, for the module if it is before the first declaration, else for the next function.
+    fn filter(&mut self, filter: DiagnosticFilter, extent: Extent);
+
+    /// Ends the diagnostic filters of the module.
+    fn end_directives(&mut self);
 
     /// Adds a constant; returns its index.
     fn constant(&mut self, constant: Constant, extent: Extent) -> u32;

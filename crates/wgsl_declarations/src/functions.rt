@@ -1,7 +1,8 @@
 // Functions and entry points.
 
-use crate::attributes::{binding, early_depth_test, find, stage, workgroup_size};
+use crate::attributes::{binding, early_depth_test, find, named_variable, stage, workgroup_size};
 use crate::builder::{EntryHead, ModuleBuilder};
+use crate::filters::filters;
 use crate::interface::bound;
 use crate::structs::shape_of;
 use ir_items::{FunctionArgument, FunctionResult};
@@ -9,7 +10,7 @@ use ir_kinds::ShaderStage;
 use ir_types::Expression;
 use wgsl_expressions::{Declared, FunctionEntry, Lowering, Value};
 use wgsl_statements::lower_body;
-use wgsl_text::{Failure, WgslError};
+use wgsl_text::{Extent, Failure, WgslError};
 use wgsl_tree::{Item, Member, Part};
 use wgsl_types::Shape;
 use wgsl_words::AttributeWord;
@@ -101,6 +102,39 @@ fn argument_count<B: ModuleBuilder>(lowering: &Lowering<B>) -> u32 {
     u32::try_from(lowering.arguments.len()).unwrap_or(u32::MAX)
 }
 
+// The properties of an entry point.
+fn entry_head<B: ModuleBuilder>(
+    lowering: &mut Lowering<B>,
+    part: Part,
+    stage: ShaderStage,
+    size: [u32; 3],
+) -> EntryHead {
+    // the IR does not keep the payload of an incoming ray
+    let _ = named_variable(lowering, part, AttributeWord::IncomingPayload);
+    EntryHead {
+        stage,
+        size,
+        depth_test: early_depth_test(lowering, part),
+        mesh: named_variable(lowering, part, AttributeWord::Mesh),
+        payload: named_variable(lowering, part, AttributeWord::Payload),
+    }
+}
+
+// The workgroup size of an entry point; zeros for a function of no stage, or of one without workgroups.
+fn size_in<B: ModuleBuilder>(
+    lowering: &mut Lowering<B>,
+    part: Part,
+    stage: Option<(ShaderStage, Extent)>,
+) -> [u32; 3] {
+    let has_size = find(lowering, part, AttributeWord::WorkgroupSize).is_some();
+    match stage {
+        Some((stage, extent)) if has_size || stage.compute_like() => {
+            workgroup_size(lowering, part, extent)
+        }
+        _ => [0, 0, 0],
+    }
+}
+
 // Lowers a function.
 pub(crate) fn function<B: ModuleBuilder>(
     lowering: &mut Lowering<B>,
@@ -110,10 +144,8 @@ pub(crate) fn function<B: ModuleBuilder>(
     let name = lowering.extent(item.token);
     let stage = stage(lowering, item.attributes);
     let _ = binding(lowering, item.attributes);
-    let size = match stage {
-        Some(ShaderStage::Compute) => workgroup_size(lowering, item.attributes, name),
-        _ => [0, 0, 0],
-    };
+    filters(lowering, item.attributes, false);
+    let size = size_in(lowering, item.attributes, stage);
     let (gives, shape) = result_of(lowering, item, has_result);
     let start = argument_count(lowering);
     lowering.builder.set_global(false);
@@ -127,23 +159,12 @@ pub(crate) fn function<B: ModuleBuilder>(
     lowering.join(&failed);
     let title = lowering.name_at(item.token);
     let number = match stage {
-        Some(stage) => {
-            let head = EntryHead {
-                stage,
-                size,
-                depth_test: early_depth_test(lowering, item.attributes),
-            };
+        Some((stage, _)) => {
+            let head = entry_head(lowering, item.attributes, stage, size);
             lowering.builder.end_entry(head, title, arguments, gives);
             None
         }
-        None => {
-            let extent = name;
-            Some(
-                lowering
-                    .builder
-                    .end_function(title, arguments, gives, extent),
-            )
-        }
+        None => Some(lowering.builder.end_function(title, arguments, gives, name)),
     };
     lowering.builder.set_global(true);
     Declared::Function(FunctionEntry {

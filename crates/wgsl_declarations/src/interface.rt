@@ -32,25 +32,49 @@ fn built_in<B: ModuleBuilder>(
     }
 }
 
-// Records the capability that a built-in value requires.
+// The extension that a built-in value requires: its capability, and the error if it is not enabled.
+fn extension_of(built_in: BuiltIn) -> Option<(Capabilities, &'static str)> {
+    match built_in {
+        BuiltIn::PrimitiveIndex => Some((
+            Capabilities::PRIMITIVE_INDEX,
+            "the `primitive_index` enable extension is not enabled",
+        )),
+        BuiltIn::ClipDistances => Some((
+            Capabilities::CLIP_DISTANCES,
+            "the `clip_distances` enable extension is not enabled",
+        )),
+        BuiltIn::DrawIndex => Some((
+            Capabilities::DRAW_INDEX,
+            "the `draw_index` enable extension is not enabled",
+        )),
+        BuiltIn::CullPrimitive
+        | BuiltIn::PointIndex
+        | BuiltIn::LineIndices
+        | BuiltIn::TriangleIndices
+        | BuiltIn::VertexCount
+        | BuiltIn::Vertices
+        | BuiltIn::PrimitiveCount
+        | BuiltIn::Primitives => Some((
+            Capabilities::MESH_SHADER,
+            "the `wgpu_mesh_shader` enable extension is not enabled",
+        )),
+        _ => None,
+    }
+}
+
+// Checks that the extension for a built-in value is enabled, and records the capability that it requires.
 fn require_built_in<B: ModuleBuilder>(
     lowering: &mut Lowering<B>,
     built_in: BuiltIn,
     extent: Extent,
 ) {
-    let enabled = lowering.tree.enabled.0;
-    let wanted = match built_in {
-        BuiltIn::PrimitiveIndex => Capabilities::PRIMITIVE_INDEX.0,
-        BuiltIn::ClipDistances => Capabilities::CLIP_DISTANCES.0,
-        BuiltIn::DrawIndex => Capabilities::DRAW_INDEX.0,
-        BuiltIn::SampleIndex => {
-            lowering.builder.require(Capabilities::MULTISAMPLED_SHADING);
-            0
+    if matches!(built_in, BuiltIn::SampleIndex) {
+        lowering.builder.require(Capabilities::MULTISAMPLED_SHADING);
+    }
+    if let Some((capability, text)) = extension_of(built_in) {
+        if lowering.tree.enabled.0 & capability.0 == 0 {
+            lowering.wrong(text, extent);
         }
-        _ => 0,
-    };
-    if wanted & enabled != wanted {
-        lowering.fail(WgslError::of_name("the extension for ", extent, " is not enabled"));
     }
 }
 

@@ -2,6 +2,7 @@
 
 use crate::attributes::{check, find};
 use crate::builder::ModuleBuilder;
+use crate::filters::{filters, no_filters};
 use crate::functions::function;
 use crate::structs::{shape_of, structure};
 use crate::variables::{assertion, constant, overridable, variable};
@@ -12,6 +13,7 @@ use wgsl_words::AttributeWord;
 // Lowers a declaration.
 fn declared<B: ModuleBuilder>(lowering: &mut Lowering<B>, item: &Item) -> Declared {
     check(lowering, item.attributes, false);
+    no_filters(lowering, item);
     if !matches!(item.kind, ItemKind::Function(_)) {
         let must_use = find(lowering, item.attributes, AttributeWord::MustUse);
         if let Some(attribute) = must_use {
@@ -45,6 +47,9 @@ fn declared<B: ModuleBuilder>(lowering: &mut Lowering<B>, item: &Item) -> Declar
 /// Lowers all declarations, until an error occurs.
 pub fn lower_items<B: ModuleBuilder>(lowering: &mut Lowering<B>) {
     lowering.builder.set_global(true);
+    let directives = lowering.tree.directives;
+    filters(lowering, directives, true);
+    lowering.builder.end_directives();
     for place in 0..lowering.names.order.len() {
         if lowering.has_failed() {
             break;

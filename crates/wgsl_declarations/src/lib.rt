@@ -3,6 +3,7 @@
 
 mod attributes;
 mod builder;
+mod filters;
 mod functions;
 mod interface;
 mod items;

@@ -128,13 +128,20 @@ fn initial<B: ModuleBuilder>(
     }
 }
 
+// Lowers the steps of a constant expression.
+fn lower_constant<B: ModuleBuilder>(lowering: &mut Lowering<B>, item: &Item) {
+    lowering.skips = true;
+    lower_steps(lowering, item.steps);
+    lowering.skips = false;
+}
+
 // Lowers a `const`.
 pub(crate) fn constant<B: ModuleBuilder>(
     lowering: &mut Lowering<B>,
     item: &Item,
     is_typed: bool,
 ) -> Declared {
-    lower_steps(lowering, item.steps);
+    lower_constant(lowering, item);
     let operand = lowering.pop();
     let wanted = if is_typed {
         let ty = lowering.pop();
@@ -169,7 +176,7 @@ fn not_known<B: ModuleBuilder>(lowering: &mut Lowering<B>, operand: Operand) -> 
 
 // Lowers a `const_assert`.
 pub(crate) fn assertion<B: ModuleBuilder>(lowering: &mut Lowering<B>, item: &Item) -> Declared {
-    lower_steps(lowering, item.steps);
+    lower_constant(lowering, item);
     let operand = lowering.pop();
     match operand.value {
         Value::Literal(Literal::Bool(true)) => {}

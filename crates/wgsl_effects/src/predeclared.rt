@@ -23,8 +23,8 @@ fn sized(size: Option<VectorSize>, scalar: Scalar) -> Shape {
     }
 }
 
-// The members `fract` and `whole` or `exp`, whose scalars have at most this many bytes.
-fn split(size: Option<VectorSize>, name: &'static str, scalars: [Scalar; 2], widest: u8) -> Pair {
+// The members `fract` and `whole` or `exp`, whose scalars have the same width.
+fn split(size: Option<VectorSize>, name: &'static str, scalars: [Scalar; 2]) -> Pair {
     let [fraction, rest] = scalars;
     let count = match size {
         Some(size) => u32::from(size),
@@ -33,7 +33,7 @@ fn split(size: Option<VectorSize>, name: &'static str, scalars: [Scalar; 2], wid
     Pair {
         names: ["fract", name],
         shapes: [sized(size, fraction), sized(size, rest)],
-        offset: count.saturating_mul(u32::from(widest)),
+        offset: count.saturating_mul(u32::from(fraction.width)),
     }
 }
 
@@ -45,12 +45,14 @@ fn pair_of(of: PredeclaredType) -> Pair {
             shapes: [Shape::Scalar(scalar), Shape::Scalar(Scalar::BOOL)],
             offset: u32::from(scalar.width),
         },
-        PredeclaredType::ModfResult { size, scalar } => {
-            split(size, "whole", [scalar, scalar], scalar.width)
-        }
-        // the exponent is an `i32`, also for `f16`
+        PredeclaredType::ModfResult { size, scalar } => { split(size, "whole", [scalar, scalar]) }
+        // the exponent has as many bits as the fraction
         PredeclaredType::FrexpResult { size, scalar } => {
-            split(size, "exp", [scalar, Scalar::I32], scalar.width.max(4))
+            let exponent = Scalar {
+                kind: ScalarKind::Sint,
+                width: scalar.width,
+            };
+            split(size, "exp", [scalar, exponent])
         }
     }
 }

@@ -1,7 +1,7 @@
 // Ray query functions.
 
 use crate::arguments::{argument, check_count, pointed};
-use ir_blocks::{RayQueryFunction, Statement};
+use ir_blocks::{RayPipelineFunction, RayQueryFunction, Statement};
 use ir_kinds::Scalar;
 use ir_types::Expression;
 use wgsl_builtins::RayFunction;
@@ -97,13 +97,39 @@ fn proceed<B: Builder>(
     Operand::computed(number, Shape::Scalar(Scalar::BOOL), extent)
 }
 
-// Lowers a call of a ray query function.
+// `traceRay`.
+fn trace<B: Builder>(lowering: &mut Lowering<B>, arguments: &[Operand], extent: Extent) -> Operand {
+    if !check_count(lowering, arguments, 3, extent) {
+        return Operand::NOTHING;
+    }
+    let acceleration_structure = handle(lowering, arguments, 0);
+    let descriptor = handle(lowering, arguments, 1);
+    let payload = handle(lowering, arguments, 2);
+    let _ = lowering.ray_type(RayStruct::Descriptor, extent);
+    let fun = RayPipelineFunction::TraceRay {
+        acceleration_structure,
+        descriptor,
+        payload,
+    };
+    lowering
+        .builder
+        .statement(Statement::RayPipelineFunction(fun), extent);
+    Operand {
+        value: Value::Nothing,
+        extent,
+    }
+}
+
+// Lowers a call of a ray query function, or of `traceRay`.
 pub(crate) fn ray<B: Builder>(
     lowering: &mut Lowering<B>,
     function: RayFunction,
     arguments: &[Operand],
     extent: Extent,
 ) -> Operand {
+    if matches!(function, RayFunction::Trace) {
+        return trace(lowering, arguments, extent);
+    }
     let Some(query) = query_of(lowering, arguments, count_of(function), extent) else {
         return Operand::NOTHING;
     };
@@ -129,6 +155,7 @@ pub(crate) fn ray<B: Builder>(
             let found = Expression::RayQueryGetIntersection { query, committed };
             Operand::computed(lowering.compute(found, extent), shape, extent)
         }
+        RayFunction::Trace => Operand::NOTHING,
         RayFunction::Vertices(committed) => {
             let shape = lowering.ray_type(RayStruct::Vertices, extent);
             let found = Expression::RayQueryVertexPositions { query, committed };

@@ -13,5 +13,5 @@ mod templates;
 mod values;
 
 pub use declared::{Declared, FunctionEntry};
-pub use lowering::{Lowering, MAX_LEVEL};
+pub use lowering::{Lowering, MAX_LEVEL, Skipped};
 pub use values::{Operand, Value, handle_of, number_of};

@@ -14,6 +14,17 @@ use wgsl_types::{Builder, Shape, TypeHandle, TypeTable};
 /// The maximum number of nested blocks around a statement, where a switch counts as two. Documents have the same limit.
 pub const MAX_LEVEL: u32 = 60;
 
+/// The part of a constant expression that is not evaluated: the right operand of `&&` or `||` whose left operand decides the result.
+#[derive(Clone, Copy)]
+pub struct Skipped {
+    /// The result.
+    pub value: bool,
+    /// The span of the expression up to the last skipped step.
+    pub extent: Extent,
+    /// The number of operators whose right operands contain the next step.
+    pub depth: u32,
+}
+
 /// The state of lowering: the parsed text, and the builder that IR is emitted into.
 pub struct Lowering<B: Builder> {
     /// The allocator.
@@ -36,6 +47,11 @@ pub struct Lowering<B: Builder> {
     pub stack: Vec<Operand>,
     /// The number of blocks around the current statement, as [`MAX_LEVEL`] counts them.
     pub level: u32,
+    /// Whether the expression is that of a `const` or a `const_assert` of the module, where a right operand of `&&` or `||` may be
+    /// skipped.
+    pub skips: bool,
+    /// The right operand that is skipped, if the next step belongs to one.
+    pub skipped: Option<Skipped>,
     /// The builder.
     pub builder: B,
 }
@@ -63,6 +79,8 @@ impl<B: Builder> Lowering<B> {
             scopes,
             stack: Vec::new(alloc),
             level: 0,
+            skips: false,
+            skipped: None,
             builder,
         }
     }
@@ -80,6 +98,8 @@ impl<B: Builder> Lowering<B> {
             scopes: _scopes,
             stack: _stack,
             level: _,
+            skips: _,
+            skipped: _,
             builder,
         } = self;
         builder

@@ -11,8 +11,8 @@ use wgsl_text::Extent;
 use wgsl_types::{Builder, Shape};
 
 impl<B: Builder> Lowering<B> {
-    // The declaration that a word denotes.
-    fn item(&self, name: u32) -> Option<Declared> {
+    /// The declaration of the module that a word denotes.
+    pub fn item(&self, name: u32) -> Option<Declared> {
         match self.names.items.get(name as usize) {
             Some(0) | None => None,
             Some(place) => self.items.get(place.saturating_sub(1) as usize).copied(),

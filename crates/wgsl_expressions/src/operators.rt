@@ -4,8 +4,8 @@ use crate::lowering::Lowering;
 use crate::values::{Operand, Value, handle_of};
 use ir_kinds::{BinaryOperator, Scalar, ScalarKind, UnaryOperator};
 use ir_types::Expression;
-use wgsl_constants::{Lanes, combine, negate};
-use wgsl_convert::ColumnStep;
+use wgsl_constants::{Known, Lanes, combine, negate};
+use wgsl_convert::{ColumnStep, of_matrices};
 use wgsl_text::Extent;
 use wgsl_types::{Builder, Shape, result_of, splats};
 
@@ -87,7 +87,6 @@ impl<B: Builder> Lowering<B> {
         extent: Extent,
     ) -> Option<Value> {
         let (first, second) = (self.known_of(left)?, self.known_of(right)?);
-        // a constant matrix is only evaluated in a product with a scalar
         let is_product = matches!(op, BinaryOperator::Multiply);
         match (self.store.lanes(first), self.store.lanes(second)) {
             (Some(first), Some(second)) => match self.known_pair(op, &first, &second) {
@@ -106,7 +105,25 @@ impl<B: Builder> Lowering<B> {
                     None => self.stays(extent),
                 }
             }
-            _ => self.stays(extent),
+            _ => match common(self.scalar_of(left)?, self.scalar_of(right)?) {
+                Some(scalar) => self.known_matrices(op, first, second, scalar, extent),
+                None => self.stays(extent),
+            },
+        }
+    }
+
+    // Evaluates a binary operator on two constants, one of them a matrix and neither a scalar.
+    fn known_matrices(
+        &mut self,
+        op: BinaryOperator,
+        first: Known,
+        second: Known,
+        scalar: Scalar,
+        extent: Extent,
+    ) -> Option<Value> {
+        match of_matrices(&mut self.store, op, first, second, scalar) {
+            Ok(made) => Some(self.value_of(made)),
+            Err(evaluated) => self.settled(evaluated, extent),
         }
     }
 

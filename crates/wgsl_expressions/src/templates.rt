@@ -60,6 +60,7 @@ impl<B: Builder> Lowering<B> {
                 self.unsupported_name("the type ", extent);
                 Shape::None
             }
+            Value::Maker(TypeWord::Cooperative) => self.cooperative(extent),
             Value::Maker(_) => {
                 let error = WgslError::of_name("", extent, " needs a template argument specified");
                 self.fail(error);
@@ -74,6 +75,16 @@ impl<B: Builder> Lowering<B> {
                 Shape::None
             }
         }
+    }
+
+    // Reports that a cooperative matrix type is not enabled or not supported.
+    fn cooperative(&mut self, extent: Extent) -> Shape {
+        if self.tree.enabled.0 & Capabilities::COOPERATIVE_MATRIX.0 == 0 {
+            let text = "the `wgpu_cooperative_matrix` enable extension is not enabled";
+            self.wrong(text, extent);
+        }
+        self.unsupported_name("the type ", extent);
+        Shape::None
     }
 
     // The scalar of an operand that must denote a scalar type.
@@ -168,6 +179,26 @@ impl<B: Builder> Lowering<B> {
             .bindings(&mut self.builder, element, &size, extent)
     }
 
+    // Checks that the extension for an address space is enabled.
+    fn check_space(&mut self, space: AddressSpace, extent: Extent) {
+        let enabled = self.tree.enabled.0;
+        match space {
+            AddressSpace::TaskPayload => {
+                if enabled & Capabilities::MESH_SHADER.0 == 0 {
+                    let text = "the `wgpu_mesh_shader` enable extension is not enabled";
+                    self.wrong(text, extent);
+                }
+            }
+            AddressSpace::RayPayload | AddressSpace::IncomingRayPayload => {
+                if enabled & Capabilities::RAY_TRACING_PIPELINE.0 == 0 {
+                    let text = "the `wgpu_ray_tracing_pipeline` enable extension is not enabled";
+                    self.wrong(text, extent);
+                }
+            }
+            _ => {}
+        }
+    }
+
     /// The address space that an operand denotes, with its access mode.
     pub fn space(&mut self, operand: &Operand, access: Option<&Operand>) -> AddressSpace {
         let space = match operand.value {
@@ -178,6 +209,7 @@ impl<B: Builder> Lowering<B> {
             self.fail(WgslError::of_name("unknown address space: ", operand.extent, ""));
             return AddressSpace::Private;
         };
+        self.check_space(space, operand.extent);
         match (space, access) {
             (AddressSpace::Storage { .. }, Some(access)) => AddressSpace::Storage {
                 access: self.access(access),
@@ -230,7 +262,7 @@ impl<B: Builder> Lowering<B> {
             TypeWord::Array | TypeWord::BindingArray => 2,
             TypeWord::Pointer => 3,
             TypeWord::Texture(_, _, TextureKind::Storage) => 2,
-            TypeWord::Other => usize::MAX,
+            TypeWord::Other | TypeWord::Cooperative => usize::MAX,
             _ => 1,
         }
     }
@@ -258,12 +290,13 @@ impl<B: Builder> Lowering<B> {
                 self.unsupported_name("the type ", extent);
                 Shape::None
             }
+            TypeWord::Cooperative => self.cooperative(extent),
             TypeWord::Ray(word) => self.ray_template(word, first, extent),
             TypeWord::Scalar(_)
             | TypeWord::VectorOf(..)
             | TypeWord::MatrixOf(..)
             | TypeWord::Sampler(_) => {
-                self.wrong("unexpected template", extent);
+                self.wrong("unused expressions for template", first.extent);
                 Shape::None
             }
         }

@@ -201,6 +201,10 @@ fn function<B: Builder>(
         lowering.wrong("entry points cannot be called", extent);
         return Operand::NOTHING;
     };
+    if lowering.builder.is_global() {
+        lowering.wrong("this operation is not supported in a const context", extent);
+        return Operand::NOTHING;
+    }
     let mut values = Vec::new(lowering.alloc);
     let mut failed = Failure::NONE;
     let mut place = entry.arguments.start;

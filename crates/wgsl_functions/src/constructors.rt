@@ -48,7 +48,11 @@ fn convert<B: Builder>(
     extent: Extent,
 ) -> Operand {
     let argument = lowering.load(argument);
-    let (value, shape) = lowering.value_as(argument, to);
+    let converted = Operand {
+        value: argument.value,
+        extent,
+    };
+    let (value, shape) = lowering.value_as(converted, to);
     if shape.with_scalar(to) != wanted {
         lowering.wrong("cannot cast a value of this type", argument.extent);
     }

@@ -67,8 +67,17 @@ fn is_of_bits(function: MathFunction) -> bool {
         MathFunction::CountTrailingZeros
             | MathFunction::CountLeadingZeros
             | MathFunction::CountOneBits
+            | MathFunction::ReverseBits
             | MathFunction::FirstTrailingBit
             | MathFunction::FirstLeadingBit
+    )
+}
+
+// Whether a function takes words of four bytes.
+fn is_of_words(function: MathFunction) -> bool {
+    matches!(
+        function,
+        MathFunction::Dot4I8Packed | MathFunction::Dot4U8Packed
     )
 }
 
@@ -155,6 +164,7 @@ pub(crate) fn known_math<B: Builder>(
     }
     let scalar = match common(lowering, arguments) {
         Some(scalar) if scalar.is_abstract() && function == MathFunction::Distance => Scalar::F32,
+        Some(scalar) if scalar.is_abstract() && is_of_words(function) => Scalar::U32,
         Some(scalar) if scalar == Scalar::ABSTRACT_INT && !takes_integers(function) =>
             Scalar::ABSTRACT_FLOAT,
         Some(scalar) if scalar == Scalar::ABSTRACT_INT && is_of_bits(function) => Scalar::I32,

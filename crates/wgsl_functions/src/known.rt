@@ -4,7 +4,7 @@ use ir_kinds::{Literal, Scalar, VectorSize};
 use ir_types::ArraySize;
 use wgsl_builtins::TypeWord;
 use wgsl_constants::{Known, Lanes};
-use wgsl_convert::{ColumnStep, concretized};
+use wgsl_convert::{ColumnStep, UNFIT, concretized};
 use wgsl_expressions::{Lowering, Operand};
 use wgsl_text::{Extent, Failure};
 use wgsl_tree::Part;
@@ -168,8 +168,10 @@ pub(crate) fn known_value<B: Builder>(
             }
             match lanes.cast(to) {
                 Some(made) => lowering.store.of_lanes(&made),
-                // the value is out of range: the conversion reports that
-                None if lanes.scalar() == Scalar::ABSTRACT_INT => return None,
+                None if lanes.scalar() == Scalar::ABSTRACT_INT => {
+                    lowering.wrong(UNFIT, extent);
+                    return Some(Operand::NOTHING);
+                }
                 None => {
                     let value = lowering.stays(extent)?;
                     return Some(Operand { value, extent });

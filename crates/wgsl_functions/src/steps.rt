@@ -29,6 +29,9 @@ fn group<B: Builder>(lowering: &mut Lowering<B>, open: u32, token: u32) {
 
 /// Lowers a step if it belongs to expressions; returns whether it does.
 pub fn lower_step<B: Builder>(lowering: &mut Lowering<B>, step: Step) -> bool {
+    if lowering.skip(step) {
+        return true;
+    }
     let token = step.token;
     match step.kind {
         StepKind::Literal(place) => literal(lowering, place, token),

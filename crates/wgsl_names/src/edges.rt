@@ -31,7 +31,7 @@ fn steps_of(tree: &Tree, part: Part) -> &[Step] {
         .unwrap_or(&[])
 }
 
-// Whether the arguments of an attribute are expressions.
+// Whether the arguments of an attribute are expressions, or names of variables.
 fn has_values(word: AttributeWord) -> bool {
     matches!(
         word,
@@ -43,6 +43,9 @@ fn has_values(word: AttributeWord) -> bool {
             | AttributeWord::Binding
             | AttributeWord::Group
             | AttributeWord::BlendSrc
+            | AttributeWord::Mesh
+            | AttributeWord::Payload
+            | AttributeWord::IncomingPayload
     )
 }
 

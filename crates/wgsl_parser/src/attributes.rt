@@ -4,7 +4,7 @@ use crate::directives::filter;
 use crate::items::{Reading, part_from};
 use wgsl_text::WgslError;
 use wgsl_tokens::TokenKind;
-use wgsl_tree::{Attribute, Mode};
+use wgsl_tree::{Attribute, Mode, Part};
 use wgsl_words::{AttributeWord, attribute_of};
 
 // Reads all attributes.
@@ -16,6 +16,50 @@ pub(crate) fn attributes(reading: &mut Reading) {
         }
         attribute(reading, first);
     }
+}
+
+// Whether an attribute is in a list.
+fn has(attributes: &[Attribute], word: AttributeWord) -> bool {
+    for attribute in attributes {
+        if attribute.word == word {
+            return true;
+        }
+    }
+    false
+}
+
+// Checks that a declaration has both `@group` and `@binding`, or neither.
+pub(crate) fn check_binding(reading: &mut Reading, part: Part) {
+    let list = reading
+        .attributes
+        .get(part.start as usize..part.end as usize)
+        .unwrap_or(&[]);
+    let (group, binding) = (
+        has(list, AttributeWord::Group),
+        has(list, AttributeWord::Binding),
+    );
+    let Some(first) = list.first() else {
+        return;
+    };
+    if group == binding {
+        return;
+    }
+    let text = if group {
+        " needs a 'binding' attribute"
+    } else {
+        " needs a 'group' attribute"
+    };
+    let start = first.token.saturating_sub(1);
+    let end = reading.parser.token().saturating_sub(1);
+    let tokens = &reading.parser.tokens;
+    let whole = tokens
+        .at(start as usize)
+        .extent()
+        .until(tokens.at(end as usize).extent());
+    reading
+        .parser
+        .failed
+        .fail(WgslError::of_name("variable ", whole, text));
 }
 
 // Whether the attributes from an index on contain this one.
@@ -60,7 +104,7 @@ fn attribute(reading: &mut Reading, first: u32) {
     let mut count = 0;
     if word == AttributeWord::Diagnostic {
         reading.parser.expect(TokenKind::ParenOpen, "expected `(`");
-        filter(&mut reading.parser);
+        count = filter(&mut reading.parser);
     } else if word.has_arguments() {
         count = arguments(reading);
     }
@@ -75,6 +119,23 @@ fn attribute(reading: &mut Reading, first: u32) {
         .parser
         .failed
         .push(&mut reading.attributes, attribute);
+}
+
+// Reports a diagnostic filter on a semicolon.
+pub(crate) fn no_filters(reading: &mut Reading, part: Part) {
+    for place in part.start..part.end {
+        match reading.attributes.get(place as usize) {
+            Some(attribute) if attribute.word == AttributeWord::Diagnostic => {
+                let at = attribute.token.saturating_sub(1);
+                let extent = reading.parser.tokens.at(at as usize).extent();
+                reading.parser.failed.fail(WgslError::malformed(
+                    "`@diagnostic(…)` attribute(s) on semicolons are not supported",
+                    extent,
+                ));
+            }
+            _ => {}
+        }
+    }
 }
 
 // Reads the arguments of an attribute. Returns their number.

@@ -4,8 +4,8 @@ use crate::items::Reading;
 use ir_flags::Capabilities;
 use wgsl_text::{Extent, WgslError};
 use wgsl_tokens::TokenKind;
-use wgsl_tree::Parser;
-use wgsl_words::{Keyword, enable_of, is_language_feature, severity_of};
+use wgsl_tree::{Attribute, Parser, StepKind};
+use wgsl_words::{AttributeWord, Keyword, enable_of, is_language_feature, severity_of};
 
 // All directives.
 pub(crate) fn directives(reading: &mut Reading) {
@@ -16,15 +16,30 @@ pub(crate) fn directives(reading: &mut Reading) {
         match reading.parser.keyword() {
             Keyword::Enable => names(reading, true),
             Keyword::Requires => names(reading, false),
-            Keyword::Diagnostic => {
-                reading.parser.advance();
-                reading.parser.expect(TokenKind::ParenOpen, "expected `(`");
-                filter(&mut reading.parser);
-                reading.parser.expect(TokenKind::Semicolon, "expected `;`");
-            }
+            Keyword::Diagnostic => diagnostic(reading),
             _ => break,
         }
     }
+}
+
+// A diagnostic directive.
+fn diagnostic(reading: &mut Reading) {
+    let token = reading.parser.token();
+    let start = reading.parser.count();
+    reading.parser.advance();
+    reading.parser.expect(TokenKind::ParenOpen, "expected `(`");
+    let count = filter(&mut reading.parser);
+    reading.parser.expect(TokenKind::Semicolon, "expected `;`");
+    let directive = Attribute {
+        word: AttributeWord::Diagnostic,
+        token,
+        count,
+        steps: reading.steps_from(start),
+    };
+    reading
+        .parser
+        .failed
+        .push(&mut reading.attributes, directive);
 }
 
 // Reads the names that a directive lists.
@@ -74,35 +89,36 @@ fn require(parser: &mut Parser, extent: Extent) {
     }
 }
 
-// A diagnostic filter after its opening parenthesis: severity, and a rule of one or two names.
-pub(crate) fn filter(parser: &mut Parser) {
+// A diagnostic filter after its opening parenthesis: severity, and a rule of one or two names. Returns the number of names.
+pub(crate) fn filter(parser: &mut Parser) -> u32 {
     let extent = parser.extent();
-    if parser.name().is_none() {
+    let token = parser.token();
+    let Some(severity) = parser.name() else {
         parser.refuse("expected identifier");
-        return;
-    }
+        return 0;
+    };
     if severity_of(parser.tokens.part(extent)).is_none() {
         parser.failed.fail(WgslError::malformed("invalid `diagnostic(…)` severity", extent));
-        return;
+        return 0;
     }
+    parser.push(StepKind::Name(severity), token);
     parser.advance();
     parser.expect(TokenKind::Comma, "expected `,`");
-    let rule = parser.extent();
-    if parser.tokens.part(rule) == b"derivative_uniformity".as_slice() {
-        parser
-            .failed
-            .fail(WgslError::unsupported_name("diagnostic ", rule));
-    }
+    let mut count: u32 = 1;
     for _ in 0..2 {
-        if parser.name().is_none() {
+        let token = parser.token();
+        let Some(rule) = parser.name() else {
             parser.refuse("expected identifier");
-            return;
-        }
+            return count;
+        };
+        parser.push(StepKind::Name(rule), token);
         parser.advance();
+        count = count.saturating_add(1);
         if !parser.skip(TokenKind::Dot) {
             break;
         }
     }
     parser.skip(TokenKind::Comma);
     parser.expect(TokenKind::ParenClose, "expected `)`");
+    count
 }

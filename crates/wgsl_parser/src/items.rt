@@ -1,6 +1,6 @@
 // The items of a text.
 
-use crate::attributes::attributes;
+use crate::attributes::{attributes, check_binding, no_filters};
 use crate::declarations::declaration;
 use crate::directives::directives;
 use ir_flags::Capabilities;
@@ -15,6 +15,8 @@ pub(crate) struct Reading {
     pub items: Vec<Item>,
     pub members: Vec<Member>,
     pub attributes: Vec<Attribute>,
+    // the diagnostic directives, among the attributes
+    pub directives: Part,
     pub enabled: Capabilities,
 }
 
@@ -26,6 +28,7 @@ impl Drop for Reading {
             items: _items,
             members: _members,
             attributes: _attributes,
+            directives: _,
             enabled: _,
         } = self;
     }
@@ -56,6 +59,7 @@ impl Reading {
     // All items.
     fn read(&mut self) {
         directives(self);
+        self.directives = part_from(0, &self.attributes);
         for _ in 0..self.parser.tokens.list.len() {
             if self.parser.has_failed() || self.parser.kind() == TokenKind::End {
                 break;
@@ -69,6 +73,11 @@ impl Reading {
             if self.parser.kind() == TokenKind::End && attributes.count() > 0 {
                 break;
             }
+            if self.parser.skip(TokenKind::Semicolon) {
+                no_filters(self, attributes);
+                continue;
+            }
+            check_binding(self, attributes);
             declaration(self, attributes);
         }
     }
@@ -80,6 +89,7 @@ impl Reading {
             items,
             members,
             attributes,
+            directives,
             enabled,
         } = self;
         let failed = parser.failed;
@@ -91,6 +101,7 @@ impl Reading {
             items,
             members,
             attributes,
+            directives,
             enabled,
         })
     }
@@ -105,6 +116,7 @@ pub fn parse(alloc: Global, bytes: &[u8]) -> Result<Tree, WgslError> {
         items: Vec::new(alloc),
         members: Vec::new(alloc),
         attributes: Vec::new(alloc),
+        directives: Part::NONE,
         enabled: Capabilities(0),
     };
     reading.read();

@@ -44,7 +44,7 @@ fn variable(parser: &mut Parser) {
     if init {
         parser.expression(Mode::Value);
     }
-    if !typed && !init {
+    if !typed && !init && parser.kind() == TokenKind::Semicolon {
         let error = WgslError::of_name(
             "declaration of ",
             extent,

@@ -1,6 +1,7 @@
 // A function under construction: its expressions, locals and statements.
 
 use ir_arena::arena::Arena;
+use ir_arena::handle::Handle;
 use ir_arena::range::Range;
 use ir_arena::span::Span;
 use ir_items::{
@@ -136,6 +137,7 @@ impl Body {
         name: Option<String>,
         arguments: Vec<FunctionArgument>,
         gives: Option<FunctionResult>,
+        leaf: Option<Handle<key::DiagnosticFilterNode>>,
     ) -> Function {
         let body = self.close();
         let expressions = mem::replace(&mut self.expressions, Arena::new(self.alloc));
@@ -148,7 +150,7 @@ impl Body {
             local_variables,
             expressions,
             body,
-            diagnostic_filter_leaf: None,
+            diagnostic_filter_leaf: leaf,
         }
     }
 }

@@ -2,22 +2,29 @@
 
 use crate::body::Body;
 use crate::budget::{Budget, expression_size, type_size};
+use crate::meshes::mesh_output;
 use crate::required::required_by;
 use ir_arena::arena::Arena;
+use ir_arena::handle::Handle;
 use ir_flags::Capabilities;
 use ir_items::{
-    Block, Constant, EntryPoint, Expression, Function, FunctionArgument, FunctionResult,
-    GlobalVariable, IrType, LocalVariable, Override, SpecialTypes, Statement, key,
+    Block, Constant, DiagnosticFilter, DiagnosticFilterNode, EntryPoint, Expression, Function,
+    FunctionArgument, FunctionResult, GlobalVariable, IrType, LocalVariable, MeshStageInfo,
+    Override, SpecialTypes, Statement, key,
 };
 use ir_kinds::PredeclaredType;
 use ir_sets::keyed::KeyedState;
 use ir_sets::unique_arena::UniqueArena;
 use std::alloc::Global;
+use std::mem;
 use wgsl_declarations::{EntryHead, ModuleBuilder};
 use wgsl_text::{Extent, Failure, WgslError};
 use wgsl_types::{
     Builder, ExpressionHandle, RayStruct, TypeHandle, no_expression, no_type, span_of,
 };
+
+// The handle of a diagnostic filter.
+type FilterHandle = Handle<key::DiagnosticFilterNode>;
 
 // The parts of a module.
 #[derive(Drop)]
@@ -30,6 +37,13 @@ pub(crate) struct Parts {
     pub constants: Arena<Constant, key::Constant>,
     pub overrides: Arena<Override, key::Override>,
     pub special: SpecialTypes,
+    pub filters: Arena<DiagnosticFilterNode, key::DiagnosticFilterNode>,
+    pub leaf: Option<FilterHandle>,
+}
+
+// The handle of the global variable with this index.
+fn variable_handle(number: u32) -> Handle<key::GlobalVariable> {
+    Handle::at(number.min(4_294_967_294) as usize)
 }
 
 // Whether the expression is allowed in functions only.
@@ -68,6 +82,10 @@ pub(crate) struct Building {
     pub used: Capabilities,
     constants: Arena<Constant, key::Constant>,
     overrides: Arena<Override, key::Override>,
+    filters: Arena<DiagnosticFilterNode, key::DiagnosticFilterNode>,
+    // the innermost filter of the module, and of the next function
+    module_leaf: Option<FilterHandle>,
+    leaf: Option<FilterHandle>,
 }
 
 impl Building {
@@ -88,6 +106,9 @@ impl Building {
             used: Capabilities(0),
             constants: Arena::new(alloc),
             overrides: Arena::new(alloc),
+            filters: Arena::new(alloc),
+            module_leaf: None,
+            leaf: None,
         }
     }
 
@@ -108,6 +129,9 @@ impl Building {
             used: _,
             constants,
             overrides,
+            filters,
+            module_leaf,
+            leaf: _,
         } = self;
         Parts {
             types,
@@ -118,6 +142,8 @@ impl Building {
             constants,
             overrides,
             special,
+            filters,
+            leaf: module_leaf,
         }
     }
 
@@ -127,6 +153,29 @@ impl Building {
             self.failed.fail(error);
         }
         !self.failed.is_some()
+    }
+
+    // The global expression of an override, if there is one.
+    fn named_override(
+        &mut self,
+        by: Option<Handle<key::Override>>,
+    ) -> Option<Handle<key::Expression>> {
+        let by = by?;
+        Some(self.global(Expression::Override(by), Extent::NONE))
+    }
+
+    // The output of a mesh shader in the variable with this index.
+    fn mesh_info(&mut self, number: u32) -> Option<MeshStageInfo> {
+        let variable = variable_handle(number);
+        let ty = match self.variables.try_get(variable) {
+            Ok(found) => found.ty,
+            Err(_) => return None,
+        };
+        let output = mesh_output(&self.types, ty, variable);
+        let mut info = output.info;
+        info.max_vertices_override = self.named_override(output.vertices_by);
+        info.max_primitives_override = self.named_override(output.primitives_by);
+        Some(info)
     }
 
     // Reports that the function ran out of memory.
@@ -277,6 +326,21 @@ impl ModuleBuilder for Building {
         }
     }
 
+    fn filter(&mut self, filter: DiagnosticFilter, extent: Extent) {
+        let node = DiagnosticFilterNode {
+            inner: filter,
+            parent: self.leaf,
+        };
+        match self.filters.append(node, span_of(extent)) {
+            Ok(handle) => self.leaf = Some(handle),
+            Err(_) => self.failed.fail_memory(),
+        }
+    }
+
+    fn end_directives(&mut self) {
+        self.module_leaf = self.leaf;
+    }
+
     fn constant(&mut self, constant: Constant, extent: Extent) -> u32 {
         match self.constants.append(constant, span_of(extent)) {
             Ok(handle) => u32::try_from(handle.index()).unwrap_or(u32::MAX),
@@ -294,7 +358,8 @@ impl ModuleBuilder for Building {
         gives: Option<FunctionResult>,
         extent: Extent,
     ) -> u32 {
-        let function = self.body.take(name, arguments, gives);
+        let leaf = mem::replace(&mut self.leaf, self.module_leaf);
+        let function = self.body.take(name, arguments, gives, leaf);
         match self.functions.append(function, span_of(extent)) {
             Ok(handle) => u32::try_from(handle.index()).unwrap_or(u32::MAX),
             Err(_) => {
@@ -311,7 +376,16 @@ impl ModuleBuilder for Building {
         arguments: Vec<FunctionArgument>,
         gives: Option<FunctionResult>,
     ) {
-        let function = self.body.take(None, arguments, gives);
+        let leaf = mem::replace(&mut self.leaf, self.module_leaf);
+        let function = self.body.take(None, arguments, gives, leaf);
+        let mesh_info = match head.mesh {
+            Some(number) => self.mesh_info(number),
+            None => None,
+        };
+        let task_payload = match head.payload {
+            Some(number) => Some(variable_handle(number)),
+            None => None,
+        };
         let entry = EntryPoint {
             name: match name {
                 Some(name) => name,
@@ -320,8 +394,8 @@ impl ModuleBuilder for Building {
             stage: head.stage,
             early_depth_test: head.depth_test,
             workgroup_size: head.size,
-            mesh_info: None,
-            task_payload: None,
+            mesh_info,
+            task_payload,
             function,
         };
         if self.entries.push(entry).is_err() {

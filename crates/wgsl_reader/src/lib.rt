@@ -4,6 +4,7 @@
 mod body;
 mod budget;
 mod building;
+mod meshes;
 mod reader;
 mod required;
 

@@ -4,7 +4,6 @@ ghost use Rattle.wgsl_reader.specs.Checks.{MakesSixChecks};
 
 use crate::building::Building;
 use document_reader::Document;
-use ir_arena::arena::Arena;
 use ir_flags::{Capabilities, Settings, ShaderStages, SubgroupOperationSet, ValidationFlags};
 use ir_items::Module;
 use ir_sets::keyed::KeyedState;
@@ -73,7 +72,6 @@ fn settings_of(enabled: Capabilities) -> Settings
 fn document_of(built: Building, enabled: Capabilities) -> Document
     ensures { MakesSixChecks result.settings.flags }
 {
-    let alloc = built.alloc;
     let enabled = Capabilities(enabled.0 | built.used.0);
     let parts = built.into_parts();
     let module = Module {
@@ -85,8 +83,8 @@ fn document_of(built: Building, enabled: Capabilities) -> Document
         global_expressions: parts.expressions,
         functions: parts.functions,
         entry_points: parts.entries,
-        diagnostic_filters: Arena::new(alloc),
-        diagnostic_filter_leaf: None,
+        diagnostic_filters: parts.filters,
+        diagnostic_filter_leaf: parts.leaf,
     };
     Document {
         settings: settings_of(enabled),

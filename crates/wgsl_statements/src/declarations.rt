@@ -7,6 +7,7 @@ use ir_kinds::AddressSpace;
 use wgsl_expressions::{Lowering, Operand, Value, handle_of, number_of};
 use wgsl_text::{Extent, Failure, WgslError};
 use wgsl_types::{Builder, Shape};
+use wgsl_values::converted;
 
 // Whether a value's type is the expected type. Arrays, structs and pointers are not compared.
 fn agrees(wanted: Shape, found: Shape) -> bool {
@@ -58,12 +59,24 @@ fn typed<B: Builder>(lowering: &mut Lowering<B>, is_typed: bool) -> Option<Shape
 }
 
 // Lowers a `let`.
-pub(crate) fn bind<B: Builder>(lowering: &mut Lowering<B>, is_typed: bool, token: u32) {
+pub(crate) fn bind<B: Builder>(
+    lowering: &mut Lowering<B>,
+    flow: &mut Flow,
+    is_typed: bool,
+    token: u32,
+) {
     let popped = lowering.pop();
     let operand = lowering.load(popped);
     let wanted = typed(lowering, is_typed);
     let extent = lowering.extent(token);
     let (value, shape) = initial(lowering, wanted, operand, extent);
+    if let (Value::Literal(literal), Shape::Scalar(scalar)) = (operand.value, shape) {
+        if let Some(literal) = converted(literal, scalar) {
+            let mut failed = Failure::NONE;
+            flow.bind(value, literal, &mut failed);
+            lowering.join(&failed);
+        }
+    }
     declare(lowering, token, Value::Computed(value, shape));
 }
 

@@ -151,6 +151,10 @@ pub(crate) fn assertion<B: Builder>(lowering: &mut Lowering<B>) {
         Value::Literal(Literal::Bool(false)) => {
             lowering.wrong("`const_assert` failure", operand.extent);
         }
+        Value::Literal(_) => lowering.wrong(
+            "must be a const-expression that resolves to a `bool`",
+            operand.extent,
+        ),
         _ => lowering.unsupported("a `const_assert` of this", operand.extent),
     }
 }

@@ -1,7 +1,7 @@
 // The statements that are open around the current one.
 
-use ir_kinds::SwitchValue;
-use wgsl_text::Extent;
+use ir_kinds::{Literal, SwitchValue};
+use wgsl_text::{Extent, Failure};
 use wgsl_types::Shape;
 
 // The kind of an open statement. Its blocks are kept in the builder.
@@ -65,11 +65,20 @@ pub(crate) struct CaseEntry {
     pub falls: bool,
 }
 
+// The expression of a `let` whose initializer is a constant scalar, and that scalar.
+#[derive(Clone, Copy)]
+pub(crate) struct Bound {
+    pub value: u32,
+    pub literal: Literal,
+}
+
 // The state of the function body that is lowered.
 #[derive(Drop)]
 pub(crate) struct Flow {
     pub open: Vec<Open>,
     pub cases: Vec<CaseEntry>,
+    // in the order of the expressions
+    pub lets: Vec<Bound>,
     // the result type of the function
     pub gives: Shape,
     // the number of open loops
@@ -77,6 +86,33 @@ pub(crate) struct Flow {
 }
 
 impl Flow {
+    // Records the scalar of a `let`.
+    pub(crate) fn bind(&mut self, value: u32, literal: Literal, failed: &mut Failure) {
+        failed.push(&mut self.lets, Bound { value, literal });
+    }
+
+    // The scalar of the `let` with this expression, if it is constant.
+    pub(crate) fn bound(&self, value: u32) -> Option<Literal> {
+        let mut first: usize = 0;
+        let mut end = self.lets.len();
+        for _ in 0..64_u32 {
+            let middle = first.saturating_add(end.saturating_sub(first) / 2);
+            let found = self.lets.get(middle)?;
+            if found.value == value {
+                return Some(found.literal);
+            }
+            if found.value < value {
+                first = middle.saturating_add(1);
+            } else {
+                end = middle;
+            }
+            if first >= end {
+                break;
+            }
+        }
+        None
+    }
+
     // Pops the innermost open statement.
     pub(crate) fn pop(&mut self) -> Option<Open> {
         self.open.pop()

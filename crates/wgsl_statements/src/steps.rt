@@ -19,7 +19,7 @@ impl Flow {
     // Lowers a step if it is a declaration, an assignment or a call; returns whether it is.
     fn simple<B: Builder>(&mut self, lowering: &mut Lowering<B>, step: Step) -> bool {
         match step.kind {
-            StepKind::Let(typed) => bind(lowering, typed, step.token),
+            StepKind::Let(typed) => bind(lowering, self, typed, step.token),
             StepKind::Const(typed) => constant(lowering, typed, step.token),
             StepKind::Var {
                 templates,
@@ -130,6 +130,7 @@ pub fn lower_body<B: Builder>(lowering: &mut Lowering<B>, part: Part, gives: Sha
     let mut flow = Flow {
         open: Vec::new(lowering.alloc),
         cases: Vec::new(lowering.alloc),
+        lets: Vec::new(lowering.alloc),
         gives,
         loops: 0,
     };

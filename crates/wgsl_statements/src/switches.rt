@@ -51,13 +51,18 @@ fn add<B: Builder>(
 pub(crate) fn value<B: Builder>(lowering: &mut Lowering<B>, flow: &mut Flow) {
     let operand = lowering.pop();
     let converts = matches!(operand.value, Value::Literal(Literal::AbstractInt(_)));
-    let value = match operand.value {
-        Value::Literal(Literal::U32(number)) => Some(SwitchValue::U32(number)),
-        Value::Literal(literal) => match converted(literal, Scalar::I32) {
+    let literal = match operand.value {
+        Value::Literal(literal) => Some(literal),
+        Value::Computed(number, _) => flow.bound(number),
+        _ => None,
+    };
+    let value = match literal {
+        Some(Literal::U32(number)) => Some(SwitchValue::U32(number)),
+        Some(literal) => match converted(literal, Scalar::I32) {
             Some(Literal::I32(number)) => Some(SwitchValue::I32(number)),
             _ => None,
         },
-        _ => None,
+        None => None,
     };
     match value {
         Some(value) => add(lowering, flow, value, converts),

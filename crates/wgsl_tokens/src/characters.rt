@@ -54,10 +54,15 @@ pub(crate) fn starts_name(character: Character) -> bool {
     }
 }
 
+// Whether the character continues identifiers only since Unicode 15.1, which naga does not follow: the joiners and two middle dots.
+fn is_recent(code: char) -> bool {
+    matches!(code, '\u{200c}' | '\u{200d}' | '\u{30fb}' | '\u{ff65}')
+}
+
 // Whether an identifier may continue with the character.
 fn continues_name(character: Character) -> bool {
     match character.code {
-        Some(code) => is_xid_continue(code),
+        Some(code) => is_xid_continue(code) && !is_recent(code),
         None => false,
     }
 }

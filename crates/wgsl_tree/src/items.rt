@@ -115,6 +115,8 @@ pub struct Tree {
     pub members: Vec<Member>,
     /// All attributes.
     pub attributes: Vec<Attribute>,
+    /// Its diagnostic directives, among the attributes.
+    pub directives: Part,
     /// The capabilities of its enable directives.
     pub enabled: Capabilities,
 }
@@ -129,6 +131,7 @@ impl Drop for Tree {
             items: _items,
             members: _members,
             attributes: _attributes,
+            directives: _,
             enabled: _enabled,
         } = self;
     }

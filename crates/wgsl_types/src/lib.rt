@@ -11,6 +11,6 @@ pub use builder::{
     Builder, ExpressionHandle, RayStruct, TypeHandle, no_expression, no_type, span_of,
 };
 pub use layout::Layout;
-pub use operators::{result_of, splats};
+pub use operators::{is_comparison, result_of, splats};
 pub use shapes::{Shape, vector_size};
 pub use table::{Row, RowKind, TypeMember, TypeTable};

@@ -3,8 +3,8 @@
 use crate::shapes::Shape;
 use ir_kinds::{BinaryOperator, Scalar, VectorSize};
 
-// Whether the operator is a comparison.
-fn is_comparison(operator: BinaryOperator) -> bool {
+/// Whether the operator is a comparison.
+pub fn is_comparison(operator: BinaryOperator) -> bool {
     matches!(
         operator,
         BinaryOperator::Equal

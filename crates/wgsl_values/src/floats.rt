@@ -62,6 +62,14 @@ pub(crate) fn float_like(number: f64, like: Literal, overflow: &'static str) -> 
     }
 }
 
+// A finite float of the same type as another value; otherwise an error with this text.
+pub(crate) fn float_or(number: f64, like: Literal, overflow: &'static str) -> Folded {
+    match float_like(number, like, overflow) {
+        Folded::Wrong(_) => Folded::Wrong(overflow),
+        made => made,
+    }
+}
+
 // The remainder of a division, which is exact.
 fn remainder(number: f64, by: f64) -> f64 {
     let mut rest = number.abs();

@@ -1,5 +1,6 @@
 // Constant evaluation of built-in functions on scalars.
 
+use crate::analytic::{analytic, analytic_pair, fused};
 use crate::floats::{float_like, number_of};
 use crate::fold::{Folded, fold_binary};
 use ir_kinds::{BinaryOperator, Literal, MathFunction};
@@ -24,6 +25,7 @@ fn sign_of(number: i64) -> i64 {
 fn of_bits(function: MathFunction, bits: u32, magnitude: u32) -> Option<u32> {
     match function {
         MathFunction::CountOneBits => Some(bits.count_ones()),
+        MathFunction::ReverseBits => Some(bits.reverse_bits()),
         MathFunction::CountLeadingZeros => Some(bits.leading_zeros()),
         MathFunction::CountTrailingZeros => Some(bits.trailing_zeros()),
         MathFunction::FirstTrailingBit if bits == 0 => Some(u32::MAX),
@@ -97,23 +99,13 @@ fn of_float(function: MathFunction, literal: Literal, number: f64) -> Folded {
         MathFunction::Trunc => float(number.trunc(), literal),
         MathFunction::Round => float(number.round_ties_even(), literal),
         MathFunction::Fract => float(number - number.floor(), literal),
-        MathFunction::Sqrt if number < 0.0 => {
-            Folded::Wrong("sqrt built-in function argument is out of valid range")
-        }
-        MathFunction::Sqrt => float(number.sqrt(), literal),
         MathFunction::Saturate if number < 0.0 => float(0.0, literal),
         MathFunction::Saturate if number > 1.0 => float(1.0, literal),
         MathFunction::Saturate => Folded::Made(literal),
         MathFunction::Sign if number > 0.0 => float(1.0, literal),
         MathFunction::Sign if number < 0.0 => float(-1.0, literal),
         MathFunction::Sign => float(0.0, literal),
-        MathFunction::Acos if number.abs() > 1.0 => {
-            Folded::Wrong("acos built-in function argument is out of valid range")
-        }
-        MathFunction::Asin if number.abs() > 1.0 => {
-            Folded::Wrong("asin built-in function argument is out of valid range")
-        }
-        _ => Folded::Open,
+        _ => analytic(function, literal, number),
     }
 }
 
@@ -151,6 +143,35 @@ fn clamped(value: Literal, low: Literal, high: Literal) -> Folded {
     }
 }
 
+// The dot product of the bytes of two words.
+fn packed_dot(function: MathFunction, first: Literal, second: Literal) -> Folded {
+    let (Literal::U32(left), Literal::U32(right)) = (first, second) else {
+        return Folded::Open;
+    };
+    let is_signed = function == MathFunction::Dot4I8Packed;
+    let (left, right) = (left.to_le_bytes(), right.to_le_bytes());
+    let mut sum: i32 = 0;
+    for place in 0..4_usize {
+        let (one, other) = (left[place], right[place]);
+        let product = byte_of(one, is_signed).saturating_mul(byte_of(other, is_signed));
+        sum = sum.saturating_add(product);
+    }
+    if is_signed {
+        Folded::Made(Literal::I32(sum))
+    } else {
+        Folded::Made(Literal::U32(sum.unsigned_abs()))
+    }
+}
+
+// The value of a byte, in two's complement or not.
+fn byte_of(byte: u8, is_signed: bool) -> i32 {
+    if is_signed && byte > 127 {
+        i32::from(byte).saturating_sub(256)
+    } else {
+        i32::from(byte)
+    }
+}
+
 /// Evaluates a built-in function on scalars of the same type.
 pub fn fold_math(function: MathFunction, arguments: &[Literal]) -> Folded {
     match (arguments.first(), arguments.get(1), arguments.get(2)) {
@@ -166,10 +187,14 @@ pub fn fold_math(function: MathFunction, arguments: &[Literal]) -> Folded {
                 Some(false) => float(1.0, *first),
                 None => Folded::Open,
             },
-            _ => Folded::Open,
+            MathFunction::Dot4I8Packed | MathFunction::Dot4U8Packed => packed_dot(
+                function, *first, *second,
+            ),
+            _ => analytic_pair(function, *first, *second),
         },
         (Some(first), Some(second), Some(third)) => match function {
             MathFunction::Clamp => clamped(*first, *second, *third),
+            MathFunction::Fma => fused(*first, *second, *third),
             _ => Folded::Open,
         },
         _ => Folded::Open,

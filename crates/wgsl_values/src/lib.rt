@@ -1,7 +1,9 @@
 //! Constant evaluation of scalars: conversions, operators and built-in functions.
 #![tactic(auto)]
 
+mod analytic;
 mod convert;
+mod elementary;
 mod floats;
 mod fold;
 mod functions;

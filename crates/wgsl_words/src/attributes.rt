@@ -122,7 +122,7 @@ pub fn attribute_of(word: &[u8]) -> Option<AttributeWord> {
     find(&ATTRIBUTES, word)
 }
 
-static BUILT_INS: [(&str, BuiltIn); 22] = [
+static BUILT_INS: [(&str, BuiltIn); 44] = [
     ("position", BuiltIn::Position { invariant: false }),
     ("view_index", BuiltIn::ViewIndex),
     ("instance_index", BuiltIn::InstanceIndex),
@@ -148,6 +148,28 @@ static BUILT_INS: [(&str, BuiltIn); 22] = [
         "barycentric_no_perspective",
         BuiltIn::Barycentric { perspective: false },
     ),
+    ("mesh_task_size", BuiltIn::MeshTaskSize),
+    ("cull_primitive", BuiltIn::CullPrimitive),
+    ("point_index", BuiltIn::PointIndex),
+    ("line_indices", BuiltIn::LineIndices),
+    ("triangle_indices", BuiltIn::TriangleIndices),
+    ("vertex_count", BuiltIn::VertexCount),
+    ("vertices", BuiltIn::Vertices),
+    ("primitive_count", BuiltIn::PrimitiveCount),
+    ("primitives", BuiltIn::Primitives),
+    ("ray_invocation_id", BuiltIn::RayInvocationId),
+    ("num_ray_invocations", BuiltIn::NumRayInvocations),
+    ("instance_custom_data", BuiltIn::InstanceCustomData),
+    ("geometry_index", BuiltIn::GeometryIndex),
+    ("world_ray_origin", BuiltIn::WorldRayOrigin),
+    ("world_ray_direction", BuiltIn::WorldRayDirection),
+    ("object_ray_origin", BuiltIn::ObjectRayOrigin),
+    ("object_ray_direction", BuiltIn::ObjectRayDirection),
+    ("ray_t_min", BuiltIn::RayTmin),
+    ("ray_t_current_max", BuiltIn::RayTCurrentMax),
+    ("object_to_world", BuiltIn::ObjectToWorld),
+    ("world_to_object", BuiltIn::WorldToObject),
+    ("hit_kind", BuiltIn::HitKind),
 ];
 
 /// The built-in value with this name.
