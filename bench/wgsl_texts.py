@@ -1,11 +1,10 @@
 #!/usr/bin/env python3
-"""Writes WGSL shaders by chance: wgsl_texts.py COUNT [SEED], or wgsl_texts.py --programs FOLDER COUNT
+"""Writes WGSL shaders by chance: wgsl_texts.py COUNT [SEED]
 
 Each is one line of JSON with a `name` and a `text`: `right/N` is a shader of a grammar, with constants, overrides, structs, resources,
 helper functions and entry points; `wrong/N` is one with one mistake, in a type, a name, an argument, a number, an attribute or a
 statement; `mutant/N` is one of examples/wgsl or of these with a token taken out, doubled, swapped or replaced. Each third is of one
-kind. With --programs FOLDER gets files of compute shaders, whose results are the same in whatever order invocations run (`try-meaning`
-runs them).
+kind.
 """
 import json
 import random
@@ -733,41 +732,6 @@ class Shader:
         return "\n".join(head) + "\n\n".join(["", *first, *last]) + "\n"
 
 
-    def program(self):
-        """The text of a compute shader whose run leaves the same bytes, in whatever order invocations run."""
-        self.half, self.inside = False, ["function"]
-        count = 64
-        first = [self.constant() for _ in range(self.dice.randrange(4))]
-        first += [self.structure() for _ in range(self.dice.randrange(1, 4))]
-        inputs = [("array", of, count) for of in ("i32", "u32", "f32", ("vec", 4, "f32"))] + [("struct", it) for it in self.structs]
-        for at, ty in enumerate(inputs):
-            name = self.name()
-            self.scopes[0].append((name, ty, "read"))
-            first.append(f"@group(0) @binding({at}) var<storage> {name}: {spell(ty)};")
-        outputs = [self.pick("i32", "u32"), "f32", ("vec", 3, "f32"), self.shared_type()]
-        for at, ty in enumerate(outputs):
-            first.append(f"@group(1) @binding({at}) var<storage, read_write> result{at}: array<{spell(ty)}, {count}>;")
-        ways = [self.pick("Add", "Min", "Max", "And", "Or", "Xor") for _ in range(4)]
-        first.append(f"@group(1) @binding({len(outputs)}) var<storage, read_write> sums: array<atomic<u32>, 4>;")
-        first.append(f"var<workgroup> shared_total: atomic<i32>;\nvar<workgroup> shared_values: array<f32, 32>;")
-        for _ in range(2):
-            name, ty = self.name(), self.value_type()
-            self.scopes[0].append((name, ty, "read_write"))
-            first.append(f"var<private> {name}: {spell(ty)};")
-        first += [self.function() for _ in range(self.dice.randrange(1, 4))]
-        self.scopes.append([("at", "u32", "let"), ("local", "u32", "let")])
-        lines = [line for _ in range(self.dice.randrange(4, 10)) for line in self.statement(2, 1)]
-        lines += [f"    shared_values[local] = {self.expression('f32')};", f"    atomicAdd(&shared_total, {self.expression('i32')});",
-                  "    workgroupBarrier();", f"    let neighbour = shared_values[(local + {self.dice.randrange(32)}u) % 32u];",
-                  "    let total = atomicLoad(&shared_total);"]
-        self.scopes[-1] += [("neighbour", "f32", "let"), ("total", "i32", "let")]
-        lines += [line for _ in range(self.dice.randrange(1, 5)) for line in self.statement(2, 1)]
-        lines += [f"    result{at}[at] = {self.expression(ty, 3)};" for at, ty in enumerate(outputs)]
-        lines += [f"    atomic{way}(&sums[{at}], {self.expression('u32')});" for at, way in enumerate(ways)]
-        head = "@compute @workgroup_size(32)\nfn main(@builtin(global_invocation_id) id: vec3<u32>, @builtin(local_invocation_index) local: u32) {"
-        return "\n\n".join([*first, "\n".join([head, "    let at = id.x;", *lines, "}"])]) + "\n"
-
-
 def right(seed):
     return Shader(seed).write()
 
@@ -816,11 +780,6 @@ def texts(count, seed=1):
 
 
 def main():
-    if sys.argv[1:2] == ["--programs"]:
-        folder = Path(sys.argv[2])
-        for at in range(int(sys.argv[3])):
-            (folder / f"{at:04}.wgsl").write_text(Shader(f"program {at}").program())
-        return
     for name, text in texts(int(sys.argv[1]), int((sys.argv[2:] or ["1"])[0])):
         print(json.dumps({"name": name, "text": text}))
 
