@@ -1,4 +1,4 @@
--- The laws of a lower layer, of this one.
+-- The laws of a layer, for this one.
 use Rattle.std.specs.Prelude.{◌≡◌, ℕ, IsTrue, List, [], Some}
 use Rattle.typing_errors.specs.declared.expressions.ExpressionError.{ExpressionError}
 use Rattle.typing_errors.specs.declared.error.FunctionError.{FunctionError}
