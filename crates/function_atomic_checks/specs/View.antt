@@ -1,4 +1,4 @@
--- Views of atomic operations.
+-- What is found of atomic operations, as plain data.
 use Rattle.function_atomic_checks.specs.declared.atomics.DeclaredAnswer.{DeclaredAnswer}
 use Rattle.spec_statements.specs.judged.Atomics.{AtomicAnswer}
 

@@ -1,4 +1,4 @@
--- An error refutes the rule.
+-- A fault refutes the rule.
 use Rattle.typing_errors.specs.declared.error.FunctionError.{FunctionError}
 use Rattle.ir_blocks.specs.judged.Control.{ControlOK}
 use Rattle.ir_blocks.specs.judged.Plain.{PlainBlock}

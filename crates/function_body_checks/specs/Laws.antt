@@ -1,4 +1,4 @@
--- An error of scope refutes the requirements on scope and results.
+-- A fault of scope refutes what is required of scope and of answers.
 use Rattle.std.specs.Prelude.{ℕ}
 use Rattle.typing_errors.specs.declared.error.FunctionError.{FunctionError}
 use Rattle.ir_blocks.specs.judged.Places.{Place}

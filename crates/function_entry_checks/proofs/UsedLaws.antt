@@ -3,7 +3,7 @@ use Rattle.std.proofs.Common.{◌≡◌, ◌≢◌, ◌⊎◌, inl, inr, ◌<◌
 use Rattle.std.specs.Prelude.{◌↔◌, IsTrue, MatchOption, option_and_then, slice_index_or, unwrap_or}
 use Rattle.std.specs.Int.{bit_at}
 use Rattle.std.proofs.lemmas.Bool.{cases_eq}
-use Rattle.std.proofs.lemmas.Option.{same_Some, slice_get_within, unwrap_or-slice_get}
+use Rattle.std.proofs.lemmas.Option.{slice_get_within, unwrap_or-slice_get}
 use Rattle.spec_expressions.specs.declared.global_use.GlobalUse.{GlobalUse}
 use Rattle.function_entry_checks.proofs.Bits.{all_within, no_bit, some_bit, within_all}
 use Rattle.function_entry_checks.specs.Faults.{IsVariableFault, of_uses, SharesBinding, UsesTwoImmediates}
@@ -24,6 +24,9 @@ use Rattle.spec_interface.specs.found.UsedVariables.{BindingsApart, EachOK, OneI
 
 below_or_here : (j n : ℕ) → j < n + 1 → (j < n) ⊎ (j ≡ n)
 below_or_here j n lt = elim (cases_eq j n) [ inl same ↦ inr same | inr differ ↦ inl (omega (arith, lt, differ)) ]
+
+some_is : {A : Type 0} {x y : A} → Some x ≡ Some y → x ≡ y
+some_is e = cc (e)
 
 -- what is found through a place of a list is there
 mapped_in : {A B : Type 0} (f : A → B) (o : Option A) (y : B) → option_map f o ≡ Some y → (x : A) × (o ≡ Some x)
@@ -71,7 +74,7 @@ module _ (m : PlainModule) (uses : List GlobalUse) (g : ℕ) (u : GlobalUse) (to
   pub immediate_told : u.0 ≢ 0 → (s : AddressSpace) → space_at m g ≡ Some s → (b : Bool) → IsTrue b ↔ (s ≡ Immediate) → IsTrue b ↔ (IsUsed (HasUseBit uses) g × (space_at m g ≡ Some Immediate))
   immediate_told not s lies b is = (
     λ h. (used_by uses g u told not, lies ∙ ap Some (is.0 h)),
-    λ p. is.1 (same_Some _ _ (sym lies ∙ p.1)),
+    λ p. is.1 (some_is (sym lies ∙ p.1)),
   )
 
 -- ---- one
@@ -107,7 +110,7 @@ module _ (m : PlainModule) (e : PlainEntry) (Uses : ℕ → ℕ → Type 0) (n :
 
   pub each_at : (h : ℕ) (w : PlainGlobal) → h ≡ n → slice_get m.globals h ≡ Some w → UsedVariableOK m e h w (Uses h) → EachBelow m e Uses (n + 1)
   each_at h w same there ok =
-      each_more (λ v at used. subst (λ k. UsedVariableOK m e k v (Uses k)) same (subst (λ x. UsedVariableOK m e h x (Uses h)) (same_Some _ _ (sym there ∙ (ap (slice_get m.globals) same ∙ at))) ok))
+      each_more (λ v at used. subst (λ k. UsedVariableOK m e k v (Uses k)) same (subst (λ x. UsedVariableOK m e h x (Uses h)) (some_is (sym there ∙ (ap (slice_get m.globals) same ∙ at))) ok))
 
   pub each_unused : (h : ℕ) → h ≡ n → (IsUsed Uses h → ⊥) → EachBelow m e Uses (n + 1)
   each_unused h same unused = each_more (λ v at used. absurd (unused (subst (λ k. IsUsed Uses k) (sym same) used)))
@@ -140,7 +143,7 @@ module _ (m : PlainModule) (Uses : ℕ → ℕ → Type 0) where
     -- the next is the first
     found_here : found ≡ None → IsUsed Uses n → space_at m n ≡ Some Immediate → IsFoundBelow m Uses (n + 1) (Some n)
     found_here none used lies = record {
-      is = λ g e. subst (λ h. (h < n + 1) × IsUsed Uses h × (space_at m h ≡ Some Immediate)) (same_Some _ _ e) (omega arith, used, lies);
+      is = λ g e. subst (λ h. (h < n + 1) × IsUsed Uses h × (space_at m h ≡ Some Immediate)) (some_is e) (omega arith, used, lies);
       all = λ g lt again lies_too. elim (below_or_here g n lt) [
         | inl before ↦ absurd (let e = below.all g before again lies_too in cc)
         | inr same ↦ ap Some (sym same)
@@ -171,7 +174,7 @@ module _ (m : PlainModule) (Uses : ℕ → ℕ → Type 0) where
       let h_in = lies_within m h h_lies in
       let a = below.all g (omega (arith, past, g_in)) g_used g_lies in
       let b = below.all h (omega (arith, past, h_in)) h_used h_lies in
-      same_Some _ _ (sym a ∙ b)
+      some_is (sym a ∙ b)
 
 -- ---- bindings
 
@@ -202,7 +205,7 @@ module _ (m : PlainModule) (Uses : ℕ → ℕ → Type 0) (n : ℕ) (Seen : Res
   -- the next has a binding that is new
   module _ (d : ResourceBinding) (at_n : binding_at m n ≡ Some d) (used_n : IsUsed Uses n) (fresh : Seen d → ⊥) (Now : ResourceBinding → Type 0) (now : (b : ResourceBinding) → Now b ↔ (Seen b ⊎ (b ≡ d))) where
     its_binding : (h : ℕ) (b : ResourceBinding) → h ≡ n → binding_at m h ≡ Some b → b ≡ d
-    its_binding h b same at = same_Some _ _ (sym at ∙ (ap (λ k. binding_at m k) same ∙ at_n))
+    its_binding h b same at = some_is (sym at ∙ (ap (λ k. binding_at m k) same ∙ at_n))
 
     not_before : (h : ℕ) (b : ResourceBinding) → h < n → IsUsed Uses h → binding_at m h ≡ Some b → b ≡ d → ⊥
     not_before h b lt used at is = fresh (subst Seen is (below.noted h b lt used at))

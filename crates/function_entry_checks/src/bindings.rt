@@ -22,7 +22,7 @@ use spec_interface::{binding_at, use_at};
 use std::alloc::{AllocError, Global};
 use std::collections::BTreeSet;
 
-// The binding of a variable that is used and has one.
+// What a host binds a variable to, where it is used and bound.
 fn used_binding(
     module: &Module,
     uses: &[GlobalUse],
@@ -40,7 +40,7 @@ fn used_binding(
     binding_at(module, global)
 }
 
-// Notes a binding, and returns whether it is new.
+// Notes a binding, and whether it is new.
 fn note_binding(
     seen: &mut BTreeSet<(u32, u32)>,
     binding: ResourceBinding,
@@ -54,7 +54,7 @@ fn note_binding(
     }
 }
 
-/// Whether no two global variables used by an entry point have the same binding.
+/// Whether no two variables that an entry point uses have the same binding.
 pub(crate) fn check_bindings(
     alloc: Global,
     module: &Module,

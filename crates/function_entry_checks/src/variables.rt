@@ -32,10 +32,10 @@ use spec_interface::{
 use std::alloc::Global;
 use typing_forms::TypeInnerExt;
 
-/// The minimum size of a task payload, in bytes.
+/// The fewest bytes that a payload of a task takes.
 const LEAST_PAYLOAD: u64 = 4;
 
-// The size of a type, in bytes.
+// How many bytes a value of a type takes.
 fn bytes_of(module: &Module, ty: Handle<key::IrType>) -> u64
     ensures { result ≡ size (type_tree (module_view «module».now).types ty) }
 {
@@ -45,7 +45,7 @@ fn bytes_of(module: &Module, ty: Handle<key::IrType>) -> u64
     }
 }
 
-// Whether a task payload variable is the entry point's, and large enough.
+// Whether a variable, where it is a payload of a task, is the entry point's, of some bytes.
 fn check_own_payload(
     module: &Module,
     entry: &EntryPoint,
@@ -69,7 +69,7 @@ fn check_own_payload(
     Ok(())
 }
 
-// Whether a stage has variables in an address space.
+// Whether a stage has variables in a space.
 fn check_reached(stage: ShaderStage, space: AddressSpace) -> Result<(), EntryPointError>
     ensures { MatchResult result (λ _. IsTrue (is_reached stage space)) (IsReachFault stage space) }
 {
@@ -99,7 +99,7 @@ fn check_reached(stage: ShaderStage, space: AddressSpace) -> Result<(), EntryPoi
     }
 }
 
-// Whether an entry point may use a variable in this way.
+// Whether an entry point may use a variable so.
 fn check_variable(
     module: &Module,
     entry: &EntryPoint,
@@ -127,7 +127,7 @@ fn check_variable(
     }
 }
 
-// Whether an entry point may use each variable in the way that it does.
+// Whether an entry point may use each variable that it uses so.
 fn check_each(
     module: &Module,
     entry: &EntryPoint,
@@ -152,7 +152,7 @@ fn check_each(
     Ok(())
 }
 
-// Whether a variable is a used immediate.
+// Whether a variable is an immediate that is used.
 fn is_used_immediate(
     module: &Module,
     uses: &[GlobalUse],
@@ -165,7 +165,7 @@ fn is_used_immediate(
     use_at(uses, global).0 != 0 && is_immediate(space_at(module, global))
 }
 
-// Whether an entry point uses at most one immediate.
+// Whether an entry point uses one immediate at most.
 fn check_immediates(module: &Module, uses: &[GlobalUse]) -> Result<(), EntryPointError>
     requires { length uses.now ≡ length (module_view «module».now).globals }
     ensures { MatchResult result
@@ -185,12 +185,12 @@ fn check_immediates(module: &Module, uses: &[GlobalUse]) -> Result<(), EntryPoin
     Ok(())
 }
 
-/// Whether the uses of global variables by an entry point are valid.
+/// Whether an entry point may use the variables that it uses.
 ///
 /// # Errors
 ///
-/// [`Refusal::Fault`] with an error whose condition holds: two immediates, an invalid use, or two variables with one binding
-/// (the first of these, which no clause states); [`Refusal::Memory`] if out of memory.
+/// [`Refusal::Fault`] with a fault that stands: that it uses two immediates, of one variable, or that two have one binding (of the
+/// first of these with which something is wrong, which no clause says); [`Refusal::Memory`] where memory ran out.
 pub fn check_variables(
     alloc: Global,
     flags: ValidationFlags,

@@ -1,4 +1,4 @@
-//! The error of a module, and the parts of the source that it names: the spans of its items.
+//! Why a module is refused, and the parts of the source that an error speaks of: the spans of the items that it names.
 #![tactic(auto)]
 
 mod error;

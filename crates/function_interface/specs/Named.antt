@@ -1,7 +1,7 @@
--- The name of an item in an error.
+-- How an error names what is at fault.
 use Rattle.std.specs.Prelude.{ℕ, List, [], Option, Some, None}
 
--- its own name, or the empty one if it has none
+-- by its name in the source, and where it has none by the empty one
 abbrev pub name_of : Option (List ℕ) → List ℕ
 name_of (Some name) = name
 name_of None = []

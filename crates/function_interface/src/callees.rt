@@ -1,4 +1,4 @@
-//! The stages that may run functions with known information.
+//! Where the stages of functions are read of which something is kept.
 
 ghost use Rattle.std.specs.Prelude.{map};
 
@@ -9,10 +9,10 @@ use ir_types::key;
 use module_context::CalleeStages;
 use typing_infos::FunctionInfo;
 
-/// The stages noted in the information on functions (`available_stages` of naga's `FunctionInfo`).
+/// Stages that are noted in what is kept of functions (`available_stages` of naga's `FunctionInfo`).
 #[derive(Clone, Copy)]
 pub struct NotedStages<'a>(
-    /// The information on each.
+    /// The info of each.
     pub &'a [FunctionInfo],
 );
 

@@ -1,4 +1,4 @@
-//! A layer that infers the types of expressions, analyses functions and has the `TypeInfo`s of types.
+//! A layer that types expressions, analyses functions and reports on types.
 
 ghost use Rattle.std.specs.Prelude.{◌≡◌, ◌<◌, ◌↔◌, ◌⊎◌, ◌||◌, ℕ, All, Bool, IfErr, IfOk, List, MatchResult, Some, bit_and, length, map, slice_get};
 ghost use Rattle.typing_infos.specs.Infos.{NotesUse};
@@ -35,65 +35,65 @@ use typing_errors::{ExpressionError, FunctionError};
 use typing_forms::TypeResolution;
 use typing_layout::TypeInfo;
 
-/// Infers the types of the expressions of a module's functions, analyses its functions, and has the `TypeInfo`s of its types.
-/// The function checks are generic over it: they are the same for every such layer, relative to its results.
+/// What types the expressions of a module's functions, analyses its functions, and reports on its types. The rules of functions
+/// depend on it and on nothing that it does: over any such layer they are the same, read with what the layer says.
 pub trait Lower {
-    /// The information on a function.
+    /// The info of a function.
     type Info: Drop;
 
     /// The layer was made for the module.
     ghost is_for: { Self → PlainModule → Type 0 };
 
-    /// Its results for a function.
+    /// What it says of a function.
     ghost reading: { Self → Question → Reading };
 
-    /// Its errors for a function.
+    /// What it says is wrong with one.
     ghost faults: { Self → Question → Faults };
 
-    /// Its `TypeInfo`s of the module's types.
+    /// What it reports on the module's types.
     ghost told: { Self → List TypeInfo };
 
-    /// The possible forms of the types of the module's global expressions.
+    /// Which forms the types of the module's global expressions may have.
     ghost has_global_form: { Self → PlainModule → (expression : ℕ) → Form → Type 0 };
 
     /// The types of the module's global expressions.
     ghost global_types: { Self → List TypeResolution };
 
-    /// The types of a function's expressions in its information.
+    /// What an info says of the types of a function's expressions.
     ghost types: { Self → Self.Info → List TypeResolution };
 
-    /// The uses and pairs in it.
+    /// What it says of uses and pairs.
     ghost summary: { Self → Self.Info → Summary };
 
-    /// The stages noted in it.
+    /// Which stages it has noted.
     ghost noted: { Self → Self.Info → ShaderStages };
 
-    /// Whether dual source blending is noted in it.
+    /// Whether it has noted that two sources are blended.
     ghost blending: { Self → Self.Info → Bool };
 
-    /// The information on a function by itself, independent of its callees, besides the types of its expressions.
+    /// What an info says of a function by itself, whatever it calls, besides the types of its expressions.
     ghost own: { Self → PlainModule → PlainFunction → Self.Info → Type 0 };
 
-    /// The `TypeInfo`s of the module's types, in order.
+    /// What is reported of the module's types, in order.
     fn type_infos(&self) -> &[TypeInfo]
         ensures { result.now ≡ told self.now };
 
-    /// The `TypeInfo` of a type. Requires that the type exists.
+    /// What is reported of a type. Requires that it is there.
     fn type_info(&self, ty: Handle<key::IrType>) -> &TypeInfo
         requires { ty < length (told self.now) }
         ensures { slice_get (told self.now) ty ≡ Some result.now };
 
-    /// The type of a global expression. Requires that the expression exists.
+    /// The type of a global expression. Requires that it is there.
     fn global_resolution(&self, expression: Handle<key::Expression>) -> &TypeResolution
         requires { expression < length (global_types self.now) }
         ensures { slice_get (global_types self.now) expression ≡ Some result.now };
 
-    /// The information on a function, or on an entry point's. `callees` has that of earlier functions, in which stages and uses
-    /// may have been noted since. Requires that the function's handles are in order.
+    /// What is kept of a function, or of an entry point's. `callees` has what was kept of the functions before it, where stages
+    /// and uses may have been noted since. Requires that the function's handles are in order.
     ///
     /// # Errors
     ///
-    /// An error of the analysis, returned only if its condition holds; or out of memory.
+    /// A fault of the analysis, each only where it occurs; or out of memory.
     fn analyse(
         &self,
         alloc: Global,
@@ -113,7 +113,7 @@ pub trait Lower {
             → IfErr result (IsRefusedFor ((faults self.now (question (module_view «module».now) (function_view function.now) others (map (noted self.now) callees.now))).IsAnalysisFault flags)) }
         ensures own { IfOk result (own self.now (module_view «module».now) (function_view function.now)) };
 
-    /// The type of an expression. Requires that the expression exists.
+    /// The type of an expression. Requires that it is there.
     fn resolution<'a>(
         &self,
         info: &'a Self::Info,
@@ -122,12 +122,12 @@ pub trait Lower {
         requires { expression < length (types self.now info.now) }
         ensures { slice_get (types self.now info.now) expression ≡ Some result.now };
 
-    /// Whether an expression is valid, and which stages may run it. `callees` has the information on earlier functions.
-    /// Requires that the expression exists.
+    /// Whether an expression is accepted, and which stages may run it. `callees` has what was kept of the functions before. Requires
+    /// that the expression is there.
     ///
     /// # Errors
     ///
-    /// An error of the expression, returned only if its condition holds.
+    /// What is wrong with it, each only where it occurs.
     fn check_expression(
         &self,
         context: &BlockContext<'_>,
@@ -142,21 +142,21 @@ pub trait Lower {
             (λ stages. (reading self.now q).IsAccepted context.now.capabilities context.now.forms.now expression × (reading self.now q).IsRunBy expression stages)
             ((faults self.now q).IsFaultAt context.now.capabilities context.now.forms.now expression) };
 
-    /// The noted stages.
+    /// Which stages have been noted.
     fn stages(&self, info: &Self::Info) -> ShaderStages
         ensures { result ≡ noted self.now info.now };
 
-    /// The use of a global variable. Requires that the variable exists.
+    /// How a global variable is used. Requires that it is there.
     fn uses(&self, info: &Self::Info, global: Handle<key::GlobalVariable>) -> GlobalUse
         requires { global < length (summary self.now info.now).uses }
         ensures { slice_get (summary self.now info.now).uses global ≡ Some result };
 
-    /// The sampling pairs.
+    /// The pairs of images and samplers.
     fn pairs<'a>(&self, info: &'a Self::Info) -> &'a [SamplingPair]
         ensures { result.now ≡ (summary self.now info.now).pairs };
 
-    /// Notes stages, of which the common ones remain, further uses, and dual source blending. Requires that the variables
-    /// exist. It allocates nothing.
+    /// Notes stages, of which the common ones are left, further uses, and whether two sources are blended. Requires that the
+    /// variables are there. No memory is taken.
     fn note(
         &self,
         info: &mut Self::Info,
@@ -174,13 +174,13 @@ pub trait Lower {
         ensures types { types self.now info.new ≡ types self.now info.old }
         ensures own { (m : PlainModule) (f : PlainFunction) → own self.now m f info.old → own self.now m f info.new };
 
-    /// Its `TypeInfo`s are right for all types of its module.
+    /// What it reports on types is reported of all types of its module.
     ghost told_of_all: { (l : Self) (m : PlainModule) → is_for l m → AreReported m.types (told l) };
 
-    /// The types of global expressions are right.
+    /// The types of global expressions are as it says.
     ghost global_typed: { (l : Self) (m : PlainModule) → is_for l m → (e : ℕ) (r : TypeResolution) → slice_get (global_types l) e ≡ Some r → has_global_form l m e (form_given m.types r) };
 
-    /// An initializer of a global variable of its module has a type.
+    /// A global expression that a variable of its module is initialized with has a type.
     ghost initializers_typed: { (l : Self) (m : PlainModule) → is_for l m → (g : ℕ) (v : PlainGlobal) (e : ℕ) → slice_get m.globals g ≡ Some v → v.init ≡ Some e → e < length (global_types l) };
 
     /// The type of a global expression has one form.
@@ -189,12 +189,12 @@ pub trait Lower {
     /// The type of an expression has one form.
     ghost one_form: { (l : Self) (q : Question) (e : ℕ) (s t : Form) → (reading l q).HasForm e s → (reading l q).HasForm e t → s ≡ t };
 
-    /// The stages that may run an expression do not depend on the call.
+    /// An expression is run by the same stages, however often it is queried.
     ghost one_run: { (l : Self) (q : Question) (e : ℕ) (s t : ShaderStages) → (reading l q).IsRunBy e s → (reading l q).IsRunBy e t → s ≡ t };
 
-    /// A function with an error of the analysis is not valid for it.
+    /// A function with a fault of the analysis is not accepted by it.
     ghost fault_refutes: { (l : Self) (q : Question) (flags : ValidationFlags) (e : FunctionError) → (faults l q).IsAnalysisFault flags e → (reading l q).IsAnalysed flags → ⊥ };
 
-    /// Nor is an expression with an error.
+    /// Nor is an expression with a fault.
     ghost expression_refuted: { (l : Self) (q : Question) (capabilities : Capabilities) (forms : List Form) (e : ℕ) (x : ExpressionError) → (faults l q).IsFaultAt capabilities forms e x → (reading l q).IsAccepted capabilities forms e → ⊥ };
 }

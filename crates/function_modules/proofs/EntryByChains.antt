@@ -1,10 +1,11 @@
 -- What is read of entry points with summaries of the functions is read by chains of calls.
 use Rattle.std.proofs.Common.{◌≡◌, ℕ, true, Bool, List, length, Option, Some, sym, subst, ◌∙◌, slice_get}
-use Rattle.std.proofs.lemmas.Option.{same_Some, slice_get_within}
+use Rattle.std.proofs.lemmas.Option.{slice_get_within}
 use Rattle.function_entry_checks.specs.declared.error.EntryPointError.{EntryPointError}
 use Rattle.function_interface.specs.Question.{question}
 use Rattle.function_whole.specs.Validated.{IsEntryNoted}
 use Rattle.function_modules.proofs.ByChains.{ok_by_chains, ok_by_summaries}
+use Rattle.function_modules.proofs.Chained.{some_is}
 use Rattle.function_modules.proofs.EntryHeld.{one_entry_held}
 use Rattle.function_modules.proofs.EntrySteps.{entry_conditions, entry_known}
 use Rattle.function_modules.specs.JudgedEntries.{IsEntryAcceptedAt, IsEntryRefusedAt, IsWrong, conflicting, unaccepted, IsFirstEntryRefused}
@@ -112,7 +113,7 @@ module _ (s : Settings) (m : PlainModule) (handles : HandlesOK m) (summaries : L
   same_ok : (index : ℕ) (ok : EntryAtOK s m index) (e : PlainEntry) → slice_get m.entries index ≡ Some e → (held : Option ℕ) → ok.held ≡ held
       → EntryOK (reading_of (question m e.function summaries stages)) stages (HasUse m e.function) s held m e
   same_ok index ok e at held same_held =
-      let same : ok.entry ≡ e = same_Some _ _ (sym ok.at ∙ at) in
+      let same : ok.entry ≡ e = some_is (sym ok.at ∙ at) in
       let moved = other_stages index ok.entry ok.at ok.stages ok.run ok.held ok.ok in
       subst (λ h. EntryOK (reading_of (question m e.function summaries stages)) stages (HasUse m e.function) s h m e) same_held
       (subst (λ (g : PlainEntry). EntryOK (reading_of (question m g.function summaries stages)) stages (HasUse m g.function) s ok.held m g) same
@@ -120,7 +121,7 @@ module _ (s : Settings) (m : PlainModule) (handles : HandlesOK m) (summaries : L
 
   wrong_refutes : (index : ℕ) (ok : EntryAtOK s m index) (e : PlainEntry) → slice_get m.entries index ≡ Some e → (held : Option ℕ) → ok.held ≡ held → (t : Trail) (x : EntryPointError)
       → IsWrong reading_of faults_of s m summaries stages index e held t x → ⊥
-  wrong_refutes index ok e at held same_held t _ (conflicting c) = ok.apart (subst (λ (g : PlainEntry). IsConflict m index g) (same_Some _ _ (sym at ∙ ok.at)) c)
+  wrong_refutes index ok e at held same_held t _ (conflicting c) = ok.apart (subst (λ (g : PlainEntry). IsConflict m index g) (some_is (sym at ∙ ok.at)) c)
   wrong_refutes index ok e at held same_held t _ (unaccepted refused placed) = refused (same_ok index ok e at held same_held)
 
   pub refused_at : (index : ℕ) (t : Trail) (x : EntryPointError) → IsEntryRefusedAt reading_of faults_of s m summaries stages index t x → ¬ EntryAtOK s m index

@@ -1,5 +1,5 @@
-//! The check of the functions and the entry points of a module, over any layer; and all steps of a module, over its own layer
-//! ([`Validator`]).
+//! The functions and the entry points of a module, judged over any layer beneath them; and all steps over a module, over the
+//! layer of its own ([`Validator`]).
 #![tactic(auto)]
 
 mod entries;

@@ -1,4 +1,4 @@
--- The laws of a layer, for the type inference and the checks of this repository.
+-- The laws of a lower layer, of the typing and the checks of this repository.
 use Rattle.std.proofs.Common.{◌≡◌, ◌<◌, ℕ, List, Some, length, slice_get, sym, ap, subst, ◌∙◌}
 use Rattle.typing_errors.specs.declared.expressions.ExpressionError.{ExpressionError}
 use Rattle.module_expressions.proofs.Refuted.{expression_refuted}

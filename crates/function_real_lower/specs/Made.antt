@@ -1,4 +1,4 @@
--- The information on a module is that of this one, whose handles are in order.
+-- What is kept of a module is that of this one, whose handles are in order.
 use Rattle.std.specs.Prelude.{List, map}
 use Rattle.spec_expressions.specs.declared.expression_info.ExpressionInfo.{ExpressionInfo}
 use Rattle.typing_infos.specs.declared.function_info.FunctionInfo.{FunctionInfo}
@@ -10,7 +10,7 @@ use Rattle.spec_expressions.specs.judged.ModuleHandles.{HandlesOK}
 use Rattle.typing_infos.specs.Types.{AreTypes}
 use Rattle.typing_forms.specs.declared.resolution.TypeResolution.{TypeResolution}
 
--- the handles of the module are in order; it has the `TypeInfo`s of all its types, and the types of all its global expressions
+-- the handles of the module are in order; it reports of all types of the module, and has the types of all its global expressions
 pub record IsMadeOf (m : PlainModule) (info : ModuleInfo) : Type 0 where
   pub handles : HandlesOK m
   pub told : AreReported m.types info.types.items

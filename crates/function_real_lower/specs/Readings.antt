@@ -1,4 +1,4 @@
--- The results of the analysis of functions and of the expression checks.
+-- What the analysis of functions and the checks of expressions say of a function.
 use Rattle.std.specs.Prelude.{ℕ}
 use Rattle.typing_errors.specs.declared.error.FunctionError.{FunctionError}
 use Rattle.module_expressions.specs.Faults.{IsExpressionFault}
@@ -11,7 +11,7 @@ use Rattle.spec_expressions.specs.judged.Typing.{HasType}
 use Rattle.spec_statements.specs.judged.Functions.{Reading}
 use Rattle.typing_analysis.specs.Processed.{IsAnalysisFault}
 
--- its expressions have types by the rules of their kinds, and the analysis finds no error
+-- its expressions have types by the rules of their kinds, and no fault of the analysis stands
 abbrev pub reading_of : Question → Reading
 reading_of q = record {
   HasForm = HasType q.m q.f;

@@ -5,11 +5,11 @@ use Rattle.typing_uniformity.specs.Nearest.{AreNearest}
 use Rattle.ir_items.specs.judged.Plain.{PlainModule}
 use Rattle.ir_kinds.specs.declared.diagnostics.Severity.{Severity}
 
--- the known severity of each node, if any
+-- what is known of each node, which may be nothing
 abbrev pub severities_in : Option (Vec (Option Severity) Global) → List (Option Severity)
 severities_in (Some severities) = severities.items
 severities_in None = []
 
--- the known severities are those of the module's filters
+-- what is known of the module's filters is so
 abbrev pub AreKnown : PlainModule → Option (Vec (Option Severity) Global) → Type 0
 AreKnown m severities = AreNearest m.filters (severities_in severities)

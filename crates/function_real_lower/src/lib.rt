@@ -1,4 +1,4 @@
-//! The function checks over the type inference, the analysis and the expression checks of this repository: `RealLower`.
+//! The rules of functions over the typing, the analysis and the checks of this repository: `RealLower`.
 #![tactic(auto)]
 
 mod real;

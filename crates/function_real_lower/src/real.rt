@@ -1,4 +1,4 @@
-//! The layer below the function checks.
+//! The layer beneath the rules of functions.
 
 ghost use Rattle.std.specs.Prelude.{◌≡◌, IfOk, None, length};
 ghost use Rattle.ir_items.specs.found.View.{module_view};
@@ -24,9 +24,9 @@ use typing_infos::{FunctionInfo, ModuleInfo};
 use typing_layout::TypeInfo;
 use typing_uniformity::severities_of;
 
-/// The information on a module, with the type inference of its expressions, the analysis of its functions and the checks of
-/// their expressions. It may have the severity of derivative uniformity at each node of the module's diagnostic filters; if
-/// not, the filters are searched for each function.
+/// What is kept of a module, and with it the typing of its expressions, the analysis of its functions and the checks of their
+/// expressions. It may know how severe faults of derivatives are at each node of the module's diagnostic filters; where it
+/// doesn't, they are gone through for each function.
 #[derive(Drop)]
 pub struct RealLower {
     info: ModuleInfo,
@@ -34,7 +34,7 @@ pub struct RealLower {
 }
 
 impl RealLower {
-    /// The layer for the module with this information.
+    /// The layer for the module of which this is kept.
     pub fn new(info: ModuleInfo) -> RealLower
         ensures info { result.info ≡ info }
         ensures severities { result.severities ≡ None }
@@ -45,8 +45,8 @@ impl RealLower {
         }
     }
 
-    /// The same, with the severities at the nodes of the module's diagnostic filters, found once for all functions. Requires
-    /// that each node comes after its parent. The error is out of memory.
+    /// The same, where the severities at the nodes of the module's diagnostic filters are found, once for all functions. Requires
+    /// that the parent of each comes before it. The error is out of memory.
     pub fn with_severities(
         alloc: Global,
         info: ModuleInfo,
@@ -73,14 +73,14 @@ impl RealLower {
         }
     }
 
-    /// The information on the module.
+    /// What is kept of the module.
     pub fn info(&self) -> &ModuleInfo
         ensures { result.now ≡ self.now.info }
     {
         &self.info
     }
 
-    /// The information on the module, by value.
+    /// What is kept of the module, handed back.
     pub fn into_info(self) -> ModuleInfo
         ensures { result ≡ self.info }
     {

@@ -12,7 +12,7 @@ use ir_types::key;
 use typing_errors::FunctionError;
 use typing_forms::Form;
 
-// Whether a type is a scalar `bool`.
+// Whether a type is that of a truth value alone.
 const fn is_condition(of: Form) -> bool
     ensures { IsTrue result ↔ ConditionOK of }
 {
@@ -42,11 +42,11 @@ const fn is_condition(of: Form) -> bool
     }
 }
 
-/// Whether an expression is a condition: a scalar `bool`.
+/// Whether an expression is a condition: a truth value alone.
 ///
 /// # Errors
 ///
-/// [`FunctionError::InvalidIfType`] if it is not.
+/// [`FunctionError::InvalidIfType`] where it is none.
 pub fn check_condition<C: StatementContext>(
     context: &C,
     condition: Handle<key::Expression>,

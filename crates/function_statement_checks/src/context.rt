@@ -1,4 +1,4 @@
-//! The context in which a statement is checked.
+//! What the rules of a statement may look at.
 
 ghost use Rattle.std.specs.Prelude.{◌≡◌, ◌↔◌, IsTrue, map, option_map, slice_get};
 ghost use Rattle.ir_blocks.specs.found.View.{block_view};
@@ -29,33 +29,33 @@ use ir_types::{Expression, IrType, TypeInner, key};
 use typing_forms::{Form, form_of_type, inner_of};
 use typing_layout::ExpressionKindTracker;
 
-/// The context in which a statement is checked: a module, one of its functions, and the facts about its expressions. The rules
-/// are generic over it.
+/// What the rules of a statement may look at: a module, one of its functions, and what is known of its expressions. The rules
+/// are the same whatever holds it.
 pub trait StatementContext {
-    /// Its view.
+    /// What it holds.
     ghost seen: { Self → PlainContext };
 
-    /// The precomputed facts are right: the kinds of all expressions, and which are results; for all types, whether they are
-    /// equivalent to the module's ray descriptor.
+    /// What is found once is that of these: of all expressions when their values are known, and which denote answers; of all
+    /// types which are made as the module's type of rays.
     ghost known: { Self → Type 0 };
 
-    /// The enabled capabilities.
+    /// What shaders may use beyond the common part.
     fn capabilities(&self) -> Capabilities
         ensures { result ≡ (seen self.now).capabilities };
 
-    /// The enabled subgroup operations.
+    /// The operations of subgroups that may be used.
     fn operations(&self) -> SubgroupOperationSet
         ensures { result ≡ (seen self.now).operations };
 
-    /// The form of the type of an expression, [`Form::Nothing`] if it has none.
+    /// The form of the type of an expression, [`Form::Nothing`] where there is none.
     fn form_at(&self, handle: Handle<key::Expression>) -> Form
         ensures { result ≡ form_at (seen self.now) handle };
 
-    /// The form of a type of the module, [`Form::Nothing`] if there is none.
+    /// The form of a type of the module, [`Form::Nothing`] where there is none.
     fn form_of(&self, ty: Handle<key::IrType>) -> Form
         ensures { result ≡ form_of_type (seen self.now).m.types ty };
 
-    /// The inner type of a type of the module, if it exists.
+    /// What a type of the module is made of, if there is one.
     fn inner_of(&self, ty: Handle<key::IrType>) -> Option<&TypeInner>
         ensures { option_map (λ found. inner_view found.now) result ≡ inner_at (seen self.now).m.types ty };
 
@@ -63,76 +63,77 @@ pub trait StatementContext {
     fn types(&self) -> &UniqueArena<IrType, key::IrType>
         ensures { map type_view (values_of result.now) ≡ (seen self.now).m.types };
 
-    /// A global variable of the module, if it exists.
+    /// A global variable of the module, if there is one at the handle.
     fn global_at(&self, handle: Handle<key::GlobalVariable>) -> Option<&GlobalVariable>
         ensures { option_map (λ found. global_view found.now) result ≡ slice_get (seen self.now).m.globals handle };
 
-    /// A function of the module, if it exists.
+    /// A function of the module, if there is one at the handle.
     fn function_at(&self, handle: Handle<key::Function>) -> Option<&Function>
         ensures { option_map (λ found. function_view found.now) result ≡ slice_get (seen self.now).m.functions handle };
 
-    /// The module's ray descriptor type, if it has one.
+    /// The module's type of rays, if it has one.
     fn ray_descriptor(&self) -> Option<Handle<key::IrType>>
         ensures { result ≡ (seen self.now).m.special.ray_desc };
 
-    /// Whether a type of the module is equivalent to its ray descriptor type, if it has one.
+    /// Whether a type of the module is made of the same as its type of rays, if it has one.
     fn is_descriptor(&self, ty: Handle<key::IrType>) -> bool
         requires { known self.now }
         ensures { IsTrue result ↔ IsDescriptorAt (seen self.now).m.types (seen self.now).m.special.ray_desc ty };
 
-    /// An expression of the function, if it exists.
+    /// An expression of the function, if there is one at the handle.
     fn expression_at(&self, handle: Handle<key::Expression>) -> Option<&Expression>
         ensures { option_map (λ found. expression_view found.now) result ≡ slice_get (seen self.now).f.expressions handle };
 
-    /// The origin of a chain of accesses. Requires that the base of each access precedes it.
+    /// What a chain of accesses begins at. Requires that the base of each access comes before it.
     fn beginning_of(&self, pointer: Handle<key::Expression>) -> Handle<key::Expression>
         requires { BasesPrecede (seen self.now).f.expressions }
         ensures { BeginsAt (seen self.now).f.expressions pointer result };
 
-    /// Whether an expression is constant.
+    /// Whether the value of an expression is known as the module is written.
     fn is_const(&self, handle: Handle<key::Expression>) -> bool
         requires { known self.now }
         ensures { IsTrue result ↔ IsOfKind (seen self.now).f.expressions handle Const };
 
-    /// The first expression of a range that is the result of a statement, if any. It takes the same time for any range.
+    /// The first expression of a range that denotes the result of a statement, if there is one. That takes the same time for
+    /// any range.
     fn answer_of(&self, range: Range<key::Expression>) -> Option<Handle<key::Expression>>
         requires { known self.now }
         ensures { IsAnswerOf (seen self.now).f.expressions range result };
 
-    /// The type of a local variable of the function, if it exists.
+    /// The type of a variable of the function, if there is one at the handle.
     fn local_type(&self, handle: Handle<key::LocalVariable>) -> Option<Handle<key::IrType>>
         ensures { result ≡ option_map (λ v. v.ty) (slice_get (seen self.now).f.locals handle) };
 
-    /// The result of the function, if it has one.
+    /// What the function answers, if it answers something.
     fn result(&self) -> Option<FunctionResult>
         ensures { result ≡ (seen self.now).f.result };
 
-    /// The body of the function.
+    /// The statements of the function.
     fn body(&self) -> &Block
         ensures { block_view result.now ≡ (seen self.now).f.body };
 }
 
-/// The context in which a statement is checked (naga's `BlockContext`).
+/// What the rules of a statement may look at (naga's `BlockContext`).
 #[derive(Clone, Copy)]
 pub struct BlockContext<'a> {
-    /// The enabled capabilities.
+    /// What shaders may use beyond the common part.
     pub capabilities: Capabilities,
-    /// The enabled subgroup operations.
+    /// The operations of subgroups that may be used.
     pub operations: SubgroupOperationSet,
     /// The module.
     pub module: &'a Module,
-    /// The function with the body.
+    /// The function whose body it is.
     pub function: &'a Function,
     /// The form of the type of each of its expressions.
     pub forms: &'a [Form],
-    /// The expression kind of each of them.
+    /// When the value of each of them is known.
     pub kinds: &'a ExpressionKindTracker,
-    /// For each of them the first from it on that is the result of a statement.
+    /// For each of them the first from it on that denotes the result of a statement.
     pub answers: &'a [u32],
-    /// For each type of the module, whether it is equivalent to its ray descriptor type; types past the end are compared with
-    /// it.
+    /// Of each type of the module, whether it is made of the same as its type of rays; those that have no mark here are compared
+    /// with it.
     pub descriptors: &'a [bool],
-    /// For each of its expressions the origin of its chain of accesses; for expressions past the end it is searched.
+    /// For each of its expressions what the chain of accesses from it begins at; one that has none here is walked back.
     pub roots: &'a [Handle<key::Expression>],
     ghost begin: { AreRoots (expressions_of function.now.expressions) roots.now },
 }

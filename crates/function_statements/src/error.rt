@@ -3,11 +3,11 @@
 use std::alloc::AllocError;
 use typing_errors::FunctionError;
 
-/// Out of memory, or the error of a statement.
+/// There is no memory, or a statement has a fault.
 #[derive(Drop)]
 pub enum StatementError {
-    /// Out of memory.
+    /// Memory was refused.
     Memory(AllocError),
-    /// The error.
+    /// What is wrong.
     Fault(FunctionError),
 }

@@ -49,7 +49,7 @@ fn check_cases<C: StatementContext>(
     }
 }
 
-// An image store.
+// A texel that is written.
 fn check_written<C: StatementContext>(
     alloc: Global,
     context: &C,
@@ -87,8 +87,8 @@ fn check_break_if<C: StatementContext>(
     }
 }
 
-// Whether a statement meets its rule, without its inner blocks, if its check allocates nothing: it is neither a switch nor an
-// image store.
+// Whether a statement meets its rule, what stands inside it aside, whose rule takes no memory: it is no switch, and writes no
+// texel.
 fn check_plain<C: StatementContext>(context: &C, statement: &Statement) -> Result<(), FunctionError>
     requires plain { TakesNoMemory (statement_view statement.now) }
     requires known { C.known context.now }
@@ -149,8 +149,8 @@ fn check_plain<C: StatementContext>(context: &C, statement: &Statement) -> Resul
     }
 }
 
-/// Whether a statement meets its rule, without its inner blocks. A call of a missing function is not refused here: that it
-/// exists is checked before.
+/// Whether a statement meets its rule, what stands inside it aside. A call of a function that is not there is not refused here:
+/// that it is there is checked beforehand.
 pub(crate) fn check_own<C: StatementContext>(
     alloc: Global,
     context: &C,

@@ -1,4 +1,4 @@
--- An error of strict scope refutes its requirements.
+-- A fault of strict scope refutes what is required.
 use Rattle.typing_errors.specs.declared.error.FunctionError.{FunctionError}
 use Rattle.ir_items.specs.judged.Plain.{PlainFunction}
 use Rattle.spec_statements.specs.judged.Strict.{StrictOK}

@@ -8,7 +8,7 @@ use std::alloc::AllocError;
 /// an error of functions is not.
 #[derive(Clone, Copy)]
 pub enum StrictError {
-    /// Out of memory.
+    /// Memory was refused.
     Memory(AllocError),
     /// An operand is not in scope.
     Unknown(Handle<key::Expression>),

@@ -1,4 +1,4 @@
-//! The value types.
+//! The types that values may have.
 
 ghost use Rattle.std.specs.Prelude.{◌≡◌};
 ghost use Rattle.function_tiny_lower.specs.Values.{resolution_of, scalar_of, type_of_form, type_of_inner, type_of_scalar};
@@ -8,18 +8,18 @@ use ir_kinds::{Scalar, ScalarKind};
 use ir_types::TypeInner;
 use typing_forms::{Form, TypeResolution};
 
-/// A value type.
+/// A type that a value may have.
 #[derive(Clone, Copy)]
 pub(crate) enum ValueType {
-    /// `u32`.
+    /// An unsigned integer of four bytes.
     U32,
     /// `bool`.
     Bool,
-    /// `f32`.
+    /// A float of four bytes.
     F32,
 }
 
-// The value type of a scalar.
+// The type of values of a scalar.
 fn type_of_scalar(scalar: Scalar) -> Option<ValueType>
     ensures { result ≡ type_of_scalar scalar }
 {
@@ -43,7 +43,7 @@ fn type_of_scalar(scalar: Scalar) -> Option<ValueType>
     }
 }
 
-/// The value type of an inner type.
+/// The type of values of what is made of this.
 pub(crate) fn type_of_inner(inner: &TypeInner) -> Option<ValueType>
     ensures { result ≡ type_of_inner (inner_view inner.now) }
 {
@@ -65,7 +65,7 @@ pub(crate) fn type_of_inner(inner: &TypeInner) -> Option<ValueType>
     }
 }
 
-/// The value type of a form.
+/// The type of values of a form.
 pub(crate) fn type_of_form(form: &Form) -> Option<ValueType>
     ensures { result ≡ type_of_form form.now }
 {

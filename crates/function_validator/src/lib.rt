@@ -1,13 +1,13 @@
-//! The validation of functions, global variables and entry points, re-exported: what it requires of the layer below from
-//! `function_interface` (`Lower`), that layer over the type inference and the checks of this repository from
-//! `function_real_lower`, and a small second one from `function_tiny_lower`; the validator of functions, entry points and whole
-//! modules from `function_modules` (`Validator`), with the errors of modules from `function_errors`; the attributes implied by
-//! a mesh output from `function_entries`; and the errors of each.
+//! The checks of functions, global variables and entry points from one place: what they require of the layer beneath of
+//! `function_interface` (`Lower`), that layer over the typing and the checks of this repository of `function_real_lower`, and a
+//! small second one of `function_tiny_lower`; what judges functions, entry points and whole modules of `function_modules`
+//! (`Validator`), with why a module is refused of `function_errors`; what is implied of a mesh shader of `function_entries`;
+//! and the errors of each.
 //!
-//! The `VaryingError` here is the full error. The one of the same name in `module_validator` is only the part that concerns
-//! types.
+//! The error of a varying here, `VaryingError`, is the whole of it. What `module_validator` hands on under the same name is the
+//! part of it that a type may have.
 //!
-//! This crate defines nothing. To validate modules, depend on this crate, and on `shader_ir` for modules.
+//! Nothing is defined here. A crate that judges modules names this crate, and `shader_ir` for the modules.
 #![tactic(auto)]
 
 pub mod laws;

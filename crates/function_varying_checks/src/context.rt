@@ -1,4 +1,4 @@
-//! The context of the checks of varyings.
+//! The context of the rules of varyings.
 
 use ir_arena::handle::Handle;
 use ir_flags::{Capabilities, ValidationFlags};
@@ -8,22 +8,22 @@ use ir_types::{IrType, key};
 use spec_interface::Direction;
 use typing_layout::TypeInfo;
 
-/// The context in which varyings are checked (naga's `VaryingContext`, without its mutable parts).
+/// What the rules of varyings may look at (naga's `VaryingContext`, without what changes).
 #[derive(Clone, Copy)]
 pub struct VaryingContext<'a> {
-    /// The validation flags.
+    /// The checks that are made.
     pub flags: ValidationFlags,
-    /// The enabled capabilities.
+    /// What shaders may use beyond the common part.
     pub capabilities: Capabilities,
     /// The module's types.
     pub types: &'a UniqueArena<IrType, key::IrType>,
-    /// Their `TypeInfo`s.
+    /// What is reported of them.
     pub infos: &'a [TypeInfo],
     /// The entry point's stage.
     pub stage: ShaderStage,
-    /// The size of its workgroup, in invocations.
+    /// The size of its workgroups, in invocations.
     pub workgroup_size: [u32; 3],
-    /// The payload variable of a task or mesh shader.
+    /// The variable that a task shader hands to mesh shaders.
     pub task_payload: Option<Handle<key::GlobalVariable>>,
     /// The direction of the varyings.
     pub direction: Direction,

@@ -23,7 +23,7 @@ use ir_types::key;
 use spec_interface::{Direction, Location};
 use typing_forms::form_of_type;
 
-// Whether a varying is per vertex.
+// Whether every vertex gives its own value.
 const fn is_per_vertex(interpolation: Option<Interpolation>) -> bool
     ensures { IsTrue result ↔ (interpolation ≡ Some PerVertex) }
 {
@@ -36,14 +36,14 @@ const fn is_per_vertex(interpolation: Option<Interpolation>) -> bool
     }
 }
 
-/// Whether a stage is the fragment stage.
+/// Whether a stage is that of fragments.
 pub const fn is_fragment(stage: ShaderStage) -> bool
     ensures { IsTrue result ↔ (stage ≡ Fragment) }
 {
     matches!(stage, ShaderStage::Fragment)
 }
 
-// Whether a sampling is given, and is not the center.
+// Whether a place in a fragment is given, and is not its centre.
 const fn is_off_center(sampling: Option<Sampling>) -> bool
     ensures { IsTrue result ↔ (IsSome sampling × (sampling ≢ Some Center)) }
 {
@@ -56,7 +56,7 @@ const fn is_off_center(sampling: Option<Sampling>) -> bool
     }
 }
 
-// Whether a per-primitive varying is allowed.
+// Whether what belongs to a primitive may.
 fn check_mesh(context: &VaryingContext<'_>, at: &Location) -> Result<(), VaryingError>
     ensures { (ty : ℕ) → MatchResult result
         (λ _. IsTrue at.now.per_primitive → Has context.now.capabilities.0 MESH_SHADER.0)
@@ -68,7 +68,7 @@ fn check_mesh(context: &VaryingContext<'_>, at: &Location) -> Result<(), Varying
     Ok(())
 }
 
-// Whether a per-vertex varying is allowed.
+// Whether every vertex may give its own value, where each does.
 fn check_vertices(context: &VaryingContext<'_>, at: &Location) -> Result<(), VaryingError>
     ensures { (ty : ℕ) → MatchResult result
         (λ _. at.now.interpolation ≡ Some PerVertex → PerVertexOK (context_view context.now))
@@ -92,7 +92,7 @@ fn check_vertices(context: &VaryingContext<'_>, at: &Location) -> Result<(), Var
     Ok(())
 }
 
-// The relevant type: for a per-vertex varying, that of the elements.
+// The type that counts: where every vertex gives its own value, that of the elements.
 fn counted(
     context: &VaryingContext<'_>,
     ty: Handle<key::IrType>,
@@ -109,7 +109,7 @@ fn counted(
     }
 }
 
-// The relevant type, if it exists and per-vertex varyings are allowed.
+// The type that counts, where it is there and every vertex may give its own value.
 fn check_counted(
     context: &VaryingContext<'_>,
     ty: Handle<key::IrType>,
@@ -133,7 +133,7 @@ fn check_counted(
     }
 }
 
-// Whether a varying of this direction is per primitive exactly if it says so.
+// Whether what goes this way belongs to a primitive or not, as it says.
 fn check_primitive(
     direction: Direction,
     stage: ShaderStage,
@@ -168,7 +168,7 @@ fn check_primitive(
     }
 }
 
-// Whether the relevant type of a value is allowed at a location.
+// Whether a value of the type that counts goes to a location by itself.
 fn check_kept(
     context: &VaryingContext<'_>,
     ty: Handle<key::IrType>,
@@ -194,7 +194,7 @@ fn check_kept(
     Ok(())
 }
 
-// Whether a sampling is one of per-vertex varyings.
+// Whether a place is one of a vertex.
 const fn is_of_vertex(sampling: Sampling) -> bool
     ensures { result ≡ is_flat_sampling sampling }
 {
@@ -204,7 +204,7 @@ const fn is_of_vertex(sampling: Sampling) -> bool
     }
 }
 
-// Whether a sampling is allowed with an interpolation.
+// Whether a place goes with a way of finding a value.
 const fn goes_with(interpolation: Interpolation, sampling: Sampling) -> bool
     ensures { result ≡ sampling_fits interpolation sampling }
 {
@@ -215,7 +215,7 @@ const fn goes_with(interpolation: Interpolation, sampling: Sampling) -> bool
     }
 }
 
-// Whether the sampling is allowed with the varying's interpolation.
+// Whether the place goes with the way in which the value is found.
 fn check_combination(at: &Location) -> Result<(), VaryingError>
     ensures { (c : PlainContext) (ty : ℕ) → MatchResult result
         (λ _. AreCombined at.now)
@@ -239,7 +239,7 @@ fn check_combination(at: &Location) -> Result<(), VaryingError>
     }
 }
 
-// Whether a varying is sampled per sample.
+// Whether values are taken at each sample.
 const fn is_sample(sampling: Option<Sampling>) -> bool
     ensures { IsTrue result ↔ (sampling ≡ Some Sample) }
 {
@@ -253,7 +253,7 @@ const fn is_sample(sampling: Option<Sampling>) -> bool
     }
 }
 
-// Whether sampling per sample is enabled, if used.
+// Whether values may be taken at each sample, where they are.
 fn check_samples(context: &VaryingContext<'_>, at: &Location) -> Result<(), VaryingError>
     ensures { (ty : ℕ) → MatchResult result
         (λ _. at.now.sampling ≡ Some Sample → Has context.now.capabilities.0 MULTISAMPLED_SHADING.0)
@@ -269,14 +269,14 @@ fn check_samples(context: &VaryingContext<'_>, at: &Location) -> Result<(), Vary
     Ok(())
 }
 
-// Whether varyings of a stage are interpolated.
+// Whether a stage gives values that lie between vertices.
 const fn gives_vertices(stage: ShaderStage) -> bool
     ensures { IsTrue result ↔ ((stage ≡ Vertex) ⊎ (stage ≡ Mesh)) }
 {
     matches!(stage, ShaderStage::Vertex | ShaderStage::Mesh)
 }
 
-// Whether an interpolated varying lacks its interpolation.
+// Whether a value between vertices has to be found.
 const fn is_between(direction: Direction, stage: ShaderStage, per_primitive: bool) -> bool
     ensures { IsTrue result ↔ NeedsInterpolation direction stage per_primitive }
 {
@@ -288,7 +288,7 @@ const fn is_between(direction: Direction, stage: ShaderStage, per_primitive: boo
     }
 }
 
-// Whether values are not interpolated.
+// Whether values lie in no way between vertices.
 const fn is_flat(interpolation: Option<Interpolation>) -> bool
     ensures { IsTrue result ↔ (interpolation ≡ Some Flat) }
 {
@@ -301,7 +301,7 @@ const fn is_flat(interpolation: Option<Interpolation>) -> bool
     }
 }
 
-// Whether an interpolated varying has the interpolation of its kind.
+// Whether a value between vertices is found as those of its kind are.
 fn check_found(kind: ScalarKind, interpolation: Option<Interpolation>) -> Result<(), VaryingError>
     ensures { MatchResult result (λ _. InterpolationOK kind interpolation) (IsUnfound kind interpolation) }
 {
@@ -321,7 +321,7 @@ fn check_found(kind: ScalarKind, interpolation: Option<Interpolation>) -> Result
     }
 }
 
-// Whether a single value is a scalar or a vector, with the required interpolation.
+// Whether it is a scalar or a vector, which is interpolated as it has to be, where it is one value.
 fn check_value(
     context: &VaryingContext<'_>,
     ty: Handle<key::IrType>,
@@ -343,7 +343,7 @@ fn check_value(
     check_found(kind, at.interpolation)
 }
 
-/// Whether a value of a type is allowed at a location.
+/// Whether a value of a type may go to a location.
 pub fn check_location(
     context: &VaryingContext<'_>,
     ty: Handle<key::IrType>,

@@ -1,4 +1,4 @@
-//! The stages that a layer has noted for functions.
+//! The stages that a layer has noted of functions.
 
 use bitflags::Flags;
 use function_interface::{CalleeStages, Lower};
@@ -6,12 +6,12 @@ use ir_arena::handle::Handle;
 use ir_flags::ShaderStages;
 use ir_types::key;
 
-/// The stages noted in a layer's information on functions.
+/// Stages that are noted in what a layer keeps of functions.
 #[derive(Clone, Copy)]
 pub(crate) struct KeptStages<'a, L: Lower> {
     /// The layer.
     pub lower: &'a L,
-    /// The information on each function.
+    /// What is kept of each function.
     pub infos: &'a [L::Info],
 }
 

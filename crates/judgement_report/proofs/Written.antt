@@ -3,7 +3,6 @@ use Rattle.std.proofs.Common.{◌≡◌, ◌≤◌, ◌+◌, ◌⊎◌, inl, inr
 use Rattle.std.specs.List.{cons_option}
 use Rattle.std.specs.Prelude.{◌↔◌}
 use Rattle.std.proofs.lemmas.List.{append_assoc, append-nil, drop_all, flat_map_more}
-use Rattle.std.proofs.lemmas.Option.{same_Some}
 use Rattle.spec_expressions.specs.judged.Pairs.{SamplingPair}
 use Rattle.spec_expressions.specs.declared.sampling.GlobalOrArgument.{GlobalOrArgument}
 use Rattle.spec_expressions.specs.declared.sampling.GlobalOrArgument.TheVariants.{Argument, Global}
@@ -40,6 +39,9 @@ pub each_done : {X : Type 0} (told : ℕ → X → List ℕ) (xs : List X) (numb
 each_done told xs number text whole past is = sym (append-nil text) ∙ (sym (ap (λ rest. text ++ each_from told number rest) (drop_all number xs past)) ∙ is)
 
 -- ---- pairs
+
+some_is : {A : Type 0} {x y : A} → Some x ≡ Some y → x ≡ y
+some_is e = cc (e)
 
 global_is : {x y : ℕ} → Global x ≡ Global y → x ≡ y
 global_is e = cc (e)
