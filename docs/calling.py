@@ -31,7 +31,7 @@ PAGES = [
      [("module_steps", "ModuleValidator::new"), ("module_steps", "ModuleValidator::validate")]),
     ("function_validator", "The check of functions, entry points and whole modules, over any layer beneath.",
      ("test_layers/src/judged.rt", ["fn is_accepted<", "pub fn accepts("]),
-     [("typing_infos", "ModuleInfo::new"), ("function_real_lower", "RealLower::new"), ("function_modules", "Validator::new"),
+     [("typing_infos", "ModuleInfo::new"), ("function_modules", "RealLower::new"), ("function_modules", "Validator::new"),
       ("function_modules", "Validator::validate")]),
     ("document_reader", "From bytes to a document.",
      ("test_items/src/modules.rt", ["pub fn document_of("]),

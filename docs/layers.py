@@ -2,8 +2,8 @@
 """Checks the layers: the order of crates.txt, and what the five crates that hand a layer on make public.
 
 The order of the rows is the order of the layers: each row stands after those that it names, and names no crate of a higher
-layer. It names the crates that the text of its own crate cites, and no others. A layer is known by the first word of a crate's
-name (LAYERS). surface.txt has the names that each of the five crates is to hand on. Says what is wrong and which names are
+layer. It names the crates that the text of its own crate cites, and no others; and there are at most MOST_PATHS paths of rows from a
+library to one beneath it, each of which `rt ci` walks twice. A layer is known by the first word of a crate's name (LAYERS). surface.txt has the names that each of the five crates is to hand on. Says what is wrong and which names are
 missing, and ends with status 1 where there is something.
 """
 import re
@@ -16,6 +16,8 @@ CRATES = TOP / "crates"
 # the layers, lowest first, each with the first words of its crates' names; definitions stand on the types that they speak of
 LAYERS = [("ir",), ("typing", "spec", "judgement"), ("module",), ("function",), ("document",), ("spirv",), ("wgsl",),
           ("check", "checker", "editor", "shader"), ("test",)]
+# a path costs 3 ms of each `rt ci`, in one thread
+MOST_PATHS = 800_000
 # crates that hand a layer on, and stand in it; and what knows of lines and columns, on which the reading of WGSL stands
 DOORS = {"shader_ir": 0, "shader_typing": 1, "module_validator": 2, "function_validator": 3, "editor_text": 6, "shader_check": 7}
 
@@ -79,6 +81,18 @@ def wrong_rows():
             yield f"{crate}: its row names {', '.join(sorted(set(deps) - names))}, which it does not cite"
 
 
+def too_many_paths():
+    """Whether there are too many paths of rows from libraries to those beneath, with the libraries that have most."""
+    paths = {}
+    for crate, deps in rows().items():
+        paths[crate] = 1 + sum(paths.get(dep, 0) for dep in deps)
+    libraries = {crate: count for crate, count in paths.items() if (CRATES / crate / "src/lib.rt").is_file() and crate != "shader_check_c"}
+    total = sum(libraries.values())
+    if total > MOST_PATHS:
+        most = sorted(libraries, key=libraries.get)[-3:]
+        yield f"{total} paths of rows, most from {', '.join(most)}: let a crate hand on what it cites (`pub use`)"
+
+
 def surface():
     """Of each crate and module of surface.txt the names that it is to hand on."""
     found, current = {}, None
@@ -139,7 +153,7 @@ def missing(crate, module, names):
 
 def main():
     status = 0
-    for line in (*wrong_order(), *wrong_rows()):
+    for line in (*wrong_order(), *wrong_rows(), *too_many_paths()):
         print(line)
         status = 1
     for key, names in surface().items():

@@ -119,8 +119,9 @@ def run(program, words, room):
         return subprocess.run(words, cwd=room, capture_output=True, text=True).stdout
     options = [it for it in words[1:] if it.startswith("--")]
     file = words[-1]
-    spirv = ["--spirv"] if file.endswith(".spv") and "--spirv" not in options else []
-    return subprocess.run([program, *spirv, *options], stdin=(Path(room) / file).open("rb"), capture_output=True, text=True).stdout
+    language = {".spv": "--spirv", ".wgsl": "--wgsl"}.get(Path(file).suffix)
+    chosen = [language] if language and language not in options else []
+    return subprocess.run([program, *chosen, *options], stdin=(Path(room) / file).open("rb"), capture_output=True, text=True).stdout
 
 
 def wrong_examples(text, program):

@@ -112,6 +112,11 @@ def reached(files, root):
             continue
         file = files.get((crate, module))
         owner = file and file.owner(name)
+        if file and not owner and name in file.names:
+            # the file passes on what another defines
+            target, given = file.names[name]
+            todo.append((*target, given))
+            continue
         if not owner or (crate, module, owner) in seen:
             continue
         seen.add((crate, module, owner))

@@ -307,6 +307,28 @@ def rows():
     yield "functions past a few chunks of bytes", many, ACCEPTED
     yield "the same, cut short", many[:-2], NO_DOCUMENT
 
+    # global variables that are used, far apart among many that are not
+    def referring(globals, used, body=()):
+        made = parts([scalar("u32")], capabilities=["IMMEDIATES"])
+        made[11] = [[None, space, binding, 0, None, []] for space, binding in globals]
+        made[13] = [["Compute", "main", None, [1, 1, 1], None, None,
+                     [None, [], None, [], [["GlobalVariable", at] for at in used] + [["Literal", "u32", 1]], list(body), None]]]
+        return written(made)
+
+    private, buffer, immediate = ("Private", None), ["Storage", ["LOAD"]], ("Immediate", None)
+    apart = [0, 62, 63, 64, 65, 127, 128, 192, 199]
+    yield "uses far apart", referring([private] * 200, apart), "\n".join(["accepted", "entry 0", *(f"global {at} query" for at in apart)])
+    yield "the last of 65 is used", referring([private] * 65, [64]), "accepted\nentry 0\nglobal 64 query"
+    yield "none of 65 is used", referring([private] * 65, []), "accepted\nentry 0"
+    yield "one of 200 is written", referring([private] * 200, [130], [["Store", 0, 1]]), "accepted\nentry 0\nglobal 130 write"
+    shared = [(buffer, [0, 0]) if at in (70, 140) else private for at in range(200)]
+    told = [f"buffer {at} size 4 alignment 4" for at in (70, 140)]
+    yield "one of two variables of a binding", referring(shared, [140]), "\n".join(["accepted", *told, "entry 0", "global 140 query"])
+    yield "both variables of a binding", referring(shared, [70, 140]), "refused entry 0"
+    immediates = [immediate if at in (70, 150) else private for at in range(200)]
+    yield "one of two immediates", referring(immediates, [3, 150]), "accepted\nentry 0\nglobal 3 query\nglobal 150 query"
+    yield "both immediates", referring(immediates, [70, 150]), "refused entry 0"
+
 
 def control_rows():
     """Results, literals, and the statements that steer."""

@@ -1,5 +1,5 @@
 #!/usr/bin/env python3
-"""Tries --leaves on small documents, worked out by hand: try_leaves.py PROGRAM, or try_leaves.py --documents FOLDER
+"""Tries --leaves, alone and with --json, on small documents, worked out by hand: try_leaves.py PROGRAM, or try_leaves.py --documents FOLDER
 
 PROGRAM is the built program, crates/checker/out/checker. With --documents the documents and their answers are written into
 the folder instead, for `rt try --cases FOLDER -- --leaves` in crates/checker. Each document that is answered otherwise is
@@ -95,6 +95,15 @@ def write(folder):
         (Path(folder) / f"{name}.json").write_text(json.dumps(value))
 
 
+def lines_of(answer):
+    """The lines that say what an object says of buffers and leaves."""
+    for buffer in answer.get("buffers", []):
+        yield f"buffer {buffer['global']} size {buffer['size']} alignment {buffer['alignment']}"
+        for leaf in buffer["leaves"]:
+            strides = "".join(f" stride {repeat['stride']}" for repeat in leaf["repeats"])
+            yield f"leaf {leaf['path'] or '.'} {leaf['offset']} {leaf['length']} {leaf['alignment']}{strides}"
+
+
 def main():
     if sys.argv[1] == "--documents":
         write(sys.argv[2])
@@ -103,9 +112,11 @@ def main():
     for name, (value, answer) in CASES.items():
         run = subprocess.run([sys.argv[1], "--leaves"], input=json.dumps(value).encode(), capture_output=True)
         status = 0 if answer.startswith("accepted") else 1
-        if (run.stdout.decode(), run.returncode) != (answer, status):
+        as_object = subprocess.run([sys.argv[1], "--json", "--leaves"], input=json.dumps(value).encode(), capture_output=True)
+        lines = list(lines_of(json.loads(as_object.stdout)))
+        if (run.stdout.decode(), run.returncode) != (answer, status) or as_object.returncode != status or status == 0 and lines != answer.splitlines()[1:]:
             wrong += 1
-            print(f"{name}: status {run.returncode}\n{run.stdout.decode()}")
+            print(f"{name}: status {run.returncode}\n{run.stdout.decode()}{lines}")
     print(f"{len(CASES)} documents, {wrong} answered otherwise")
     return 1 if wrong else 0
 

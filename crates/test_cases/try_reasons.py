@@ -173,10 +173,11 @@ def holds(document, answer, slip):
 
 
 def write_lines(program, slips):
-    """Writes every third slip of a document that is JSON."""
+    """Writes every third slip of a document that is JSON, and keeps the texts of WGSL that stand after these lines."""
+    _, head, texts = LINES.read_text().partition("==== ")
     known = [(value, slip) for value, slip in slips if not answer_of(program, value)["text"].startswith("no JSON")]
     lines = [" ".join(map(str, slip)) + "\t" + json.dumps(value, separators=(",", ":")) for value, slip in known[::EACH]]
-    LINES.write_text("".join(line + "\n" for line in lines))
+    LINES.write_text("".join(line + "\n" for line in lines) + head + texts)
 
 
 def main():

@@ -8,9 +8,10 @@ given. Without --all the shortest documents are chosen, a few for each thing tha
 
 The answer is a line for each function up to the first of which nothing is found, and then for each entry point: whether it
 may end the fragment, the bits of the use of each global variable, the pairs of images and samplers by their places in the
-row of all global variables and then all arguments, and for each expression how often it is used, the global variable that
-it starts at, an `n` where it is not the same in all invocations, and the bits of what it asks for; or why it is refused. A
-case has two answers where either of two faults may be told, and is left out where one of more.
+row of all global variables and then all arguments, those of two global variables once more, as the set has them in order,
+and for each expression how often it is used, the global variable that it starts at, an `n` where it is not the same in all
+invocations, and the bits of what it asks for; or why it is refused. A case has two answers where either of two faults may
+be told, and is left out where one of more.
 """
 import itertools
 import json
@@ -35,6 +36,7 @@ def info_told(info, globals_):
     told = "kills " if info["may_kill"] else "ends "
     told += "".join("%d." % uses.get(g, 0) for g in range(globals_)) + " "
     told += "".join("%d-%d." % pair for pair in pairs) + " "
+    told += "".join("%d-%d." % pair for pair in pairs if max(pair) < globals_) + " "
     for e, count in enumerate(info["ref_counts"]):
         start = info["assignable_globals"][e]
         told += "%d%s%sr%d;" % (count, "" if start is None else "g%d" % start, "n" if info["sources"][e] else "",

@@ -28,8 +28,8 @@ class Chromium:
     def found():
         return shutil.which("chromium") or shutil.which("chromium-browser")
 
-    def __init__(self, folder):
-        flags = ["--headless=new", "--no-sandbox", "--disable-gpu", "--no-first-run", "--remote-debugging-pipe", f"--user-data-dir={folder}"]
+    def __init__(self, folder, graphics=("--disable-gpu",)):
+        flags = ["--headless=new", "--no-sandbox", "--no-first-run", "--remote-debugging-pipe", f"--user-data-dir={folder}", *graphics]
         given, taken = os.pipe(), os.pipe()
         # above those that the browser is given as 3 and 4
         ends = [fcntl.fcntl(it, fcntl.F_DUPFD_CLOEXEC, 10) for it in (given[0], taken[1])]

@@ -9,14 +9,14 @@ use Rattle.document_reader.specs.judged.Plain.{PlainDocument}
 use Rattle.document_reader.specs.judged.Form.{Reads}
 use Rattle.shader_check.specs.found.Judgements.{Judged, FindsIn}
 use Rattle.shader_check.proofs.JudgedLaws.{judged_document, judged_if, kept_in}
-use Rattle.check_explanation.specs.declared.explanation.Requested.{Requested}
+use Rattle.check_explanation.specs.declared.lines.Requested.{Requested}
 use Rattle.check_explanation.specs.declared.explanation.Explanation.{Explanation}
 use Rattle.check_explanation.specs.Explained.{IsMisread, IsRefusedWith, finding_of}
 use Rattle.check_explanation.specs.Listed.{CanReportIn, ExplainsBytes, ExplainsDocument, ExplainsModule, IsAccepted}
 use Rattle.check_explanation.specs.declared.explanation.Explanation.TheVariants.{NoDocument, Accepted, Refused}
 use Rattle.ir_items.specs.judged.Plain.{PlainModule}
 use Rattle.judgement.specs.judged.Steps.{IsPrepared}
-use Rattle.function_errors.specs.declared.error.ValidationError.{ValidationError}
+use Rattle.shader_check.specs.found.Examined.{ValidationError}
 use Rattle.document_reader.specs.found.Reasons.{IsReason}
 use Rattle.shader_check.specs.found.Examined.{IsExamined, IsExaminedDocument, finding_in, refused_by}
 use Rattle.shader_check.specs.declared.examined.Examined.{Examined}

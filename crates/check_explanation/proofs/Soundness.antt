@@ -10,7 +10,7 @@ use Rattle.judgement.specs.declared.finding.Finding.TheVariants.{Accepted, Refus
 use Rattle.judgement_laws.proofs.Sound.{accepted_is_sound}
 use Rattle.judgement_laws.specs.judged.Sound.{AreChecked}
 use Rattle.judgement.specs.judged.Reports.{IsReport}
-use Rattle.shader_check.proofs.Once.{prepared_once}
+pub use Rattle.shader_check.proofs.Once.{prepared_once}
 use Rattle.shader_check.specs.found.Judgements.{FindsIn, IsReportedOf}
 use Rattle.spirv_reader.specs.Checks.{MakesSixChecks}
 use Rattle.check_explanation.specs.Answered.{IsAnswered, IsTextOfSome, IsSoundText, verdict_of}

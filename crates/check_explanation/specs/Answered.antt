@@ -9,13 +9,12 @@ use Rattle.judgement.specs.judged.Text.{text_of}
 use Rattle.judgement.specs.declared.finding.Finding.{Finding}
 use Rattle.judgement.specs.declared.finding.Finding.TheVariants as findings
 use Rattle.judgement_laws.specs.judged.Sound.{AreChecked, ModuleIsSound}
-use Rattle.shader_check.specs.found.Judgements.{IsJudgementOf}
-use Rattle.shader_check.specs.found.Judgements.{FindsIn}
-use Rattle.shader_check.specs.declared.reported.Judgement.{Judgement}
+pub use Rattle.shader_check.specs.found.Judgements.{FindsIn, IsJudgementOf, IsReportedOf}
+pub use Rattle.shader_check.specs.declared.reported.Judgement.{Judgement}
 use Rattle.check_explanation.specs.Explained.{finding_of}
 use Rattle.check_explanation.specs.Listed.{ExplainsDocument}
 use Rattle.check_explanation.specs.declared.explanation.Explanation.{Explanation}
-use Rattle.check_explanation.specs.declared.explanation.Requested.{Requested}
+use Rattle.check_explanation.specs.declared.lines.Requested.{Requested}
 use Rattle.check_explanation.specs.declared.spirv.SpirvVerdict.{SpirvVerdict}
 use Rattle.check_explanation.specs.declared.spirv.SpirvVerdict.TheVariants.{Accepted, Refused, Unread}
 

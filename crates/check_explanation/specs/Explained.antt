@@ -4,7 +4,7 @@ use Rattle.document_reader.specs.declared.error.DocumentError.{DocumentError}
 use Rattle.document_reader.specs.declared.error.DocumentError.TheVariants as unread
 use Rattle.judgement.specs.declared.finding.Finding.{Finding}
 use Rattle.judgement.specs.declared.finding.Finding.TheVariants as findings
-use Rattle.function_errors.specs.declared.error.ValidationError.{ValidationError}
+use Rattle.shader_check.specs.found.Examined.{ValidationError}
 use Rattle.shader_check.specs.found.Examined.{refused_by}
 use Rattle.check_explanation.specs.declared.explanation.Explanation.{Explanation}
 use Rattle.check_explanation.specs.declared.explanation.Explanation.TheVariants.{NoDocument, Accepted, Refused}

@@ -1,4 +1,5 @@
 pub mod Answered
 pub mod Explained
+pub mod Lines
 pub mod Listed
 pub mod Objects

@@ -1,64 +1,46 @@
 -- What an explanation says about a module, a document and bytes: the lines of a valid module, and the error of an invalid
 -- one, or of bytes that are not a document. The error's condition holds.
-use Rattle.std.specs.Prelude.{◌≡◌, ◌≢◌, ℕ, Bool, false, List, [], string_bytes}
+use Rattle.std.specs.Prelude.{◌≡◌, ◌≢◌, ◌++◌, ℕ, Bool, false, List, []}
 use Rattle.document_reader.specs.judged.Form.{Reads}
 use Rattle.document_reader.specs.judged.Plain.{PlainDocument}
 use Rattle.document_reader.specs.found.Reasons.{IsReason}
 use Rattle.document_reader.specs.declared.error.DocumentError.TheVariants as unread
-use Rattle.function_errors.specs.declared.error.ValidationError.{ValidationError}
-use Rattle.check_explanation.specs.declared.explanation.Requested.{Requested}
-use Rattle.check_explanation.specs.declared.explanation.Requested.TheVariants.{Nothing, Leaves, Report}
+use Rattle.shader_check.specs.found.Examined.{ValidationError}
+use Rattle.check_explanation.specs.declared.lines.Lines.{Lines}
+use Rattle.check_explanation.specs.declared.lines.Requested.{Requested}
+use Rattle.check_explanation.specs.Lines.{CanReport, ListsAsRequested, listed_of, reported_of}
 use Rattle.check_explanation.specs.declared.explanation.Explanation.{Explanation}
 use Rattle.check_explanation.specs.declared.explanation.Explanation.TheVariants.{NoDocument, Accepted, Refused}
 use Rattle.ir_items.specs.judged.Plain.{PlainModule}
 use Rattle.judgement.specs.judged.Steps.{IsPrepared}
-use Rattle.judgement_report.specs.Lines.{leaf_report}
-use Rattle.judgement_report.specs.Rows.{AreLaid, AreLayoutsIn}
-use Rattle.judgement_report.specs.Reported.{IsReported}
-use Rattle.judgement.specs.judged.Reports.{IsReport}
-use Rattle.typing_infos.specs.declared.info.ModuleInfo.{ModuleInfo}
-use Rattle.function_modules.specs.Validated.{IsValidationFault}
+use Rattle.shader_check.specs.found.Examined.{IsValidationFault}
 use Rattle.shader_check.specs.declared.examined.Examined.{Examined}
 use Rattle.shader_check.specs.declared.examined.Examined.TheVariants as examined
-use Rattle.spec_expressions.specs.judged.ModuleHandles.{HandlesOK}
-
--- the `ModuleInfo` is enough to list the module's buffers and to report on it
-pub record CanReport (m : PlainModule) (info : ModuleInfo) : Type 0 where
-  pub handles : HandlesOK m
-  pub laid : AreLaid m
-  pub layouts : AreLayoutsIn m info
-  pub reported : IsReported m info
 
 abbrev pub CanReportIn : PlainModule → Examined → Type 0
 CanReportIn m (examined.Accepted strict info) = CanReport m info
 CanReportIn m (examined.Refused e) = Unit {0}
 
--- the requested lines of a module: none, those of its buffers and their leaves, or its report
-abbrev pub ListsAsRequested : (requested : Requested) → PlainModule → (lines : List ℕ) → Type 0
-ListsAsRequested Nothing m lines = lines ≡ []
-ListsAsRequested Leaves m lines = lines ≡ leaf_report m
-ListsAsRequested Report m lines = IsReport m lines
-
 -- the lines of an explanation
 abbrev pub lines_of : Explanation → List ℕ
 lines_of (NoDocument error hint) = []
-lines_of (Accepted strict lines names) = string_bytes lines
+lines_of (Accepted strict lines names) = reported_of lines ++ listed_of lines
 lines_of (Refused error item) = []
 
 -- for a module with this finding: the requested lines if it is valid, else its error
 abbrev pub ExplainsModule : (requested : Requested) → PlainModule → Examined → Explanation → Type 0
 ExplainsModule requested m x (NoDocument error hint) = ⊥
-ExplainsModule requested m x (Accepted strict lines names) = ListsAsRequested requested m (string_bytes lines)
+ExplainsModule requested m x (Accepted strict lines names) = ListsAsRequested requested m lines
 ExplainsModule requested m x (Refused error item) = x ≡ examined.Refused error
 
 -- the explanation of a valid module
 abbrev pub IsAccepted : (requested : Requested) → PlainModule → Bool → Explanation → Type 0
 IsAccepted requested m strict (NoDocument error hint) = ⊥
-IsAccepted requested m strict (Accepted found lines names) = (found ≡ strict) × ListsAsRequested requested m (string_bytes lines)
+IsAccepted requested m strict (Accepted found lines names) = (found ≡ strict) × ListsAsRequested requested m lines
 IsAccepted requested m strict (Refused error item) = ⊥
 
 -- They are those of the document's module, with missing returns inserted if requested.
-pub record AreListedIn (requested : Requested) (d : PlainDocument) (lines : List ℕ) : Type 0 where
+pub record AreListedIn (requested : Requested) (d : PlainDocument) (lines : Lines) : Type 0 where
   pub judged : PlainModule
   pub prepared : IsPrepared d.returns d.content judged
   pub are : ListsAsRequested requested judged lines
@@ -71,11 +53,11 @@ pub record IsWrongIn (d : PlainDocument) (error : ValidationError) : Type 0 wher
 
 abbrev pub ExplainsDocument : (requested : Requested) → PlainDocument → Explanation → Type 0
 ExplainsDocument requested d (NoDocument error hint) = ⊥
-ExplainsDocument requested d (Accepted strict lines names) = AreListedIn requested d (string_bytes lines)
+ExplainsDocument requested d (Accepted strict lines names) = AreListedIn requested d lines
 ExplainsDocument requested d (Refused error item) = IsWrongIn d error
 
 -- They are those of the module of the document in the bytes, with missing returns inserted if requested.
-pub record AreListed (requested : Requested) (bytes lines : List ℕ) : Type 0 where
+pub record AreListed (requested : Requested) (bytes : List ℕ) (lines : Lines) : Type 0 where
   pub document : PlainDocument
   pub reads : Reads bytes document
   pub judged : PlainModule
@@ -91,5 +73,5 @@ pub record IsWrongWith (bytes : List ℕ) (error : ValidationError) : Type 0 whe
 -- for bytes that are not a document, a reason for it that is not out of memory
 abbrev pub ExplainsBytes : (requested : Requested) → (bytes : List ℕ) → Explanation → Type 0
 ExplainsBytes requested bytes (NoDocument error hint) = IsReason bytes error × (error ≢ unread.Memory)
-ExplainsBytes requested bytes (Accepted strict lines names) = AreListed requested bytes (string_bytes lines)
+ExplainsBytes requested bytes (Accepted strict lines names) = AreListed requested bytes lines
 ExplainsBytes requested bytes (Refused error item) = IsWrongWith bytes error

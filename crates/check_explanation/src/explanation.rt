@@ -3,41 +3,32 @@ ghost use Rattle.std.specs.Prelude.{◌≡◌, ◌≢◌, ◌++◌, IfOk, codes,
 ghost use Rattle.serde_json.specs.Data.{string};
 ghost use Rattle.serde_json.specs.View.{view};
 ghost use Rattle.check_explanation.specs.Explained.{IsMisread, IsRefusedWith, finding_of};
-ghost use Rattle.check_explanation.specs.Objects.{IsObjectText, SaysVerdict, verdict_word};
+ghost use Rattle.check_explanation.specs.Objects.{IsObjectText};
 ghost use Rattle.check_faults.specs.Objects.{Has};
 ghost use Rattle.judgement.specs.judged.Text.{text_of};
-ghost use Rattle.check_explanation.specs.Listed.{CanReport, CanReportIn, ExplainsBytes, ExplainsDocument, ExplainsModule, IsAccepted, ListsAsRequested, lines_of};
+ghost use Rattle.check_explanation.specs.Lines.{CanReport};
+ghost use Rattle.check_explanation.specs.Listed.{CanReportIn, ExplainsBytes, ExplainsDocument, ExplainsModule, IsAccepted, lines_of};
 ghost use Rattle.document_reader.specs.found.View.{document_view};
 ghost use Rattle.document_reader.specs.declared.error.DocumentError.TheVariants.{Memory as no_memory};
 ghost use Rattle.ir_items.specs.found.View.{module_view};
 ghost use Rattle.shader_check.specs.found.Examined.{IsLeft, finding_in};
 ghost use Rattle.shader_check.specs.found.Judgements.{Judged, FindsIn};
 
-use check_faults::{Refused, accepted_value, no_document_value, refused_value};
-use check_names::{Names, Roles, entries_value, globals_value};
+use crate::lines::{Lines, Requested, requested_lines};
+use crate::object::{Source, accepted_text, refused_text, spelled};
+use check_faults::no_document_value;
+use check_names::{Names, Roles};
 use check_reasons::{PathNames, Slip, hint};
-use check_refusals::{RefusedItem, place_value, refused_item, value_of};
+use check_refusals::{RefusedItem, refused_item, value_of};
 use document_forms::Place;
 use document_reader::{Document, DocumentError, MAX_LEN, read_document};
 use ir_flags::Capabilities;
 use ir_items::Module;
-use judgement_report::{leaf_report, report};
 use serde_json::Value;
 use shader_check::{Examined, Finding, ValidationError, examine_document, refused_by};
 use std::alloc::{AllocError, Global};
 use std::fmt::{self, Display};
 use typing_infos::ModuleInfo;
-
-/// The lines to output for a valid document, beyond the verdict.
-#[derive(Clone, Copy, Debug, PartialEq, Eq)]
-pub enum Requested {
-    /// None.
-    Nothing,
-    /// The lines of its buffers, each with those of its leaves.
-    Leaves,
-    /// The report.
-    Report,
-}
 
 /// The validation result of a document, with the location of the error.
 #[derive(Drop)]
@@ -49,7 +40,7 @@ pub enum Explanation {
         /// Whether strict scope was checked.
         strict: bool,
         /// The requested lines.
-        lines: String,
+        lines: Lines,
         /// Names of the module's parts, if lines were requested.
         names: Names,
     },
@@ -57,28 +48,13 @@ pub enum Explanation {
     Refused(ValidationError, RefusedItem),
 }
 
-// The requested lines of a module.
-fn lines(
-    alloc: Global,
-    requested: Requested,
-    module: &Module,
-    info: &ModuleInfo,
-) -> Result<String, AllocError>
-    requires can { CanReport (module_view «module».now) info.now }
-    ensures { IfOk result (λ lines. ListsAsRequested requested (module_view «module».now) (string_bytes lines)) }
-{
-    match requested {
-        Requested::Nothing => Ok(String::new(alloc)),
-        Requested::Leaves => leaf_report(alloc, module, info),
-        Requested::Report => report(alloc, module, info),
-    }
-}
-
 // Names of a module's parts, if lines are requested.
 fn names(alloc: Global, requested: Requested, module: &Module) -> Result<Names, AllocError> {
     match requested {
         Requested::Nothing => Ok(Names::none(alloc)),
-        Requested::Leaves | Requested::Report => Names::of_module(alloc, module),
+        Requested::Leaves | Requested::Report | Requested::ReportWithLeaves => {
+            Names::of_module(alloc, module)
+        }
     }
 }
 
@@ -94,7 +70,7 @@ fn accepted(
     ensures { IfOk result (IsAccepted requested (module_view «module».now) strict) }
 {
     let names = names(alloc, requested, module)?;
-    let lines = lines(alloc, requested, module, info)?;
+    let lines = requested_lines(alloc, requested, module, info)?;
     Ok(Explanation::Accepted {
         strict,
         lines,
@@ -135,7 +111,8 @@ fn explained(
             explanation
         }
         Examined::Refused(error) => {
-            let item = refused_item(alloc, capabilities, bytes, module, &error);
+            let finding = refused_by(&error);
+            let item = refused_item(alloc, capabilities, bytes, module, finding, &error);
             refused(error, item)
         }
     }
@@ -292,16 +269,6 @@ impl Display for Misformed<'_> {
     }
 }
 
-// The word for the verdict.
-fn verdict_word(finding: Finding) -> &'static str
-    ensures { result.now ≡ verdict_word finding }
-{
-    match finding {
-        Finding::Accepted { .. } => "accepted",
-        Finding::RefusedDocument | Finding::RefusedHandles | Finding::Refused(..) => "refused",
-    }
-}
-
 // The object for bytes that are not a document.
 fn no_document(alloc: Global, error: &DocumentError, hint: &str) -> Result<Value, AllocError>
     ensures { IfOk result (λ v. Has (view v) (codes "verdict") (string (codes "refused"))) }
@@ -311,44 +278,6 @@ fn no_document(alloc: Global, error: &DocumentError, hint: &str) -> Result<Value
     let path = format!(in alloc; "{}", PathNames(steps))?;
     let (line, column) = position_of(error);
     no_document_value(alloc, &path, steps, &text, line, column)
-}
-
-// The object for a valid document.
-fn accepted_object(
-    alloc: Global,
-    strict: bool,
-    lines: &str,
-    names: &Names,
-) -> Result<Value, AllocError>
-    ensures { IfOk result (λ v. Has (view v) (codes "verdict") (string (codes "accepted"))) }
-{
-    let globals = globals_value(alloc, names, &Roles::none(alloc), lines)?;
-    let entries = entries_value(alloc, names)?;
-    accepted_value(alloc, strict, lines, globals, entries)
-}
-
-// The object for an invalid item.
-fn refused_object(alloc: Global, verdict: &str, item: &RefusedItem) -> Result<Value, AllocError>
-    ensures { IfOk result (λ v. Has (view v) (codes "verdict") (string verdict.now)) }
-{
-    let steps: &[u32] = &item.path;
-    let path = format!(in alloc; "{}", PathNames(steps))?;
-    let name = match &item.name {
-        Some(name) => Some(name.as_str()),
-        None => None,
-    };
-    let refused = Refused {
-        verdict,
-        step: item.step,
-        index: item.index,
-        name,
-        error: &item.error,
-        path: &path,
-        steps,
-        text: &item.text,
-    };
-    let place = place_value(alloc, steps)?;
-    refused_value(alloc, &refused, place, item.cause.clone()?)
 }
 
 impl Explanation {
@@ -369,36 +298,42 @@ impl Explanation {
     {
         let mut text = self.finding().text(alloc)?;
         if let Explanation::Accepted { lines, .. } = self {
-            text.push_str(lines)?;
+            lines.write(&mut text)?;
         }
         Ok(text)
     }
 
-    /// A JSON object with all details. The error is out of memory.
-    pub fn value(&self, alloc: Global) -> Result<Value, AllocError>
-        ensures { IfOk result (λ v. SaysVerdict (finding_of self.now) (view v)) }
+    /// One JSON object with all details, in one line without a line feed. The error is out of memory.
+    pub fn json(&self, alloc: Global) -> Result<String, AllocError>
+        ensures { IfOk result (λ s. IsObjectText (finding_of self.now) (string_bytes s)) }
+    {
+        self.json_with(alloc, &Roles::none(alloc), &[], Source::Document)
+    }
+
+    /// The same of a module from another language: with what global variables are in SPIR-V, the words of the skipped checks, and the
+    /// source of the invalid part. The error is out of memory.
+    pub fn json_with(
+        &self,
+        alloc: Global,
+        roles: &Roles,
+        without: &[&'static str],
+        source: Source<'_>,
+    ) -> Result<String, AllocError>
+        ensures { IfOk result (λ s. IsObjectText (finding_of self.now) (string_bytes s)) }
     {
         match self {
-            Explanation::NoDocument(error, hint) => no_document(alloc, error, hint),
+            Explanation::NoDocument(error, hint) => {
+                let value = no_document(alloc, error, hint)?;
+                spelled(alloc, Finding::RefusedDocument, &value)
+            }
             Explanation::Accepted {
                 strict,
                 lines,
                 names,
-            } => accepted_object(alloc, *strict, lines, names),
+            } => accepted_text(alloc, *strict, lines, names, roles, without),
             Explanation::Refused(error, item) => {
-                refused_object(alloc, verdict_word(refused_by(error)), item)
+                refused_text(alloc, refused_by(error), item, without, source)
             }
-        }
-    }
-
-    /// The object in one line without a line feed. The error is out of memory.
-    #[tactic(auto, using(crate::proofs::ObjectLaws::object_text))]
-    pub fn json(&self, alloc: Global) -> Result<String, AllocError>
-        ensures { IfOk result (λ s. IsObjectText (finding_of self.now) (string_bytes s)) }
-    {
-        match self.value(alloc) {
-            Ok(value) => value.to_string(alloc),
-            Err(error) => Err(error),
         }
     }
 

@@ -4,14 +4,21 @@
 #![tactic(auto)]
 
 mod explanation;
+mod lines;
+mod object;
+mod origin;
+mod spans;
 mod spirv;
 mod traced;
+mod varyings;
 
-pub use check_names::unread_json;
-pub use check_origins::Origin;
+pub use check_names::{Roles, unread_json};
 pub use check_refusals::RefusedItem;
-pub use explanation::{Explanation, Requested, explain, explain_document};
-pub use shader_check::{DocumentError, MAX_TAKEN};
+pub use explanation::{Explanation, explain, explain_document};
+pub use lines::{Lines, Requested};
+pub use object::Source;
+pub use origin::Origin;
+pub use shader_check::{DocumentError, Finding, Judgement, MAX_TAKEN, judge_document};
 pub use spirv::{SpirvAnswer, SpirvVerdict, check_spirv, document_text};
 pub use spirv_lines::error_text;
 pub use spirv_reader::SpirvError;

@@ -1,16 +1,21 @@
 // The explained validation result of a SPIR-V module.
-ghost use Rattle.std.specs.Prelude.{◌≡◌, IfOk};
+ghost use Rattle.std.specs.Prelude.{◌≡◌, IfOk, string_bytes};
 ghost use Rattle.document_reader.specs.found.View.{document_view};
 ghost use Rattle.check_explanation.specs.Answered.{IsExplained, IsExplainedOf};
+ghost use Rattle.check_explanation.specs.Explained.{finding_of};
+ghost use Rattle.check_explanation.specs.Objects.{IsObjectText};
 
-use crate::explanation::{Explanation, Requested, explain_document};
+use crate::explanation::{Explanation, explain_document};
+use crate::lines::Requested;
+use crate::object::Source;
+use crate::origin::{Origin, origin_of};
+use crate::spans::{FUNCTIONS, span_at};
 use crate::spirv::written;
-use check_names::{NamedLines, Roles, globals_value};
-use check_origins::{FUNCTIONS, Origin, origin_of, span_at};
+use check_names::{NamedRows, Names, Roles};
 use document_reader::Document;
 use ir_arena::span::Span;
 use ir_items::Module;
-use serde_json::{Map, Value, put};
+use judgement_report::{BufferRow, ListingRow, ReportRow, write_listing};
 use shader_check::ValidationError;
 use spirv_reader::{SpirvError, read_spirv};
 use std::alloc::{AllocError, Global};
@@ -167,19 +172,39 @@ impl Display for Traced {
     }
 }
 
-// Inserts the roles of global variables in SPIR-V.
-fn put_globals(
-    map: &mut Map<String, Value>,
+// Writes the line of a buffer with its name.
+fn write_named_buffer(
     alloc: Global,
-    traced: &Traced,
+    text: &mut String,
+    names: &Names,
+    roles: &Roles,
+    buffer: BufferRow,
 ) -> Result<(), AllocError> {
-    match &traced.explanation {
-        Explanation::Accepted { lines, names, .. } => {
-            let globals = globals_value(alloc, names, &traced.roles, lines)?;
-            put(map, alloc, "globals", globals)
+    let rows: &[ReportRow] = &[ReportRow::Buffer(buffer)];
+    let named = NamedRows { names, roles, rows };
+    let line = format!(in alloc; "{named}")?;
+    text.push_str(&line)
+}
+
+// Writes the lines of buffers with names, and those of their leaves.
+fn write_named_listing(
+    alloc: Global,
+    text: &mut String,
+    names: &Names,
+    roles: &Roles,
+    rows: &[ListingRow],
+) -> Result<(), AllocError> {
+    for place in 0..rows.len() {
+        match &rows[place] {
+            ListingRow::Buffer(buffer) => {
+                write_named_buffer(alloc, text, names, roles, *buffer)?;
+            }
+            ListingRow::Leaf(_) => {
+                write_listing(text, &rows[place..place.saturating_add(1)])?;
+            }
         }
-        Explanation::NoDocument(..) | Explanation::Refused(..) => Ok(()),
     }
+    Ok(())
 }
 
 impl Traced {
@@ -192,42 +217,47 @@ impl Traced {
         }
     }
 
-    /// A JSON object with all details. The error is out of memory.
-    pub fn value(&self, alloc: Global) -> Result<Value, AllocError> {
-        let mut value = self.explanation.value(alloc)?;
-        if let Value::Object(map) = &mut value {
-            if let Some(origin) = &self.origin {
-                put(map, alloc, "spirv", origin.value(alloc)?)?;
+    /// One JSON object with all details and the words of the skipped checks, in one line without a line feed. The error is out of
+    /// memory.
+    pub fn json(&self, alloc: Global, without: &[&'static str]) -> Result<String, AllocError>
+        ensures { IfOk result (λ s. IsObjectText (finding_of self.now.explanation) (string_bytes s)) }
+    {
+        match &self.origin {
+            Some(origin) => {
+                let value = origin.value(alloc)?;
+                self.json_at(alloc, without, Source::Spirv(&value))
             }
-            put_globals(map, alloc, self)?;
+            None => self.json_at(alloc, without, Source::Document),
         }
-        Ok(value)
     }
 
-    /// The object in one line without a line feed. The error is out of memory.
-    pub fn json(&self, alloc: Global) -> Result<String, AllocError> {
-        match self.value(alloc) {
-            Ok(value) => value.to_string(alloc),
-            Err(error) => Err(error),
-        }
+    // The same with this source.
+    fn json_at(
+        &self,
+        alloc: Global,
+        without: &[&'static str],
+        source: Source<'_>,
+    ) -> Result<String, AllocError>
+        ensures { IfOk result (λ s. IsObjectText (finding_of self.now.explanation) (string_bytes s)) }
+    {
+        self.explanation
+            .json_with(alloc, &self.roles, without, source)
     }
 
     /// The line of the verdict, followed by the requested lines, with names for the indices of global variables and entry
     /// points. The error is out of memory.
     pub fn named(&self, alloc: Global) -> Result<String, AllocError> {
-        let mut text = self.explanation.finding().text(alloc)?;
-        if let Explanation::Accepted { lines, names, .. } = &self.explanation {
-            let roles = &self.roles;
-            let lines = format!(in alloc;
-                "{}",
-                NamedLines {
-                    names,
-                    roles,
-                    lines
-                }
-            )?;
-            text.push_str(&lines)?;
+        let verdict = self.explanation.finding().text(alloc)?;
+        match &self.explanation {
+            Explanation::Accepted { lines, names, .. } => {
+                let roles = &self.roles;
+                let rows: &[ReportRow] = &lines.report;
+                let named = NamedRows { names, roles, rows };
+                let mut text = format!(in alloc; "{verdict}{named}")?;
+                write_named_listing(alloc, &mut text, names, roles, &lines.listing)?;
+                Ok(text)
+            }
+            Explanation::NoDocument(..) | Explanation::Refused(..) => Ok(verdict),
         }
-        Ok(text)
     }
 }

@@ -1,13 +1,12 @@
 // The JSON object of a validation result.
 
 ghost use Rattle.std.specs.Prelude.{◌≡◌, IfOk, OnOk, codes, option_map};
-ghost use Rattle.serde_json.specs.Data.{boolean, put as with_member, string};
+ghost use Rattle.serde_json.specs.Data.{put as with_member, string};
 ghost use Rattle.serde_json.specs.View.{members_view, view};
 ghost use Rattle.check_faults.specs.Objects.{Has, number_or_null as number_data, steps as steps_data, text_or_null as text_data};
 
 use crate::error_text::name_of;
 use crate::fields::fields_value;
-use crate::report::report_lists;
 use serde_json::{Map, Value, push, put};
 use std::alloc::{AllocError, Global};
 
@@ -150,28 +149,5 @@ pub fn no_document_value(
     put_text(&mut map, alloc, "text", text)?;
     put(&mut map, alloc, "line", number_or_null(line))?;
     put(&mut map, alloc, "column", number_or_null(column))?;
-    Ok(Value::Object(map))
-}
-
-/// The object of a valid document, with its report, and with these lists of its global variables and its entry points.
-/// The error is out of memory.
-pub fn accepted_value(
-    alloc: Global,
-    strict: bool,
-    report: &str,
-    globals: Value,
-    entries: Value,
-) -> Result<Value, AllocError>
-    ensures verdict { IfOk result (λ v. Has (view v) (codes "verdict") (string (codes "accepted"))) }
-    ensures strict { IfOk result (λ v. Has (view v) (codes "strict") (boolean strict)) }
-{
-    let mut map = Map::new(alloc);
-    put_text(&mut map, alloc, "verdict", "accepted")?;
-    put(&mut map, alloc, "strict", Value::Bool(strict))?;
-    put(&mut map, alloc, "globals", globals)?;
-    put(&mut map, alloc, "entries", entries)?;
-    let (buffers, entries) = report_lists(alloc, report)?;
-    put(&mut map, alloc, "buffers", buffers)?;
-    put(&mut map, alloc, "entry_points", entries)?;
     Ok(Value::Object(map))
 }

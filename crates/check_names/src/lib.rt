@@ -4,16 +4,17 @@
 //! an instruction, as data.
 #![tactic(auto)]
 
-mod data;
 mod lines;
 mod names;
+mod object;
+mod parts;
 mod positions;
 mod roles;
 mod types;
 mod words;
 
-pub use data::{entries_value, globals_value};
-pub use lines::NamedLines;
+pub use lines::NamedRows;
 pub use names::Names;
+pub use object::{Accepted, accepted_json};
 pub use positions::{put_position, unread_json};
 pub use roles::{Bound, Role, Roles};

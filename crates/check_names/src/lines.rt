@@ -4,17 +4,18 @@ use crate::names::{GlobalName, Names};
 use crate::roles::{Bound, Role, Roles};
 use crate::words::{beginning, space_word, stage_word};
 use ir_kinds::AddressSpace;
+use judgement_rows::{ReportRow, Uses};
 use std::fmt::{self, Display};
 
-/// The lines of a report or of the leaves of buffers, with a description of each global variable and entry point after its index.
+/// The lines of a report, with a description of each global variable and entry point after its index.
 #[derive(Clone, Copy)]
-pub struct NamedLines<'a> {
+pub struct NamedRows<'a> {
     /// The descriptions.
     pub names: &'a Names,
     /// The roles in SPIR-V, for a SPIR-V module.
     pub roles: &'a Roles,
-    /// The lines.
-    pub lines: &'a str,
+    /// The rows.
+    pub rows: &'a [ReportRow],
 }
 
 fn write_bound<W: fmt::Write>(f: &mut fmt::Formatter<W>, bound: Bound) -> fmt::Result {
@@ -61,11 +62,25 @@ fn write_global<W: fmt::Write>(
     write_role(f, role, global)
 }
 
-impl NamedLines<'_> {
+fn write_uses<W: fmt::Write>(f: &mut fmt::Formatter<W>, uses: Uses) -> fmt::Result {
+    let words = [
+        (uses.read, "read"),
+        (uses.write, "write"),
+        (uses.query, "query"),
+        (uses.atomic, "atomic"),
+    ];
+    for (holds, word) in &words {
+        if *holds {
+            write!(f, " {word}")?;
+        }
+    }
+    Ok(())
+}
+
+impl NamedRows<'_> {
     // The index of a global variable, with its description.
-    fn write_number<W: fmt::Write>(&self, f: &mut fmt::Formatter<W>, word: &str) -> fmt::Result {
-        write!(f, " {word}")?;
-        let place = word.parse::<usize>().unwrap_or(usize::MAX);
+    fn write_number<W: fmt::Write>(&self, f: &mut fmt::Formatter<W>, place: usize) -> fmt::Result {
+        write!(f, " {place}")?;
         match self.names.globals.get(place) {
             Some(global) => write_global(f, global, self.roles.at(place)),
             None => Ok(()),
@@ -73,9 +88,8 @@ impl NamedLines<'_> {
     }
 
     // The index of an entry point, with its description.
-    fn write_entry<W: fmt::Write>(&self, f: &mut fmt::Formatter<W>, word: &str) -> fmt::Result {
-        write!(f, " {word}")?;
-        let place = word.parse::<usize>().unwrap_or(usize::MAX);
+    fn write_entry<W: fmt::Write>(&self, f: &mut fmt::Formatter<W>, place: usize) -> fmt::Result {
+        write!(f, "entry {place}")?;
         match self.names.entries.get(place) {
             Some(entry) => {
                 let name = beginning(&entry.name);
@@ -85,32 +99,43 @@ impl NamedLines<'_> {
         }
     }
 
-    // A line, whose first word determines how many of the following words are indices of global variables.
-    fn write_line<W: fmt::Write>(&self, f: &mut fmt::Formatter<W>, line: &str) -> fmt::Result {
-        let first = line.split_whitespace().next().unwrap_or("");
-        let globals = match first {
-            "buffer" | "global" | "payload" | "mesh" => 1usize,
-            "sample" => 2,
-            _ => 0,
-        };
-        write!(f, "{first}")?;
-        for (index, word) in line.split_whitespace().skip(1).enumerate() {
-            if index < globals {
-                self.write_number(f, word)?;
-            } else if first == "entry" {
-                self.write_entry(f, word)?;
-            } else {
-                write!(f, " {word}")?;
+    // A row without the line feed.
+    fn write_row<W: fmt::Write>(&self, f: &mut fmt::Formatter<W>, row: ReportRow) -> fmt::Result {
+        match row {
+            ReportRow::Buffer(buffer) => {
+                write!(f, "buffer")?;
+                self.write_number(f, buffer.global)?;
+                let (size, alignment) = (buffer.size, buffer.alignment);
+                write!(f, " size {size} alignment {alignment}")
+            }
+            ReportRow::Entry(place) => self.write_entry(f, place),
+            ReportRow::Payload(global) => {
+                write!(f, "payload")?;
+                self.write_number(f, global)
+            }
+            ReportRow::Mesh(global) => {
+                write!(f, "mesh")?;
+                self.write_number(f, global)
+            }
+            ReportRow::Global { global, uses } => {
+                write!(f, "global")?;
+                self.write_number(f, global)?;
+                write_uses(f, uses)
+            }
+            ReportRow::Sample { image, sampler } => {
+                write!(f, "sample")?;
+                self.write_number(f, image)?;
+                self.write_number(f, sampler)
             }
         }
-        write!(f, "\n")
     }
 }
 
-impl Display for NamedLines<'_> {
+impl Display for NamedRows<'_> {
     fn fmt<W: fmt::Write>(&self, f: &mut fmt::Formatter<W>) -> fmt::Result {
-        for line in self.lines.lines() {
-            self.write_line(f, line)?;
+        for row in self.rows {
+            self.write_row(f, *row)?;
+            write!(f, "\n")?;
         }
         Ok(())
     }

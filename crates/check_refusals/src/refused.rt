@@ -6,10 +6,12 @@ use crate::sites::{body_of, site_of};
 use crate::types::{forms_of, operand_types, refused_function, types_in};
 use check_reasons::{OperandType, Reason, Refusal, name_of, path_of};
 use check_sentences::part_path;
+use function_errors::{Named, ValidationError};
 use ir_flags::Capabilities;
 use ir_items::Module;
+use judgement::{Finding, Step};
+use module_steps::ModuleError;
 use serde_json::Value;
-use shader_check::{Finding, ModuleError, Named, Step, ValidationError, refused_by};
 use std::alloc::{AllocError, Global};
 use std::str::from_utf8;
 use typing_forms::TypeResolution;
@@ -158,13 +160,14 @@ fn known_types(
 // The details of an error of a document at this part, if it is neither in a body nor at a handle.
 fn refusal_of<'a>(
     document: &'a Value,
+    found: (&'static str, Option<usize>),
     error: &'a ValidationError,
     body: &'a [usize],
     part: &'a [usize],
     types: &'a [OperandType],
     required: &'a str,
 ) -> Refusal<'a> {
-    let (step, index) = step_of(refused_by(error));
+    let (step, index) = found;
     Refusal {
         document,
         step,
@@ -180,38 +183,49 @@ fn item_in(
     alloc: Global,
     document: &Value,
     module: &Module,
+    finding: Finding,
     error: &ValidationError,
     types: &[TypeResolution],
     requirement: &Requirement,
 ) -> Result<RefusedItem, AllocError> {
     let named = name_with_fields(alloc, error)?;
-    let (step, index) = step_of(refused_by(error));
+    let found = step_of(finding);
     let part = part_path(alloc, module, error)?;
     let operands = operand_types(alloc, module, types)?;
     let body = body_of(alloc, error)?;
     let required = requirement.text.as_str();
-    let refusal = refusal_of(document, error, &body, &part, &operands, required);
+    let refusal = refusal_of(document, found, error, &body, &part, &operands, required);
     let cause = match &requirement.cause {
         Some(cause) => cause_value(alloc, module, cause)?,
         None => Value::Null,
     };
+    let (step, index) = found;
     item_of(alloc, &refusal, step, index, named, cause)
 }
 
-/// The item of a module, of the document in the bytes, with this error under these capabilities. The error is out of
-/// memory.
+/// The item of a module, of the document in the bytes, with this error, and the finding for it, under these capabilities. The
+/// error is out of memory.
 pub fn refused_item(
     alloc: Global,
     capabilities: Capabilities,
     bytes: &[u8],
     module: &Module,
+    finding: Finding,
     error: &ValidationError,
 ) -> Result<RefusedItem, AllocError> {
     let types = known_types(alloc, module, error)?;
     let forms = forms_of(alloc, module, &types)?;
     let requirement = requirement_in(alloc, capabilities, &*module, &forms, &*error)?;
     match value_of(alloc, bytes) {
-        Ok(document) => item_in(alloc, &document, module, error, &types, &requirement),
+        Ok(document) => item_in(
+            alloc,
+            &document,
+            module,
+            finding,
+            error,
+            &types,
+            &requirement,
+        ),
         Err(memory) => Err(memory),
     }
 }

@@ -2,9 +2,10 @@
 
 use check_reasons::{BodyPlace, Brought, Site, Target, names_of};
 use function_entry_checks::EntryPointError;
+use function_errors::ValidationError;
 use ir_places::Trail;
 use module_handles::InvalidHandleError;
-use shader_check::{ModuleError, ValidationError};
+use module_steps::ModuleError;
 use std::alloc::{AllocError, Global};
 use typing_errors::FunctionError;
 

@@ -2,11 +2,11 @@
 
 use check_reasons::OperandType;
 use check_sentences::TypeText;
+use function_errors::ValidationError;
 use ir_arena::arena::Arena;
 use ir_arena::handle::Handle;
 use ir_items::{Function, Module};
 use ir_types::{Expression, TypeInner, key};
-use shader_check::ValidationError;
 use std::alloc::{AllocError, Global};
 use typing_errors::ResolveRefusal;
 use typing_forms::{Form, TypeResolution, form_of};

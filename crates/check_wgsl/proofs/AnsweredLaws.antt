@@ -1,7 +1,7 @@
 -- The result of a validation.
 use Rattle.std.proofs.Common.{◌≡◌, ◌++◌, ℕ, List, string_bytes}
 use Rattle.judgement.specs.judged.Text.{text_of}
-use Rattle.shader_check.specs.declared.reported.Judgement.{Judgement}
+use Rattle.check_explanation.specs.Answered.{Judgement}
 use Rattle.check_wgsl.specs.Answered.{IsAnswered, IsOfSome, verdict_of}
 use Rattle.check_wgsl.specs.declared.judged.WgslVerdict.{WgslVerdict}
 use Rattle.check_wgsl.specs.declared.judged.WgslVerdict.TheVariants.{Accepted, Refused, Unread}

@@ -1,2 +1,3 @@
 pub mod AnsweredLaws
+pub mod ExplainedLaws
 pub mod Soundness

@@ -10,8 +10,8 @@ use Rattle.judgement.specs.declared.finding.Finding.TheVariants.{Accepted, Refus
 use Rattle.judgement_laws.proofs.Sound.{accepted_is_sound}
 use Rattle.judgement_laws.specs.judged.Sound.{AreChecked}
 use Rattle.judgement.specs.judged.Reports.{IsReport}
-use Rattle.shader_check.proofs.Once.{prepared_once}
-use Rattle.shader_check.specs.found.Judgements.{FindsIn, IsReportedOf}
+use Rattle.check_explanation.proofs.Soundness.{prepared_once}
+use Rattle.check_explanation.specs.Answered.{FindsIn, IsReportedOf}
 use Rattle.wgsl_reader.specs.Checks.{MakesSixChecks}
 use Rattle.check_wgsl.specs.Answered.{IsAnswered, IsTextOfSome, IsSoundText, verdict_of}
 use Rattle.check_wgsl.specs.declared.judged.WgslVerdict.{WgslVerdict}

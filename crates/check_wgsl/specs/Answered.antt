@@ -9,8 +9,7 @@ use Rattle.judgement.specs.judged.Text.{text_of}
 use Rattle.judgement.specs.declared.finding.Finding.{Finding}
 use Rattle.judgement.specs.declared.finding.Finding.TheVariants as findings
 use Rattle.judgement_laws.specs.judged.Sound.{AreChecked, ModuleIsSound}
-use Rattle.shader_check.specs.found.Judgements.{IsJudgementOf}
-use Rattle.shader_check.specs.declared.reported.Judgement.{Judgement}
+use Rattle.check_explanation.specs.Answered.{IsJudgementOf, Judgement}
 use Rattle.check_wgsl.specs.declared.judged.WgslVerdict.{WgslVerdict}
 use Rattle.check_wgsl.specs.declared.judged.WgslVerdict.TheVariants.{Accepted, Refused, Unread}
 

@@ -4,9 +4,9 @@ ghost use Rattle.wgsl_reader.specs.Checks.{MakesSixChecks};
 ghost use Rattle.check_wgsl.specs.Answered.{IsOfSome, IsAnswered, IsSoundText, verdict_of};
 ghost use Rattle.check_wgsl.specs.declared.judged.WgslVerdict.TheVariants.{Accepted, Unread};
 
+use check_explanation::{Finding, Judgement, judge_document};
 use document_reader::Document;
 use document_writer::write_document;
-use shader_check::{Finding, Judgement, judge_document};
 use std::alloc::{AllocError, Global};
 use wgsl_reader::{Cause, WgslError, message_of, read_wgsl};
 

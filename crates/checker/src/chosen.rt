@@ -1,9 +1,8 @@
 // Validation of SPIR-V modules with options.
 
-use check_choices::Choices;
+use crate::choices::Choices;
 use check_explanation::{Requested, SpirvError, Traced, explain_made};
 use document_writer::write_document;
-use serde_json::{Value, put};
 use spirv_reader::read_spirv;
 use std::alloc::{AllocError, Global};
 
@@ -52,11 +51,6 @@ pub fn chosen_json(
     choices: &Choices,
     traced: &Traced,
 ) -> Result<String, AllocError> {
-    let mut value = traced.value(alloc)?;
-    if let Value::Object(map) = &mut value {
-        if choices.leaves_out() {
-            put(map, alloc, "without", choices.without_value(alloc)?)?;
-        }
-    }
-    value.to_string(alloc)
+    let without = choices.left_out(alloc)?;
+    traced.json(alloc, &without)
 }

@@ -1,9 +1,8 @@
 // A language server on standard input and output, which validates documents and WGSL texts as they are edited.
 
-use check_diagnostics::{Diagnosed, explain_wgsl, unread_location};
 use check_explanation::{DocumentError, Explanation, Requested, explain};
 use check_ports::Source;
-use check_wgsl::{Cause, WgslError, message_of};
+use check_wgsl::{Cause, Diagnosed, WgslError, explain_wgsl, message_of, unread_location};
 use editor_protocol::{Frames, Next, Received, Server, Slip, Text, framed};
 use editor_text::{Encoding, Part, Position, byte_of, character_at, part_at};
 use std::alloc::{AllocError, Global};

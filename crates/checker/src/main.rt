@@ -5,16 +5,17 @@
 // arguments are ignored.
 #![tactic(auto)]
 
+mod choices;
 mod chosen;
 mod editor;
 mod wgsl;
 
-use check_choices::Choices;
 use check_explanation::{
     Explanation, MAX_TAKEN, Requested, SpirvAnswer, SpirvError, SpirvVerdict, Traced, check_spirv,
     document_text, error_text, explain, explain_spirv, unread_json,
 };
 use check_ports::{Sink, Source, TakeError};
+use choices::Choices;
 use chosen::{chosen_document, chosen_json, explain_chosen};
 use shader_check::{check_document, outcome};
 use std::alloc::AllocError;
@@ -33,6 +34,7 @@ enum Form {
     Leaves,
     NamedLeaves,
     Object,
+    ObjectWithLeaves,
     Document,
 }
 
@@ -72,12 +74,13 @@ fn form_of(word: &str) -> Option<Form> {
     }
 }
 
-// The output form of two arguments: the later one, except that leaves can be combined with names.
+// The output form of two arguments: the later one, except that leaves can be combined with names or an object.
 fn joined(before: Form, after: Form) -> Form {
     match (before, after) {
         (Form::Leaves, Form::LineWithNames) | (Form::LineWithNames, Form::Leaves) => {
             Form::NamedLeaves
         }
+        (Form::Leaves, Form::Object) | (Form::Object, Form::Leaves) => Form::ObjectWithLeaves,
         _ => after,
     }
 }
@@ -158,6 +161,7 @@ fn requested_by(form: Form) -> Requested {
     match form {
         Form::Line => Requested::Nothing,
         Form::Leaves | Form::NamedLeaves => Requested::Leaves,
+        Form::ObjectWithLeaves => Requested::ReportWithLeaves,
         Form::Verdict | Form::LineWithNames | Form::Object | Form::Document => Requested::Report,
     }
 }
@@ -211,7 +215,9 @@ fn print_explanation(rt: &HostRuntime, form: Form, traced: &Traced) -> ExitCode 
     match form {
         Form::Line => ended(rt, println!(rt; "{traced}"), status),
         Form::LineWithNames | Form::NamedLeaves => print_names(rt, traced, status),
-        Form::Object => print_text(rt, traced.json(rt.alloc()), "\n", status),
+        Form::Object | Form::ObjectWithLeaves => {
+            print_text(rt, traced.json(rt.alloc(), &[]), "\n", status)
+        }
         Form::Verdict | Form::Leaves | Form::Document => {
             print_text(rt, traced.explanation.listing(rt.alloc()), "", status)
         }
@@ -239,7 +245,9 @@ fn print_unread(rt: &HostRuntime, form: Form, bytes: &[u8], error: &SpirvError) 
     match error {
         SpirvError::Memory => fault(rt, "memory"),
         SpirvError::Malformed { .. } | SpirvError::Unsupported { .. } => match form {
-            Form::Object => print_text(rt, unread_json(rt.alloc(), bytes, error), "\n", 3),
+            Form::Object | Form::ObjectWithLeaves => {
+                print_text(rt, unread_json(rt.alloc(), bytes, error), "\n", 3)
+            }
             Form::Verdict
             | Form::Line
             | Form::LineWithNames
@@ -248,6 +256,16 @@ fn print_unread(rt: &HostRuntime, form: Form, bytes: &[u8], error: &SpirvError) 
             | Form::Document => print_text(rt, error_text(rt.alloc(), bytes, error), "\n", 3),
         },
     }
+}
+
+// Prints the document that a module is translated to, and says on standard error if it is longer than those that are validated.
+pub(crate) fn print_translation(rt: &HostRuntime, text: String) -> ExitCode {
+    if text.len() >= MAX_TAKEN {
+        let _ = eprintln!(rt;
+            "the document has more than 16777216 bytes, so it is refused as a document"
+        );
+    }
+    print_text(rt, Ok(text), "\n", 0)
 }
 
 // Prints the verdict on a SPIR-V module.
@@ -261,20 +279,24 @@ fn print_spirv(rt: &HostRuntime, form: Form, bytes: &[u8]) -> ExitCode {
             Err(_) => fault(rt, "memory"),
         },
         Form::Document => match document_text(rt.alloc(), bytes) {
-            Ok(text) => print_text(rt, Ok(text), "\n", 0),
+            Ok(text) => print_translation(rt, text),
             Err(error) => print_unread(rt, form, bytes, &error),
         },
-        Form::Line | Form::LineWithNames | Form::Leaves | Form::NamedLeaves | Form::Object =>
-            match explain_spirv(rt.alloc(), requested_by(form), bytes) {
-                Ok(traced) => print_traced(rt, form, traced),
-                Err(error) => print_unread(rt, form, bytes, &error),
-            },
+        Form::Line
+        | Form::LineWithNames
+        | Form::Leaves
+        | Form::NamedLeaves
+        | Form::Object
+        | Form::ObjectWithLeaves => match explain_spirv(rt.alloc(), requested_by(form), bytes) {
+            Ok(traced) => print_traced(rt, form, traced),
+            Err(error) => print_unread(rt, form, bytes, &error),
+        },
     }
 }
 
 // Prints the explanation of a module validated with options.
 fn print_traced_under(rt: &HostRuntime, form: Form, choices: &Choices, traced: Traced) -> ExitCode {
-    if let Form::Object = form {
+    if let Form::Object | Form::ObjectWithLeaves = form {
         let status = status(&traced.explanation);
         let text = chosen_json(rt.alloc(), choices, &traced);
         drop(traced);
@@ -290,7 +312,7 @@ fn print_chosen(rt: &HostRuntime, form: Form, choices: &Choices, bytes: &[u8]) -
     }
     if let Form::Document = form {
         return match chosen_document(rt.alloc(), choices, bytes) {
-            Ok(text) => print_text(rt, Ok(text), "\n", 0),
+            Ok(text) => print_translation(rt, text),
             Err(error) => print_unread(rt, form, bytes, &error),
         };
     }

@@ -1,9 +1,11 @@
 // The output for WGSL texts.
 
-use crate::{Form, ended, fault, print_text, print_traced, requested_by, status};
-use check_diagnostics::{Diagnosed, explain_wgsl, unread_object, unread_text};
+use crate::{Form, fault, print_text, print_traced, print_translation, requested_by, status};
 use check_explanation::Traced;
-use check_wgsl::{Cause, WgslError, WgslVerdict, check_wgsl, message_of, wgsl_document};
+use check_wgsl::{
+    Cause, Diagnosed, WgslError, WgslVerdict, check_wgsl, explain_wgsl, message_of, unread_object,
+    unread_text, wgsl_document,
+};
 use std::process::ExitCode;
 
 // The exit status for a text.
@@ -33,7 +35,7 @@ fn print_unread(rt: &HostRuntime, form: Form, bytes: &[u8], error: &WgslError) -
         return fault(rt, "memory");
     }
     let text = match form {
-        Form::Object => unread_object(alloc, bytes, error),
+        Form::Object | Form::ObjectWithLeaves => unread_object(alloc, bytes, error),
         Form::Line | Form::LineWithNames => unread_text(alloc, bytes, error),
         Form::Verdict | Form::Leaves | Form::NamedLeaves | Form::Document => {
             message_of(alloc, bytes, error)
@@ -46,7 +48,7 @@ fn print_unread(rt: &HostRuntime, form: Form, bytes: &[u8], error: &WgslError) -
 fn print_refused(rt: &HostRuntime, form: Form, bytes: &[u8], diagnosed: &Diagnosed) -> ExitCode {
     let alloc = rt.alloc();
     let (text, end) = match form {
-        Form::Object => (diagnosed.json(alloc), "\n"),
+        Form::Object | Form::ObjectWithLeaves => (diagnosed.json(alloc), "\n"),
         Form::Line => (diagnosed.text(alloc, bytes, false), "\n"),
         Form::LineWithNames | Form::NamedLeaves => (diagnosed.text(alloc, bytes, true), "\n"),
         Form::Verdict | Form::Leaves | Form::Document => (diagnosed.explanation.listing(alloc), ""),
@@ -71,11 +73,7 @@ fn print_diagnosed(rt: &HostRuntime, form: Form, bytes: &[u8], diagnosed: Diagno
 // Prints the document that a text is translated to.
 fn print_translated(rt: &HostRuntime, bytes: &[u8]) -> ExitCode {
     match wgsl_document(rt.alloc(), bytes) {
-        Ok(document) => {
-            let written = println!(rt; "{document}");
-            drop(document);
-            ended(rt, written, 0)
-        }
+        Ok(document) => print_translation(rt, document),
         Err(error) => print_unread(rt, Form::Document, bytes, &error),
     }
 }
@@ -85,7 +83,12 @@ pub(crate) fn print_wgsl(rt: &HostRuntime, form: Form, bytes: &[u8]) -> ExitCode
     match form {
         Form::Verdict => print_verdict(rt, bytes),
         Form::Document => print_translated(rt, bytes),
-        Form::Line | Form::LineWithNames | Form::Leaves | Form::NamedLeaves | Form::Object => {
+        Form::Line
+        | Form::LineWithNames
+        | Form::Leaves
+        | Form::NamedLeaves
+        | Form::Object
+        | Form::ObjectWithLeaves => {
             match explain_wgsl(rt.alloc(), requested_by(form), bytes) {
                 Ok(diagnosed) => print_diagnosed(rt, form, bytes, diagnosed),
                 Err(error) => print_unread(rt, form, bytes, &error),

@@ -3,9 +3,9 @@ use Rattle.std.proofs.Common.{◌≡◌, ◌⊎◌, inl, inr, ℕ, ◌≤◌, Li
 use Rattle.std.specs.Str.{is_utf8}
 use Rattle.std.proofs.lemmas.Bool.{cases_lt}
 use Rattle.std.proofs.lemmas.Str.{IsUtf8-from_is_utf8, is_utf8-from_IsUtf8}
+use Rattle.std.proofs.lemmas.Option.{same_Some}
 use Rattle.serde_json.specs.Data.{Data}
 use Rattle.serde_json.specs.Read.{read}
-use Rattle.document_forms.specs.found.Inverse.{some_is}
 use Rattle.document_reader.specs.judged.Distinct.{AreDistinct}
 use Rattle.document_reader.specs.judged.Plain.{PlainDocument}
 use Rattle.document_reader.specs.found.Documents.{document_in}
@@ -30,7 +30,7 @@ by_value bytes short utf8 v is =
         d,
         record {
           spelled = λ distinct. reads_document bytes v d value (sym e) distinct;
-          alone = λ other r. some_is other d (sym (found_in bytes v other is r) ∙ e);
+          alone = λ other r. same_Some other d (sym (found_in bytes v other is r) ∙ e);
         },
       )
     ] refl

@@ -1,5 +1,6 @@
 -- From the JSON value of the bytes to the document that they encode.
 use Rattle.std.proofs.Common.{◌≡◌, ◌≢◌, ℕ, Bool, List, Option, Some, None, option_map, option_and_then, Result, Ok, Err, IfErr, IsErr, IsErrAnd, refl, sym, subst, ◌∙◌}
+use Rattle.std.proofs.lemmas.Option.{same_Some}
 use Rattle.document_forms.specs.declared.error.ReadError.{ReadError}
 use Rattle.document_forms.specs.declared.error.ReadError.TheVariants as part
 use Rattle.document_reader.specs.declared.error.DocumentError.{DocumentError}
@@ -9,7 +10,7 @@ use Rattle.serde_json.specs.Find.{as_array, as_bool}
 use Rattle.serde_json.specs.Read.{read}
 use Rattle.serde_json.proofs.Nesting.{depth-read}
 use Rattle.document_forms.specs.found.Decide.{first, all_of, behind}
-use Rattle.document_forms.specs.found.Inverse.{some_is, bind_some}
+use Rattle.document_forms.specs.found.Inverse.{bind_some}
 use Rattle.document_items.specs.found.Types.{a_type}
 use Rattle.document_reader.specs.judged.Distinct.{AreDistinct}
 use Rattle.document_reader.specs.judged.Plain.{PlainDocument}
@@ -85,7 +86,7 @@ document_is v = array (as_array v)
 -- what the value encodes is decoded
 pub found_in : (bytes : List ℕ) (v : Data) (d : PlainDocument) → read bytes ≡ Some v → (r : Reads bytes d) → document_in v ≡ Some d
 found_in bytes v d value r =
-    let same : r.value ≡ v = some_is _ _ (sym r.value_is ∙ value) in
+    let same : r.value ≡ v = same_Some _ _ (sym r.value_is ∙ value) in
     document_is v ∙ a_document.exact.complete v d (subst (ADocument d) same r.form) (depth-read bytes v value)
 
 pub reads_document : (bytes : List ℕ) (v : Data) (d : PlainDocument) → IsValueOf bytes v → Some d ≡ document_in v → AreDistinct d.content.types → Reads bytes d
@@ -112,7 +113,7 @@ reason_of bytes (part.Malformed place wanted) e is malformed = subst (IsReason b
 
 -- bytes encode at most one document
 pub one_document_lem : OneDocument
-one_document_lem bytes d e r s = some_is d e (sym (found_in bytes r.value d r.value_is r) ∙ found_in bytes r.value e r.value_is s)
+one_document_lem bytes d e r s = same_Some d e (sym (found_in bytes r.value d r.value_is r) ∙ found_in bytes r.value e r.value_is s)
 
 -- ---- what is rejected
 
@@ -126,7 +127,7 @@ pub module_refused : (ds : Items) (t : Data) (rest : Items) → Some (t, rest) �
 module_refused ds t rest here types m found = λ apart.
     let a = bind_some _ (all_of a_type.find t) m (rw (sym here) at found) in
     let b = bind_some _ (the_lists.find rest) m a.2 in
-    let same : content_of a.0 b.0 ≡ m = some_is _ _ b.2 in
+    let same : content_of a.0 b.0 ≡ m = same_Some _ _ b.2 in
     types a.0 a.1 (subst (λ (x : PlainModule). AreDistinct x.types) (sym same) apart)
 
 -- if no module with distinct types is decoded after the settings, no document with distinct types is
@@ -142,5 +143,5 @@ document_refused d ds0 ds1 ds2 ds3 ds4 ds5 f c s r items at0 at1 at2 at3 at4 ref
     let rest3 = rw (sym at3) at rest2 in
     let rest4 = rw (sym at4) at rest3 in
     let a = bind_some _ (content_in ds5) x rest4 in
-    let same : made_of f c s r a.0 ≡ x = some_is _ _ a.2 in
+    let same : made_of f c s r a.0 ≡ x = same_Some _ _ a.2 in
     refused a.0 a.1 (subst (λ (y : PlainDocument). AreDistinct y.content.types) (sym same) apart)

@@ -1,5 +1,6 @@
 -- What storage images of a format allow.
 use Rattle.std.proofs.Common.{◌≡◌, Some, subst, sym}
+use Rattle.std.proofs.lemmas.Option.{same_Some}
 use Rattle.ir_blocks.specs.declared.operations.AtomicFunction.{AtomicFunction}
 use Rattle.ir_flags.specs.Sets.{Has}
 use Rattle.ir_flags.specs.declared.settings.Capabilities.{Capabilities}
@@ -17,15 +18,12 @@ use Rattle.typing_forms.specs.declared.form.Form.TheVariants as form
 
 -- ---- values
 
-some_is : (a b : StorageFormat) → Some a ≡ Some b → a ≡ b
-some_is a b e = cc
-
 -- a texel of the format is written
 pub texel_written : (own : ImageClass) (of : StorageFormat) (value : Form) → format_of own ≡ Some of → value ≡ form.Vector Quad (format_scalar of) → IsWritten own value
 texel_written (class.Sampled kind multi) of value is fits = absurd (let e = is in cc)
 texel_written (class.Depth multi) of value is fits = absurd (let e = is in cc)
 texel_written class.External of value is fits = absurd (let e = is in cc)
-texel_written (class.Storage own access) of value is fits = let e = some_is own of is in subst (λ x. value ≡ form.Vector Quad (format_scalar x)) (sym e) fits
+texel_written (class.Storage own access) of value is fits = let e = same_Some own of is in subst (λ x. value ≡ form.Vector Quad (format_scalar x)) (sym e) fits
 
 -- ---- operations
 

@@ -1,4 +1,4 @@
--- What is wrong with an atomic operation.
+-- Errors of atomic operations.
 use Rattle.std.specs.Prelude.{◌≡◌, ◌⊎◌, ℕ, Option, Some, None, true, false, IsSomeAnd, option_and_then, slice_get}
 use Rattle.typing_errors.specs.declared.error.FunctionError.{FunctionError}
 use Rattle.typing_errors.specs.declared.error.FunctionError.TheVariants as error
@@ -20,12 +20,12 @@ use Rattle.typing_forms.specs.judged.Resolutions.{inner_at}
 use Rattle.typing_forms.specs.declared.form.Form.{Form}
 use Rattle.typing_forms.specs.declared.form.Form.TheVariants as form
 
--- ---- which scalars are changed how
+-- ---- operations by scalar
 
 abbrev pub IsWide : Scalar → Type 0
 IsWide s = (s ≡ signed 8) ⊎ (s ≡ unsigned 8)
 
--- the least and the greatest that are kept in storage need less than all others
+-- minimum and maximum without a result in `Storage` require less than all others
 abbrev pub IsMissingWide : Capabilities → (pointer : Form) → AtomicFunction → (result : Option ℕ) → (missing : Capabilities) → Type 0
 IsMissingWide capabilities pointer done result missing =
     (¬ Has capabilities.0 SHADER_INT64_ATOMIC_ALL_OPS.0)
@@ -46,7 +46,7 @@ abbrev pub IsScalarFault : Capabilities → Scalar → (pointer : Form) → Atom
 IsScalarFault capabilities s pointer done result e =
     (IsWide s × IsWideFault capabilities pointer done result e) ⊎ ((s ≡ floating 4) × IsFloatFault capabilities pointer done e)
 
--- ---- what is answered
+-- ---- the result
 
 abbrev pub IsPlainFault : BlockContext → Scalar → (result : ℕ) → AtomicAnswer → AtomicError → Type 0
 IsPlainFault c s result answer (fault.ResultTypeMismatch e) = (e ≡ result) × ¬ (form_of_type c.m.types answer.ty ≡ form.Scalar s)
@@ -64,7 +64,7 @@ abbrev pub IsDeclaredFault : BlockContext → Scalar → (compare : Option ℕ) 
 IsDeclaredFault c s None result answer e = IsPlainFault c s result answer e
 IsDeclaredFault c s (Some compare) result answer e = IsExchangeFault c s compare result answer e
 
--- it is no `AtomicResult`
+-- it is not an `AtomicResult`
 abbrev pub IsOtherFault : BlockContext → (result : ℕ) → AtomicError → Type 0
 IsOtherFault c result (fault.InvalidResultExpression e) = (e ≡ result) × (option_and_then declared_answer (slice_get c.f.expressions result) ≡ None)
 IsOtherFault c result _ = ⊥
@@ -78,7 +78,7 @@ IsAnswerFault c s done None e = IsUnansweredFault done e
 IsAnswerFault c s done (Some result) e = IsOtherFault c result e
     ⊎ IsSomeAnd (option_and_then declared_answer (slice_get c.f.expressions result)) (λ answer. IsDeclaredFault c s (comparand done) result answer e)
 
--- ---- the whole
+-- ---- the rule
 
 abbrev pub IsValueFault : BlockContext → (value : ℕ) → Scalar → AtomicError → Type 0
 IsValueFault c value s (fault.InvalidOperand e) = (e ≡ value) × ¬ (form_at c value ≡ form.Scalar s)

@@ -1,4 +1,4 @@
--- What changes values atomically, writes texels or loads values together with a fault does not meet its rule.
+-- An atomic operation, an image store or a uniform load with an error breaks its rule.
 use Rattle.std.specs.Prelude.{ℕ, Option}
 use Rattle.function_atomic_checks.specs.Atomics.{IsAtomicFault}
 use Rattle.function_atomic_checks.specs.StorageImages.{IsImageStoreFault, IsImageAtomicFault}
@@ -10,7 +10,7 @@ use Rattle.spec_statements.specs.judged.BlockContext.{BlockContext}
 use Rattle.spec_statements.specs.judged.StorageImages.{ImageStoreOK, ImageAtomicOK}
 use Rattle.spec_statements.specs.judged.UniformLoads.{UniformLoadStatementOK}
 
--- What refutes the rule of each kind.
+-- The refutation of the rule of each kind.
 pub record Refuted (c : BlockContext) (e : FunctionError) : Type 0 where
   pub atomic : (pointer : ℕ) (done : AtomicFunction) (value : ℕ) (result : Option ℕ) → IsAtomicFault c pointer done value result e → AtomicStatementOK c pointer done value result → ⊥
   pub image_store : (image coordinate : ℕ) (array_index : Option ℕ) (value : ℕ) → IsImageStoreFault c image coordinate array_index value e

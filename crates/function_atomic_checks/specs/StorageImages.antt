@@ -1,4 +1,4 @@
--- What is wrong with texels that are written, and with texels that are changed atomically.
+-- Errors of image stores and atomic operations on texels.
 use Rattle.std.specs.Prelude.{◌≡◌, ◌⊎◌, ℕ, List, [], Option, Some, None, IsSomeAnd}
 use Rattle.std.specs.Option.{option_or}
 use Rattle.typing_errors.specs.declared.expressions.ExpressionError.{ExpressionError}
@@ -35,14 +35,14 @@ use Rattle.typing_forms.specs.declared.form.Form.TheVariants as form
 
 -- ---- the image
 
--- an element of a global variable, which is no array, or one of no images
+-- an element of a global variable that is not a binding array, or not one of images
 abbrev pub IsElementFault : List PlainType → (type : ℕ) → ExpressionError → Type 0
 IsElementFault types type (fault.ExpectedBindingArrayType e) = (e ≡ type) × (resource_of (form_of_type types type) ≡ None)
 IsElementFault types type (fault.ExpectedImageType e) =
     (e ≡ type) × IsSomeAnd (resource_of (form_of_type types type)) (λ r. image_type_of (form_of_type types r) ≡ None)
 IsElementFault types type _ = ⊥
 
--- no global variable, or one that is no image
+-- not a global variable, or not an image
 abbrev pub IsNamedFault : BlockContext → (image : ℕ) → ExpressionError → Type 0
 IsNamedFault c image fault.ExpectedGlobalVariable = (variable_at c.m c.f image ≡ None) × (accessed_at c.m c.f image ≡ None)
 IsNamedFault c image (fault.ExpectedImageType e) =
@@ -52,7 +52,7 @@ IsNamedFault c image _ = ⊥
 abbrev pub IsWrittenImageFault : BlockContext → (image : ℕ) → ExpressionError → Type 0
 IsWrittenImageFault c image e = IsNamedFault c image e ⊎ IsSomeAnd (accessed_at c.m c.f image) (λ g. IsElementFault c.m.types g.ty e)
 
--- the type of a global variable is neither an image nor an array of such
+-- the type of a global variable is neither an image nor a binding array of images
 abbrev pub IsChangedImageFault : BlockContext → (image : ℕ) → ExpressionError → Type 0
 IsChangedImageFault c image fault.ExpectedGlobalVariable = option_or (variable_at c.m c.f image) (accessed_at c.m c.f image) ≡ None
 IsChangedImageFault c image (fault.ExpectedImageType e) = IsSomeAnd (option_or (variable_at c.m c.f image) (accessed_at c.m c.f image))
@@ -68,7 +68,7 @@ IsTexelFault c image_type coordinate array_index fault.InvalidImageArrayIndex = 
 IsTexelFault c image_type coordinate array_index (fault.InvalidImageArrayIndexType e) = (array_index ≡ Some e) × ¬ IsIntegerScalar (form_at c e)
 IsTexelFault c image_type coordinate array_index _ = ⊥
 
--- ---- what is written
+-- ---- the stored value
 
 -- the format of a storage image
 abbrev pub format_of : ImageClass → Option StorageFormat
@@ -85,20 +85,20 @@ abbrev pub IsPlaceFault : BlockContext → (image coordinate : ℕ) → (array_i
 IsPlaceFault c image coordinate array_index e = IsWrittenImageFault c image e
     ⊎ IsSomeAnd (written_image c.m c.f image) (λ image_type. IsClassFault image_type.class e ⊎ IsTexelFault c image_type coordinate array_index e)
 
--- the image is of the format, and the value is no texel of it
+-- the image has the format, and the value does not fit it
 abbrev pub IsMisfit : BlockContext → (image value : ℕ) → StorageFormat → Type 0
 IsMisfit c image value format =
     IsSomeAnd (written_image c.m c.f image) (λ image_type. format_of image_type.class ≡ Some format) × ¬ (form_at c value ≡ form.Vector Quad (format_scalar format))
 
--- ---- types of values, as they are reported
+-- ---- the types of values in errors
 
--- what a matrix of either kind is made of
+-- the inner type of a matrix of either kind
 abbrev pub matrix_inner : Form → Option PlainInner
 matrix_inner (form.Matrix columns rows s) = Some (plain (inner.Matrix columns rows s))
 matrix_inner (form.CooperativeMatrix columns rows s role) = Some (plain (inner.CooperativeMatrix columns rows s role))
 matrix_inner _ = None
 
--- what a type is made of, if it is one
+-- the inner type, if it is a type
 abbrev pub inner_of_form : List PlainType → Form → Option PlainInner
 inner_of_form types (form.Scalar s) = Some (plain (inner.Scalar s))
 inner_of_form types (form.Vector n s) = Some (plain (inner.Vector n s))
@@ -120,7 +120,7 @@ abbrev pub IsUntypedFault : BlockContext → (value : ℕ) → ExpressionError �
 IsUntypedFault c value fault.Other = inner_of_form c.m.types (form_at c value) ≡ None
 IsUntypedFault c value _ = ⊥
 
--- the value is of another type than the texels of the format; one that has none is refused without a name
+-- the value has another type than the format's texels; one without a type is refused without a name
 abbrev pub IsValueFault : BlockContext → (value : ℕ) → StorageFormat → FunctionError → Type 0
 IsValueFault c value format (error.InvalidStoreValue actual actual_ty expected_ty) = (actual ≡ value)
     × (inner_of_form c.m.types (form_at c value) ≡ Some (inner_view actual_ty)) × (inner_view expected_ty ≡ plain (inner.Vector Quad (format_scalar format)))
@@ -137,13 +137,13 @@ abbrev pub IsImageStoreFault : BlockContext → (image coordinate : ℕ) → (ar
 IsImageStoreFault c image coordinate array_index value e =
     IsWrongPlace c image coordinate array_index e ⊎ ((format : StorageFormat) × IsMisfit c image value format × IsValueFault c value format e)
 
--- there is no memory to say of what type the value is
+-- there is no memory for the type of the value
 abbrev pub IsImageStoreRefusal : BlockContext → (image coordinate : ℕ) → (array_index : Option ℕ) → (value : ℕ) → Refusal FunctionError → Type 0
 IsImageStoreRefusal c image coordinate array_index value (refusal.Memory e) = (format : StorageFormat) × IsMisfit c image value format
 IsImageStoreRefusal c image coordinate array_index value (refusal.Fault f) =
     IsImageStoreFault c image coordinate array_index value (error_of f) × (spans_of f ≡ [])
 
--- ---- texels that are changed atomically
+-- ---- atomic operations on texels
 
 abbrev pub IsWideFault : Capabilities → AtomicFunction → FunctionError → Type 0
 IsWideFault capabilities done (error.MissingCapability missing) = (missing ≡ TEXTURE_INT64_ATOMIC) × ¬ Has capabilities.0 TEXTURE_INT64_ATOMIC.0

@@ -1,4 +1,4 @@
--- What is wrong with values of workgroup memory that a whole workgroup loads together.
+-- Errors of uniform loads of workgroup memory.
 use Rattle.std.specs.Prelude.{◌≡◌, ◌⊎◌, ℕ, Option, Some, None, IsSomeAnd, option_and_then, slice_get}
 use Rattle.typing_errors.specs.declared.error.FunctionError.{FunctionError}
 use Rattle.typing_errors.specs.declared.error.FunctionError.TheVariants as error
@@ -7,11 +7,11 @@ use Rattle.spec_statements.specs.judged.BlockContext.{BlockContext, form_at}
 use Rattle.spec_statements.specs.judged.Stores.{pointer_space}
 use Rattle.spec_statements.specs.judged.UniformLoads.{loaded_type, LeadsTo}
 
--- the type that the answer at a handle declares
+-- the type that the result at a handle declares
 abbrev pub loaded_at : BlockContext → (result : ℕ) → Option ℕ
 loaded_at c result = option_and_then loaded_type (slice_get c.f.expressions result)
 
--- it is no pointer into workgroup memory, or does not lead to what is answered; what should denote the answer is no
+-- not a pointer into workgroup memory, or one to another type than the result's; or the result is not a
 -- `WorkGroupUniformLoadResult`
 abbrev pub IsUniformLoadFault : BlockContext → (pointer result : ℕ) → FunctionError → Type 0
 IsUniformLoadFault c pointer result (error.WorkgroupUniformLoadInvalidPointer e) = (e ≡ pointer)

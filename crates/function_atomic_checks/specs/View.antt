@@ -1,4 +1,4 @@
--- What is found of atomic operations, as plain data.
+-- Views of atomic operations.
 use Rattle.function_atomic_checks.specs.declared.atomics.DeclaredAnswer.{DeclaredAnswer}
 use Rattle.spec_statements.specs.judged.Atomics.{AtomicAnswer}
 

@@ -26,7 +26,7 @@ use module_expression_checks::exchanged_value;
 use typing_errors::{AtomicError, FunctionError};
 use typing_forms::Form;
 
-// ---- what is changed
+// ---- the target
 
 // The scalar of an atomic, and its address space.
 #[derive(Clone, Copy)]
@@ -57,7 +57,7 @@ const fn atomic_of(inner: &TypeInner) -> Option<Scalar>
     }
 }
 
-// The same of a type of the module.
+// The same for a type of the module.
 fn atomic_at<C: StatementContext>(context: &C, ty: Handle<key::IrType>) -> Option<Scalar>
     ensures { result ≡ atomic_of (inner_at (C.seen context.now).m.types ty) }
 {
@@ -104,7 +104,7 @@ pub(crate) fn changed_scalar<C: StatementContext>(context: &C, pointer: &Form) -
     }
 }
 
-// ---- which scalars are changed how
+// ---- operations by scalar
 
 // Whether two scalars are the same.
 #[tactic(auto, using(crate::proofs::Scalars::same_scalar))]
@@ -114,14 +114,14 @@ fn is_scalar(scalar: Scalar, other: Scalar) -> bool
     are_same(Form::Scalar(scalar), Form::Scalar(other))
 }
 
-// Whether a scalar is an integer of eight bytes.
+// Whether a scalar is a 64-bit integer.
 fn is_wide(scalar: Scalar) -> bool
     ensures { IsTrue result ↔ IsWide scalar }
 {
     is_scalar(scalar, Scalar::I64) || is_scalar(scalar, Scalar::U64)
 }
 
-// Whether a space is that of storage buffers.
+// Whether an address space is `Storage`.
 const fn is_storage(space: AddressSpace) -> bool
     ensures { IsTrue result ↔ IsStorageSpace space }
 {
@@ -139,7 +139,7 @@ const fn is_storage(space: AddressSpace) -> bool
     }
 }
 
-// Whether a pointer leads into a storage buffer.
+// Whether a pointer points into `Storage`.
 fn is_in_storage(pointer: &Form) -> bool
     ensures { IsTrue result ↔ IsInStorage pointer.now }
 {
@@ -269,7 +269,7 @@ fn check_scalar(
     Ok(())
 }
 
-// ---- what is answered
+// ---- the result
 
 // The type that an `AtomicResult` declares.
 #[derive(Clone, Copy)]
@@ -288,7 +288,7 @@ fn declared_answer(expression: &Expression) -> Option<DeclaredAnswer>
     }
 }
 
-// The same of the expression at a handle.
+// The same for the expression at a handle.
 fn declared_at<C: StatementContext>(
     context: &C,
     handle: Handle<key::Expression>,
@@ -440,7 +440,7 @@ fn check_answer<C: StatementContext>(
     }
 }
 
-// ---- the whole
+// ---- the rule
 
 // Whether a value is an operand for the scalar of an atomic.
 fn check_change<C: StatementContext>(
@@ -469,12 +469,13 @@ fn check_change<C: StatementContext>(
     }
 }
 
-/// Whether an atomic may be changed so: the pointer leads to one, the value and what it is compared with are of its scalar, the
-/// scalar allows it, and it is answered by an `AtomicResult` of that scalar, or of what an exchange that compares answers.
+/// Whether an atomic operation is valid: the pointer points to an atomic, the value and the comparand have its scalar, the
+/// operation is allowed on it, and the result is an `AtomicResult` of that scalar, or of the result struct of a
+/// compare-exchange.
 ///
 /// # Errors
 ///
-/// [`FunctionError::InvalidAtomic`] with what of this is not so.
+/// [`FunctionError::InvalidAtomic`] with the broken requirement.
 pub fn check_atomic<C: StatementContext>(
     context: &C,
     pointer: Handle<key::Expression>,

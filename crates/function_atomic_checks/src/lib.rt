@@ -1,5 +1,5 @@
-//! Whether statements meet the rules of their kinds that change values and texels atomically, write texels, or load values of
-//! workgroup memory together. The others stand in `function_statement_checks` and `function_statements`.
+//! The checks of single statements that access memory or texels atomically, store texels, or load workgroup memory uniformly.
+//! The others are in `function_statement_checks` and `function_statements`.
 #![tactic(auto)]
 
 mod atomics;

@@ -31,7 +31,7 @@ use typing_forms::Form;
 
 // ---- the image
 
-// The type of the resources of an array of such.
+// The resource type of a binding array.
 const fn resource_of(of: Form) -> Option<Handle<key::IrType>>
     ensures { result ≡ resource_of of }
 {
@@ -72,7 +72,7 @@ fn written_element<C: StatementContext>(
     }
 }
 
-// The image that is written: a global variable, or an element of an array of images.
+// The image of a store: a global variable, or an element of a binding array of images.
 fn written_image<C: StatementContext>(
     context: &C,
     image: Handle<key::Expression>,
@@ -96,7 +96,7 @@ fn written_image<C: StatementContext>(
     }
 }
 
-// The image of a type, or of an array of images.
+// The image of a type, or of a binding array of images.
 fn image_type_in<C: StatementContext>(context: &C, ty: Handle<key::IrType>) -> Option<ImageType>
     ensures { result ≡ image_type_in (C.seen context.now).m.types (form_of_type (C.seen context.now).m.types ty) (resource_of (form_of_type (C.seen context.now).m.types ty)) }
 {
@@ -126,7 +126,7 @@ fn changed_image<C: StatementContext>(
 
 // ---- the texel
 
-// Whether a coordinate has an array index exactly where the image is arrayed.
+// Whether a coordinate has an array index exactly if the image is arrayed.
 fn check_layer<C: StatementContext>(
     context: &C,
     image_type: &ImageType,
@@ -175,7 +175,7 @@ fn check_texel<C: StatementContext>(
     check_layer(context, image_type, coordinate, array_index)
 }
 
-// ---- what is written
+// ---- the stored value
 
 // The format of a storage image.
 const fn format_of(class: ImageClass) -> Option<StorageFormat>
@@ -187,7 +187,7 @@ const fn format_of(class: ImageClass) -> Option<StorageFormat>
     }
 }
 
-// Whether the coordinate of a store fits the image. Returns the image's format, where the value is no texel of it.
+// Whether the coordinate of a store fits the image. Returns the image's format if the value does not fit it.
 #[tactic(auto, using(crate::proofs::Formats::texel_written))]
 fn check_written<C: StatementContext>(
     context: &C,
@@ -222,7 +222,7 @@ fn check_written<C: StatementContext>(
     }
 }
 
-// ---- types of values, as they are reported
+// ---- the types of values in errors
 
 // The `TypeInner` of a matrix.
 const fn matrix_inner(of: &Form) -> Option<TypeInner>
@@ -308,7 +308,7 @@ fn copied_inner<C: StatementContext>(
     }
 }
 
-// The `TypeInner` of a form, in memory of its own, if it is a type.
+// The `TypeInner` of a form, owned, if it is a type.
 fn inner_of_form<C: StatementContext>(
     alloc: Global,
     context: &C,
@@ -344,7 +344,7 @@ fn inner_of_form<C: StatementContext>(
     }
 }
 
-// The error of a value that is no texel of a format.
+// The error of a value that does not fit a format.
 fn value_error<C: StatementContext>(
     alloc: Global,
     context: &C,
@@ -368,15 +368,15 @@ fn value_error<C: StatementContext>(
     }
 }
 
-/// Whether a texel may be written: in a storage image, which is a global variable or an element of an array of images, where it
-/// has one, and of the image's format.
+/// Whether a texel can be stored: in a storage image that is a global variable or an element of a binding array of images, at a
+/// texel that it has, with a value of the image's format.
 ///
 /// # Errors
 ///
-/// [`FunctionError::InvalidImageStore`] where no image may be written so: it is no global variable, no array of bindings, no
-/// image, of another class, or has no such texel. [`FunctionError::InvalidStoreValue`] where the value is no texel of the format;
-/// one that has no type is refused as [`ExpressionError::Other`]. [`Refusal::Memory`] where there is none to say of what type
-/// the value is.
+/// [`FunctionError::InvalidImageStore`] for an image that can't be stored to in this way: not a global variable, not a binding
+/// array, not an image, another class, or no such texel. [`FunctionError::InvalidStoreValue`] for a value of another type than
+/// the format's; a value without a type is refused with [`ExpressionError::Other`]. [`Refusal::Memory`] if there is no memory
+/// for the type of the value.
 #[tactic(auto, using(crate::proofs::Refusals::refused_by))]
 pub fn check_image_store<C: StatementContext>(
     alloc: Global,
@@ -403,7 +403,7 @@ pub fn check_image_store<C: StatementContext>(
     }
 }
 
-// ---- texels that are changed atomically
+// ---- atomic operations on texels
 
 // Whether the operation is allowed on texels.
 const fn is_done_at_texels(fun: &AtomicFunction) -> bool
@@ -555,15 +555,14 @@ fn check_changed<C: StatementContext>(
     }
 }
 
-/// Whether an atomic operation may change a texel: of a storage image that allows it, which is a global variable or
-/// an element of one, where it has one, in a way that its format allows, and by a value of the format's scalar.
+/// Whether an atomic operation on a texel is valid: on a storage image with access `ATOMIC` that is a global variable or an
+/// element of one, at a texel that it has, with an operation that its format allows, and a value of the format's scalar.
 ///
 /// # Errors
 ///
-/// [`FunctionError::InvalidImageAtomic`] where no image may be changed by this atomic operation: it is no global
-/// variable, no image, has no such texel, or is of another class, format or access.
-/// [`FunctionError::MissingCapability`],
-/// [`FunctionError::InvalidImageAtomicFunction`] or [`FunctionError::InvalidImageAtomicValue`] where its format doesn't allow it.
+/// [`FunctionError::InvalidImageAtomic`] for an image without such atomic operations: not a global variable, not an image, no
+/// such texel, or another class, format or access. [`FunctionError::MissingCapability`],
+/// [`FunctionError::InvalidImageAtomicFunction`] or [`FunctionError::InvalidImageAtomicValue`] if the format does not allow it.
 pub fn check_image_atomic<C: StatementContext>(
     context: &C,
     image: Handle<key::Expression>,

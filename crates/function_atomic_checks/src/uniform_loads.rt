@@ -50,7 +50,7 @@ fn loaded_type(expression: &Expression) -> Option<Handle<key::IrType>>
     }
 }
 
-// The same of the expression at a handle.
+// The same for the expression at a handle.
 fn loaded_at<C: StatementContext>(
     context: &C,
     handle: Handle<key::Expression>,
@@ -107,13 +107,12 @@ fn leads_to<C: StatementContext>(context: &C, pointer: &Form, ty: Handle<key::Ir
     are_same(*pointer, workgroup_pointer(context, ty)) || leads_to_atomic(context, pointer, ty)
 }
 
-/// Whether a workgroup may load this value together: from workgroup memory, by a pointer to what is answered or to an atomic of it.
+/// Whether a uniform load is valid: from workgroup memory, by a pointer to the result type or to an atomic of it.
 ///
 /// # Errors
 ///
-/// [`FunctionError::WorkgroupUniformLoadInvalidPointer`] where the pointer points into another space, is none, or leads to
-/// something else than what is answered; [`FunctionError::WorkgroupUniformLoadExpressionMismatch`] where what should denote the
-/// answer is no `WorkGroupUniformLoadResult`.
+/// [`FunctionError::WorkgroupUniformLoadInvalidPointer`] for a pointer into another address space, or to another type, or for
+/// no pointer; [`FunctionError::WorkgroupUniformLoadExpressionMismatch`] if the result is not a `WorkGroupUniformLoadResult`.
 pub fn check_uniform_load<C: StatementContext>(
     context: &C,
     pointer: Handle<key::Expression>,

@@ -1,4 +1,4 @@
--- How statements may leave their block, carried along a body.
+-- How statements may leave their block, as context along a body.
 use Rattle.std.specs.Prelude.{◌≡◌, ℕ, Bool, true, false, IsTrue, Some}
 use Rattle.typing_errors.specs.declared.error.FunctionError.{FunctionError}
 use Rattle.typing_errors.specs.declared.error.FunctionError.TheVariants as error
@@ -71,35 +71,35 @@ abbrev mutual
   CasesLeave m no_case = Unit {0}
   CasesLeave m (case value body falls rest) = AllLeave m body × CasesLeave m rest
 
--- the error of a statement that leaves its block so where it may not
+-- the error of a statement that leaves its block where it may not
 abbrev pub error_of : Wrong → FunctionError
 error_of wrong.Break = error.BreakOutsideOfLoopOrSwitch
 error_of wrong.Continue = error.ContinueOutsideOfLoop
 error_of wrong.Return = error.InvalidReturnSpot
 
--- what the error says of an exit
+-- the exit named by the error
 abbrev pub IsExitError : Exit → Wrong → Type 0
 IsExitError breaks wrong.Break = Unit {0}
 IsExitError continues wrong.Continue = Unit {0}
 IsExitError returns wrong.Return = Unit {0}
 IsExitError _ _ = ⊥
 
--- a statement leaves its block so where it may not
+-- a statement leaves its block in this way where it may not
 pub record LeavesBadly (e : Wrong) (m : MayLeave) (s : PlainStatement) : Type 0 where
   pub exit : Exit
   pub leaves : exit_of (shape_of s) ≡ Some exit
   pub told : IsExitError exit e
   pub refused : allows m exit ≡ false
 
--- one does at a place of a body around which it may leave so
+-- one does in a body that has this context
 abbrev pub LeftAt : Wrong → MayLeave → PlainBlock → Place → Type 0
 LeftAt e m b p = StandsAt (LeavesBadly e (at_place m p)) b p
 
--- seen from a block that has the statement at an index
+-- relative to a block that has the statement at an index
 abbrev pub LeftFrom : Wrong → MayLeave → (index : ℕ) → PlainStatement → Place → Type 0
 LeftFrom e m k s p = (q : Place) × (p ≡ later_by k q) × LeftAt e m (next s stop) q
 
--- of a block in a part of that statement
+-- of an inner block of that statement
 abbrev pub LeftInPart : Wrong → MayLeave → (index : ℕ) → Part → PlainBlock → Place → Type 0
 LeftInPart e m k part b p = (q : Place) × (p ≡ later_by k (at.inside part q)) × LeftAt e m b q
 

@@ -8,6 +8,6 @@ use Rattle.function_body_checks.specs.Carried.{pre_known}
 abbrev pub always_in : PlainFunction → ℕ → Bool
 always_in f e = pre_known (slice_get f.expressions e)
 
--- for each expression the first from it on that is
+-- for each expression the first one from it on that is
 abbrev pub AreAlways : PlainFunction → List ℕ → Type 0
 AreAlways f next = AreNext (always_in f) (length f.expressions) next

@@ -1,5 +1,5 @@
--- What a walk over a body requires at each place, with what it carries there: the expressions in scope, and those by which
--- statements before have answered.
+-- What a walk over a body requires at each place, with its state there: the expressions in scope, and the result expressions of
+-- earlier statements.
 use Rattle.std.specs.Prelude.{◌≡◌, ◌⊎◌, ℕ, ◌+◌, Bool, true, false, ◌||◌, if◌then◌else◌, nat_eq, List, [], ◌∷◌, ◌++◌, All, Option, Some, None, Contains, slice_get}
 use Rattle.function_body_checks.specs.declared.error.ScopeError.{ScopeError}
 use Rattle.function_body_checks.specs.declared.error.ScopeError.TheVariants as scope_error
@@ -24,7 +24,7 @@ use Rattle.spec_statements.specs.judged.Scope.{PreEmitted, is_pre_emitted}
 use Rattle.spec_statements.specs.judged.Tables.{checked_at, introduced, introduced_at}
 use Rattle.spec_statements.specs.judged.Visible.{top_level, visible}
 
--- what an error speaks of, which is nothing where there is no memory
+-- the expression named by the error; none if out of memory
 abbrev pub IfFault : ScopeError → (FunctionError → Type 0) → Type 0
 IfFault (scope_error.Memory e) P = Unit {0}
 IfFault (scope_error.Unknown e) P = P (error.Expression e NotInScope)
@@ -37,7 +37,7 @@ IfFault (scope_error.AnsweredAtomic answer) P = P (error.InvalidAtomic (atomic_e
 abbrev pub Known : PlainFunction → (scope : List ℕ) → ℕ → Type 0
 Known f scope e = PreEmitted f e ⊎ Contains scope e
 
--- by what the statement at a place answers, and which function it calls
+-- the result expression of the statement at a place, and its callee
 abbrev pub answer_at : Spot → Option ℕ
 answer_at nothing = None
 answer_at (statement s) = answer_of s
@@ -48,14 +48,14 @@ callee_at nothing = None
 callee_at (statement s) = statement_callee s
 callee_at (loop_condition break_if) = None
 
--- what is used is in scope, what is brought is not, and none answers by what has been answered by
+-- uses are in scope, introductions are not yet, and results are distinct
 pub record Fine (f : PlainFunction) (asked : Bool) (spot : Spot) (scope answered : List ℕ) : Type 0 where
   pub used : All (Known f scope) (checked_at spot)
   pub fresh : All (λ e. ¬ Known f scope e) (introduced_at spot)
   pub once : (e : ℕ) → answer_at spot ≡ Some e → ¬ Contains answered e
   pub asks : (e : ℕ) → answer_at spot ≡ Some e → asked ≡ true
 
--- ---- what is looked for in operands
+-- ---- searches among operands
 
 -- whether an expression is one of these
 abbrev pub holds : List ℕ → ℕ → Bool
@@ -70,38 +70,38 @@ pre_known (Some x) = is_pre_emitted x
 abbrev pub known : PlainFunction → (scope : List ℕ) → ℕ → Bool
 known f scope e = holds scope e || pre_known (slice_get f.expressions e)
 
--- the first of these that does not pass
+-- the first of these that fails the test
 abbrev pub first_lacking : (ℕ → Bool) → List ℕ → Option ℕ
 first_lacking test [] = None
 first_lacking test (e ∷ es) = if test e then first_lacking test es else Some e
 
--- the same by its place, where the first one has this place
+-- the same by index, if the first one has this index
 abbrev pub place_lacking : (ℕ → Bool) → (place : ℕ) → List ℕ → Option ℕ
 place_lacking test place [] = None
 place_lacking test place (e ∷ es) = if test e then place_lacking test (place + 1) es else Some place
 
--- the expression comes into scope, or is in scope
+-- the expression enters the scope, or is already in it
 abbrev pub IsBrought : PlainFunction → (old new : List ℕ) → ℕ → (brought : Bool) → Type 0
 IsBrought f old new e true = (new ≡ old ++ e ∷ []) × ¬ Known f old e
 IsBrought f old new e false = (new ≡ old) × Known f old e
 
--- all of them come into scope, or one of them is in scope
+-- all of them enter the scope, or one of them is already in it
 abbrev pub AreBrought : PlainFunction → (old new : List ℕ) → List ℕ → (known : Option ℕ) → Type 0
 AreBrought f old new es None = (new ≡ old ++ es) × All (λ e. ¬ Known f old e) es
 AreBrought f old new es (Some e) = Contains es e × Known f old e
 
--- by what is answered is noted, if anything is: it is required, and was not noted before
+-- the result expression is noted, if any: it is required, and was not noted before
 abbrev pub IsNoted : (asked : Bool) → (old new : List ℕ) → (answer : Option ℕ) → Type 0
 IsNoted asked old new None = new ≡ old
 IsNoted asked old new (Some e) = (new ≡ old ++ e ∷ []) × (¬ Contains old e) × (asked ≡ true)
 
--- ---- what is wrong at a place
+-- ---- errors at a place
 
--- an expression is used that is not in scope
+-- an expression is used out of scope
 abbrev pub IsUnknown : PlainFunction → (scope : List ℕ) → List ℕ → ℕ → Type 0
 IsUnknown f scope used e = Contains used e × ¬ Known f scope e
 
--- answers are not required, or it has been answered by
+-- results are not required, or the expression is already a result
 abbrev pub IsAgain : (asked : Bool) → (answered : List ℕ) → ℕ → Type 0
 IsAgain asked answered e = (asked ≡ false) ⊎ Contains answered e
 
@@ -111,7 +111,7 @@ IsCallError f asked spot scope answered (call_error.ResultAlreadyInScope e) = Co
 IsCallError f asked spot scope answered (call_error.ResultAlreadyPopulated e) = (answer_at spot ≡ Some e) × IsAgain asked answered e
 IsCallError f asked spot scope answered _ = ⊥
 
--- what is passed to a function is not in scope
+-- an argument of a call is out of scope
 abbrev pub IsArgumentError : PlainFunction → (scope : List ℕ) → (function : ℕ) → (arguments : List ℕ) → FunctionError → Type 0
 IsArgumentError f scope function arguments (error.InvalidCall called (call_error.Argument place source)) =
     (called ≡ function) × (source ≡ NotInScope) × ((e : ℕ) × (slice_get arguments place ≡ Some e) × ¬ Known f scope e)
@@ -158,15 +158,15 @@ module _ (f : PlainFunction) (asked : Bool) where
     FineInCases scope answered no_case = Unit {0}
     FineInCases scope answered (case value body falls rest) = AllFine scope answered body × FineInCases scope (answered ++ answered_in body) rest
 
-  -- what an error speaks of is wrong at a place of a body, where so much is in scope, and has been answered by, as the body begins
+  -- the error occurs at a place of a body, with this scope and these results at its start
   abbrev pub FaultAt : (scope answered : List ℕ) → PlainBlock → ScopeError → Place → Type 0
   FaultAt scope answered b e p = IfFault e (IsFaultHere f asked (spot_at p b) (visible scope p b) (answered_before answered p b))
 
-  -- the same of a statement, seen from a block that has it at an index, whatever follows
+  -- the same for a statement, relative to a block that has it at an index, whatever follows
   abbrev pub FaultFrom : (scope answered : List ℕ) → (index : ℕ) → PlainStatement → ScopeError → Place → Type 0
   FaultFrom scope answered k s e p = (q : Place) × (p ≡ later_by k q) × ((rest : PlainBlock) → FaultAt scope answered (next s rest) e q)
 
-  -- of a block in a part of that statement
+  -- of an inner block of that statement
   abbrev pub FaultInPart : (scope answered : List ℕ) → (index : ℕ) → Part → PlainBlock → ScopeError → Place → Type 0
   FaultInPart scope answered k part b e p = (q : Place) × (p ≡ later_by k (at.inside part q)) × FaultAt scope answered b e q
 

@@ -1,4 +1,4 @@
--- What is wrong with how statements leave their block.
+-- Errors of statements that leave their block.
 use Rattle.std.specs.Prelude.{◌≡◌, false, [], Some}
 use Rattle.typing_errors.specs.declared.error.FunctionError.{FunctionError}
 use Rattle.typing_errors.specs.declared.error.FunctionError.TheVariants as error
@@ -7,7 +7,7 @@ use Rattle.ir_blocks.specs.judged.Places.{Place, OccursAt}
 use Rattle.ir_blocks.specs.judged.Plain.{PlainStatement, PlainBlock}
 use Rattle.ir_blocks.specs.judged.Shapes.{Exit, breaks, continues, returns, exit_of, shape_of}
 
--- the statement at the place leaves its block so, which it may not there
+-- the statement at the place leaves its block in this way, which is not allowed there
 pub record IsLeftWrongly (b : PlainBlock) (place : Place) (exit : Exit) : Type 0 where
   pub statement : PlainStatement
   pub stands : OccursAt b place statement

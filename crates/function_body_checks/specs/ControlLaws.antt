@@ -1,4 +1,4 @@
--- A fault refutes the rule.
+-- An error refutes the rule.
 use Rattle.typing_errors.specs.declared.error.FunctionError.{FunctionError}
 use Rattle.ir_blocks.specs.judged.Control.{ControlOK}
 use Rattle.ir_blocks.specs.judged.Plain.{PlainBlock}

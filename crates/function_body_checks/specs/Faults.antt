@@ -1,4 +1,4 @@
--- What is wrong with the scope of a function's body, by places.
+-- Errors of the scope of a function's body, by place.
 use Rattle.std.specs.Prelude.{◌≡◌, ◌⊎◌, ℕ, List, Option, Some, None, slice_get, []}
 use Rattle.typing_errors.specs.declared.expressions.ExpressionError.TheVariants.{NotInScope}
 use Rattle.typing_errors.specs.declared.error.FunctionError.{FunctionError}
@@ -20,23 +20,23 @@ use Rattle.function_body_checks.specs.Carried.{callee_at}
 use Rattle.spec_statements.specs.judged.Results.{AnswersBy}
 use Rattle.spec_statements.specs.judged.Scope.{InScope, Checks, Introduces}
 
--- no call stands at the place
+-- the statement at the place is not a call
 abbrev pub NoCallAt : PlainFunction → Place → Type 0
 NoCallAt f p = callee_at (spot_at p f.body) ≡ None
 
--- an expression is used where it is not in scope, by another statement than a call
+-- an expression is used out of scope, by a statement other than a call
 pub record IsUsedEarly (f : PlainFunction) (place : Place) (e : ℕ) : Type 0 where
   pub other : NoCallAt f place
   pub used : Checks f.body place e
   pub unknown : ¬ InScope f place e
 
--- an expression is brought into scope that is there, by another statement than a call
+-- an expression in scope is introduced again, by a statement other than a call
 pub record IsBroughtAgain (f : PlainFunction) (place : Place) (e : ℕ) : Type 0 where
   pub other : NoCallAt f place
   pub brought : Introduces f.body place e
   pub known : InScope f place e
 
--- results are not required, or another statement answers by the expression
+-- results are not required, or another statement has this result
 abbrev pub IsPopulated : ValidationFlags → PlainFunction → Place → ℕ → Type 0
 IsPopulated flags f p e = (Has flags.0 EXPRESSIONS.0 → ⊥) ⊎ ((q : Place) × AnswersBy f.body q e × (q ≡ p → ⊥))
 
@@ -53,7 +53,7 @@ pub record IsBadCall (flags : ValidationFlags) (f : PlainFunction) (place : Plac
   pub stands : OccursAt f.body place (call function arguments answer)
   pub wrong : IsCallErrorAt flags f place arguments answer e
 
--- an atomic operation answers by what is answered by already
+-- the result of an atomic operation is already a result
 pub record IsBadAtomic (flags : ValidationFlags) (f : PlainFunction) (place : Place) (e : ℕ) : Type 0 where
   pub other : NoCallAt f place
   pub answers : AnswersBy f.body place e
@@ -63,7 +63,7 @@ abbrev pub IsAtomicErrorIn : ValidationFlags → PlainFunction → Place → Ato
 IsAtomicErrorIn flags f p (atomic_error.ResultAlreadyPopulated e) = IsBadAtomic flags f p e
 IsAtomicErrorIn flags f p _ = ⊥
 
--- what the error says is so at this place
+-- the error occurs at this place
 abbrev pub IsScopeFaultAt : ValidationFlags → PlainFunction → FunctionError → Place → Type 0
 IsScopeFaultAt flags f (error.Expression e source) p = (source ≡ NotInScope) × IsUsedEarly f p e
 IsScopeFaultAt flags f (error.ExpressionAlreadyInScope e) p = IsBroughtAgain f p e
@@ -75,7 +75,7 @@ IsScopeFaultAt flags f _ p = ⊥
 abbrev pub IsScopeFault : ValidationFlags → PlainFunction → FunctionError → Type 0
 IsScopeFault flags f e = (p : Place) × IsScopeFaultAt flags f e p
 
--- a refusal tells such a fault of the place, or that there is no memory
+-- a refusal has such an error of the place, or is out of memory
 abbrev pub IsScopeRefusalAt : ValidationFlags → PlainFunction → Refusal FunctionError → Place → Type 0
 IsScopeRefusalAt flags f (refusal.Memory e) p = Unit {0}
 IsScopeRefusalAt flags f (refusal.Fault e) p = IsScopeFaultAt flags f (error_of e) p × (spans_of e ≡ [])

@@ -1,4 +1,4 @@
--- A fault of scope refutes what is required of scope and of answers.
+-- An error of scope refutes the requirements on scope and results.
 use Rattle.std.specs.Prelude.{ℕ}
 use Rattle.typing_errors.specs.declared.error.FunctionError.{FunctionError}
 use Rattle.ir_blocks.specs.judged.Places.{Place}

@@ -10,7 +10,7 @@ use ir_blocks::plain_operation;
 use ir_items::{Block, Statement, SwitchCase};
 use ir_places::{Part, Step, Trail};
 
-/// Whether the statements of a block, at any depth, leave it only as they may, or where one does not.
+/// Whether the statements of a block, at any depth, leave it only as allowed, or where one does not.
 #[cycle(walk)]
 pub fn check_block(trail: &mut Trail, allowed: Allowed, block: &Block) -> Result<(), Wrong>
     ensures { MatchResult result (λ _. AllLeave (view_of allowed) (block_view block.now)) (λ e. IsPlaced trail.new (LeftAt e (view_of allowed) (block_view block.now))) }
@@ -24,7 +24,7 @@ pub fn check_block(trail: &mut Trail, allowed: Allowed, block: &Block) -> Result
     Ok(())
 }
 
-// The same of the statement of a block at an index and of those inside it. The place is seen from the block.
+// The same for the statement at an index of a block and its inner blocks. The place is relative to the block.
 #[cycle(walk)]
 fn check_statement(
     trail: &mut Trail,
@@ -80,7 +80,7 @@ fn check_statement(
     }
 }
 
-// The same of a block in a part of a statement. The place is seen from the block that has the statement.
+// The same for an inner block of a statement. The place is relative to the block with the statement.
 #[cycle(walk)]
 fn check_part(
     trail: &mut Trail,
@@ -100,7 +100,7 @@ fn check_part(
     }
 }
 
-// The same of the cases of a switch. The place is seen from the block that has the switch.
+// The same for the cases of a switch. The place is relative to the block with the switch.
 #[cycle(walk)]
 fn check_cases(
     trail: &mut Trail,

@@ -13,7 +13,7 @@ use ir_items::Block;
 use ir_places::Trail;
 use typing_errors::FunctionError;
 
-// The error of a statement that leaves its block so.
+// The error of a statement that leaves its block in this way.
 fn error_of(wrong: Wrong) -> FunctionError
     ensures { result ≡ error_of wrong }
 {
@@ -28,8 +28,9 @@ fn error_of(wrong: Wrong) -> FunctionError
 ///
 /// # Errors
 ///
-/// Of a statement that may not, where the trail leads (the first in the order of the text, which no clause says): [`FunctionError::BreakOutsideOfLoopOrSwitch`], [`FunctionError::ContinueOutsideOfLoop`],
-/// or [`FunctionError::InvalidReturnSpot`] in a continuing part.
+/// For a statement that may not, at the place of the trail (the first in text order, which no clause states):
+/// [`FunctionError::BreakOutsideOfLoopOrSwitch`], [`FunctionError::ContinueOutsideOfLoop`], or
+/// [`FunctionError::InvalidReturnSpot`] in a continuing part.
 #[tactic(auto, using(crate::proofs::ControlPlaces::control_fine))]
 pub fn check_control(trail: &mut Trail, body: &Block) -> Result<(), FunctionError>
     ensures { MatchResult result (λ _. ControlOK (block_view body.now)) (λ e. IsPlaced trail.new (IsControlFaultAt (block_view body.now) e)) }

@@ -8,7 +8,7 @@ use std::alloc::AllocError;
 /// an error of functions is not.
 #[derive(Clone, Copy)]
 pub enum ScopeError {
-    /// Memory was refused.
+    /// Out of memory.
     Memory(AllocError),
     /// An operand is not in scope.
     Unknown(Handle<key::Expression>),
@@ -21,21 +21,21 @@ pub enum ScopeError {
     },
     /// An introduced expression is already in scope.
     Known(Handle<key::Expression>),
-    /// The result of a call is in scope already.
+    /// The result of a call is already in scope.
     KnownResult {
         /// The function that is called.
         function: Handle<key::Function>,
         /// The expression.
         answer: Handle<key::Expression>,
     },
-    /// A call has the result of another statement, or has one where none is required.
+    /// A call has the result of another statement, or has one although none is required.
     Answered {
         /// The function that is called.
         function: Handle<key::Function>,
         /// The expression.
         answer: Handle<key::Expression>,
     },
-    /// The same of an atomic operation.
+    /// The same for an atomic operation.
     AnsweredAtomic(Handle<key::Expression>),
 }
 

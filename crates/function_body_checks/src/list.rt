@@ -1,4 +1,4 @@
-//! Expressions in the order in which they came, each once.
+//! Distinct expressions in the order of insertion.
 
 ghost use Rattle.std.specs.Prelude.{◌≡◌, ◌+◌, ◌-◌, ◌<◌, ◌≤◌, ◌↔◌, ℕ, [], IsTrue, IfOk, Contains, length, take};
 ghost use Rattle.ir_arena.specs.judged.Handles.{handles_between};
@@ -11,9 +11,9 @@ use ir_types::key;
 use std::alloc::{AllocError, Global};
 use std::marker::Model;
 
-/// Expressions of a function in the order in which they came, each once. They come one by one or a range at a time, and are
-/// kept as ranges, beside a set of them all: whether one is among them is reported without looking through them, and the last ones
-/// are let go range by range. In a contract it is the list of their places in the arena.
+/// Distinct expressions of a function in the order of insertion. They are inserted one by one or by range, and kept as ranges
+/// beside a set of all: membership is tested without a search, and the last ones are removed range by range. In contracts it is
+/// the list of their handles.
 #[derive(Drop)]
 pub struct ExpressionList {
     members: RangeSet,
@@ -65,7 +65,7 @@ fn cut_last(
 }
 
 impl ExpressionList {
-    /// No expression, with room for so many. The error is out of memory.
+    /// An empty list with this capacity. The error is out of memory.
     pub fn new(alloc: Global, count: usize) -> Result<ExpressionList, AllocError>
         ensures { IfOk result (λ l. l ≡ []) }
     {
@@ -78,28 +78,28 @@ impl ExpressionList {
         })
     }
 
-    /// How many there are.
+    /// The number of expressions.
     pub fn len(&self) -> usize
         ensures { result ≡ length self.now }
     {
         self.count
     }
 
-    /// Whether the expression is one of them.
+    /// Whether the expression is contained.
     pub fn contains(&self, handle: Handle<key::Expression>) -> bool
         ensures { IsTrue result ↔ Contains self.now handle }
     {
         self.members.contains(handle.index())
     }
 
-    /// Adds an expression, and returns whether it was none of them. The error is out of memory.
+    /// Inserts an expression, and returns whether it was not contained. The error is out of memory.
     pub fn insert(&mut self, handle: Handle<key::Expression>) -> Result<bool, AllocError>
         ensures { IfOk result (IsAdded self.old self.new handle) }
     {
         self.insert_range(Range::new_from_bounds(handle, handle))
     }
 
-    /// Adds a range of expressions, and returns whether none of them was there; else adds none. The error is out of memory.
+    /// Inserts a range of expressions if none is contained, and returns whether it did. The error is out of memory.
     pub fn insert_range(&mut self, range: Range<key::Expression>) -> Result<bool, AllocError>
         ensures { IfOk result (AreAdded self.old self.new (handles_between range)) }
     {

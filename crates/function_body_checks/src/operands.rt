@@ -23,7 +23,7 @@ fn is_pre_emitted(expression: &Expression) -> bool
     expression.needs_pre_emit()
 }
 
-/// The same of the expression at a handle.
+/// The same for the expression at a handle.
 #[tactic(auto, using(typing_references::proofs::Entries::entries))]
 pub fn is_always_known(function: &Function, handle: Handle<key::Expression>) -> bool
     ensures { result ≡ pre_known (slice_get (function_view function.now).expressions handle) }
@@ -80,7 +80,7 @@ fn first_unknown(unknown: &Unknown<'_>, slots: &[Slot]) -> Option<Handle<key::Ex
     None
 }
 
-// The first of some that are not in scope.
+// The first of these handles that is not in scope.
 fn first_lacking(
     function: &Function,
     scope: &ExpressionList,
@@ -130,8 +130,8 @@ impl OperandUser<(), Option<Handle<key::Expression>>> for Unknown<'_> {
     }
 }
 
-/// The first operand of a statement that has to be in scope, strictly or not, and is not. Operands of what stands inside a
-/// statement, and a loop's condition, are not looked up.
+/// The first operand of a statement that must be in scope, strictly or not, and is not. The operands inside inner blocks, and a
+/// loop's condition, are left out.
 pub fn unknown_operand(
     function: &Function,
     scope: &ExpressionList,
@@ -148,7 +148,7 @@ pub fn unknown_operand(
     with_statement_operands(&unknown, &mut (), statement)
 }
 
-/// The place of the first argument of a call that is not in scope.
+/// The index of the first argument of a call that is not in scope.
 pub fn unknown_place(
     function: &Function,
     scope: &ExpressionList,

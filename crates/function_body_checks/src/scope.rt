@@ -84,8 +84,8 @@ fn check_own(
     }
 }
 
-/// Whether the statements of a block, at any depth, use what is in scope, introduce what is not, and have results of their own. What the
-/// block's own statements introduce stays in scope.
+/// Whether the statements of a block, at any depth, use only what is in scope, introduce only what is not, and have distinct
+/// results. What the block's own statements introduce stays in scope.
 #[cycle(walk)]
 pub fn check_block(
     outline: &Outline<'_>,
@@ -104,7 +104,7 @@ pub fn check_block(
     Ok(())
 }
 
-// The same of a block in a part of a statement. The place is seen from the block that has the statement.
+// The same for an inner block of a statement. The place is relative to the block with the statement.
 #[cycle(walk)]
 fn check_part(
     outline: &Outline<'_>,
@@ -149,7 +149,7 @@ fn check_inner(
     Ok(())
 }
 
-// The same of the cases of a switch, one after another.
+// The same for the cases of a switch, in order.
 #[cycle(walk)]
 fn check_cases(
     outline: &Outline<'_>,

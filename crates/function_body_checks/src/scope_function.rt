@@ -42,7 +42,7 @@ fn beginning(alloc: Global, count: usize) -> Result<Carried, AllocError>
     })
 }
 
-// The refusal of a call.
+// The error of a call.
 fn refused_call(
     alloc: Global,
     function: Handle<key::Function>,
@@ -54,7 +54,7 @@ fn refused_call(
     Refusal::Fault(WithSpan::new(alloc, error))
 }
 
-// The refusal for an error.
+// The function's error for the error of the walk.
 fn refused(alloc: Global, error: ScopeError) -> Refusal<FunctionError>
     ensures { (flags : ValidationFlags) (f : PlainFunction) (p : Place) → IfFault error (λ e. IsScopeFaultAt flags f e p) → IsScopeRefusalAt flags f result p }
 {
@@ -92,16 +92,16 @@ fn requires_results(flags: ValidationFlags) -> bool
     flags.contains(ValidationFlags::EXPRESSIONS)
 }
 
-/// Whether what the statements of a function use is in scope where they occur, what they bring into scope is not there
-/// already, and no two of them answer by one expression; and, where expressions are not checked, whether none answers. Answers
-/// by which expressions calls and atomic operations answer (naga's `valid_expression_set` and `needs_visit`).
+/// Whether the statements of a function use only what is in scope, introduce only what is not, and have distinct results; and,
+/// if expressions are not validated, no results. Returns the result expressions of calls and atomic operations (naga's
+/// `valid_expression_set` and `needs_visit`).
 ///
 /// # Errors
 ///
-/// A fault of a statement that has one, where the trail leads (the first in the order of the text, which no clause says): [`FunctionError::Expression`] with `NotInScope` for
-/// an operand, or [`FunctionError::InvalidCall`] with `Argument` for what is passed to a function;
-/// [`FunctionError::ExpressionAlreadyInScope`], or `ResultAlreadyInScope` of a call; `ResultAlreadyPopulated` of a call or of an
-/// atomic operation. [`Refusal::Memory`] where there is no memory.
+/// An error of a statement at the place of the trail (the first in text order, which no clause states):
+/// [`FunctionError::Expression`] with `NotInScope` for an operand, or [`FunctionError::InvalidCall`] with `Argument` for an
+/// argument; [`FunctionError::ExpressionAlreadyInScope`], or `ResultAlreadyInScope` for a call; `ResultAlreadyPopulated` for a
+/// call or an atomic operation. [`Refusal::Memory`] if out of memory.
 pub fn check_scope(
     alloc: Global,
     trail: &mut Trail,

@@ -1,6 +1,7 @@
 -- What a variable implies is one thing.
 use Rattle.std.proofs.Common.{◌≡◌, inl, inr, ℕ, List, [], ◌∷◌, Option, Some, None, slice_get, refl, sym, ap, subst, ◌∙◌}
 use Rattle.std.specs.Prelude.{option_and_then}
+use Rattle.std.proofs.lemmas.Option.{same_Some}
 use Rattle.function_entry_checks.specs.Faults.{IsRefusedFor}
 use Rattle.function_entry_checks.specs.declared.error.EntryPointError.{EntryPointError}
 use Rattle.function_entry_checks.specs.declared.error.EntryPointError.TheVariants as error
@@ -25,9 +26,6 @@ use Rattle.spec_interface.specs.declared.parts.MeshPart.{MeshPart}
 use Rattle.spec_interface.specs.declared.parts.MeshPart.TheVariants.{VertexCount, Vertices, PrimitiveCount, Primitives}
 use Rattle.spec_interface.specs.declared.parts.MeshParts.{MeshParts}
 
-some_is : {A : Type 0} {x y : A} → Some x ≡ Some y → x ≡ y
-some_is e = cc (e)
-
 one_is : {A : Type 0} {x y : A} → x ∷ [] ≡ y ∷ [] → x ≡ y
 one_is e = cc (e)
 
@@ -42,7 +40,7 @@ pub record AreSameParts (s t : MeshParts) : Type 0 where
 
 module _ (m : PlainModule) (variable : ℕ) (s t : MeshParts) (a : HasParts m variable s) (b : HasParts m variable t) where
   same_members : a.members ≡ b.members
-  same_members = some_is (sym a.struct ∙ b.struct)
+  same_members = same_Some _ _ (sym a.struct ∙ b.struct)
 
   same_part : (part : MeshPart) (x y : ℕ) → types_bound part a.members ≡ x ∷ [] → types_bound part b.members ≡ y ∷ [] → x ≡ y
   same_part part x y p q = one_is (sym p ∙ (ap (types_bound part) same_members ∙ q))
@@ -67,16 +65,16 @@ fields_as types s t same i vb pb f = record {
 
 module _ (types : List PlainType) (type x y n k : ℕ) (by also : Option ℕ) (a : HoldsMost types type x n by) (b : HoldsMost types type y k also) where
   pub same_element : x ≡ y
-  same_element = ap (λ (p : ℕ × ArraySize). p.0) (some_is (sym a.array ∙ b.array))
+  same_element = ap (λ (p : ℕ × ArraySize). p.0) (same_Some _ _ (sym a.array ∙ b.array))
 
   same_size : a.size ≡ b.size
-  same_size = ap (λ (p : ℕ × ArraySize). p.1) (some_is (sym a.array ∙ b.array))
+  same_size = ap (λ (p : ℕ × ArraySize). p.1) (same_Some _ _ (sym a.array ∙ b.array))
 
   pub same_number : n ≡ k
-  same_number = ap (λ (p : ℕ × Option ℕ). p.0) (some_is (sym a.counted ∙ (ap most same_size ∙ b.counted)))
+  same_number = ap (λ (p : ℕ × Option ℕ). p.0) (same_Some _ _ (sym a.counted ∙ (ap most same_size ∙ b.counted)))
 
   pub same_by : by ≡ also
-  same_by = ap (λ (p : ℕ × Option ℕ). p.1) (some_is (sym a.counted ∙ (ap most same_size ∙ b.counted)))
+  same_by = ap (λ (p : ℕ × Option ℕ). p.1) (same_Some _ _ (sym a.counted ∙ (ap most same_size ∙ b.counted)))
 
 -- ---- the whole
 

@@ -1,6 +1,7 @@
 -- Faults of an entry point refute it.
 use Rattle.std.proofs.Common.{◌≡◌, ℕ, List, false, Option, Some, IfSome, sym, ap, subst, ◌∙◌, arith, true≢false}
 use Rattle.std.specs.Prelude.{IsSome, IsTrue, is_some}
+use Rattle.std.proofs.lemmas.Option.{same_Some}
 use Rattle.function_entry_checks.specs.Faults.{IsBindingFault, IsCapabilityFault, IsEarlyFault, IsFaultOfOne, IsImmediateFault, IsMeshInfoFault, IsPayloadUseFault, IsReachFault, IsSizeFault, IsStageFault, of_capability, of_early, of_sizes, of_mesh as of_mesh_info, IsUseFault, IsVariableFault, of_payload, of_stage, of_uses, IsVariablesFault, of_immediates, of_one, of_bindings}
 use Rattle.function_entry_checks.specs.declared.error.EntryPointError.{EntryPointError}
 use Rattle.function_entry_checks.specs.declared.error.EntryPointError.TheVariants as error
@@ -37,9 +38,6 @@ use Rattle.spec_interface.specs.declared.varyings.Direction.TheVariants.{Input, 
 use Rattle.spec_interface.specs.declared.varyings.Varying.{Varying}
 use Rattle.function_varying_checks.specs.declared.error.VaryingError.TheVariants as varying
 use Rattle.function_varyings.proofs.Refuted.{fault_refutes}
-
-some_is : {A : Type 0} {x y : A} → Some x ≡ Some y → x ≡ y
-some_is e = cc (e)
 
 -- ---- the stage
 

@@ -1,4 +1,4 @@
--- What is wrong with what connects an entry point with other stages and with hosts.
+-- Errors of the interface of an entry point with other stages and with hosts.
 use Rattle.std.specs.Prelude.{◌≡◌, ℕ, Some}
 use Rattle.function_entry_checks.specs.Faults.{IsVariablesFault}
 use Rattle.function_entry_checks.specs.declared.error.EntryPointError.{EntryPointError}

@@ -1,4 +1,4 @@
--- What the rules of entry points look at, as plain data.
+-- Views of the contexts of entry points.
 use Rattle.std.specs.Prelude.{◌≡◌, length}
 use Rattle.function_entries.specs.declared.context.EntryContext.{EntryContext}
 use Rattle.ir_items.specs.judged.Plain.{PlainEntry, PlainModule}
@@ -18,19 +18,19 @@ module_in c = module_view c.«module».now
 abbrev pub entry_in : EntryContext → PlainEntry
 entry_in c = entry_view c.entry.now
 
--- what the rules of varyings look at that go this way
+-- the context of varyings in this direction
 abbrev pub varying_context : EntryContext → Direction → VaryingContext
 varying_context c direction = context_of c.flags c.capabilities (module_in c) (entry_in c) direction
 
--- what is reported of the module's types is so, and reported of all
+-- the `TypeInfo`s are those of all types of the module
 pub record IsKnown (c : EntryContext) : Type 0 where
   pub told : AreInfos (module_in c).types c.infos.now
   pub many : length c.infos.now ≡ length (module_in c).types
 
--- what is known of types is so of those of the module, whatever entry point it is and whichever way varyings go
+-- the facts about types hold for those of the module, for each entry point and direction
 abbrev pub AreKnownIn : EntryContext → KnownTypes → Type 0
 AreKnownIn c known = AreKnown (varying_context c Input) known
 
--- what is known of interfaces is so of those of the module's entry points
+-- the facts about interfaces hold for those of the module's entry points
 abbrev pub AreSharedIn : EntryContext → KnownInterfaces → Type 0
 AreSharedIn c known = AreInterfacesKnown c.flags c.capabilities (module_in c).types known

@@ -1,4 +1,4 @@
--- What is known of the interfaces of a module's entry points.
+-- Facts about the interfaces of a module's entry points.
 use Rattle.std.specs.Prelude.{◌≡◌, ◌∷◌, [], ℕ, List, Some}
 use Rattle.std.specs.BTreeMap.{get}
 use Rattle.std.specs.Ordering.{nat_cmp}
@@ -13,18 +13,18 @@ use Rattle.spec_interface.specs.judged.Meshes.{AreParts}
 use Rattle.spec_interface.specs.declared.parts.MeshParts.{MeshParts}
 use Rattle.function_varyings.specs.Known.{AreKnownOf}
 
--- the type is a struct with these parts
+-- the type is a struct with these members
 pub record ArePartsAt (types : List PlainType) (type : ℕ) (t : MeshParts) : Type 0 where
   pub members : List PlainMember
   pub struct : members_at types type ≡ Some members
   pub parts : AreParts members t
 
--- what is noted of types is so
+-- the facts noted for types hold
 pub record AreMeshesKnown (types : List PlainType) (known : KnownMeshes) : Type 0 where
   pub parts : (type : ℕ) (t : MeshParts) → get nat_cmp known.parts type ≡ Some t → ArePartsAt types type t
   pub topologies : (type : ℕ) (t : MeshOutputTopology) → get nat_cmp known.topologies type ≡ Some t → topologies_at types type ≡ t ∷ []
 
--- It is so under these flags and capabilities, of these types.
+-- They hold under these flags and capabilities, for these types.
 pub record AreInterfacesKnown (flags : ValidationFlags) (capabilities : Capabilities) (types : List PlainType) (known : KnownInterfaces) : Type 0 where
   pub varyings : AreKnownOf flags capabilities types known.varyings
   pub meshes : AreMeshesKnown types known.meshes

@@ -1,4 +1,4 @@
--- What is known of the faults of entry points.
+-- Laws of the errors of entry points.
 use Rattle.std.specs.Prelude.{◌≡◌, ℕ, List, Option}
 use Rattle.function_entry_checks.specs.Faults.{IsPayloadFault, IsStageFault}
 use Rattle.function_entry_checks.specs.declared.error.EntryPointError.{EntryPointError}
@@ -21,12 +21,12 @@ StageFaultRefutes = (capabilities : Capabilities) (e : PlainEntry) (x : EntryPoi
 abbrev pub PayloadFaultRefutes : Type 0
 PayloadFaultRefutes = (m : PlainModule) (e : PlainEntry) (x : EntryPointError) → IsPayloadFault m e x → ¬ PayloadOK m e
 
--- where global variables are used in these ways
+-- with these uses of global variables
 abbrev pub ConnectionFaultRefutes : Type 0
 ConnectionFaultRefutes = (flags : ValidationFlags) (capabilities : Capabilities) (m : PlainModule) (e : PlainEntry) (uses : List GlobalUse) (x : EntryPointError)
     → IsConnectionFault flags capabilities m e (HasUseBit uses) x → ¬ ConnectionsOK flags capabilities m e (HasUseBit uses)
 
--- a variable implies one thing, with the same overrides
+-- a variable implies one `MeshStageInfo`, with the same overrides
 abbrev pub OneImplied : Type 0
 OneImplied = (m : PlainModule) (variable : ℕ) (i j : MeshStageInfo) (vertices_by primitives_by vertices_by_other primitives_by_other : Option ℕ)
     → ImpliesMeshInfo m variable i vertices_by primitives_by → ImpliesMeshInfo m variable j vertices_by_other primitives_by_other

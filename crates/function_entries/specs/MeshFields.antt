@@ -1,4 +1,4 @@
--- What a mesh shader gives, by the fields of the variable that holds it.
+-- Mesh outputs, by the members of their variable.
 use Rattle.std.specs.Prelude.{ℕ}
 use Rattle.function_entries.specs.declared.meshes.Fields.{Fields}
 use Rattle.ir_items.specs.judged.Plain.{PlainModule}
@@ -6,7 +6,7 @@ use Rattle.spec_interface.specs.judged.Meshes.{HasParts, HoldsMost}
 use Rattle.spec_interface.specs.found.Meshes.{IsCount}
 use Rattle.spec_interface.specs.declared.parts.MeshParts.{MeshParts}
 
--- the variable has parts, of which these are the vertices and the primitives
+-- the variable has members, of which these are the vertices and the primitives
 pub record HasFields (m : PlainModule) (variable : ℕ) (f : Fields) : Type 0 where
   pub types : MeshParts
   pub parts : HasParts m variable types

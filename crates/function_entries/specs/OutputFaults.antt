@@ -1,4 +1,4 @@
--- What is wrong with a mesh shader.
+-- Errors of mesh shaders.
 use Rattle.std.specs.Prelude.{◌≡◌, ◌≢◌, ℕ, Some, false}
 use Rattle.function_entry_checks.specs.declared.error.EntryPointError.{EntryPointError}
 use Rattle.function_entry_checks.specs.declared.error.EntryPointError.TheVariants as error
@@ -18,7 +18,7 @@ use Rattle.spec_interface.specs.judged.Contexts.{context_of}
 use Rattle.spec_interface.specs.judged.Varyings.{HasBuiltIn, mesh_varyings}
 use Rattle.spec_interface.specs.declared.varyings.Direction.TheVariants.{VertexOutput, PrimitiveOutput}
 
--- points need a capability, which is not there
+-- point primitives need a missing capability
 abbrev pub IsPointFault : Capabilities → MeshStageInfo → EntryPointError → Type 0
 IsPointFault capabilities i (error.UnsupportedCapability c) = (c ≡ MESH_SHADER_POINT_TOPOLOGY) × (i.topology ≡ Points) × ¬ Has capabilities.0 MESH_SHADER_POINT_TOPOLOGY.0
 IsPointFault capabilities i _ = ⊥
@@ -27,7 +27,7 @@ abbrev pub IsSpaceFault : PlainModule → MeshStageInfo → EntryPointError → 
 IsSpaceFault m i error.WrongMeshOutputAddressSpace = space_at m i.output_variable ≢ Some WorkGroup
 IsSpaceFault m i _ = ⊥
 
--- of what is said, by the variable
+-- of the attributes, by the variable
 pub data IsOwnMeshFault (capabilities : Capabilities) (m : PlainModule) (i : MeshStageInfo) (x : EntryPointError) : Type 0 where
   of_space : IsSpaceFault m i x → IsOwnMeshFault capabilities m i x
   of_said : IsSaidFault m i x → IsOwnMeshFault capabilities m i x

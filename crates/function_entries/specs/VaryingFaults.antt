@@ -1,4 +1,4 @@
--- What is wrong with what an entry point is given and gives.
+-- Errors of the arguments and the result of an entry point.
 use Rattle.std.specs.Prelude.{◌≡◌, ℕ, List, Option, IsSome, false, min, []}
 use Rattle.function_entry_checks.specs.declared.error.EntryPointError.{EntryPointError}
 use Rattle.function_entry_checks.specs.declared.error.EntryPointError.TheVariants as error
@@ -22,14 +22,14 @@ use Rattle.function_varying_checks.specs.declared.error.VaryingRefusal.TheVarian
 
 -- ---- refusals
 
--- a refusal of varyings, reported as one of an argument
+-- a refusal of varyings, as one of an argument
 abbrev pub IsReportedOfArgument : VaryingRefusal → Refusal EntryPointError → Type 0
 IsReportedOfArgument (varying.Memory a) (refusal.Memory b) = Unit {0}
 IsReportedOfArgument (varying.Memory a) (refusal.Fault f) = ⊥
 IsReportedOfArgument (varying.Fault index e) (refusal.Memory b) = ⊥
 IsReportedOfArgument (varying.Fault index e) (refusal.Fault f) = (error_of f ≡ error.Argument (min index 4294967295) e) × (spans_of f ≡ [])
 
--- and as one of what is given
+-- and as one of a result
 abbrev pub IsReportedOfResult : VaryingRefusal → Refusal EntryPointError → Type 0
 IsReportedOfResult (varying.Memory a) (refusal.Memory b) = Unit {0}
 IsReportedOfResult (varying.Memory a) (refusal.Fault f) = ⊥
@@ -38,22 +38,22 @@ IsReportedOfResult (varying.Fault index e) (refusal.Fault f) = (error_of f ≡ e
 
 -- ---- varyings
 
--- one of the arguments is refused, which the number names as far as it goes
+-- an argument is invalid, which the number names as far as it goes
 abbrev pub IsArgumentFault : VaryingContext → List PlainArgument → EntryPointError → Type 0
 IsArgumentFault c arguments (error.Argument k e) = (index : ℕ) × (k ≡ min index 4294967295) × IsVaryingFault c (argument_varyings c.types arguments) index e
 IsArgumentFault c arguments _ = ⊥
 
--- one of these varyings is refused that are given
+-- one of these result varyings is invalid
 abbrev pub IsGivenFault : VaryingContext → List Varying → EntryPointError → Type 0
 IsGivenFault c vs (error.Result e) = (index : ℕ) × IsVaryingFault c vs index e
 IsGivenFault c vs _ = ⊥
 
--- what a mesh shader gives with a vertex or a primitive, which is of this type
+-- the output of this type of a mesh shader's vertices or primitives
 abbrev pub IsOutputFault : VaryingContext → (type : ℕ) → EntryPointError → Type 0
 IsOutputFault c type error.InvalidMeshOutputType = ¬ IsSome (members_at c.types type)
 IsOutputFault c type e = IsGivenFault c (mesh_varyings c.types type) e
 
--- ---- what is answered
+-- ---- the required result
 
 abbrev pub IsAnswerFault : List PlainType → ShaderStage → Option FunctionResult → EntryPointError → Type 0
 IsAnswerFault types stage r error.MissingVertexOutputPosition = (stage ≡ Vertex) × ¬ HasBuiltIn (result_varyings types r) (Position false)

@@ -18,15 +18,15 @@ use ir_types::refusal::Refusal;
 use spec_expressions::GlobalUse;
 use std::alloc::Global;
 
-/// Whether what connects an entry point with other stages and with hosts is as it may be, where its global variables are used in
-/// these ways; then whether two sources of a blend are among what it answers.
+/// Whether the interface of an entry point with other stages and with hosts is valid, given its uses of global variables; then
+/// whether its results have two blend sources.
 ///
-/// Requires that the uses are reported of all global variables, and that the output of a mesh shader is there.
+/// Requires uses for all global variables, and that the output variable of a mesh shader exists.
 ///
 /// # Errors
 ///
-/// [`Refusal::Fault`] with a fault that stands: of the arguments, the result, the variables that are used, or what a mesh shader
-/// gives (of the first of these with which something is wrong, which no clause says); [`Refusal::Memory`] where memory ran out.
+/// [`Refusal::Fault`] with an error whose condition holds: of the arguments, the result, the used variables, or the mesh output
+/// (the first of these, which no clause states); [`Refusal::Memory`] if out of memory.
 pub fn check_connections(
     alloc: Global,
     context: &EntryContext<'_>,
@@ -45,8 +45,8 @@ pub fn check_connections(
     check_connections_with(alloc, context, uses, &mut known)
 }
 
-/// The same, where `known` has what was found for entry points of the module before, with the same flags and capabilities; what is
-/// found besides is noted.
+/// The same, where `known` has the facts found for earlier entry points of the module, under the same flags and capabilities;
+/// new facts are added.
 ///
 /// # Errors
 ///

@@ -1,4 +1,4 @@
-//! The context of the rules of entry points.
+//! The context of the checks of entry points.
 
 ghost use Rattle.std.specs.Prelude.{◌≡◌};
 ghost use Rattle.function_entries.specs.Contexts.{IsKnown, varying_context};
@@ -10,22 +10,22 @@ use ir_items::{EntryPoint, Module};
 use spec_interface::Direction;
 use typing_layout::TypeInfo;
 
-/// The context of the rules of entry points.
+/// The context in which an entry point is checked.
 #[derive(Clone, Copy)]
 pub struct EntryContext<'a> {
-    /// The checks that are made.
+    /// The validation flags.
     pub flags: ValidationFlags,
-    /// What shaders may use beyond the common part.
+    /// The enabled capabilities.
     pub capabilities: Capabilities,
     /// The module.
     pub module: &'a Module,
-    /// What is reported of its types.
+    /// The `TypeInfo`s of its types.
     pub infos: &'a [TypeInfo],
     /// The entry point.
     pub entry: &'a EntryPoint,
 }
 
-/// The context of the rules of varyings in this direction.
+/// The context of the checks of varyings in this direction.
 pub(crate) fn varying_context<'a>(
     context: &EntryContext<'a>,
     direction: Direction,

@@ -1,4 +1,4 @@
-//! What is known of the interfaces of a module's entry points, found once for all of them.
+//! Facts about the interfaces of a module's entry points, found once for all of them.
 
 ghost use Rattle.std.specs.Prelude.{◌≡◌, ◌∷◌, [], IfOk, List, MatchOption, OnOk};
 ghost use Rattle.function_entries.specs.Interfaces.{AreInterfacesKnown, AreMeshesKnown, ArePartsAt};
@@ -19,14 +19,14 @@ use spec_interface::{MeshParts, members_at, parts_of, topology_at};
 use std::alloc::{AllocError, Global};
 use std::collections::BTreeMap;
 
-/// What is known of mesh outputs by type: their members, and topologies of primitives.
+/// Facts about mesh outputs by type: their members, and topologies of primitives.
 #[derive(Drop)]
 pub(crate) struct KnownMeshes {
     parts: BTreeMap<u32, MeshParts>,
     topologies: BTreeMap<u32, MeshOutputTopology>,
 }
 
-// The types of the four parts of a type that is a struct; `None` where one is not bound once.
+// The types of the four members of a struct type; `None` if one does not occur exactly once.
 fn parts_at(module: &Module, ty: Handle<key::IrType>) -> Option<MeshParts>
     ensures { MatchOption result
         ((t : MeshParts) → ArePartsAt (module_view «module».now).types ty t → ⊥)
@@ -42,7 +42,7 @@ fn parts_at(module: &Module, ty: Handle<key::IrType>) -> Option<MeshParts>
 }
 
 impl KnownMeshes {
-    // Empty. It takes no memory.
+    // Empty. It allocates nothing.
     fn new(alloc: Global) -> KnownMeshes
         ensures { (types : List PlainType) → AreMeshesKnown types result }
     {
@@ -52,7 +52,7 @@ impl KnownMeshes {
         }
     }
 
-    /// The types of the four parts of a type that is a struct; `None` where one is not bound once. The error is out of memory.
+    /// The types of the four members of a struct type; `None` if one does not occur exactly once. The error is out of memory.
     pub(crate) fn find_parts(
         &mut self,
         module: &Module,
@@ -78,7 +78,8 @@ impl KnownMeshes {
         }
     }
 
-    /// What primitives of a type are; `None` where they don't name their vertices once. The error is out of memory.
+    /// The topology of a primitive type; `None` if it does not have exactly one built-in with its vertices. The error is out of
+    /// memory.
     pub(crate) fn find_topology(
         &mut self,
         module: &Module,
@@ -104,7 +105,7 @@ impl KnownMeshes {
     }
 }
 
-/// What is known of the interfaces of a module's entry points: shared by all of them, and extended by each check.
+/// Facts about the interfaces of a module's entry points: shared by all of them, and extended by each check.
 #[derive(Drop)]
 pub struct KnownInterfaces {
     pub(crate) varyings: KnownTypes,
@@ -112,7 +113,7 @@ pub struct KnownInterfaces {
 }
 
 impl KnownInterfaces {
-    /// Empty. It takes no memory.
+    /// Empty. It allocates nothing.
     pub fn new(alloc: Global) -> KnownInterfaces
         ensures { (flags : ValidationFlags) (capabilities : Capabilities) (types : List PlainType) → AreInterfacesKnown flags capabilities types result }
     {

@@ -1,8 +1,8 @@
-//! What is known of the faults of entry points.
+//! Laws of the errors of entry points.
 
 ghost use Rattle.function_entries.specs.Laws.{StageFaultRefutes, PayloadFaultRefutes, ConnectionFaultRefutes, OneImplied};
 
-/// A fault of an entry point refutes the rule of that part.
+/// An error of a part of an entry point refutes the rule of that part.
 pub fn fault_refutes()
     ensures stage { StageFaultRefutes }
     ensures payload { PayloadFaultRefutes }

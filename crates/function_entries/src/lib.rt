@@ -1,7 +1,7 @@
-//! Whether what connects an entry point with other stages and with hosts is as it may be.
+//! The check of the interface of an entry point with other stages and with hosts.
 //!
-//! What is given and answered (`varyings.rt`), the variables that are used (`function_entry_checks`), and what a mesh shader gives
-//! (`meshes.rt`, `outputs.rt`); `connections.rt` has all three together.
+//! Arguments and results (`varyings.rt`), used variables (`function_entry_checks`), and mesh outputs (`meshes.rt`,
+//! `outputs.rt`); `connections.rt` joins all three.
 #![tactic(auto)]
 
 mod connections;

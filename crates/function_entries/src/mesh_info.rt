@@ -1,4 +1,4 @@
-//! What the output variable of a mesh shader implies.
+//! The attributes implied by the output variable of a mesh shader.
 
 ghost use Rattle.std.specs.Prelude.{◌<◌, ◌≡◌, [], MatchOption, None, length, slice_index_or};
 ghost use Rattle.function_entries.specs.MeshFaults.{IsImpliedFault};
@@ -15,20 +15,20 @@ use ir_types::key;
 use ir_types::with_span::WithSpan;
 use std::alloc::Global;
 
-/// The implied `MeshStageInfo`, the overrides of the most vertices and the most primitives, and the error, if any.
+/// The implied `MeshStageInfo`, the overrides of the maximum numbers of vertices and primitives, and the error, if any.
 pub type MeshAnalysis = (
     MeshStageInfo,
     [Option<Handle<key::Override>>; 2],
     Option<WithSpan<EntryPointError>>,
 );
 
-/// What the output variable of a mesh shader implies.
+/// The attributes implied by the output variable of a mesh shader.
 pub trait MeshInfo {
-    /// The module that has the variables.
+    /// The module with the variables.
     ghost module_of: { Self → PlainModule };
 
-    /// What a variable implies that holds what a mesh shader gives, no override said (naga's `Module::analyze_mesh_shader_info`).
-    /// Where something is wrong with the variable, that is reported, and the rest says nothing. Requires that the variable is there.
+    /// The attributes implied by an output variable, without overrides (naga's `Module::analyze_mesh_shader_info`). If the
+    /// variable is invalid, the error says why, and the rest has no meaning. Requires that the variable exists.
     fn analyze_mesh_shader_info(
         &self,
         alloc: Global,

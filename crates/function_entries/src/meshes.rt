@@ -33,9 +33,9 @@ use typing_forms::{Form, form_of_type};
 pub(crate) struct Held {
     /// The type of its elements.
     element: Handle<key::IrType>,
-    /// The most elements; 0 where an override gives it.
+    /// The maximum number of elements; 0 if an override determines it.
     most: u32,
-    /// The override that gives it.
+    /// That override.
     by: Option<Handle<key::Override>>,
 }
 
@@ -46,14 +46,14 @@ pub(crate) struct Fields {
     primitives: Held,
 }
 
-/// What an output implies.
+/// The attributes that an output implies.
 #[derive(Clone, Copy)]
 pub(crate) struct Implied {
     /// The implied info, without overrides.
     pub(crate) info: MeshStageInfo,
-    /// The override of the most vertices.
+    /// The override of the maximum number of vertices.
     pub(crate) vertices_by: Option<Handle<key::Override>>,
-    /// The override of the most primitives.
+    /// The override of the maximum number of primitives.
     pub(crate) primitives_by: Option<Handle<key::Override>>,
 }
 
@@ -77,7 +77,7 @@ fn is_count(module: &Module, ty: Handle<key::IrType>) -> bool
     form_equality(form_of_type(&module.types, ty), Form::Scalar(Scalar::U32))
 }
 
-// The type of the elements of what is an array, and how many there are.
+// The type of an array's elements, and their number.
 fn array_of(inner: &TypeInner) -> Option<(Handle<key::IrType>, ArraySize)>
     ensures { result ≡ array_of (Some (inner_view inner.now)) }
 {
@@ -87,7 +87,7 @@ fn array_of(inner: &TypeInner) -> Option<(Handle<key::IrType>, ArraySize)>
     }
 }
 
-// The same of the type at a handle.
+// The same for the type at a handle.
 fn array_at(module: &Module, ty: Handle<key::IrType>) -> Option<(Handle<key::IrType>, ArraySize)>
     ensures { result ≡ array_of (inner_at (module_view «module».now).types ty) }
 {
@@ -97,7 +97,7 @@ fn array_at(module: &Module, ty: Handle<key::IrType>) -> Option<(Handle<key::IrT
     }
 }
 
-// How many elements there are at most, and the override that says so; `None` where a buffer says how many.
+// The maximum number of elements, and the override that determines it; `None` for a runtime-sized array.
 fn most(size: ArraySize) -> Option<(u32, Option<Handle<key::Override>>)>
     ensures { result ≡ most size }
 {
@@ -108,7 +108,7 @@ fn most(size: ArraySize) -> Option<(u32, Option<Handle<key::Override>>)>
     }
 }
 
-// What an array of a type holds; `None` of what is no array, or one of which a buffer says how many there are.
+// The elements of an array type; `None` for other types and runtime-sized arrays.
 fn held_by(module: &Module, ty: Handle<key::IrType>) -> Option<Held>
     ensures { let types = (module_view «module».now).types in
         MatchOption result
@@ -129,7 +129,7 @@ fn held_by(module: &Module, ty: Handle<key::IrType>) -> Option<Held>
     }
 }
 
-// What the parts are, where each is as it should be.
+// The members, if each is valid.
 fn fields_of(module: &Module, parts: MeshParts) -> Option<Fields>
     ensures { let types = (module_view «module».now).types in
         MatchOption result
@@ -165,7 +165,7 @@ fn primitive_of(fields: &Fields) -> Handle<key::IrType>
     fields.primitives.element
 }
 
-// What a variable implies that has these vertices and primitives, of which these are.
+// The attributes implied by a variable with these vertices and primitives, of this topology.
 fn implied_by(
     variable: Handle<key::GlobalVariable>,
     fields: &Fields,
@@ -191,7 +191,7 @@ fn implied_by(
     }
 }
 
-/// What a variable implies that holds what a mesh shader gives.
+/// The attributes implied by an output variable.
 pub(crate) fn implied_mesh(
     module: &Module,
     variable: Handle<key::GlobalVariable>,
@@ -219,7 +219,7 @@ pub(crate) fn implied_mesh(
     }
 }
 
-// What the vertices and the primitives of a variable are, where `known` has what was found of types before.
+// The topology and members of a variable's vertices and primitives, where `known` has the facts found for earlier types.
 fn fields_with(
     alloc: Global,
     module: &Module,
@@ -251,7 +251,7 @@ fn fields_with(
     }
 }
 
-// What a variable implies that holds what a mesh shader gives, where `known` has what was found of types before.
+// The attributes implied by an output variable, where `known` has the facts found for earlier types.
 fn implied_with(
     alloc: Global,
     module: &Module,
@@ -292,7 +292,7 @@ fn override_at(
     }
 }
 
-// The same of the expression itself.
+// The same for the expression itself.
 fn override_of(expression: &Expression) -> Option<Handle<key::Override>>
     ensures { result ≡ override_of (expression_view expression.now) }
 {
@@ -302,7 +302,7 @@ fn override_of(expression: &Expression) -> Option<Handle<key::Override>>
     }
 }
 
-// Whether the global expression of a count is the implied override, where it is an override.
+// Whether the global expression of a count is the implied override, if there is one.
 fn is_said_by(
     module: &Module,
     given: Option<Handle<key::Expression>>,
@@ -322,7 +322,7 @@ fn is_said_by(
     }
 }
 
-// Whether two infos are equal, overrides and the variable aside.
+// Whether two infos are equal, without overrides and the variable.
 fn is_same(implied: &MeshStageInfo, said: &MeshStageInfo) -> bool
     ensures { IsTrue result ↔ AreSame implied.now said.now }
 {
@@ -356,7 +356,8 @@ fn check_implied(
     Ok(())
 }
 
-/// Whether what is said of a mesh shader is what its output implies, where `known` has what was found of types before.
+/// Whether the attributes of a mesh shader are those that its output implies, where `known` has the facts found for earlier
+/// types.
 pub(crate) fn check_said(
     alloc: Global,
     module: &Module,

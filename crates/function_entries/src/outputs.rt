@@ -1,4 +1,4 @@
-//! Whether a mesh shader's output is allowed.
+//! Whether a mesh shader's output is valid.
 
 ghost use Rattle.std.specs.Prelude.{◌≡◌, ◌<◌, MatchResult, OnOk, length};
 ghost use Rattle.function_entry_checks.specs.Faults.{IsRefusedFor};
@@ -44,7 +44,7 @@ fn check_space(module: &Module, mesh: &MeshStageInfo) -> Result<(), EntryPointEr
     }
 }
 
-// Whether points are allowed, where primitives are points.
+// Whether point primitives are enabled, if used.
 fn check_points(capabilities: Capabilities, mesh: &MeshStageInfo) -> Result<(), EntryPointError>
     ensures { MatchResult result
         (λ _. mesh.now.topology ≡ Points → Has capabilities.0 MESH_SHADER_POINT_TOPOLOGY.0)
@@ -57,7 +57,7 @@ fn check_points(capabilities: Capabilities, mesh: &MeshStageInfo) -> Result<(), 
     Ok(())
 }
 
-// Whether the output of a mesh shader is memory of its workgroup, and what is said is what it implies.
+// Whether the output variable of a mesh shader is in workgroup memory, and its attributes are the implied ones.
 fn check_own(
     alloc: Global,
     capabilities: Capabilities,
@@ -87,7 +87,7 @@ fn check_own(
     }
 }
 
-// Whether a mesh shader may have vertices of a type, which requires a position.
+// Whether a type is valid for vertices of a mesh shader, which require a position.
 fn check_vertices(
     alloc: Global,
     context: &EntryContext<'_>,
@@ -113,7 +113,7 @@ fn check_vertices(
     }
 }
 
-/// Whether a mesh shader gives what it may, and what is said of it is so.
+/// Whether the outputs and the attributes of a mesh shader are valid.
 pub(crate) fn check_mesh(
     alloc: Global,
     context: &EntryContext<'_>,

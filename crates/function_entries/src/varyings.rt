@@ -50,7 +50,7 @@ fn argument_refusal(alloc: Global, refusal: VaryingRefusal) -> Refusal<EntryPoin
     }
 }
 
-// A refusal of varyings, as one of what is given.
+// A refusal of varyings, as one of a result.
 fn result_refusal(alloc: Global, refusal: VaryingRefusal) -> Refusal<EntryPointError>
     ensures { IsReportedOfResult refusal result }
 {
@@ -62,7 +62,7 @@ fn result_refusal(alloc: Global, refusal: VaryingRefusal) -> Refusal<EntryPointE
     }
 }
 
-/// Whether an entry point may be given its arguments.
+/// Whether the arguments of an entry point are valid.
 pub(crate) fn check_arguments(
     alloc: Global,
     context: &EntryContext<'_>,
@@ -83,7 +83,7 @@ pub(crate) fn check_arguments(
     }
 }
 
-// What the varyings show that an entry point's function answers, where it may.
+// The facts about the varyings of an entry point's result, if valid.
 fn answered(
     alloc: Global,
     context: &EntryContext<'_>,
@@ -109,7 +109,7 @@ fn answered(
     }
 }
 
-// Whether a function answers how many mesh workgroups are launched.
+// Whether a function returns the number of mesh workgroups to launch.
 fn gives_task_size(module: &Module, answer: &Option<FunctionResult>) -> bool
     ensures { IsTrue result ↔ GivesTaskSize (module_view «module».now).types answer.now }
 {
@@ -125,7 +125,7 @@ fn gives_task_size(module: &Module, answer: &Option<FunctionResult>) -> bool
     }
 }
 
-// Whether an entry point of a stage answers what it should, by whether a position is among it.
+// Whether an entry point of a stage has the required result, given whether it has a position.
 fn check_answer(
     module: &Module,
     stage: ShaderStage,
@@ -165,7 +165,7 @@ fn check_answer(
     }
 }
 
-/// Whether an entry point answers what it may and should; then whether two sources of a blend are among it.
+/// Whether the result of an entry point is valid and the required one; then whether it has two blend sources.
 pub(crate) fn check_result(
     alloc: Global,
     context: &EntryContext<'_>,
@@ -198,7 +198,7 @@ pub(crate) fn check_result(
     }
 }
 
-/// What the varyings show that a mesh shader gives with each vertex or each primitive, of this type, where it may.
+/// The facts about the varyings of this type of a mesh shader's vertices or primitives, if valid.
 pub(crate) fn check_output(
     alloc: Global,
     context: &EntryContext<'_>,

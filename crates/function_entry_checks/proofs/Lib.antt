@@ -1,3 +1,4 @@
 mod Bits
+mod VariableLemmas
 pub mod UsedLaws
 mod SeenLaws

@@ -1,6 +1,6 @@
 -- Bindings that were seen, with one more.
 use Rattle.std.proofs.Common.{◌≡◌, ◌⊎◌, inl, inr, ℕ, Bool, true, false, cond, true≢false, refl, sym, ap, subst, ◌∙◌}
-use Rattle.std.specs.Prelude.{◌↔◌}
+use Rattle.std.specs.Prelude.{◌↔◌, IsTrue}
 use Rattle.std.specs.BTreeSet.{BTreeSet, contains}
 use Rattle.std.specs.Ordering.{is_eq, nat_cmp}
 use Rattle.std.specs.declared.cmp.Ordering.{Ordering}
@@ -43,3 +43,11 @@ seen_added d old new told here b = (
     | inr same ↦ subst (IsSeen new) (sym same) here
   ],
 )
+
+again_by : (there fresh : Bool) → IsTrue fresh ↔ (there ≡ true → ⊥) → fresh ≡ false → there ≡ true
+again_by true fresh told is = refl
+again_by false fresh told is = absurd (true≢false (sym (told.1 (λ e. absurd (true≢false (sym e)))) ∙ is))
+
+-- a binding that is not new is seen
+pub seen_again : (seen : BTreeSet (ℕ × ℕ)) (b : ResourceBinding) (fresh : Bool) → IsTrue fresh ↔ (IsSeen seen b → ⊥) → fresh ≡ false → IsSeen seen b
+seen_again seen b fresh told is = again_by (contains pair_cmp seen (pair_of b)) fresh told is

@@ -1,9 +1,9 @@
 -- The variables that an entry point uses, one by one.
 use Rattle.std.proofs.Common.{◌≡◌, ◌≢◌, ◌⊎◌, inl, inr, ◌<◌, ◌≤◌, ℕ, ◌+◌, List, length, Bool, Option, Some, None, slice_get, option_map, refl, sym, ap, subst, ◌∙◌, arith}
-use Rattle.std.specs.Prelude.{◌↔◌, IsTrue, MatchOption, option_and_then, slice_index_or, unwrap_or}
+use Rattle.std.specs.Prelude.{◌↔◌, IsTrue, option_and_then, slice_index_or, unwrap_or}
 use Rattle.std.specs.Int.{bit_at}
-use Rattle.std.proofs.lemmas.Bool.{cases_eq}
-use Rattle.std.proofs.lemmas.Option.{slice_get_within, unwrap_or-slice_get}
+use Rattle.std.proofs.lemmas.Bool.{cases_eq, cases_lt}
+use Rattle.std.proofs.lemmas.Option.{same_Some, slice_get_within, unwrap_or-slice_get}
 use Rattle.spec_expressions.specs.declared.global_use.GlobalUse.{GlobalUse}
 use Rattle.function_entry_checks.proofs.Bits.{all_within, no_bit, some_bit, within_all}
 use Rattle.function_entry_checks.specs.Faults.{IsVariableFault, of_uses, SharesBinding, UsesTwoImmediates}
@@ -15,6 +15,7 @@ use Rattle.ir_kinds.specs.declared.bindings.ResourceBinding.{ResourceBinding}
 use Rattle.ir_kinds.specs.declared.spaces.AddressSpace.{AddressSpace}
 use Rattle.ir_kinds.specs.declared.spaces.AddressSpace.TheVariants.{Immediate, TaskPayload}
 use Rattle.spec_expressions.specs.judged.Summaries.{HasUseBit, no_use}
+use Rattle.typing_infos.specs.Infos.{IsFirstUsed, NoneUsed}
 use Rattle.spec_interface.specs.judged.Payloads.{binding_at, space_at}
 use Rattle.spec_interface.specs.judged.Spaces.{effective_type}
 use Rattle.typing_forms.specs.judged.Resolutions.{inner_at}
@@ -24,9 +25,6 @@ use Rattle.spec_interface.specs.found.UsedVariables.{BindingsApart, EachOK, OneI
 
 below_or_here : (j n : ℕ) → j < n + 1 → (j < n) ⊎ (j ≡ n)
 below_or_here j n lt = elim (cases_eq j n) [ inl same ↦ inr same | inr differ ↦ inl (omega (arith, lt, differ)) ]
-
-some_is : {A : Type 0} {x y : A} → Some x ≡ Some y → x ≡ y
-some_is e = cc (e)
 
 -- what is found through a place of a list is there
 mapped_in : {A B : Type 0} (f : A → B) (o : Option A) (y : B) → option_map f o ≡ Some y → (x : A) × (o ≡ Some x)
@@ -56,26 +54,34 @@ module _ (uses : List GlobalUse) (g : ℕ) (u : GlobalUse) (told : u ≡ unwrap_
   pub use_is : u ≡ slice_index_or uses g no_use
   use_is = sym at
 
-  pub used_by : u.0 ≢ 0 → IsUsed (HasUseBit uses) g
-  used_by not = let b = some_bit u.0 not in (b.0, ap (λ (x : GlobalUse). bit_at x.0 b.0) at ∙ b.1)
-
-  pub unused_by : u.0 ≡ 0 → IsUsed (HasUseBit uses) g → ⊥
-  unused_by zero used = no_bit u.0 used.0 zero (sym (ap (λ (x : GlobalUse). bit_at x.0 used.0) at) ∙ used.1)
-
   pub kinds_are : (k : ℕ) → (bit_at u.0 k ≡ 1) ↔ HasUseBit uses g k
   kinds_are k = (λ e. ap (λ (x : GlobalUse). bit_at x.0 k) at ∙ e, λ e. sym (ap (λ (x : GlobalUse). bit_at x.0 k) at) ∙ e)
 
-module _ (m : PlainModule) (uses : List GlobalUse) (g : ℕ) (u : GlobalUse) (told : u ≡ unwrap_or (slice_get uses g) no_use) where
-  pub bound_told : u.0 ≢ 0 → (o : Option ResourceBinding) → o ≡ binding_at m g
-      → MatchOption o (IsUsed (HasUseBit uses) g → (b : ResourceBinding) → binding_at m g ≡ Some b → ⊥) (λ b. IsUsed (HasUseBit uses) g × (binding_at m g ≡ Some b))
-  bound_told not (Some b) is = (used_by uses g u told not, sym is)
-  bound_told not None is = λ used b at. (let e = is ∙ at in cc)
+pub immediate_told : (m : PlainModule) (g : ℕ) (s : AddressSpace) → space_at m g ≡ Some s → (b : Bool) → IsTrue b ↔ (s ≡ Immediate) → IsTrue b ↔ (space_at m g ≡ Some Immediate)
+immediate_told m g s lies b is = (λ h. lies ∙ ap Some (is.0 h), λ at. is.1 (same_Some _ _ (sym lies ∙ at)))
 
-  pub immediate_told : u.0 ≢ 0 → (s : AddressSpace) → space_at m g ≡ Some s → (b : Bool) → IsTrue b ↔ (s ≡ Immediate) → IsTrue b ↔ (IsUsed (HasUseBit uses) g × (space_at m g ≡ Some Immediate))
-  immediate_told not s lies b is = (
-    λ h. (used_by uses g u told not, lies ∙ ap Some (is.0 h)),
-    λ p. is.1 (some_is (sym lies ∙ p.1)),
-  )
+-- no variable of a range is used
+abbrev pub Unused : (ℕ → ℕ → Type 0) → (from end : ℕ) → Type 0
+Unused Uses from end = (g : ℕ) → from ≤ g → g < end → IsUsed Uses g → ⊥
+
+pub unused_in : (uses : List GlobalUse) (from end : ℕ) → NoneUsed uses from end → Unused (HasUseBit uses) from end
+unused_in uses from end none g reached lt used = no_bit (slice_index_or uses g no_use).0 used.0 (none g reached lt) used.1
+
+pub first_used : (uses : List GlobalUse) (from end g : ℕ) → IsFirstUsed uses from end g → IsUsed (HasUseBit uses) g
+first_used uses from end g first = some_bit (slice_index_or uses g no_use).0 first.used
+
+module _ (m : PlainModule) (uses : List GlobalUse) (from end index g : ℕ) (first : IsFirstUsed uses from end index) (same : g ≡ index) where
+  used_here : IsUsed (HasUseBit uses) g
+  used_here = subst (IsUsed (HasUseBit uses)) (sym same) (first_used uses from end index first)
+
+  pub immediate_used : space_at m g ≡ Some Immediate → IsUsed (HasUseBit uses) g × (space_at m g ≡ Some Immediate)
+  immediate_used lies = (used_here, lies)
+
+  pub bound_used : (b : ResourceBinding) (o : Option ResourceBinding) → o ≡ binding_at m g → o ≡ Some b → IsUsed (HasUseBit uses) g × (binding_at m g ≡ Some b)
+  bound_used b o is some = (used_here, sym is ∙ some)
+
+pub unbound : (m : PlainModule) (Uses : ℕ → ℕ → Type 0) (g : ℕ) (o : Option ResourceBinding) → o ≡ binding_at m g → o ≡ None → IsUsed Uses g → (b : ResourceBinding) → binding_at m g ≡ Some b → ⊥
+unbound m Uses g o is none used b at = let e = sym none ∙ (is ∙ at) in absurd (cc)
 
 -- ---- one
 
@@ -102,7 +108,7 @@ abbrev pub EachBelow : PlainModule → PlainEntry → (ℕ → ℕ → Type 0) �
 EachBelow m e Uses n = (g : ℕ) (v : PlainGlobal) → g < n → slice_get m.globals g ≡ Some v → IsUsed Uses g → UsedVariableOK m e g v (Uses g)
 
 module _ (m : PlainModule) (e : PlainEntry) (Uses : ℕ → ℕ → Type 0) (n : ℕ) (below : EachBelow m e Uses n) where
-  pub each_more : ((v : PlainGlobal) → slice_get m.globals n ≡ Some v → IsUsed Uses n → UsedVariableOK m e n v (Uses n)) → EachBelow m e Uses (n + 1)
+  each_more : ((v : PlainGlobal) → slice_get m.globals n ≡ Some v → IsUsed Uses n → UsedVariableOK m e n v (Uses n)) → EachBelow m e Uses (n + 1)
   each_more here g v lt at used = elim (below_or_here g n lt) [
     | inl before ↦ below g v before at used
     | inr same ↦ subst (λ h. UsedVariableOK m e h v (Uses h)) (sym same) (here v (subst (λ h. slice_get m.globals h ≡ Some v) same at) (subst (λ h. IsUsed Uses h) same used))
@@ -110,10 +116,11 @@ module _ (m : PlainModule) (e : PlainEntry) (Uses : ℕ → ℕ → Type 0) (n :
 
   pub each_at : (h : ℕ) (w : PlainGlobal) → h ≡ n → slice_get m.globals h ≡ Some w → UsedVariableOK m e h w (Uses h) → EachBelow m e Uses (n + 1)
   each_at h w same there ok =
-      each_more (λ v at used. subst (λ k. UsedVariableOK m e k v (Uses k)) same (subst (λ x. UsedVariableOK m e h x (Uses h)) (some_is (sym there ∙ (ap (slice_get m.globals) same ∙ at))) ok))
+      each_more (λ v at used. subst (λ k. UsedVariableOK m e k v (Uses k)) same (subst (λ x. UsedVariableOK m e h x (Uses h)) (same_Some _ _ (sym there ∙ (ap (slice_get m.globals) same ∙ at))) ok))
 
-  pub each_unused : (h : ℕ) → h ≡ n → (IsUsed Uses h → ⊥) → EachBelow m e Uses (n + 1)
-  each_unused h same unused = each_more (λ v at used. absurd (unused (subst (λ k. IsUsed Uses k) (sym same) used)))
+  -- none is used from there to here
+  pub each_to : (end : ℕ) → Unused Uses n end → EachBelow m e Uses end
+  each_to end unused g v lt at used = elim (cases_lt g n) [ inl before ↦ below g v before at used | inr past ↦ absurd (unused g past lt used) ]
 
 pub all_each : (m : PlainModule) (e : PlainEntry) (Uses : ℕ → ℕ → Type 0) (n : ℕ) → length m.globals ≤ n → EachBelow m e Uses n → EachOK m e Uses
 all_each m e Uses n past below g v at used = let lt = slice_get_within m.globals g v at in below g v (omega (arith, past, lt)) at used
@@ -143,7 +150,7 @@ module _ (m : PlainModule) (Uses : ℕ → ℕ → Type 0) where
     -- the next is the first
     found_here : found ≡ None → IsUsed Uses n → space_at m n ≡ Some Immediate → IsFoundBelow m Uses (n + 1) (Some n)
     found_here none used lies = record {
-      is = λ g e. subst (λ h. (h < n + 1) × IsUsed Uses h × (space_at m h ≡ Some Immediate)) (some_is e) (omega arith, used, lies);
+      is = λ g e. subst (λ h. (h < n + 1) × IsUsed Uses h × (space_at m h ≡ Some Immediate)) (same_Some _ _ e) (omega arith, used, lies);
       all = λ g lt again lies_too. elim (below_or_here g n lt) [
         | inl before ↦ absurd (let e = below.all g before again lies_too in cc)
         | inr same ↦ ap Some (sym same)
@@ -152,6 +159,13 @@ module _ (m : PlainModule) (Uses : ℕ → ℕ → Type 0) where
 
     pub found_first : (g : ℕ) → g ≡ n → found ≡ None → IsUsed Uses g × (space_at m g ≡ Some Immediate) → IsFoundBelow m Uses (n + 1) (Some g)
     found_first g same none is = subst (λ k. IsFoundBelow m Uses (n + 1) (Some k)) (sym same) (found_here none (subst (λ k. IsUsed Uses k) same is.0) (subst (λ k. space_at m k ≡ Some Immediate) same is.1))
+
+    -- none is used from there to here
+    pub found_to : (end : ℕ) → n ≤ end → Unused Uses n end → IsFoundBelow m Uses end found
+    found_to end le unused = record {
+      is = λ g e. (let h = below.is g e in let lt = h.0 in (omega (arith, lt, le), h.1, h.2));
+      all = λ g lt used lies. elim (cases_lt g n) [ inl before ↦ below.all g before used lies | inr past ↦ absurd (unused g past lt used) ];
+    }
 
     pub found_none : (g : ℕ) → g ≡ n → (IsUsed Uses g × (space_at m g ≡ Some Immediate) → ⊥) → IsFoundBelow m Uses (n + 1) found
     found_none g same no_more = found_kept (λ is. no_more (subst (λ k. IsUsed Uses k) (sym same) is.0, subst (λ k. space_at m k ≡ Some Immediate) (sym same) is.1))
@@ -174,7 +188,7 @@ module _ (m : PlainModule) (Uses : ℕ → ℕ → Type 0) where
       let h_in = lies_within m h h_lies in
       let a = below.all g (omega (arith, past, g_in)) g_used g_lies in
       let b = below.all h (omega (arith, past, h_in)) h_used h_lies in
-      some_is (sym a ∙ b)
+      same_Some _ _ (sym a ∙ b)
 
 -- ---- bindings
 
@@ -202,10 +216,20 @@ module _ (m : PlainModule) (Uses : ℕ → ℕ → Type 0) (n : ℕ) (Seen : Res
     ];
   }
 
+  -- none is used from there to here
+  pub seen_to : (end : ℕ) → n ≤ end → Unused Uses n end → AreSeenBelow m Uses end Seen
+  seen_to end le unused = record {
+    seen = λ b s. (let p = below.seen b s in let lt = p.1 in (p.0, omega (arith, lt, le), p.2, p.3));
+    noted = λ h b lt used at. below.noted h b (before h lt used) used at;
+    apart = λ g h b g_lt h_lt g_used h_used g_at h_at. below.apart g h b (before g g_lt g_used) (before h h_lt h_used) g_used h_used g_at h_at;
+  } where
+    before : (h : ℕ) → h < end → IsUsed Uses h → h < n
+    before h lt used = elim (cases_lt h n) [ inl is ↦ is | inr past ↦ absurd (unused h past lt used) ]
+
   -- the next has a binding that is new
   module _ (d : ResourceBinding) (at_n : binding_at m n ≡ Some d) (used_n : IsUsed Uses n) (fresh : Seen d → ⊥) (Now : ResourceBinding → Type 0) (now : (b : ResourceBinding) → Now b ↔ (Seen b ⊎ (b ≡ d))) where
     its_binding : (h : ℕ) (b : ResourceBinding) → h ≡ n → binding_at m h ≡ Some b → b ≡ d
-    its_binding h b same at = some_is (sym at ∙ (ap (λ k. binding_at m k) same ∙ at_n))
+    its_binding h b same at = same_Some _ _ (sym at ∙ (ap (λ k. binding_at m k) same ∙ at_n))
 
     not_before : (h : ℕ) (b : ResourceBinding) → h < n → IsUsed Uses h → binding_at m h ≡ Some b → b ≡ d → ⊥
     not_before h b lt used at is = fresh (subst Seen is (below.noted h b lt used at))

@@ -1,4 +1,4 @@
--- Bindings that were seen.
+-- Bindings seen so far.
 use Rattle.std.specs.Prelude.{ℕ, IsTrue}
 use Rattle.std.specs.BTreeSet.{BTreeSet, contains}
 use Rattle.std.specs.Ordering.{nat_cmp, ordering_then}

@@ -1,4 +1,4 @@
--- What is wrong with an entry point, by the rooms of its rules.
+-- Errors of entry points, by part.
 use Rattle.std.specs.Prelude.{◌≡◌, ◌≢◌, ◌<◌, ◌↔◌, ℕ, List, All, Bool, true, false, Some, None, IsSome, is_some, slice_get, []}
 use Rattle.std.specs.Int.{bit_at}
 use Rattle.spec_expressions.specs.declared.global_use.GlobalUse.{GlobalUse}
@@ -53,7 +53,7 @@ IsMeshInfoFault stage is_said error.ExpectedMeshShaderAttributes = (stage ≡ Me
 IsMeshInfoFault stage is_said error.UnexpectedMeshShaderAttributes = (stage ≢ Mesh) × (is_said ≡ true)
 IsMeshInfoFault stage is_said _ = ⊥
 
--- what is wrong with an entry point for its stage
+-- the errors of an entry point for its stage
 pub data IsStageFault (capabilities : Capabilities) (e : PlainEntry) (x : EntryPointError) : Type 0 where
   of_capability : IsCapabilityFault capabilities e.stage x → IsStageFault capabilities e x
   of_early : IsSome e.early → IsEarlyFault capabilities e.stage x → IsStageFault capabilities e x
@@ -62,7 +62,7 @@ pub data IsStageFault (capabilities : Capabilities) (e : PlainEntry) (x : EntryP
 
 -- ---- its payload
 
--- the payload lies in another space
+-- the payload is in another address space
 pub record IsMisplaced (m : PlainModule) (e : PlainEntry) : Type 0 where
   pub variable : ℕ
   pub said : e.payload ≡ Some variable
@@ -74,36 +74,36 @@ IsPayloadFault m e error.UnexpectedTaskPayload = (has_payload e.stage ≡ false)
 IsPayloadFault m e error.TaskPayloadWrongAddressSpace = IsMisplaced m e
 IsPayloadFault m e _ = ⊥
 
--- ---- what it uses
+-- ---- its uses
 
--- this kind of use is the whole of it
+-- the use consists of this kind only
 abbrev pub AreKinds : GlobalUse → (Uses : (k : ℕ) → Type 0) → Type 0
 AreKinds kinds Uses = (k : ℕ) → (bit_at kinds.0 k ≡ 1) ↔ Uses k
 
--- the payload that is used is another one than the entry point's, or too small
+-- the used payload is not the entry point's, or too small
 abbrev pub IsPayloadUseFault : PlainModule → PlainEntry → (g : ℕ) → PlainGlobal → EntryPointError → Type 0
 IsPayloadUseFault m e g v error.WrongTaskPayloadUsed = (v.space ≡ TaskPayload) × (e.payload ≢ Some g)
 IsPayloadUseFault m e g v (error.TaskPayloadTooSmall bytes) = (v.space ≡ TaskPayload) × (bytes ≡ size (type_tree m.types v.ty)) × (bytes < 4)
 IsPayloadUseFault m e g v _ = ⊥
 
--- the stage has no payloads of rays that lie so
+-- the stage has no ray payloads in this address space
 abbrev pub IsReachFault : ShaderStage → AddressSpace → EntryPointError → Type 0
 IsReachFault stage space (error.RayPayloadInInvalidStage s) = (s ≡ stage) × (space ≡ RayPayload) × ((stage_row stage).traces ≡ false)
 IsReachFault stage space (error.IncomingRayPayloadInInvalidStage s) = (s ≡ stage) × (space ≡ IncomingRayPayload) × ((stage_row stage).incoming ≡ false)
 IsReachFault stage space _ = ⊥
 
--- it is used as it may not be
+-- its use is invalid
 abbrev pub IsUseFault : PlainModule → PlainEntry → (g : ℕ) → PlainGlobal → (Uses : (k : ℕ) → Type 0) → EntryPointError → Type 0
 IsUseFault m e g v Uses (error.InvalidGlobalUsage h kinds) = (h ≡ g) × AreKinds kinds Uses × ¬ AllowsUses m e v Uses
 IsUseFault m e g v Uses _ = ⊥
 
--- this is wrong with a variable that is used so
+-- the errors of a variable with this use
 pub data IsVariableFault (m : PlainModule) (e : PlainEntry) (g : ℕ) (v : PlainGlobal) (Uses : (k : ℕ) → Type 0) (x : EntryPointError) : Type 0 where
   of_payload : IsPayloadUseFault m e g v x → IsVariableFault m e g v Uses x
   of_stage : IsReachFault e.stage v.space x → IsVariableFault m e g v Uses x
   of_uses : IsUseFault m e g v Uses x → IsVariableFault m e g v Uses x
 
--- a variable that is used has such a fault
+-- a used variable has such an error
 pub record IsFaultOfOne (m : PlainModule) (e : PlainEntry) (Uses : ℕ → ℕ → Type 0) (x : EntryPointError) : Type 0 where
   pub handle : ℕ
   pub variable : PlainGlobal
@@ -125,7 +125,7 @@ abbrev pub IsImmediateFault : PlainModule → (ℕ → ℕ → Type 0) → Entry
 IsImmediateFault m Uses error.MoreThanOneImmediateUsed = UsesTwoImmediates m Uses
 IsImmediateFault m Uses _ = ⊥
 
--- another variable that is used has the binding of this one
+-- another used variable has the binding of this one
 pub record SharesBinding (m : PlainModule) (Uses : ℕ → ℕ → Type 0) (handle : ℕ) : Type 0 where
   pub other : ℕ
   pub binding : ResourceBinding
@@ -139,7 +139,7 @@ abbrev pub IsBindingFault : PlainModule → (ℕ → ℕ → Type 0) → EntryPo
 IsBindingFault m Uses (error.BindingCollision handle) = SharesBinding m Uses handle
 IsBindingFault m Uses _ = ⊥
 
--- what is wrong with the variables that an entry point uses
+-- the errors of the variables that an entry point uses
 pub data IsVariablesFault (flags : ValidationFlags) (m : PlainModule) (e : PlainEntry) (Uses : ℕ → ℕ → Type 0) (x : EntryPointError) : Type 0 where
   of_immediates : IsImmediateFault m Uses x → IsVariablesFault flags m e Uses x
   of_one : IsFaultOfOne m e Uses x → IsVariablesFault flags m e Uses x
@@ -147,7 +147,7 @@ pub data IsVariablesFault (flags : ValidationFlags) (m : PlainModule) (e : Plain
 
 -- ---- refusals
 
--- memory ran out, or the fault that is reported is one of these, without spans
+-- out of memory, or the error is one of these, without spans
 abbrev pub IsRefusedFor : (EntryPointError → Type 0) → Refusal EntryPointError → Type 0
 IsRefusedFor IsFault (refusal.Memory e) = Unit {0}
 IsRefusedFor IsFault (refusal.Fault e) = IsFault (error_of e) × (spans_of e ≡ [])

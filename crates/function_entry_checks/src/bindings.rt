@@ -1,46 +1,26 @@
 //! The bindings of the global variables that an entry point uses.
 
-ghost use Rattle.std.specs.Prelude.{◌≡◌, ◌⊎◌, ◌<◌, ◌↔◌, IfOk, IsTrue, MatchOption, MatchResult, OnOk, Some, length};
+ghost use Rattle.std.specs.Prelude.{◌≡◌, ◌⊎◌, ◌↔◌, IfOk, IsTrue, MatchResult, OnOk, length};
 ghost use Rattle.function_entry_checks.specs.Bindings.{IsSeen};
 ghost use Rattle.function_entry_checks.specs.Faults.{IsBindingFault, IsRefusedFor};
 ghost use Rattle.ir_items.specs.found.View.{module_view};
 ghost use Rattle.ir_kinds.specs.declared.bindings.ResourceBinding.{ResourceBinding};
 ghost use Rattle.spec_expressions.specs.judged.Summaries.{HasUseBit};
-ghost use Rattle.spec_interface.specs.judged.Payloads.{binding_at};
-ghost use Rattle.spec_interface.specs.judged.UsedVariables.{IsUsed};
 ghost use Rattle.spec_interface.specs.found.UsedVariables.{BindingsApart};
 
 use crate::error::EntryPointError;
 use ir_arena::handle::Handle;
 use ir_items::Module;
 use ir_kinds::ResourceBinding;
-use ir_types::key;
 use ir_types::refusal::Refusal;
 use ir_types::with_span::WithSpan;
 use spec_expressions::GlobalUse;
-use spec_interface::{binding_at, use_at};
+use spec_interface::binding_at;
 use std::alloc::{AllocError, Global};
 use std::collections::BTreeSet;
+use typing_infos::first_used;
 
-// What a host binds a variable to, where it is used and bound.
-fn used_binding(
-    module: &Module,
-    uses: &[GlobalUse],
-    global: Handle<key::GlobalVariable>,
-) -> Option<ResourceBinding>
-    requires many { length uses.now ≡ length (module_view «module».now).globals }
-    requires within { global < length uses.now }
-    ensures { MatchOption result
-        (IsUsed (HasUseBit uses.now) global → (b : ResourceBinding) → binding_at (module_view «module».now) global ≡ Some b → ⊥)
-        (λ b. IsUsed (HasUseBit uses.now) global × (binding_at (module_view «module».now) global ≡ Some b)) }
-{
-    if use_at(uses, global).0 == 0 {
-        return None;
-    }
-    binding_at(module, global)
-}
-
-// Notes a binding, and whether it is new.
+// Notes a binding, and returns whether it is new.
 fn note_binding(
     seen: &mut BTreeSet<(u32, u32)>,
     binding: ResourceBinding,
@@ -54,7 +34,7 @@ fn note_binding(
     }
 }
 
-/// Whether no two variables that an entry point uses have the same binding.
+/// Whether no two global variables used by an entry point have the same binding.
 pub(crate) fn check_bindings(
     alloc: Global,
     module: &Module,
@@ -66,9 +46,11 @@ pub(crate) fn check_bindings(
         (IsRefusedFor (IsBindingFault (module_view «module».now) (HasUseBit uses.now))) }
 {
     let mut seen = BTreeSet::new(alloc);
-    for index in 0..module.global_variables.len() {
+    let count = module.global_variables.len();
+    let mut from = 0;
+    while let Some(index) = first_used(uses, from, count) {
         let global = Handle::at(index);
-        match used_binding(module, uses, global) {
+        match binding_at(module, global) {
             None => {}
             Some(binding) => match note_binding(&mut seen, binding) {
                 Ok(true) => {}
@@ -79,6 +61,7 @@ pub(crate) fn check_bindings(
                 Err(error) => return Err(Refusal::Memory(error)),
             },
         }
+        from = index + 1;
     }
     Ok(())
 }

@@ -1,5 +1,5 @@
-//! Whether an entry point by itself is as it may be, beside its function: its stage (`stages.rt`), the payload of tasks
-//! (`payloads.rt`), and what is done with variables (`variables.rt`, `bindings.rt`).
+//! The checks of an entry point besides its function: its stage (`stages.rt`), its task payload (`payloads.rt`), and its uses
+//! of global variables (`variables.rt`, `bindings.rt`).
 #![tactic(auto)]
 
 mod bindings;

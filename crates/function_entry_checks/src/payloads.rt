@@ -1,4 +1,4 @@
-//! The payload that a task shader hands to mesh shaders.
+//! The payload from a task shader to mesh shaders.
 
 ghost use Rattle.std.specs.Prelude.{◌≡◌, ◌<◌, IfSome, MatchResult, length};
 ghost use Rattle.function_entry_checks.specs.Faults.{IsPayloadFault};
@@ -10,7 +10,7 @@ use ir_items::{EntryPoint, Module};
 use ir_kinds::ShaderStage;
 use spec_interface::{is_task_payload, space_at};
 
-// Whether a stage hands a payload on, or may be handed one.
+// Whether a stage can have a task payload.
 const fn has_payload(stage: ShaderStage) -> bool
     ensures { result ≡ has_payload stage }
 {
@@ -26,7 +26,7 @@ const fn has_payload(stage: ShaderStage) -> bool
     }
 }
 
-/// Whether an entry point has the payload that its stage requires.
+/// Whether an entry point has a task payload exactly if its stage requires or allows one.
 pub fn check_payload(module: &Module, entry: &EntryPoint) -> Result<(), EntryPointError>
     requires there { IfSome entry.now.task_payload (λ g. g < length (module_view «module».now).globals) }
     ensures { MatchResult result

@@ -1,4 +1,4 @@
-//! What the stage of an entry point requires of it beside its function.
+//! The requirements of a stage besides the function.
 
 ghost use Rattle.std.specs.Prelude.{◌≡◌, ◌↔◌, All, MatchResult, IfSome, IsTrue};
 ghost use Rattle.function_entry_checks.specs.Faults.{IsCapabilityFault, IsEarlyFault, IsMeshInfoFault, IsSizeFault, IsStageFault};
@@ -48,7 +48,7 @@ const fn runs_in_workgroups(stage: ShaderStage) -> bool
     }
 }
 
-// What a stage needs, if it needs any capability.
+// The capability that a stage requires, if any.
 const fn stage_capability(stage: ShaderStage) -> Option<Capabilities>
     ensures { result ≡ (stage_row stage).needs }
 {
@@ -62,7 +62,7 @@ const fn stage_capability(stage: ShaderStage) -> Option<Capabilities>
     }
 }
 
-// Whether a stage may be used.
+// Whether a stage is enabled.
 fn check_capability(capabilities: Capabilities, stage: ShaderStage) -> Result<(), EntryPointError>
     ensures { MatchResult result
         (λ _. IfSome (stage_row stage).needs (λ c. Has capabilities.0 c.0))
@@ -76,7 +76,7 @@ fn check_capability(capabilities: Capabilities, stage: ShaderStage) -> Result<()
     }
 }
 
-// Whether depth may be tested early at a stage.
+// Whether early depth testing is allowed in a stage.
 fn check_early(capabilities: Capabilities, stage: ShaderStage) -> Result<(), EntryPointError>
     ensures { MatchResult result (λ _. EarlyOK capabilities stage) (IsEarlyFault capabilities stage) }
 {
@@ -90,7 +90,7 @@ fn check_early(capabilities: Capabilities, stage: ShaderStage) -> Result<(), Ent
     Ok(())
 }
 
-// Whether workgroups may have so many invocations one way.
+// Whether a workgroup can have this size in one dimension.
 fn fits(workgroups: bool, size: u32) -> bool
     ensures { IsTrue result ↔ SizeOK workgroups size }
 {
@@ -101,7 +101,7 @@ fn fits(workgroups: bool, size: u32) -> bool
     }
 }
 
-// Whether workgroups may have so many invocations each way.
+// Whether a workgroup can have this size.
 fn check_sizes(workgroups: bool, sizes: [u32; 3]) -> Result<(), EntryPointError>
     ensures { MatchResult result (λ _. All (SizeOK workgroups) sizes) (IsSizeFault workgroups sizes) }
 {
@@ -116,7 +116,7 @@ fn check_sizes(workgroups: bool, sizes: [u32; 3]) -> Result<(), EntryPointError>
     }
 }
 
-// Whether something is said of what a mesh shader gives exactly where the entry point is one.
+// Whether mesh shader attributes are present exactly for a mesh shader.
 fn check_mesh_info(stage: ShaderStage, is_said: bool) -> Result<(), EntryPointError>
     ensures { MatchResult result (λ _. IsTrue is_said ↔ (stage ≡ Mesh)) (IsMeshInfoFault stage is_said) }
 {
@@ -133,7 +133,7 @@ fn check_mesh_info(stage: ShaderStage, is_said: bool) -> Result<(), EntryPointEr
     }
 }
 
-/// Whether an entry point is as its stage requires, its function aside.
+/// Whether an entry point meets the requirements of its stage, besides its function.
 pub fn check_stage(capabilities: Capabilities, entry: &EntryPoint) -> Result<(), EntryPointError>
     ensures { MatchResult result
         (λ _. StageOK capabilities (entry_view entry.now))

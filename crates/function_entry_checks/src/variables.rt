@@ -9,7 +9,7 @@ ghost use Rattle.ir_kinds.specs.declared.spaces.AddressSpace.TheVariants.{Immedi
 ghost use Rattle.spec_expressions.specs.judged.Summaries.{HasUseBit};
 ghost use Rattle.spec_interface.specs.judged.Payloads.{space_at};
 ghost use Rattle.spec_interface.specs.judged.Uses.{is_reached};
-ghost use Rattle.spec_interface.specs.judged.UsedVariables.{IsUsed, OwnPayloadOK, UsedVariableOK, VariablesOK};
+ghost use Rattle.spec_interface.specs.judged.UsedVariables.{OwnPayloadOK, UsedVariableOK, VariablesOK};
 ghost use Rattle.spec_interface.specs.found.UsedVariables.{EachOK, OneImmediate};
 ghost use Rattle.typing_layout.specs.judged.Layout.{size};
 ghost use Rattle.typing_layout.specs.judged.View.{type_tree};
@@ -31,11 +31,12 @@ use spec_interface::{
 };
 use std::alloc::Global;
 use typing_forms::TypeInnerExt;
+use typing_infos::first_used;
 
-/// The fewest bytes that a payload of a task takes.
+/// The minimum size of a task payload, in bytes.
 const LEAST_PAYLOAD: u64 = 4;
 
-// How many bytes a value of a type takes.
+// The size of a type, in bytes.
 fn bytes_of(module: &Module, ty: Handle<key::IrType>) -> u64
     ensures { result ≡ size (type_tree (module_view «module».now).types ty) }
 {
@@ -45,7 +46,7 @@ fn bytes_of(module: &Module, ty: Handle<key::IrType>) -> u64
     }
 }
 
-// Whether a variable, where it is a payload of a task, is the entry point's, of some bytes.
+// Whether a task payload variable is the entry point's, and large enough.
 fn check_own_payload(
     module: &Module,
     entry: &EntryPoint,
@@ -69,7 +70,7 @@ fn check_own_payload(
     Ok(())
 }
 
-// Whether a stage has variables in a space.
+// Whether a stage has variables in an address space.
 fn check_reached(stage: ShaderStage, space: AddressSpace) -> Result<(), EntryPointError>
     ensures { MatchResult result (λ _. IsTrue (is_reached stage space)) (IsReachFault stage space) }
 {
@@ -99,7 +100,7 @@ fn check_reached(stage: ShaderStage, space: AddressSpace) -> Result<(), EntryPoi
     }
 }
 
-// Whether an entry point may use a variable so.
+// Whether an entry point may use a variable in this way.
 fn check_variable(
     module: &Module,
     entry: &EntryPoint,
@@ -127,7 +128,7 @@ fn check_variable(
     }
 }
 
-// Whether an entry point may use each variable that it uses so.
+// Whether an entry point may use each variable in the way that it does.
 fn check_each(
     module: &Module,
     entry: &EntryPoint,
@@ -138,34 +139,29 @@ fn check_each(
         (λ _. EachOK (module_view «module».now) (entry_view entry.now) (HasUseBit uses.now))
         (IsFaultOfOne (module_view «module».now) (entry_view entry.now) (HasUseBit uses.now)) }
 {
-    for index in 0..module.global_variables.len() {
+    let count = module.global_variables.len();
+    let mut from = 0;
+    while let Some(index) = first_used(uses, from, count) {
         let global = Handle::at(index);
-        let kinds = use_at(uses, global);
-        if kinds.0 != 0 {
-            let variable = &module.global_variables[global];
-            match check_variable(module, entry, global, variable, kinds) {
-                Ok(()) => {}
-                Err(error) => return Err(error),
-            }
+        let variable = &module.global_variables[global];
+        match check_variable(module, entry, global, variable, use_at(uses, global)) {
+            Ok(()) => {}
+            Err(error) => return Err(error),
         }
+        from = index + 1;
     }
     Ok(())
 }
 
-// Whether a variable is an immediate that is used.
-fn is_used_immediate(
-    module: &Module,
-    uses: &[GlobalUse],
-    global: Handle<key::GlobalVariable>,
-) -> bool
-    requires many { length uses.now ≡ length (module_view «module».now).globals }
-    requires within { global < length uses.now }
-    ensures { IsTrue result ↔ (IsUsed (HasUseBit uses.now) global × (space_at (module_view «module».now) global ≡ Some Immediate)) }
+// Whether a variable is an immediate.
+fn is_immediate_at(module: &Module, global: Handle<key::GlobalVariable>) -> bool
+    requires { global < length (module_view «module».now).globals }
+    ensures { IsTrue result ↔ (space_at (module_view «module».now) global ≡ Some Immediate) }
 {
-    use_at(uses, global).0 != 0 && is_immediate(space_at(module, global))
+    is_immediate(space_at(module, global))
 }
 
-// Whether an entry point uses one immediate at most.
+// Whether an entry point uses at most one immediate.
 fn check_immediates(module: &Module, uses: &[GlobalUse]) -> Result<(), EntryPointError>
     requires { length uses.now ≡ length (module_view «module».now).globals }
     ensures { MatchResult result
@@ -173,24 +169,27 @@ fn check_immediates(module: &Module, uses: &[GlobalUse]) -> Result<(), EntryPoin
         (IsImmediateFault (module_view «module».now) (HasUseBit uses.now)) }
 {
     let mut found = None;
-    for index in 0..module.global_variables.len() {
+    let count = module.global_variables.len();
+    let mut from = 0;
+    while let Some(index) = first_used(uses, from, count) {
         let global = Handle::at(index);
-        if is_used_immediate(module, uses, global) {
+        if is_immediate_at(module, global) {
             match found {
                 None => found = Some(global),
                 Some(_) => return Err(EntryPointError::MoreThanOneImmediateUsed),
             }
         }
+        from = index + 1;
     }
     Ok(())
 }
 
-/// Whether an entry point may use the variables that it uses.
+/// Whether the uses of global variables by an entry point are valid.
 ///
 /// # Errors
 ///
-/// [`Refusal::Fault`] with a fault that stands: that it uses two immediates, of one variable, or that two have one binding (of the
-/// first of these with which something is wrong, which no clause says); [`Refusal::Memory`] where memory ran out.
+/// [`Refusal::Fault`] with an error whose condition holds: two immediates, an invalid use, or two variables with one binding
+/// (the first of these, which no clause states); [`Refusal::Memory`] if out of memory.
 pub fn check_variables(
     alloc: Global,
     flags: ValidationFlags,

@@ -1,4 +1,4 @@
--- The labels of an error: the spans of the items that it names, each with what stands there.
+-- The labels of an error: the spans of the items that it names, each with its item.
 use Rattle.std.specs.Prelude.{ℕ, List, Option, Some, None, codes}
 use Rattle.ir_arena.specs.found.Arenas.{span_at}
 use Rattle.ir_arena.specs.declared.span.Span.{Span}
@@ -18,7 +18,7 @@ use Rattle.function_errors.specs.declared.labels.Label.{Label}
 use Rattle.function_errors.specs.declared.subjects.Subject.{Subject}
 use Rattle.function_errors.specs.declared.subjects.Subject.TheVariants as subject
 
--- what stands there, in words
+-- the item, in words
 abbrev pub item_text : Item → List ℕ
 item_text item.«Type» = codes "this type"
 item_text item.Constant = codes "this constant"
@@ -44,7 +44,7 @@ label_in f (subject.Expression handle) = Some (label (span_at f.expressions hand
 label_in f (subject.LocalVariable handle) = Some (label (span_at f.local_variables handle) item.LocalVariable)
 label_in f subject.Nothing = None
 
--- that of what an error of the function speaks of
+-- that of the subject of a function's error
 abbrev pub subject_label : Function → FunctionError → Option Label
 subject_label f e = label_in f (subject_of e)
 
@@ -56,7 +56,7 @@ function_label m handle = label (span_at m.functions handle) item.Function
 abbrev pub variable_label : Module → ℕ → Label
 variable_label m handle = label (span_at m.global_variables handle) item.GlobalVariable
 
--- that of the item that a step up to overrides refuses; what is wrong with handles names no item by its kind
+-- that of the item that fails a step up to overrides; an error of handles has no such item
 abbrev pub module_label : Module → ModuleError → Option Label
 module_label m (error.InvalidHandle e) = None
 module_label m (error.Layouter e) = Some (label (span_at m.types e.ty) item.«Type»)
@@ -67,7 +67,7 @@ module_label m (error.Override e) = Some (label (span_at m.overrides e.id) item.
 
 -- ---- entry points
 
--- that of what an error of an entry point speaks of: an expression or a variable of its function, or a global variable
+-- that of the subject of an entry point's error: an expression or a variable of its function, or a global variable
 abbrev pub entry_label : Module → EntryPoint → EntryPointError → Option Label
 entry_label m e entry.Conflict = None
 entry_label m e entry.MissingVertexOutputPosition = None

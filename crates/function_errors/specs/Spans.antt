@@ -15,7 +15,7 @@ use Rattle.function_errors.specs.declared.error.ValidationError.{ValidationError
 use Rattle.function_errors.specs.declared.error.ValidationError.TheVariants as error
 use Rattle.typing_errors.specs.declared.error.FunctionError.{FunctionError}
 
--- that of what an error of a function speaks of, where the function is there
+-- that of the subject of a function's error, if the function exists
 abbrev pub label_in_function : Option Function → FunctionError → Option Label
 label_in_function (Some f) e = subject_label f e
 label_in_function None e = None
@@ -31,27 +31,27 @@ inner_label m (error.GlobalVariable e) = Some (variable_label m e.global)
 inner_label m (error.Function e) = label_in_function (value_at m.functions e.function) e.error
 inner_label m (error.EntryPoint e) = label_in_entry m (slice_get m.entry_points.items e.index) e.error
 
--- the function that it stands in; entry points have no span
+-- the function that contains it; entry points have no span
 abbrev pub outer_label : Module → ValidationError → Option Label
 outer_label m (error.Module e) = None
 outer_label m (error.GlobalVariable e) = None
 outer_label m (error.Function e) = Some (function_label m e.function)
 outer_label m (error.EntryPoint e) = None
 
--- spans, and after them those that are known of these items, each with what stands there
+-- spans, followed by the known ones of these items, each with its item
 abbrev pub spans_added : Module → List (Span × List ℕ) → ValidationError → List (Span × List ℕ)
 spans_added m spans e = labelled (labelled spans (inner_label m e)) (outer_label m e)
 
--- the spans that are known of the items that an error names
+-- the known spans of the items that an error names
 abbrev pub spans_named : Module → ValidationError → List (Span × List ℕ)
 spans_named m e = spans_added m [] e
 
--- memory ran out, or this is reported, with the spans of the items that it names
+-- out of memory, or this error, with the spans of the items that it names
 abbrev pub IsRefusedAt : (ValidationError → Type 0) → Module → Refusal ValidationError → Type 0
 IsRefusedAt IsFault m (refusal.Memory e) = Unit {0}
 IsRefusedAt IsFault m (refusal.Fault e) = IsFault (error_of e) × (spans_of e ≡ spans_named m (error_of e))
 
--- an answer, and the same with the spans of the items that its error names, unless memory ran out
+-- a result, and the same with the spans of the items that its error names, unless out of memory
 abbrev pub IsSpanned : {I : Type 0} → Module → Result I (Refusal ValidationError) → Result I (Refusal ValidationError) → Type 0
 IsSpanned m (Ok info) r = r ≡ Ok info
 IsSpanned m (Err (refusal.Memory e)) r = r ≡ Err (refusal.Memory e)

@@ -1,5 +1,4 @@
--- What an error of a function speaks of, a row a kind: an expression of the function, a local variable, or nothing that has a place
--- of its own.
+-- The subject of a function's error, a row per kind: an expression of the function, a local variable, or the function itself.
 use Rattle.std.specs.Prelude.{ℕ, Option, Some, None}
 use Rattle.typing_errors.specs.declared.atomics.AtomicError.{AtomicError}
 use Rattle.typing_errors.specs.declared.atomics.AtomicError.TheVariants as atomic

@@ -1,4 +1,4 @@
-//! Why a module is refused.
+//! The error of a module.
 
 use function_entry_checks::EntryPointError;
 use ir_arena::handle::Handle;
@@ -9,53 +9,54 @@ use std::fmt::{self, Display};
 use thiserror::Error;
 use typing_errors::FunctionError;
 
-/// A function that is refused (naga's `ValidationError::Function`).
+/// An invalid function (naga's `ValidationError::Function`).
 #[derive(Clone, PartialEq, Debug, Drop, Error)]
 #[error("function {function:?} is invalid: {error}")]
 pub struct InvalidFunction {
     /// The function.
     pub function: Handle<key::Function>,
-    /// What is wrong with it.
+    /// The error.
     pub error: FunctionError,
-    /// Where in its body, if the error is of a statement; lost if it is not, or if memory ran out for a step.
+    /// Its place in the body, if it is the error of a statement; lost if it is not, or if a step could not be recorded for lack
+    /// of memory.
     pub trail: Trail,
 }
 
-/// An entry point that is refused (naga's `ValidationError::EntryPoint`).
+/// An invalid entry point (naga's `ValidationError::EntryPoint`).
 #[derive(Clone, PartialEq, Debug, Drop, Error)]
 #[error("entry point {index} is invalid: {error}")]
 pub struct InvalidEntryPoint {
     /// Its index among the module's entry points.
     pub index: usize,
-    /// What is wrong with it.
+    /// The error.
     pub error: EntryPointError,
-    /// Where in the body of its function, if the error is of a statement; lost if it is not, or if memory ran out for a step.
+    /// Its place in the body of its function, if it is the error of a statement; lost if it is not, or if a step could not be
+    /// recorded for lack of memory.
     pub trail: Trail,
 }
 
-/// Why a module is refused (naga's `ValidationError`): the first step that fails, at the first item that fails it, and why.
+/// The error of a module (naga's `ValidationError`): the first failing step, at the first item that fails it.
 #[derive(Clone, PartialEq, Debug, Drop, Error)]
 pub enum ValidationError {
     /// Handles are out of order, or a step up to overrides fails.
     #[error("{0}")]
     Module(ModuleError),
-    /// A global variable is refused.
+    /// A global variable is invalid.
     #[error("{0}")]
     GlobalVariable(InvalidGlobalVariable),
-    /// A function is refused.
+    /// A function is invalid.
     #[error("{0}")]
     Function(InvalidFunction),
-    /// An entry point is refused.
+    /// An entry point is invalid.
     #[error("{0}")]
     EntryPoint(InvalidEntryPoint),
 }
 
-/// The error of the item that is refused, by its name and with what it holds (as `{:?}` writes it), where
-/// [`ValidationError`] writes its text.
+/// The error of the invalid item in `Debug` form, by name and with its fields, where [`ValidationError`] displays its message.
 #[derive(Clone, Copy)]
 pub struct Named<'a>(pub &'a ValidationError);
 
-// The error of a step up to overrides, by its name.
+// The error of a step up to overrides, by name.
 fn write_early<W: fmt::Write>(f: &mut fmt::Formatter<W>, error: &ModuleError) -> fmt::Result {
     match error {
         ModuleError::InvalidHandle(error) => write!(f, "{error:?}"),

@@ -47,7 +47,7 @@ impl Item {
     }
 }
 
-/// A span of the source, with the item there.
+/// A span of the source, with its item.
 #[derive(Clone, Copy, PartialEq, Eq, Debug)]
 pub struct Label {
     /// The span, which may be unknown.
@@ -60,7 +60,7 @@ pub struct Label {
 ///
 /// # Errors
 ///
-/// Where there is no memory, the error with the spans that it had.
+/// If out of memory, the error with the spans that it had.
 pub fn with_label<E>(
     fault: WithSpan<E>,
     label: Option<Label>,

@@ -1,4 +1,4 @@
-//! Why a module is refused, and the parts of the source that an error speaks of: the spans of the items that it names.
+//! The error of a module, and the parts of the source that it names: the spans of its items.
 #![tactic(auto)]
 
 mod error;

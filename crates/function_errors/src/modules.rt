@@ -1,4 +1,4 @@
-//! The items of a module that an error names.
+//! The items that an error names.
 
 ghost use Rattle.std.specs.Prelude.{◌≡◌};
 ghost use Rattle.function_errors.specs.Labels.{entry_label, function_label, module_label, subject_label, variable_label};
@@ -11,7 +11,7 @@ use ir_items::{EntryPoint, Function, Module, key};
 use module_steps::ModuleError;
 use typing_errors::FunctionError;
 
-/// The label of what an error of the function speaks of, if that has a place of its own.
+/// The label of the subject of a function's error, if it has its own span.
 pub fn subject_label(function: &Function, error: &FunctionError) -> Option<Label>
     ensures { result ≡ subject_label function.now error.now }
 {
@@ -48,7 +48,7 @@ pub fn variable_label(module: &Module, handle: Handle<key::GlobalVariable>) -> L
     }
 }
 
-/// The label of the item that a step up to overrides refuses. What is wrong with handles names no item by its kind.
+/// The label of the item that fails a step up to overrides. An error of handles has no such item.
 pub fn module_label(module: &Module, error: &ModuleError) -> Option<Label>
     ensures { result ≡ module_label «module».now error.now }
 {
@@ -68,7 +68,7 @@ pub fn module_label(module: &Module, error: &ModuleError) -> Option<Label>
     Some(Label { span, item })
 }
 
-/// The label of what an error of an entry point speaks of: an expression or a variable of its function, or a global variable.
+/// The label of the subject of an entry point's error: an expression or a variable of its function, or a global variable.
 pub fn entry_label(module: &Module, entry: &EntryPoint, error: &EntryPointError) -> Option<Label>
     ensures { result ≡ entry_label «module».now entry.now error.now }
 {

@@ -44,7 +44,7 @@ fn inner_label(module: &Module, error: &ValidationError) -> Option<Label>
     }
 }
 
-// The function that it stands in, which an entry point's is not.
+// The function that contains it, which is not an entry point's.
 fn outer_label(module: &Module, error: &ValidationError) -> Option<Label>
     ensures { result ≡ outer_label «module».now error.now }
 {
@@ -56,7 +56,7 @@ fn outer_label(module: &Module, error: &ValidationError) -> Option<Label>
     }
 }
 
-// The error with a label, if there is one and its span is known. Where there is no memory, the error is freed.
+// The error with a label, if there is one and its span is known. If out of memory, the error is freed.
 fn labelled_once<E: Drop>(
     fault: WithSpan<E>,
     label: Option<Label>,
@@ -84,11 +84,11 @@ fn located(
     }
 }
 
-/// The answer with the spans of the items that its error names: the innermost first.
+/// The result with the spans of the items that its error names: the innermost first.
 ///
 /// # Errors
 ///
-/// The error of the answer, or out of memory.
+/// The error of the result, or out of memory.
 pub fn with_spans<I>(
     module: &Module,
     judged: Result<I, Refusal<ValidationError>>,

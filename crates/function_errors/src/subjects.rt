@@ -27,7 +27,7 @@ fn expression_if(handle: Option<Handle<key::Expression>>) -> Subject
     }
 }
 
-// That of an error of an expression.
+// The subject of an error of an expression.
 fn of_expression_error(error: &ExpressionError) -> Subject
     ensures { result ≡ of_expression_error error.now }
 {
@@ -50,7 +50,7 @@ fn of_expression_error(error: &ExpressionError) -> Subject
     }
 }
 
-// That of an error of a call.
+// The subject of an error of a call.
 fn of_call_error(error: &CallError) -> Subject
     ensures { result ≡ of_call_error error.now }
 {
@@ -67,7 +67,7 @@ fn of_call_error(error: &CallError) -> Subject
     }
 }
 
-// That of an error of an atomic operation.
+// The subject of an error of an atomic operation.
 fn of_atomic_error(error: &AtomicError) -> Subject
     ensures { result ≡ of_atomic_error error.now }
 {
@@ -86,7 +86,7 @@ fn of_atomic_error(error: &AtomicError) -> Subject
     }
 }
 
-// That of an error of an operation of a subgroup.
+// The subject of an error of a subgroup operation.
 fn of_subgroup_error(error: &SubgroupError) -> Subject
     ensures { result ≡ of_subgroup_error error.now }
 {
@@ -99,7 +99,7 @@ fn of_subgroup_error(error: &SubgroupError) -> Subject
     }
 }
 
-/// What the error speaks of: the innermost expression that it names, a local variable, or nothing that has a place of its own.
+/// The subject of an error: the innermost expression that it names, a local variable, or the function itself.
 pub fn subject_of(error: &FunctionError) -> Subject
     ensures { result ≡ subject_of error.now }
 {

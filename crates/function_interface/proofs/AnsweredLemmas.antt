@@ -1,18 +1,15 @@
 -- What denotes answers, one expression after another.
 use Rattle.std.proofs.Common.{◌≡◌, ◌↔◌, ◌⊎◌, inl, inr, ℕ, ◌+◌, ◌<◌, ◌≤◌, List, Some, Bool, true, false, IsTrue, true≢false, length, slice_get, sym, subst, ◌∙◌, arith}
-use Rattle.std.proofs.lemmas.Option.{slice_get_within}
+use Rattle.std.proofs.lemmas.Option.{same_Some, slice_get_within}
 use Rattle.function_interface.proofs.Below.{below_or_same}
 use Rattle.function_interface.specs.Answered.{Stands, IsAnswered, AllAnswered, AnsweredBelow, IsUnanswered}
 use Rattle.ir_types.specs.judged.ExpressionPlain.{PlainExpression, plain}
 use Rattle.ir_types.specs.declared.expressions.Expression.TheVariants as x
 use Rattle.spec_statements.specs.judged.Results.{DenotesResult, of_call, of_atomic}
 
-some_is : {A : Type 0} (a b : A) → Some a ≡ Some b → a ≡ b
-some_is a b e = cc
-
 occurs_at : (xs : List PlainExpression) (e : ℕ) (x : PlainExpression) → slice_get xs e ≡ Some x → DenotesResult xs e → Stands x
-occurs_at xs e x at (of_call is) = subst Stands (some_is _ x (sym is ∙ at)) tt
-occurs_at xs e x at (of_atomic is) = subst Stands (some_is _ x (sym is ∙ at)) tt
+occurs_at xs e x at (of_call is) = subst Stands (same_Some _ x (sym is ∙ at)) tt
+occurs_at xs e x at (of_atomic is) = subst Stands (same_Some _ x (sym is ∙ at)) tt
 
 there : (xs : List PlainExpression) (e : ℕ) → DenotesResult xs e → e < length xs
 there xs e (of_call is) = slice_get_within xs e _ is

@@ -1,4 +1,4 @@
--- What a lower layer's analysis of a function answers.
+-- The result of a layer's analysis of a function.
 use Rattle.std.specs.Prelude.{◌≡◌, ℕ, Bool, false, List, Some, length, map, slice_get, []}
 use Rattle.typing_errors.specs.declared.expressions.ExpressionError.{ExpressionError}
 use Rattle.typing_errors.specs.declared.error.FunctionError.{FunctionError}
@@ -24,14 +24,14 @@ use Rattle.ir_places.specs.Paths.{IsPlaced}
 use Rattle.ir_places.specs.declared.trail.Trail.{Trail}
 use Rattle.spec_expressions.specs.judged.CallArities.{AritiesMatch}
 
--- What a lower layer says is wrong with a function: which faults its analysis finds, and which it finds at an expression.
+-- The errors that a layer finds in a function: those of its analysis, and those of an expression.
 pub record Faults : Type 1 where
   pub IsAnalysisFault : ValidationFlags → FunctionError → Type 0
   pub IsFaultAt : Capabilities → (forms : List Form) → (expression : ℕ) → ExpressionError → Type 0
 
--- What is kept of a function: its analysis finds no fault, its expressions have these types, of which each struct is one of the
--- module's by its handle, its uses and pairs are joined of its own and of its callees', each use of a global variable has a place,
--- and nothing is noted yet.
+-- The information on a function: its analysis finds no error, its expressions have these types, of which each struct is a type
+-- of the module, its uses and pairs are joined from its own and its callees', each use is of an existing global variable, and
+-- nothing is noted yet.
 pub record IsKept (reading : Reading) (flags : ValidationFlags) (q : Question) (types : List TypeResolution) (summary : Summary) (stages : ShaderStages) (blending : Bool) : Type 0 where
   pub analysed : reading.IsAnalysed flags
   pub typed : AreFormsBy reading q.f (map (form_given q.m.types) types)
@@ -41,18 +41,18 @@ pub record IsKept (reading : Reading) (flags : ValidationFlags) (q : Question) (
   pub all_run : stages ≡ all_stages
   pub unblended : blending ≡ false
 
--- memory ran out, or the fault that is reported is one of these, without spans
+-- out of memory, or one of these errors, without spans
 abbrev pub IsRefusedFor : (FunctionError → Type 0) → Refusal FunctionError → Type 0
 IsRefusedFor IsFault (refusal.Memory e) = Unit {0}
 IsRefusedFor IsFault (refusal.Fault e) = IsFault (error_of e) × (spans_of e ≡ [])
 
--- the same, where the fault is one at a place, to which the trail leads
+-- the same for an error at the place of the trail
 abbrev pub IsRefusedAt : Trail → (FunctionError → Place → Type 0) → Refusal FunctionError → Type 0
 IsRefusedAt t IsFault (refusal.Memory e) = Unit {0}
 IsRefusedAt t IsFault (refusal.Fault e) = IsPlaced t (IsFault (error_of e)) × (spans_of e ≡ [])
 
--- what is wrong with a function before its other parts are checked: with the arity of the call at the place, or where all are right
--- with its analysis, which speaks of no place
+-- errors found before the other parts are checked: of the arity of the call at the place or, if all are right, of the analysis,
+-- which has no place
 pub data IsFaultBefore (faults : Faults) (flags : ValidationFlags) (m : PlainModule) (f : PlainFunction) (e : FunctionError) (p : Place) : Type 0 where
   in_arity : IsArityFaultAt m f e p → IsFaultBefore faults flags m f e p
   in_analysis : AritiesMatch m f → faults.IsAnalysisFault flags e → IsFaultBefore faults flags m f e p

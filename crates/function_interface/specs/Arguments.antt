@@ -1,4 +1,4 @@
--- What is wrong with what a function is given.
+-- Errors of arguments.
 use Rattle.std.specs.Prelude.{◌≡◌, ℕ, Bool, false, Some, None, string_bytes}
 use Rattle.typing_errors.specs.declared.error.FunctionError.{FunctionError}
 use Rattle.typing_errors.specs.declared.error.FunctionError.TheVariants as error
@@ -15,15 +15,15 @@ use Rattle.spec_statements.specs.judged.Stores.{pointer_space}
 use Rattle.typing_layout.specs.judged.View.{type_tree}
 use Rattle.typing_forms.specs.judged.Forms.{form_of_type}
 
--- it points into a space that functions are given no pointers into
+-- a pointer into an address space that arguments can't point into
 abbrev pub IsFarPointer : PlainModule → PlainArgument → AddressSpace → Type 0
 IsFarPointer m a space = (pointer_space (form_of_type m.types a.ty) ≡ Some space) × ¬ IsGiven space
 
--- functions take no values of its type
+-- a type that arguments can't have
 abbrev pub IsNotTaken : PlainModule → PlainArgument → Type 0
 IsNotTaken m a = ¬ HasFlag Argument (type_tree m.types a.ty)
 
--- it is bound, and the function is no entry point's
+-- a binding in a function that is not an entry point's
 abbrev pub IsBoundHere : (entry : Bool) → PlainArgument → Type 0
 IsBoundHere entry a = (entry ≡ false) × ¬ (a.binding ≡ None)
 
@@ -32,14 +32,14 @@ IsArgumentFault m entry a (fault.Space space) = IsFarPointer m a space
 IsArgumentFault m entry a fault.Type = IsNotTaken m a
 IsArgumentFault m entry a fault.Binding = IsBoundHere entry a
 
--- the error has the name of the argument at an index, and tells this fault
+-- the error has the name of the argument at an index, and this cause
 abbrev pub IsNamed : (index : ℕ) → PlainArgument → ArgumentFault → FunctionError → Type 0
 IsNamed index a (fault.Space space) (error.InvalidArgumentPointerSpace i name told) = (i ≡ index) × (string_bytes name ≡ name_of a.name) × (told ≡ space)
 IsNamed index a fault.Type (error.InvalidArgumentType i name) = (i ≡ index) × (string_bytes name ≡ name_of a.name)
 IsNamed index a fault.Binding (error.PipelineInputRegularFunction name) = string_bytes name ≡ name_of a.name
 IsNamed index a _ _ = ⊥
 
--- it is the first that the function may not be given
+-- it is the first invalid one
 abbrev pub IsArgumentsFault : BlockContext → (entry : Bool) → FunctionError → Type 0
 IsArgumentsFault c entry (error.InvalidArgumentPointerSpace index name space) =
     IsFirstAt (ArgumentOK c.m entry) (λ a. (string_bytes name ≡ name_of a.name) × IsFarPointer c.m a space) c.f.arguments index

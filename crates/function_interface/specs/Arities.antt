@@ -1,4 +1,4 @@
--- Calls that pass another number of arguments than their functions have.
+-- Calls with another number of arguments than their functions have.
 use Rattle.std.specs.Prelude.{ℕ, Some}
 use Rattle.typing_errors.specs.declared.error.FunctionError.{FunctionError}
 use Rattle.typing_errors.specs.declared.error.FunctionError.TheVariants as error

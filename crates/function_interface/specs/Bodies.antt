@@ -7,7 +7,7 @@ use Rattle.ir_flags.specs.declared.stages.ShaderStages.{ShaderStages}
 use Rattle.spec_statements.specs.judged.ExpressionStages.{all_stages}
 use Rattle.spec_statements.specs.judged.Stages.{statement_stages}
 
--- the stage is one that there is, and may run each statement of the body, wherever it stands
+-- the stage exists, and may run each statement of the body, at any depth
 pub record MayRun (subgroups : ShaderStages) (callees : List ShaderStages) (body : PlainBlock) (stage : ℕ) : Type 0 where
   pub known : Has all_stages.0 stage
   pub each : (p : Place) (u : PlainStatement) → OccursAt body p u → Has (statement_stages subgroups callees u).0 stage

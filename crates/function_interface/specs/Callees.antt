@@ -1,4 +1,4 @@
--- The stages that are noted in what is kept of functions.
+-- The stages noted in the information on functions.
 use Rattle.std.specs.Prelude.{List, map}
 use Rattle.typing_infos.specs.declared.function_info.FunctionInfo.{FunctionInfo}
 use Rattle.ir_flags.specs.declared.stages.ShaderStages.{ShaderStages}

@@ -9,7 +9,7 @@ EachOK {A = A} Rule items = (i : ℕ) (x : A) → slice_get items i ≡ Some x �
 pub record EachBelow {A : Type 0} (Rule : A → Type 0) (items : List A) (end : ℕ) : Type 0 where
   pub each : (i : ℕ) (x : A) → i < end → slice_get items i ≡ Some x → Rule x
 
--- the one at a place is at fault, and those before it meet the rule
+-- the one at an index has an error, and those before it meet the rule
 pub record IsFirstAt {A : Type 0} (Rule Wrong : A → Type 0) (items : List A) (index : ℕ) : Type 0 where
   pub item : A
   pub at : slice_get items index ≡ Some item

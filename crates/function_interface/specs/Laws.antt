@@ -1,4 +1,4 @@
--- A function with a fault does not meet its rule.
+-- A function with an error breaks its rule.
 use Rattle.std.specs.Prelude.{Bool, IfSome, List}
 use Rattle.typing_errors.specs.declared.error.FunctionError.{FunctionError}
 use Rattle.typing_errors.specs.declared.locals.LocalVariableError.{LocalVariableError}
@@ -12,7 +12,7 @@ use Rattle.ir_items.specs.judged.Plain.{PlainLocal}
 use Rattle.spec_statements.specs.judged.BlockContext.{BlockContext}
 use Rattle.spec_statements.specs.judged.Interfaces.{ArgumentOK, InterfaceOK, LocalOK, ResultOK}
 
--- What refutes each part, and the whole.
+-- The refutation of each part, and of the whole.
 pub record Refuted (c : BlockContext) (entry : Bool) (e : FunctionError) : Type 0 where
   pub local : (l : PlainLocal) (error : LocalVariableError) → IsLocalError c l error → LocalOK c l → ⊥
   pub locals : IsLocalsFault c e → EachOK (LocalOK c) c.f.locals → ⊥

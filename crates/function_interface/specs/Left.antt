@@ -1,4 +1,4 @@
--- What each statement of a body leaves of a set, from the first to the last.
+-- What each statement of a body leaves of a set, in order.
 use Rattle.std.specs.Prelude.{ℕ}
 use Rattle.std.specs.Int.RustNames.{bit_and}
 use Rattle.ir_blocks.specs.judged.Plain.{PlainStatement, emit, block, if_, switch, loop, break, continue, return, kill, operation, call, PlainBlock, stop, next, PlainCases, no_case, case}
@@ -8,7 +8,7 @@ abbrev mutual
   left_in set left stop = left
   left_in set left (next s rest) = left_in set (left_within set (bit_and left (set s)) s) rest
 
-  -- by what stands inside a statement
+  -- by inner blocks
   pub left_within : (PlainStatement → ℕ) → ℕ → PlainStatement → ℕ
   left_within set left (emit first end) = left
   left_within set left (block b) = left_in set left b

@@ -1,10 +1,10 @@
--- What a lower layer is queried about.
+-- The questions to a layer.
 use Rattle.std.specs.Prelude.{List}
 use Rattle.ir_flags.specs.declared.stages.ShaderStages.{ShaderStages}
 use Rattle.ir_items.specs.judged.Plain.{PlainFunction, PlainModule}
 use Rattle.spec_expressions.specs.judged.Summaries.{Summary}
 
--- A function of a module, where this is kept of the functions before it: their summaries, and the stages that may run them.
+-- A function of a module, with the information on earlier functions: their summaries, and the stages that may run them.
 pub record Question : Type 0 where
   pub m : PlainModule
   pub f : PlainFunction

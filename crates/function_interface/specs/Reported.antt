@@ -1,4 +1,4 @@
--- What is reported of a module's types.
+-- The `TypeInfo`s of a module.
 use Rattle.std.specs.Prelude.{◌≡◌, List, length}
 use Rattle.ir_types.specs.judged.Plain.{PlainType}
 use Rattle.module_type_checks.specs.Known.{AreInfos}

@@ -1,4 +1,4 @@
-//! The analysis of a function whose calls pass as many arguments as the functions called have.
+//! The analysis of a function whose calls pass as many arguments as their functions have.
 
 ghost use Rattle.std.specs.Prelude.{IfErr, IfOk, OnOk, map};
 ghost use Rattle.function_interface.specs.Analysis.{IsFaultBefore, IsKept, IsRefusedAt};
@@ -18,14 +18,14 @@ use ir_types::with_span::WithSpan;
 use std::alloc::Global;
 use typing_errors::FunctionError;
 
-/// What the layer keeps of a function, once the arity of its calls was checked, under any flags. `callees` has what was kept of
-/// the functions before it, where stages and uses may have been noted since. Requires that the layer was made for the module, and
-/// that the handles of the function are in order.
+/// The layer's information on a function, after the arity of its calls was checked, under any flags. `callees` has the
+/// information on earlier functions, in which stages and uses may have been noted since. Requires that the layer was made for
+/// the module, and that the function's handles are in order.
 ///
 /// # Errors
 ///
-/// [`Refusal::Fault`] with [`FunctionError::InvalidCall`] for a call that passes another number of arguments, where the trail leads,
-/// and where there is none with a fault of the analysis. [`Refusal::Memory`] where memory ran out.
+/// [`Refusal::Fault`] with [`FunctionError::InvalidCall`] for a call with another number of arguments, at the place of the
+/// trail, else an error of the analysis. [`Refusal::Memory`] if out of memory.
 pub fn analyse_function<L: Lower>(
     lower: &L,
     alloc: Global,

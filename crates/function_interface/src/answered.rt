@@ -10,7 +10,7 @@ use ir_items::Function;
 use ir_types::Expression;
 use typing_errors::FunctionError;
 
-// Whether an expression denotes the result of a call or of an atomic operation.
+// Whether an expression is the result of a call or an atomic operation.
 const fn stands_for_answer(expression: &Expression) -> bool
     ensures { IsTrue result ↔ Stands (expression_view expression.now) }
 {
@@ -51,7 +51,7 @@ const fn stands_for_answer(expression: &Expression) -> bool
     }
 }
 
-// Whether an expression is the result of a statement, where it is a result expression.
+// Whether an expression is the result of a statement, if it is a result expression.
 fn is_answered(expression: &Expression, answered: &[bool], index: usize) -> bool
     ensures { IsTrue result ↔ (Stands (expression_view expression.now) → slice_get answered.now index ≡ Some true) }
 {
@@ -64,12 +64,12 @@ fn is_answered(expression: &Expression, answered: &[bool], index: usize) -> bool
     }
 }
 
-/// Whether each expression of a function that denotes the result of a call or of an atomic operation has been answered
-/// (the last part of naga's `validate_function`). `answered` says of each expression whether it has been.
+/// Whether each result of a call or an atomic operation belongs to a statement (the last part of naga's `validate_function`).
+/// `answered` has this for each expression.
 ///
 /// # Errors
 ///
-/// [`FunctionError::UnvisitedExpression`] for the first that has not.
+/// [`FunctionError::UnvisitedExpression`] for the first that does not.
 pub fn check_answered(function: &Function, answered: &[bool]) -> Result<(), FunctionError>
     ensures { MatchResult result
         (λ _. AllAnswered (function_view function.now).expressions answered.now)

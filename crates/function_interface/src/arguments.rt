@@ -21,18 +21,18 @@ use std::alloc::{AllocError, Global};
 use typing_errors::FunctionError;
 use typing_layout::TypeInfo;
 
-// Why an argument is refused.
+// The error of an argument.
 #[derive(Clone, Copy)]
 pub(crate) enum ArgumentFault {
-    // A pointer into this space.
+    // A pointer into this address space.
     Space(AddressSpace),
-    // No argument can have its type.
+    // Its type is not allowed.
     Type,
-    // It has a binding, and the function is no entry point.
+    // It has a binding, in a function that is not an entry point's.
     Binding,
 }
 
-// Whether pointers into a space may be arguments.
+// Whether pointers into an address space may be arguments.
 const fn is_given(space: AddressSpace) -> bool
     ensures { IsTrue result ↔ IsGiven space }
 {
@@ -75,7 +75,7 @@ fn check_argument(
     Ok(())
 }
 
-// The error of a refused argument.
+// The error of an invalid argument.
 fn error_of(
     alloc: Global,
     index: usize,
@@ -94,7 +94,7 @@ fn error_of(
     })
 }
 
-// The refusal of it.
+// Its refusal.
 fn refused_argument(
     alloc: Global,
     index: usize,
@@ -110,16 +110,16 @@ fn refused_argument(
     }
 }
 
-/// Whether a function may be given each of its arguments. `infos` has what is reported of the module's types; `entry` says that the
-/// function is an entry point's, whose arguments alone are bound.
+/// Whether the arguments of a function are valid. `infos` has the `TypeInfo`s of the module; `entry` is whether the function is
+/// an entry point's, whose arguments alone have bindings.
 ///
 /// # Errors
 ///
-/// [`Refusal::Fault`] for the first argument that it may not be given, by its name, which is empty where it has none:
-/// [`FunctionError::InvalidArgumentPointerSpace`] where it points into a space that is not the invocation's own,
-/// [`FunctionError::InvalidArgumentType`] where functions take no values of its type, and
-/// [`FunctionError::PipelineInputRegularFunction`] where it is bound and the function is no entry point's.
-/// [`Refusal::Memory`] where there is such an argument and no memory for its name.
+/// [`Refusal::Fault`] for the first invalid argument, with its name, empty if it has none:
+/// [`FunctionError::InvalidArgumentPointerSpace`] for a pointer into another address space than `Function` and `Private`,
+/// [`FunctionError::InvalidArgumentType`] for a type that arguments can't have, and
+/// [`FunctionError::PipelineInputRegularFunction`] for a binding in a function that is not an entry point's.
+/// [`Refusal::Memory`] if there is no memory for its name.
 pub fn check_arguments(
     alloc: Global,
     context: &BlockContext<'_>,

@@ -12,13 +12,12 @@ use ir_places::Trail;
 use typing_errors::{CallError, FunctionError};
 use typing_handles::arity_fault;
 
-/// Whether each call of a function passes as many arguments as the function called has. Requires that the functions called are
-/// there.
+/// Whether each call in a function passes as many arguments as its callee has. Requires that the callees exist.
 ///
 /// # Errors
 ///
-/// [`FunctionError::InvalidCall`] with [`CallError::ArgumentCount`] for a call that doesn't, where the trail leads (the first in
-/// the order of the text, which no clause says).
+/// [`FunctionError::InvalidCall`] with [`CallError::ArgumentCount`] for a call that does not, at the place of the trail (the
+/// first in text order, which no clause states).
 pub fn check_arities(
     trail: &mut Trail,
     module: &Module,

@@ -1,4 +1,4 @@
-//! Where the stages of functions are read of which something is kept.
+//! The stages that may run functions with known information.
 
 ghost use Rattle.std.specs.Prelude.{map};
 
@@ -9,10 +9,10 @@ use ir_types::key;
 use module_context::CalleeStages;
 use typing_infos::FunctionInfo;
 
-/// Stages that are noted in what is kept of functions (`available_stages` of naga's `FunctionInfo`).
+/// The stages noted in the information on functions (`available_stages` of naga's `FunctionInfo`).
 #[derive(Clone, Copy)]
 pub struct NotedStages<'a>(
-    /// The info of each.
+    /// The information on each.
     pub &'a [FunctionInfo],
 );
 

@@ -11,7 +11,7 @@ use ir_arena::handle::Handle;
 use ir_types::key;
 use typing_layout::{TypeFlags, TypeInfo};
 
-/// Whether functions take values of a type. One that is not there is not refused here: that it is there is required of handles.
+/// Whether a type can be that of arguments. A missing type is not refused here: the check of handles does.
 pub(crate) fn is_argument(infos: &[TypeInfo], ty: Handle<key::IrType>) -> bool
     ensures { (types : List PlainType) → AreReported types infos.now → IsTrue result ↔ HasFlag Argument (type_tree types ty) }
 {
@@ -21,7 +21,7 @@ pub(crate) fn is_argument(infos: &[TypeInfo], ty: Handle<key::IrType>) -> bool
     }
 }
 
-/// Whether values of a type can be composed.
+/// Whether a type is constructible.
 pub(crate) fn is_constructible(infos: &[TypeInfo], ty: Handle<key::IrType>) -> bool
     ensures { (types : List PlainType) → AreReported types infos.now → IsTrue result ↔ HasFlag Constructible (type_tree types ty) }
 {

@@ -1,4 +1,4 @@
-//! The variables, the arguments and the result of a function.
+//! The local variables, the arguments and the result of a function.
 
 ghost use Rattle.std.specs.Prelude.{MatchResult};
 ghost use Rattle.function_interface.specs.Interfaces.{IsInterfaceFault};
@@ -17,17 +17,15 @@ use std::alloc::Global;
 use typing_errors::FunctionError;
 use typing_layout::TypeInfo;
 
-/// Whether a function may have its variables, its arguments and its result, in this order (the first part of naga's
-/// `validate_function`). `infos` has what is reported of the module's types; `entry` says that the function is an entry point's.
+/// Whether the local variables, the arguments and the result of a function are valid, in this order (the first part of naga's
+/// `validate_function`). `infos` has the `TypeInfo`s of the module; `entry` is whether the function is an entry point's.
 ///
 /// # Errors
 ///
-/// [`Refusal::Fault`] for the first part that it may not have, and within it for the first item: what [`check_locals`],
-/// [`check_arguments`] and [`check_result`] answer. [`Refusal::Memory`] where there is such a part and no memory for a name.
+/// [`Refusal::Fault`] for the first invalid part, and in it for the first item: the errors of [`check_locals`],
+/// [`check_arguments`] and [`check_result`]. [`Refusal::Memory`] if there is no memory for a name.
 ///
-/// [`check_locals`]: crate::check_locals
-/// [`check_arguments`]: crate::check_arguments
-/// [`check_result`]: crate::check_result
+/// [`check_locals`]: crate::check_locals [`check_arguments`]: crate::check_arguments [`check_result`]: crate::check_result
 pub fn check_interface(
     alloc: Global,
     context: &BlockContext<'_>,

@@ -1,11 +1,11 @@
-//! Names of what is refused.
+//! Names of invalid items.
 
 ghost use Rattle.std.specs.Prelude.{◌≡◌, IfOk, option_map, string_bytes};
 ghost use Rattle.function_interface.specs.Named.{name_of};
 
 use std::alloc::{AllocError, Global};
 
-/// The name in the source in memory of its own, empty where there is none. The error is out of memory.
+/// An owned copy of an item's name, empty if it has none. The error is out of memory.
 pub(crate) fn name_of(alloc: Global, name: &Option<String>) -> Result<String, AllocError>
     ensures { IfOk result (λ copy. string_bytes copy ≡ name_of (option_map string_bytes name.now)) }
 {

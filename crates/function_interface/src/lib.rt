@@ -1,8 +1,7 @@
-//! What the rules of functions require of the layers below them: `Lower`; and its analysis, before which the arity of
-//! calls is checked.
+//! What the function checks require of the layers below: `Lower`; and the analysis by it, after the arity of calls is checked.
 //!
-//! Whether a function may have its variables, what it is given and what it answers; whether what denotes the answers of its
-//! statements is answered, and which stages may run the statements of its body.
+//! The checks of local variables, arguments and results; whether results of statements belong to statements, and which stages
+//! may run the statements of a body.
 #![tactic(auto)]
 
 mod analysed;

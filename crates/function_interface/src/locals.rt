@@ -1,4 +1,4 @@
-//! The variables of a function.
+//! The local variables of a function.
 
 ghost use Rattle.std.specs.Prelude.{◌≡◌, ◌↔◌, ◌⊎◌, IsTrue, MatchResult};
 ghost use Rattle.function_interface.specs.Items.{EachOK, IsFirstAt};
@@ -34,7 +34,7 @@ fn is_known(context: &BlockContext<'_>, handle: Handle<key::Expression>) -> bool
         && context.kinds.is_const_or_override(handle)
 }
 
-// Whether a variable of a type may have this initializer.
+// Whether a variable of a type can have this initializer.
 fn check_begin(
     context: &BlockContext<'_>,
     ty: Handle<key::IrType>,
@@ -54,14 +54,13 @@ fn check_begin(
     Ok(())
 }
 
-/// Whether values of a variable's type can be composed, and it begins, if as anything, as a value of its type that is known
-/// before the shader runs (naga's `validate_local_var`). `infos` has what is reported of the module's types.
+/// Whether a local variable's type is constructible, and its initializer, if any, has this type and is constant or an override
+/// (naga's `validate_local_var`). `infos` has the `TypeInfo`s of the module.
 ///
 /// # Errors
 ///
-/// [`LocalVariableError::InvalidType`] where values of its type can't be composed,
-/// [`LocalVariableError::InitializerType`] where what it begins as is of another type, and
-/// [`LocalVariableError::NonConstOrOverrideInitializer`] where that is known only when the shader runs.
+/// [`LocalVariableError::InvalidType`] for a type that is not constructible, [`LocalVariableError::InitializerType`] for an
+/// initializer of another type, and [`LocalVariableError::NonConstOrOverrideInitializer`] for a runtime initializer.
 pub fn check_local(
     context: &BlockContext<'_>,
     infos: &[TypeInfo],
@@ -108,13 +107,12 @@ fn refused_local(
     }
 }
 
-/// Whether a function may have each of its variables. `infos` has what is reported of the module's types.
+/// Whether the local variables of a function are valid. `infos` has the `TypeInfo`s of the module.
 ///
 /// # Errors
 ///
-/// [`Refusal::Fault`] with [`FunctionError::LocalVariable`] for the first variable that it may not have, by its name, which is
-/// empty where it has none, and with what [`check_local`] answers; [`Refusal::Memory`] where there is such a variable and no
-/// memory for its name.
+/// [`Refusal::Fault`] with [`FunctionError::LocalVariable`] for the first invalid one, with its name, empty if it has none, and
+/// the error of [`check_local`]; [`Refusal::Memory`] if there is no memory for its name.
 pub fn check_locals(
     alloc: Global,
     context: &BlockContext<'_>,

@@ -1,4 +1,4 @@
-//! A layer that types expressions, analyses functions and reports on types.
+//! A layer that infers the types of expressions, analyses functions and has the `TypeInfo`s of types.
 
 ghost use Rattle.std.specs.Prelude.{◌≡◌, ◌<◌, ◌↔◌, ◌⊎◌, ◌||◌, ℕ, All, Bool, IfErr, IfOk, List, MatchResult, Some, bit_and, length, map, slice_get};
 ghost use Rattle.typing_infos.specs.Infos.{NotesUse};
@@ -35,65 +35,65 @@ use typing_errors::{ExpressionError, FunctionError};
 use typing_forms::TypeResolution;
 use typing_layout::TypeInfo;
 
-/// What types the expressions of a module's functions, analyses its functions, and reports on its types. The rules of functions
-/// depend on it and on nothing that it does: over any such layer they are the same, read with what the layer says.
+/// Infers the types of the expressions of a module's functions, analyses its functions, and has the `TypeInfo`s of its types.
+/// The function checks are generic over it: they are the same for every such layer, relative to its results.
 pub trait Lower {
-    /// The info of a function.
+    /// The information on a function.
     type Info: Drop;
 
     /// The layer was made for the module.
     ghost is_for: { Self → PlainModule → Type 0 };
 
-    /// What it says of a function.
+    /// Its results for a function.
     ghost reading: { Self → Question → Reading };
 
-    /// What it says is wrong with one.
+    /// Its errors for a function.
     ghost faults: { Self → Question → Faults };
 
-    /// What it reports on the module's types.
+    /// Its `TypeInfo`s of the module's types.
     ghost told: { Self → List TypeInfo };
 
-    /// Which forms the types of the module's global expressions may have.
+    /// The possible forms of the types of the module's global expressions.
     ghost has_global_form: { Self → PlainModule → (expression : ℕ) → Form → Type 0 };
 
     /// The types of the module's global expressions.
     ghost global_types: { Self → List TypeResolution };
 
-    /// What an info says of the types of a function's expressions.
+    /// The types of a function's expressions in its information.
     ghost types: { Self → Self.Info → List TypeResolution };
 
-    /// What it says of uses and pairs.
+    /// The uses and pairs in it.
     ghost summary: { Self → Self.Info → Summary };
 
-    /// Which stages it has noted.
+    /// The stages noted in it.
     ghost noted: { Self → Self.Info → ShaderStages };
 
-    /// Whether it has noted that two sources are blended.
+    /// Whether dual source blending is noted in it.
     ghost blending: { Self → Self.Info → Bool };
 
-    /// What an info says of a function by itself, whatever it calls, besides the types of its expressions.
+    /// The information on a function by itself, independent of its callees, besides the types of its expressions.
     ghost own: { Self → PlainModule → PlainFunction → Self.Info → Type 0 };
 
-    /// What is reported of the module's types, in order.
+    /// The `TypeInfo`s of the module's types, in order.
     fn type_infos(&self) -> &[TypeInfo]
         ensures { result.now ≡ told self.now };
 
-    /// What is reported of a type. Requires that it is there.
+    /// The `TypeInfo` of a type. Requires that the type exists.
     fn type_info(&self, ty: Handle<key::IrType>) -> &TypeInfo
         requires { ty < length (told self.now) }
         ensures { slice_get (told self.now) ty ≡ Some result.now };
 
-    /// The type of a global expression. Requires that it is there.
+    /// The type of a global expression. Requires that the expression exists.
     fn global_resolution(&self, expression: Handle<key::Expression>) -> &TypeResolution
         requires { expression < length (global_types self.now) }
         ensures { slice_get (global_types self.now) expression ≡ Some result.now };
 
-    /// What is kept of a function, or of an entry point's. `callees` has what was kept of the functions before it, where stages
-    /// and uses may have been noted since. Requires that the function's handles are in order.
+    /// The information on a function, or on an entry point's. `callees` has that of earlier functions, in which stages and uses
+    /// may have been noted since. Requires that the function's handles are in order.
     ///
     /// # Errors
     ///
-    /// A fault of the analysis, each only where it occurs; or out of memory.
+    /// An error of the analysis, returned only if its condition holds; or out of memory.
     fn analyse(
         &self,
         alloc: Global,
@@ -113,7 +113,7 @@ pub trait Lower {
             → IfErr result (IsRefusedFor ((faults self.now (question (module_view «module».now) (function_view function.now) others (map (noted self.now) callees.now))).IsAnalysisFault flags)) }
         ensures own { IfOk result (own self.now (module_view «module».now) (function_view function.now)) };
 
-    /// The type of an expression. Requires that it is there.
+    /// The type of an expression. Requires that the expression exists.
     fn resolution<'a>(
         &self,
         info: &'a Self::Info,
@@ -122,12 +122,12 @@ pub trait Lower {
         requires { expression < length (types self.now info.now) }
         ensures { slice_get (types self.now info.now) expression ≡ Some result.now };
 
-    /// Whether an expression is accepted, and which stages may run it. `callees` has what was kept of the functions before. Requires
-    /// that the expression is there.
+    /// Whether an expression is valid, and which stages may run it. `callees` has the information on earlier functions.
+    /// Requires that the expression exists.
     ///
     /// # Errors
     ///
-    /// What is wrong with it, each only where it occurs.
+    /// An error of the expression, returned only if its condition holds.
     fn check_expression(
         &self,
         context: &BlockContext<'_>,
@@ -142,21 +142,21 @@ pub trait Lower {
             (λ stages. (reading self.now q).IsAccepted context.now.capabilities context.now.forms.now expression × (reading self.now q).IsRunBy expression stages)
             ((faults self.now q).IsFaultAt context.now.capabilities context.now.forms.now expression) };
 
-    /// Which stages have been noted.
+    /// The noted stages.
     fn stages(&self, info: &Self::Info) -> ShaderStages
         ensures { result ≡ noted self.now info.now };
 
-    /// How a global variable is used. Requires that it is there.
+    /// The use of a global variable. Requires that the variable exists.
     fn uses(&self, info: &Self::Info, global: Handle<key::GlobalVariable>) -> GlobalUse
         requires { global < length (summary self.now info.now).uses }
         ensures { slice_get (summary self.now info.now).uses global ≡ Some result };
 
-    /// The pairs of images and samplers.
+    /// The sampling pairs.
     fn pairs<'a>(&self, info: &'a Self::Info) -> &'a [SamplingPair]
         ensures { result.now ≡ (summary self.now info.now).pairs };
 
-    /// Notes stages, of which the common ones are left, further uses, and whether two sources are blended. Requires that the
-    /// variables are there. No memory is taken.
+    /// Notes stages, of which the common ones remain, further uses, and dual source blending. Requires that the variables
+    /// exist. It allocates nothing.
     fn note(
         &self,
         info: &mut Self::Info,
@@ -174,13 +174,13 @@ pub trait Lower {
         ensures types { types self.now info.new ≡ types self.now info.old }
         ensures own { (m : PlainModule) (f : PlainFunction) → own self.now m f info.old → own self.now m f info.new };
 
-    /// What it reports on types is reported of all types of its module.
+    /// Its `TypeInfo`s are right for all types of its module.
     ghost told_of_all: { (l : Self) (m : PlainModule) → is_for l m → AreReported m.types (told l) };
 
-    /// The types of global expressions are as it says.
+    /// The types of global expressions are right.
     ghost global_typed: { (l : Self) (m : PlainModule) → is_for l m → (e : ℕ) (r : TypeResolution) → slice_get (global_types l) e ≡ Some r → has_global_form l m e (form_given m.types r) };
 
-    /// A global expression that a variable of its module is initialized with has a type.
+    /// An initializer of a global variable of its module has a type.
     ghost initializers_typed: { (l : Self) (m : PlainModule) → is_for l m → (g : ℕ) (v : PlainGlobal) (e : ℕ) → slice_get m.globals g ≡ Some v → v.init ≡ Some e → e < length (global_types l) };
 
     /// The type of a global expression has one form.
@@ -189,12 +189,12 @@ pub trait Lower {
     /// The type of an expression has one form.
     ghost one_form: { (l : Self) (q : Question) (e : ℕ) (s t : Form) → (reading l q).HasForm e s → (reading l q).HasForm e t → s ≡ t };
 
-    /// An expression is run by the same stages, however often it is queried.
+    /// The stages that may run an expression do not depend on the call.
     ghost one_run: { (l : Self) (q : Question) (e : ℕ) (s t : ShaderStages) → (reading l q).IsRunBy e s → (reading l q).IsRunBy e t → s ≡ t };
 
-    /// A function with a fault of the analysis is not accepted by it.
+    /// A function with an error of the analysis is not valid for it.
     ghost fault_refutes: { (l : Self) (q : Question) (flags : ValidationFlags) (e : FunctionError) → (faults l q).IsAnalysisFault flags e → (reading l q).IsAnalysed flags → ⊥ };
 
-    /// Nor is an expression with a fault.
+    /// Nor is an expression with an error.
     ghost expression_refuted: { (l : Self) (q : Question) (capabilities : Capabilities) (forms : List Form) (e : ℕ) (x : ExpressionError) → (faults l q).IsFaultAt capabilities forms e x → (reading l q).IsAccepted capabilities forms e → ⊥ };
 }

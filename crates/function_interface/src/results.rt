@@ -11,13 +11,13 @@ use function_statement_checks::BlockContext;
 use typing_errors::FunctionError;
 use typing_layout::TypeInfo;
 
-/// Whether a function may answer what it answers, if it answers anything. `infos` has what is reported of the module's types;
-/// `entry` says that the function is an entry point's, whose result alone is bound.
+/// Whether the result of a function is valid, if it has one. `infos` has the `TypeInfo`s of the module; `entry` is whether the
+/// function is an entry point's, whose result alone has a binding.
 ///
 /// # Errors
 ///
-/// [`FunctionError::NonConstructibleReturnType`] where values of its type can't be composed, and
-/// [`FunctionError::PipelineOutputRegularFunction`] where it is bound and the function is no entry point's.
+/// [`FunctionError::NonConstructibleReturnType`] for a type that is not constructible, and
+/// [`FunctionError::PipelineOutputRegularFunction`] for a binding in a function that is not an entry point's.
 pub fn check_result(
     context: &BlockContext<'_>,
     infos: &[TypeInfo],

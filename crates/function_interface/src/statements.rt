@@ -9,8 +9,8 @@ use ir_blocks::Statement;
 use ir_flags::ShaderStages;
 use module_context::CalleeStages;
 
-/// The stages that may run a statement, what stands inside it aside (what naga's `validate_block_impl` joins a kind at a time).
-/// `subgroup_stages` are those that have operations of subgroups.
+/// The stages that may run a statement, without its inner blocks (what naga's `validate_block_impl` joins one kind at a time).
+/// `subgroup_stages` are those with subgroup operations.
 pub fn statement_stages<C: CalleeStages>(
     subgroup_stages: ShaderStages,
     callees: &C,

@@ -13,7 +13,7 @@ use ir_blocks::{Block, Statement, SwitchCase, plain_operation};
 use ir_flags::ShaderStages;
 use module_context::CalleeStages;
 
-// Which stages may run a statement, without its inner blocks. The walk is generic over them.
+// Which stages may run a statement, without its inner blocks. The walk is generic over it.
 trait RunBy {
     // The stages, as bits.
     ghost runs: { Self → PlainStatement → ℕ };
@@ -39,7 +39,7 @@ impl<C: CalleeStages> RunBy for StatementStages<'_, C> {
     }
 }
 
-// The stages that may run all statements of a block, at any depth, out of these.
+// The stages of these that may run all statements of a block, at any depth.
 #[cycle(walk)]
 fn left_in<R: RunBy>(rule: &R, stages: ShaderStages, block: &Block) -> ShaderStages
     ensures { result.0 ≡ left_in (R.runs rule.now) stages.0 (block_view block.now) }
@@ -53,7 +53,7 @@ fn left_in<R: RunBy>(rule: &R, stages: ShaderStages, block: &Block) -> ShaderSta
     left
 }
 
-// The stages that may run the inner blocks of a statement, out of these.
+// The stages of these that may run the inner blocks of a statement.
 #[cycle(walk)]
 fn left_within<R: RunBy>(rule: &R, stages: ShaderStages, statement: &Statement) -> ShaderStages
     ensures { result.0 ≡ left_within (R.runs rule.now) stages.0 (statement_view statement.now) }
@@ -94,8 +94,8 @@ fn left_in_cases<R: RunBy>(rule: &R, stages: ShaderStages, cases: &[SwitchCase])
     left
 }
 
-/// The stages that may run each statement of a body, at any depth (the `stages` that naga's `validate_block` answers).
-/// `subgroup_stages` are those that have operations of subgroups. No memory is taken.
+/// The stages that may run each statement of a body, at any depth (the `stages` returned by naga's `validate_block`).
+/// `subgroup_stages` are those with subgroup operations. It allocates nothing.
 pub fn stages_of<C: CalleeStages>(
     body: &Block,
     subgroup_stages: ShaderStages,

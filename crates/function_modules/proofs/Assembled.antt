@@ -26,8 +26,8 @@ use Rattle.module_steps.specs.Refusals.{IsVariableFault}
 use Rattle.module_steps.specs.Reported.{IsInfoOf}
 use Rattle.module_steps.specs.declared.error.ModuleError.{ModuleError}
 use Rattle.module_steps.specs.declared.globals.InvalidGlobalVariable.{InvalidGlobalVariable}
-use Rattle.function_real_lower.specs.Made.{IsMadeOf}
-use Rattle.function_real_lower.specs.Readings.{reading_of, faults_of}
+use Rattle.function_modules.specs.Made.{IsMadeOf}
+use Rattle.function_modules.specs.Readings.{reading_of, faults_of}
 use Rattle.spec_expressions.specs.judged.Summaries.{Summary}
 use Rattle.spec_interface.specs.judged.Modules.{AreStages}
 use Rattle.spec_expressions.specs.judged.Context.{outside}

@@ -1,19 +1,18 @@
 -- What is read with summaries of the callees is read by chains of calls.
 use Rattle.std.proofs.Common.{◌≡◌, ℕ, Bool, false, ◌<◌, List, length, Option, Some, None, sym, subst, ◌∙◌}
-use Rattle.std.proofs.lemmas.Option.{slice_get_within}
+use Rattle.std.proofs.lemmas.Option.{same_Some, slice_get_within}
 use Rattle.typing_errors.specs.declared.expressions.ExpressionError.TheVariants.{ExpectedGlobalOrArgument}
 use Rattle.typing_errors.specs.declared.error.FunctionError.{FunctionError}
 use Rattle.typing_errors.specs.declared.error.FunctionError.TheVariants.{Expression, NonUniformControlFlow}
 use Rattle.typing_errors.specs.declared.disruptor.UniformityDisruptor.TheVariants.{Discard}
 use Rattle.function_interface.specs.Question.{question}
-use Rattle.function_modules.proofs.Chained.{some_is}
 use Rattle.function_modules.specs.Judged.{IsAcceptedAt, IsRefusedAt}
 use Rattle.ir_flags.specs.declared.settings.ValidationFlags.{ValidationFlags}
 use Rattle.ir_flags.specs.declared.stages.ShaderStages.{ShaderStages}
 use Rattle.ir_flags.specs.declared.settings.Settings.{Settings}
 use Rattle.ir_items.specs.judged.Plain.{PlainFunction, PlainModule}
 use Rattle.ir_places.specs.declared.trail.Trail.{Trail}
-use Rattle.function_real_lower.specs.Readings.{reading_of, faults_of}
+use Rattle.function_modules.specs.Readings.{reading_of, faults_of}
 use Rattle.spec_expressions.specs.judged.Summaries.{Summary, CalleesKnown}
 use Rattle.spec_expressions.proofs.Members.{get-within}
 use Rattle.spec_expressions.specs.judged.Context.{inside}
@@ -80,7 +79,7 @@ module _ (s : Settings) (m : PlainModule) (index : ℕ) where
 
   pub refused_at : (t : Trail) (e : FunctionError) → IsRefusedAt reading_of faults_of s m index t e → FunctionAtOK s m index → ⊥
   refused_at t e r ok =
-      let same : ok.function ≡ r.function = some_is (sym ok.at ∙ r.at) in
+      let same : ok.function ≡ r.function = same_Some _ _ (sym ok.at ∙ r.at) in
       let held : ok.held ≡ r.given.held = one_payload s.flags m index ok.held r.given.held ok.before r.given.before in
       r.refused
       (ok_by_summaries m r.function r.given.summaries r.given.stages r.given.stages r.given.known s false r.given.held

@@ -1,7 +1,7 @@
 -- The functions of a module, one more of them judged.
 use Rattle.std.proofs.Common.{◌≡◌, ◌↔◌, ◌⊎◌, inl, inr, ℕ, false, zero, suc, ◌+◌, ◌<◌, List, [], ◌∷◌, ◌++◌, length, Option, Some, None, refl, sym, ap, subst, ◌∙◌, arith, slice_get}
 use Rattle.std.proofs.lemmas.Bool.{cases_eq}
-use Rattle.std.proofs.lemmas.Option.{slice_get_within}
+use Rattle.std.proofs.lemmas.Option.{same_Some, slice_get_within}
 use Rattle.typing_errors.specs.declared.error.FunctionError.{FunctionError}
 use Rattle.function_whole.specs.Faults.{IsFunctionFaultAt}
 use Rattle.function_interface.specs.Analysis.{Faults, IsRefusedFor, IsRefusedAt as IsAnalysisRefusedAt}
@@ -38,15 +38,12 @@ one_more_at [] y (suc i) x e = cc
 one_more_at (z ∷ xs) y zero x e = inl e
 one_more_at (z ∷ xs) y (suc i) x e = elim (one_more_at xs y i x e) [ inl a ↦ inl a | inr b ↦ inr (ap suc b.0, b.1) ]
 
-pub some_is : {A : Type 0} {x y : A} → Some x ≡ Some y → x ≡ y
-some_is e = cc (e)
-
 more_summaries : (m : PlainModule) (n : ℕ) (f : PlainFunction) (summaries : List Summary) (t : Summary) → length summaries ≡ n → slice_get m.functions n ≡ Some f → AreSummaries m summaries → IsSummary m f t
     → AreSummaries m (summaries ++ t ∷ [])
 more_summaries m n f summaries t many at known is i g s found summary = elim (one_more_at summaries t i s summary) [
   | inl before ↦ known i g s found before
   | inr last ↦
-      (let same : f ≡ g = some_is (sym at ∙ (ap (slice_get m.functions) (sym many ∙ sym last.0) ∙ found)) in
+      (let same : f ≡ g = same_Some _ _ (sym at ∙ (ap (slice_get m.functions) (sym many ∙ sym last.0) ∙ found)) in
       subst (λ u. IsSummary m g u) last.1 (subst (λ h. IsSummary m h t) same is))
 ]
 
@@ -61,7 +58,7 @@ pub own_more : {Plain Info : Type 0} (Own : Plain → Info → Type 0) (items : 
 own_more Own items infos n f i many at before own index g j found there = elim (one_more_at infos i index j there) [
   | inl earlier ↦ before index g j found earlier
   | inr last ↦
-      (let same : f ≡ g = some_is (sym at ∙ (ap (slice_get items) (sym many ∙ sym last.0) ∙ found)) in
+      (let same : f ≡ g = same_Some _ _ (sym at ∙ (ap (slice_get items) (sym many ∙ sym last.0) ∙ found)) in
       subst (λ u. Own g u) last.1 (subst (λ h. Own h i) same own))
 ]
 

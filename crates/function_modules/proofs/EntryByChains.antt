@@ -1,11 +1,10 @@
 -- What is read of entry points with summaries of the functions is read by chains of calls.
 use Rattle.std.proofs.Common.{◌≡◌, ℕ, true, Bool, List, length, Option, Some, sym, subst, ◌∙◌, slice_get}
-use Rattle.std.proofs.lemmas.Option.{slice_get_within}
+use Rattle.std.proofs.lemmas.Option.{same_Some, slice_get_within}
 use Rattle.function_entry_checks.specs.declared.error.EntryPointError.{EntryPointError}
 use Rattle.function_interface.specs.Question.{question}
 use Rattle.function_whole.specs.Validated.{IsEntryNoted}
 use Rattle.function_modules.proofs.ByChains.{ok_by_chains, ok_by_summaries}
-use Rattle.function_modules.proofs.Chained.{some_is}
 use Rattle.function_modules.proofs.EntryHeld.{one_entry_held}
 use Rattle.function_modules.proofs.EntrySteps.{entry_conditions, entry_known}
 use Rattle.function_modules.specs.JudgedEntries.{IsEntryAcceptedAt, IsEntryRefusedAt, IsWrong, conflicting, unaccepted, IsFirstEntryRefused}
@@ -16,7 +15,7 @@ use Rattle.ir_flags.specs.declared.settings.Settings.{Settings}
 use Rattle.ir_items.specs.judged.Plain.{PlainEntry, PlainFunction, PlainModule}
 use Rattle.ir_places.specs.declared.trail.Trail.{Trail}
 use Rattle.typing_handles.proofs.Ordered.{order_gives_conditions}
-use Rattle.function_real_lower.specs.Readings.{reading_of, faults_of}
+use Rattle.function_modules.specs.Readings.{reading_of, faults_of}
 use Rattle.spec_expressions.specs.judged.CallChains.{HasUse}
 use Rattle.spec_expressions.specs.judged.Summaries.{Summary, AreSummaries, CalleesKnown}
 use Rattle.spec_interface.proofs.OneStages.{all_agree, allows_other}
@@ -113,7 +112,7 @@ module _ (s : Settings) (m : PlainModule) (handles : HandlesOK m) (summaries : L
   same_ok : (index : ℕ) (ok : EntryAtOK s m index) (e : PlainEntry) → slice_get m.entries index ≡ Some e → (held : Option ℕ) → ok.held ≡ held
       → EntryOK (reading_of (question m e.function summaries stages)) stages (HasUse m e.function) s held m e
   same_ok index ok e at held same_held =
-      let same : ok.entry ≡ e = some_is (sym ok.at ∙ at) in
+      let same : ok.entry ≡ e = same_Some _ _ (sym ok.at ∙ at) in
       let moved = other_stages index ok.entry ok.at ok.stages ok.run ok.held ok.ok in
       subst (λ h. EntryOK (reading_of (question m e.function summaries stages)) stages (HasUse m e.function) s h m e) same_held
       (subst (λ (g : PlainEntry). EntryOK (reading_of (question m g.function summaries stages)) stages (HasUse m g.function) s ok.held m g) same
@@ -121,7 +120,7 @@ module _ (s : Settings) (m : PlainModule) (handles : HandlesOK m) (summaries : L
 
   wrong_refutes : (index : ℕ) (ok : EntryAtOK s m index) (e : PlainEntry) → slice_get m.entries index ≡ Some e → (held : Option ℕ) → ok.held ≡ held → (t : Trail) (x : EntryPointError)
       → IsWrong reading_of faults_of s m summaries stages index e held t x → ⊥
-  wrong_refutes index ok e at held same_held t _ (conflicting c) = ok.apart (subst (λ (g : PlainEntry). IsConflict m index g) (some_is (sym at ∙ ok.at)) c)
+  wrong_refutes index ok e at held same_held t _ (conflicting c) = ok.apart (subst (λ (g : PlainEntry). IsConflict m index g) (same_Some _ _ (sym at ∙ ok.at)) c)
   wrong_refutes index ok e at held same_held t _ (unaccepted refused placed) = refused (same_ok index ok e at held same_held)
 
   pub refused_at : (index : ℕ) (t : Trail) (x : EntryPointError) → IsEntryRefusedAt reading_of faults_of s m summaries stages index t x → ¬ EntryAtOK s m index

@@ -1,7 +1,7 @@
 -- The entry points of a module, one more of them judged.
 use Rattle.std.proofs.Common.{◌≡◌, inl, inr, ℕ, Bool, ◌+◌, ◌<◌, List, [], ◌∷◌, ◌++◌, length, Option, Some, refl, sym, ap, subst, ◌∙◌, arith, slice_get}
 use Rattle.std.proofs.lemmas.List.Elements.{Contains-append_left, Contains-append_right}
-use Rattle.std.proofs.lemmas.Option.{slice_get_cases}
+use Rattle.std.proofs.lemmas.Option.{same_Some, slice_get_cases}
 use Rattle.std.specs.Prelude.{Contains, IfSome, None, option_to_list}
 use Rattle.function_entry_checks.specs.Faults.{IsRefusedFor}
 use Rattle.function_entry_checks.specs.declared.error.EntryPointError.{EntryPointError}
@@ -9,7 +9,7 @@ use Rattle.function_whole.specs.EntryFaults.{IsEntryPointFaultAt, IsRefusedAs, I
 use Rattle.function_whole.specs.Validated.{IsEntryNoted, IsEntrySummary, IsEntryValidated}
 use Rattle.function_interface.specs.Analysis.{Faults}
 use Rattle.function_interface.specs.Question.{Question, question}
-use Rattle.function_modules.proofs.Chained.{one_more_at, some_is, one_longer, below_or_here}
+use Rattle.function_modules.proofs.Chained.{one_more_at, one_longer, below_or_here}
 use Rattle.function_modules.proofs.EntryHeld.{entry_held_next}
 use Rattle.function_modules.specs.JudgedEntries.{reading_at, Note, IsEntryAcceptedAt, IsEntryRefusedAt, conflicting, unaccepted, AreEntryNotes, AreEntrySummaries, AreEntriesJudged, IsFirstEntryRefused, IsEntryReportedAt, IsConflictReported, IsEntryRefusal}
 use Rattle.function_errors.specs.declared.error.InvalidEntryPoint.{InvalidEntryPoint}
@@ -95,7 +95,7 @@ module _ (m : PlainModule) (handles : HandlesOK m) (n : ℕ) (e : PlainEntry) (a
         | inl before ↦ judged.known i f u found before
         | inr last ↦
             (let here : i ≡ n = last.0 ∙ judged.many in
-            let same : e ≡ f = some_is (sym at ∙ (ap (slice_get m.entries) (sym here) ∙ found)) in
+            let same : e ≡ f = same_Some _ _ (sym at ∙ (ap (slice_get m.entries) (sym here) ∙ found)) in
             subst (IsEntrySummary m f) last.1 (subst (λ (g : PlainEntry). IsEntrySummary m g t) same v.summary))
       ]
 
@@ -114,7 +114,7 @@ module _ (m : PlainModule) (handles : HandlesOK m) (n : ℕ) (e : PlainEntry) (a
         | inl before ↦ judged.noted i f u found before
         | inr last ↦
             (let here : i ≡ n = last.0 ∙ judged.counted in
-            let same : e ≡ f = some_is (sym at ∙ (ap (slice_get m.entries) (sym here) ∙ found)) in
+            let same : e ≡ f = same_Some _ _ (sym at ∙ (ap (slice_get m.entries) (sym here) ∙ found)) in
             subst (λ (w : Note). IsEntryNoted (reading_at reading m summaries stages f) stages s m f w.0 w.1) last.1
             (subst (λ (g : PlainEntry). IsEntryNoted (reading_at reading m summaries stages g) stages s m g own blending) same noted_here))
       ]

@@ -11,7 +11,7 @@ use Rattle.ir_types.specs.declared.refusal.Refusal.TheVariants as refusal
 use Rattle.ir_flags.specs.declared.stages.ShaderStages.{ShaderStages}
 use Rattle.ir_flags.specs.declared.settings.Settings.{Settings}
 use Rattle.ir_items.specs.judged.Plain.{PlainModule}
-use Rattle.function_real_lower.specs.Readings.{reading_of, faults_of}
+use Rattle.function_modules.specs.Readings.{reading_of, faults_of}
 use Rattle.spec_expressions.specs.judged.Summaries.{Summary}
 
 module _ (s : Settings) (m : PlainModule) where

@@ -1,3 +1,5 @@
+mod Kept
+pub mod MadeOf
 mod Placed
 mod Chained
 mod EntryHeld

@@ -1,15 +1,16 @@
 -- The names of the first so many entry points, with one more.
 use Rattle.std.proofs.Common.{◌≡◌, ◌⊎◌, ◌↔◌, inl, inr, ℕ, ◌+◌, List, Some, sym, ap, subst, ◌∙◌, arith, slice_get}
+use Rattle.std.proofs.lemmas.Option.{same_Some}
 use Rattle.function_whole.specs.EntryNames.{AreNamesBelow, IsNamedBelow, IsSeen}
 use Rattle.function_whole.specs.declared.entry_names.SeenNames.{SeenNames}
-use Rattle.function_modules.proofs.Chained.{below_or_here, some_is}
+use Rattle.function_modules.proofs.Chained.{below_or_here}
 use Rattle.ir_items.specs.judged.Plain.{PlainEntry, PlainModule}
 use Rattle.ir_kinds.specs.declared.stages.ShaderStage.{ShaderStage}
 use Rattle.spec_interface.specs.judged.EntryNames.{IsConflict}
 
 module _ (m : PlainModule) (n : ℕ) (old : SeenNames) (below : AreNamesBelow m n old) (e : PlainEntry) (at : slice_get m.entries n ≡ Some e) where
   same_entry : (f : PlainEntry) → slice_get m.entries n ≡ Some f → e ≡ f
-  same_entry f there = some_is (sym at ∙ there)
+  same_entry f there = same_Some _ _ (sym at ∙ there)
 
   pub conflict : IsSeen old e.stage e.name → (f : PlainEntry) → slice_get m.entries n ≡ Some f → IsConflict m n f
   conflict seen f there =

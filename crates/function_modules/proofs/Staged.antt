@@ -1,7 +1,7 @@
 -- What is noted of functions that were judged one after the other is which stages may run them, each with its callees.
 use Rattle.std.proofs.Common.{◌≡◌, ◌↔◌, ℕ, ◌<◌, List, length, Some, refl, sym, ap, subst, ◌∙◌, slice_get, unwrap_or}
+use Rattle.std.proofs.lemmas.Option.{same_Some}
 use Rattle.function_interface.specs.Question.{question}
-use Rattle.function_modules.proofs.Chained.{some_is}
 use Rattle.function_modules.specs.Judged.{IsNotedAt, AreNoted}
 use Rattle.ir_blocks.specs.judged.Places.{Place, OccursAt}
 use Rattle.ir_blocks.specs.judged.Plain.{PlainStatement, emit, block, if_, switch, loop, break, continue, return, kill, operation, call, PlainOperation, control_barrier}
@@ -12,7 +12,7 @@ use Rattle.ir_flags.specs.Sets.{Has}
 use Rattle.ir_flags.specs.declared.stages.ShaderStages.{ShaderStages}
 use Rattle.ir_flags.specs.declared.settings.Settings.{Settings}
 use Rattle.ir_items.specs.judged.Plain.{PlainFunction, PlainModule}
-use Rattle.function_real_lower.specs.Readings.{reading_of}
+use Rattle.function_modules.specs.Readings.{reading_of}
 use Rattle.spec_expressions.specs.judged.Summaries.{Summary}
 use Rattle.spec_interface.specs.judged.Modules.{AreStages}
 use Rattle.spec_statements.specs.judged.ModuleFunctions.{reading_over}
@@ -74,7 +74,7 @@ module _ (s : Settings) (m : PlainModule) (noted : List ShaderStages) (precede :
   noted_at : (index : ℕ) (f : PlainFunction) (own : ShaderStages) → slice_get m.functions index ≡ Some f → IsNotedAt reading_of s m noted index own
       → (stage : ℕ) → Has own.0 stage ↔ (Has all_stages.0 stage × AllowsStage (reading_over noted m f) s noted f stage)
   noted_at index f own at n stage =
-      let same : n.function ≡ f = some_is (sym n.at ∙ at) in
+      let same : n.function ≡ f = same_Some _ _ (sym n.at ∙ at) in
       let go = precede index n.function n.at in
       subst (λ g. Has own.0 stage ↔ (Has all_stages.0 stage × AllowsStage (reading_over noted m g) s noted g stage)) same (
         λ h. (let r = (n.exact stage).0 h in (r.0, allows_with index n.function n.given.stages noted go n.same s m n.given.summaries stage r.1)),

@@ -1,3 +1,7 @@
+pub mod Readings
+pub mod Made
+pub mod Laws
+pub mod Severities
 pub mod Settings
 pub mod Judged
 pub mod JudgedEntries

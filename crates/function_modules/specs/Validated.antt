@@ -1,4 +1,4 @@
--- What is answered of a whole module.
+-- The results for a whole module.
 use Rattle.std.specs.Prelude.{◌≡◌, [], Bool, List, length, map}
 use Rattle.typing_infos.specs.Infos.{summary_of}
 use Rattle.typing_infos.specs.declared.function_info.FunctionInfo.{FunctionInfo}
@@ -19,7 +19,7 @@ use Rattle.typing_infos.specs.declared.info.ModuleInfo.{ModuleInfo}
 use Rattle.module_context.specs.AcceptedTypes.{AreAccepted}
 use Rattle.module_steps.specs.Faults.{IsModuleFault}
 use Rattle.module_steps.specs.Refusals.{IsVariableFault}
-use Rattle.function_real_lower.specs.Readings.{reading_of, faults_of}
+use Rattle.function_modules.specs.Readings.{reading_of, faults_of}
 use Rattle.spec_expressions.specs.judged.Summaries.{Summary, AreSummaries}
 use Rattle.spec_interface.specs.judged.Modules.{EntryAtOK}
 use Rattle.spec_interface.specs.judged.Modules.{EntriesOK, AreStages}
@@ -31,7 +31,7 @@ use Rattle.typing_infos.specs.Types.{AreTypes}
 use Rattle.typing_layout.specs.found.Held.{AreLayouts}
 use Rattle.spec_expressions.specs.judged.Firsts.{FailsFirst}
 
--- All entry points are accepted, and these are their summaries.
+-- All entry points are valid, and these are their summaries.
 pub record AreEntriesKept (s : Settings) (m : PlainModule) (kept : List Summary) : Type 0 where
   pub accepted : EntriesOK s m
   pub many : length kept ≡ length m.entries
@@ -41,20 +41,20 @@ pub record AreEntriesKept (s : Settings) (m : PlainModule) (kept : List Summary)
 abbrev pub stages_of : FunctionInfo → ShaderStages
 stages_of i = i.available_stages
 
--- What is noted of functions and of entry points: which stages may run each of them, with the functions that it calls, and whether
--- an entry point answers two sources of a blend.
+-- The notes on functions and entry points: which stages may run each of them, with its callees, and whether the results of an
+-- entry point have two blend sources.
 pub record AreNoted (s : Settings) (m : PlainModule) (functions entries : List FunctionInfo) : Type 0 where
   pub run : AreStages s m (map stages_of functions)
   pub counted : length entries ≡ length m.entries
   pub entries_noted : AreEntryNotes (λ e. reading_over (map stages_of functions) m e.function) s m (map stages_of functions) (map (note_of stages_of (λ i. i.dual_source_blending)) entries)
 
--- What is kept of functions and of entry points by themselves: of each expression, and the pairs of global variables among those
--- that they sample; and no function that is not an entry point's blends.
+-- The information on functions and entry points by themselves: on each expression, and the pairs of global variables that they
+-- sample; only functions of entry points have dual source blending.
 pub record AreOwnInfos (m : PlainModule) (info : ModuleInfo) : Type 0 where
   pub functions : AreOwn (FunctionKeeps (IsOwnInfo m) (λ (i : FunctionInfo). i.dual_source_blending)) m.functions info.functions.items
   pub entries : AreOwn (EntryKeeps (IsOwnInfo m)) m.entries info.entry_points.items
 
--- All steps accept the module, and this is kept of it.
+-- All steps accept the module, and this is the information on it.
 pub record IsValidated (s : Settings) (resolved : Bool) (m : PlainModule) (info : ModuleInfo) : Type 0 where
   pub ok : ModuleOK s resolved m
   pub globals : GlobalsOK s.flags s.capabilities m
@@ -67,7 +67,7 @@ pub record IsValidated (s : Settings) (resolved : Bool) (m : PlainModule) (info 
   pub expressions : AreTypes (outside m) m.global_expressions info.const_expression_types.items
   pub own : AreOwnInfos m info
 
--- It is the first entry point that is not accepted, and this is wrong with it.
+-- It is the first invalid entry point, with this error.
 pub record IsEntryFault (s : Settings) (m : PlainModule) (e : InvalidEntryPoint) : Type 0 where
   pub first : FailsFirst (length m.entries) (EntryAtOK s m) e.index
   pub summaries : List Summary
@@ -77,22 +77,21 @@ pub record IsEntryFault (s : Settings) (m : PlainModule) (e : InvalidEntryPoint)
   pub run : AreStages s m stages
   pub fault : IsEntryRefusedAt reading_of faults_of s m summaries stages e.index e.trail e.error
 
--- Each error stands where its step is the first that fails, at the first item that fails it, which has the fault that the
--- error tells.
+-- Each error is that of the first failing step, at the first item that fails it, and its condition holds.
 abbrev pub IsValidationFault : Settings → (resolved : Bool) → PlainModule → ValidationError → Type 0
 IsValidationFault s resolved m (error.Module e) = IsModuleFault s resolved m e
 IsValidationFault s resolved m (error.GlobalVariable e) = ModuleOK s resolved m × IsVariableFault s.flags s.capabilities m e
 IsValidationFault s resolved m (error.Function e) = ModuleOK s resolved m × GlobalsOK s.flags s.capabilities m × IsFunctionFault s m e
 IsValidationFault s resolved m (error.EntryPoint e) = ModuleOK s resolved m × GlobalsOK s.flags s.capabilities m × FunctionsOK s m × IsEntryFault s m e
 
--- memory ran out, or this is reported, with no span
+-- out of memory, or this error, without spans
 abbrev pub IsRefusedWith : {E : Type 0} → (E → Type 0) → Refusal E → Type 0
 IsRefusedWith IsFault (refusal.Memory e) = Unit {0}
 IsRefusedWith IsFault (refusal.Fault e) = IsFault (error_of e) × (spans_of e ≡ [])
 
 -- ---- after the global variables
 
--- The functions and the entry points are accepted; this is kept of them, and else what was kept before.
+-- The functions and the entry points are valid; this is the information on them, with the information before.
 pub record IsKeptWith (s : Settings) (m : PlainModule) (before info : ModuleInfo) : Type 0 where
   pub functions : AreKept s m (map summary_of info.functions.items)
   pub entries : AreEntriesKept s m (map summary_of info.entry_points.items)

@@ -1,4 +1,4 @@
-//! All entry points of a module, one after the other.
+//! All entry points of a module, in order.
 
 ghost use Rattle.std.specs.Prelude.{◌≡◌, ◌<◌, ◌+◌, ◌++◌, ◌∷◌, [], MatchResult, OnOk, Some, length, map, slice_get};
 ghost use Rattle.function_entries.specs.Interfaces.{AreInterfacesKnown};
@@ -27,7 +27,7 @@ use ir_types::refusal::Refusal;
 use ir_types::with_span::WithSpan;
 use std::alloc::Global;
 
-// The refusal of the entry point at an index, as one of all entry points, with where it stands.
+// The refusal of the entry point at an index, as one of all entry points, with its place.
 fn refusal_at(
     alloc: Global,
     index: usize,
@@ -49,7 +49,7 @@ fn refusal_at(
     }
 }
 
-// Whether no earlier entry point has the stage and the name of the one at an index, which are noted.
+// Whether no earlier entry point has the stage and the name of the one at an index; both are noted.
 fn check_name(
     alloc: Global,
     module: &Module,
@@ -77,7 +77,7 @@ fn check_name(
     }
 }
 
-// What is kept of the entry point at an index, where this is kept of the functions and this type of payloads is kept.
+// The information on the entry point at an index, given that on the functions and the payload type so far.
 fn judge_next<L: Lower>(
     validator: &Validator<L>,
     module: &Module,
@@ -124,8 +124,8 @@ fn judge_next<L: Lower>(
     }
 }
 
-// What is kept of all entry points of a module, where this is kept of its functions, this type of payloads is kept after them and
-// the types are marked that are made as its type of rays is.
+// The information on all entry points of a module, given that on its functions, the payload type after them, and the types
+// equivalent to its ray descriptor type.
 pub(crate) fn judge_entries<L: Lower>(
     validator: &Validator<L>,
     module: &Module,

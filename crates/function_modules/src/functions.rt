@@ -1,4 +1,4 @@
-//! All functions of a module, one after the other.
+//! All functions of a module, in order.
 
 ghost use Rattle.std.specs.Prelude.{◌≡◌, ◌<◌, ◌+◌, ◌++◌, ◌∷◌, [], MatchResult, length, map};
 ghost use Rattle.function_modules.specs.Judged.{AreJudgedWith, FunctionKeeps, IsReportedAt, IsRefusal};
@@ -19,14 +19,14 @@ use ir_types::with_span::WithSpan;
 use std::alloc::Global;
 use typing_errors::FunctionError;
 
-// What is kept of all functions, and the type of their payloads, if one has any.
+// The information on all functions, and their payload type, if any.
 #[derive(Drop)]
 pub(crate) struct Judged<I> {
     pub(crate) infos: Vec<I>,
     pub(crate) held: Option<Handle<key::IrType>>,
 }
 
-// The refusal of the function at a handle, as one of all functions, with where it stands.
+// The refusal of the function at a handle, as one of all functions, with its place.
 fn refusal_at(
     alloc: Global,
     handle: Handle<key::Function>,
@@ -48,7 +48,7 @@ fn refusal_at(
     }
 }
 
-// The answer on the function at a handle, where this is kept of those before it and this type of payloads is kept.
+// The result for the function at a handle, given the information on earlier ones and the payload type so far.
 fn judge_next<L: Lower>(
     validator: &Validator<L>,
     module: &Module,
@@ -87,8 +87,8 @@ fn judge_next<L: Lower>(
     }
 }
 
-// What is kept of all functions of a module, where no payloads are kept before them and the types are marked that are made as its
-// type of rays is.
+// The information on all functions of a module, without a payload type before them, given the types equivalent to its ray
+// descriptor type.
 pub(crate) fn judge_all<L: Lower>(
     validator: &Validator<L>,
     module: &Module,

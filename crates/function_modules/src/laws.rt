@@ -1,4 +1,4 @@
-//! The layer that is made for a module, and what is required of an accepted module.
+//! The layer made for a module, and what is required of a valid module.
 
 ghost use Rattle.std.specs.Prelude.{◌≡◌, length};
 ghost use Rattle.ir_items.specs.found.View.{module_view};
@@ -7,16 +7,16 @@ ghost use Rattle.judgement_laws.specs.judged.Sound.{BoundsDepth};
 
 use ir_items::Module;
 
-/// Where [`module_steps::ModuleValidator::validate`] accepts a module, or
-/// [`module_steps::ModuleValidator::validate_resolved_overrides`], the layer that [`function_real_lower::RealLower::new`] makes of
-/// what is kept of it is one for that module: what the calls of [`crate::Validator`] require of it.
+/// If [`module_steps::ModuleValidator::validate`] or [`module_steps::ModuleValidator::validate_resolved_overrides`] accepts a
+/// module, the layer that [`crate::RealLower::new`] makes of its `ModuleInfo` was made for that module, as the
+/// calls of [`crate::Validator`] require.
 pub fn made_for_accepted()
     ensures { MadeForAccepted }
 {}
 
-/// How deep the calls of a run nest at most, the entry point's own body being at 0: as deep as the module has functions.
+/// A bound on the call depth of a run, where the entry point's own body has depth 0: the number of the module's functions.
 ///
-/// So it is for every module that all steps of the check accept with the flags for layouts, bodies and expressions.
+/// It holds for every module that all steps accept with the flags for layouts, bodies and expressions.
 pub fn entry_depth_bound(module: &Module) -> usize
     ensures value { result ≡ length (module_view «module».now).functions }
     ensures bound { BoundsDepth (module_view «module».now) result }

@@ -1,11 +1,19 @@
-//! The functions and the entry points of a module, judged over any layer beneath them; and all steps over a module, over the
-//! layer of its own ([`Validator`]).
+//! The check of the functions and the entry points of a module, over any layer; and all steps of a module ([`Validator`]), over the
+//! layer of the type inference, the analysis and the expression checks of this repository ([`RealLower`]).
 #![tactic(auto)]
 
 mod entries;
 mod functions;
 pub mod laws;
+mod real;
 mod validator;
 mod whole;
 
+// Names of the crates beneath, for the crates above
+pub use function_entry_checks::EntryPointError;
+pub use function_errors::{InvalidEntryPoint, InvalidFunction, Named, ValidationError};
+pub use function_interface::Lower;
+pub use function_whole::{Validated, validate_entry_point, validate_function, validate_global_var};
+pub use module_steps::{InvalidGlobalVariable, ModuleError};
+pub use real::RealLower;
 pub use validator::Validator;

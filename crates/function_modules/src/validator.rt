@@ -1,4 +1,4 @@
-//! A validator of functions, over any layer beneath them.
+//! The validator of functions, over any layer.
 
 ghost use Rattle.std.specs.Prelude.{◌≡◌, ◌<◌, ◌↔◌, ℕ, IfErr, IfOk, IfSome, MatchResult, None, OnErr, OnOk, false, length, map};
 ghost use Rattle.function_entry_checks.specs.Faults.{IsRefusedFor as IsRefusalFor};
@@ -42,21 +42,21 @@ use module_globals::GlobalVariableError;
 use std::alloc::Global;
 use typing_errors::FunctionError;
 
-/// What judges the functions of a module, one after the other (naga's `Validator`, as far as it speaks of functions). It keeps
-/// the type of the payloads of the rays so far, and nothing else.
+/// Validates the functions of a module, in order (naga's `Validator`, as far as it concerns functions). It keeps the payload
+/// type of the rays so far, and no other state.
 #[derive(Drop)]
 pub struct Validator<L> {
     pub(crate) alloc: Global,
-    /// The layer beneath.
+    /// The layer.
     pub lower: L,
-    /// By what it judges.
+    /// The settings.
     pub settings: Settings,
-    /// The type of the payloads of the functions so far, if one has any.
+    /// The payload type of the functions so far, if any.
     pub held: Option<Handle<key::IrType>>,
 }
 
 impl<L: Lower> Validator<L> {
-    /// A validator that makes these checks, of shaders that may use this, without operations of subgroups. It takes no memory.
+    /// A validator with these flags and capabilities, without subgroup operations. It allocates nothing.
     pub fn new(alloc: Global, lower: L, flags: ValidationFlags, capabilities: Capabilities) -> Self
         ensures { result ≡ record {
           alloc = alloc;
@@ -78,7 +78,7 @@ impl<L: Lower> Validator<L> {
         }
     }
 
-    /// A validator that makes the checks of these settings.
+    /// A validator with these settings.
     pub fn with_settings(alloc: Global, lower: L, settings: Settings) -> Self
         ensures lower { result.lower ≡ lower }
         ensures settings { result.settings ≡ settings }
@@ -92,37 +92,37 @@ impl<L: Lower> Validator<L> {
         }
     }
 
-    /// Says which stages have operations of subgroups.
+    /// Sets the stages with subgroup operations.
     pub fn subgroup_stages(&mut self, stages: ShaderStages)
         ensures { self.new ≡ record self.old { settings = record self.old.settings { subgroup_stages = stages } } }
     {
         self.settings.subgroup_stages = stages;
     }
 
-    /// Says which operations of subgroups may be used.
+    /// Sets the supported subgroup operations.
     pub fn subgroup_operations(&mut self, operations: SubgroupOperationSet)
         ensures { self.new ≡ record self.old { settings = record self.old.settings { subgroup_operations = operations } } }
     {
         self.settings.subgroup_operations = operations;
     }
 
-    /// Forgets the payloads of the functions that were judged.
+    /// Clears the payload type of earlier functions.
     pub fn reset(&mut self)
         ensures { self.new ≡ record self.old { held = None } }
     {
         self.held = None;
     }
 
-    /// Whether a function of the module is accepted, and what is kept of it (naga's `Validator::validate_function`). `mod_info`
-    /// has what this call answered for the functions before it, in order, where stages and uses may have been noted since;
-    /// `entry_point` says that the function is an entry point's. The payload type is kept where the function is accepted; a
-    /// refusal leaves the validator as it was.
+    /// Whether a function of the module is valid, and the information on it (naga's `Validator::validate_function`). `mod_info`
+    /// has the results of this call for earlier functions, in order, in which stages and uses may have been noted since;
+    /// `entry_point` is whether the function is an entry point's. The payload type is kept if the function is valid; an error
+    /// leaves the validator unchanged.
     ///
     /// Requires that the layer was made for the module, and that the handles of the function are in order.
     ///
     /// # Errors
     ///
-    /// What [`validate_function`] answers.
+    /// Those of [`validate_function`].
     pub fn validate_function(
         &mut self,
         fun: &Function,
@@ -158,11 +158,11 @@ impl<L: Lower> Validator<L> {
         }
     }
 
-    /// The same, where the trail leads to the call or to the statement at fault, if the fault is one of these and the trail is not lost.
+    /// The same, with a trail to the call or the statement with the error, if it is in one of these and the trail is not lost.
     ///
     /// # Errors
     ///
-    /// What [`validate_function`] answers.
+    /// Those of [`validate_function`].
     pub fn validate_function_placed(
         &mut self,
         trail: &mut Trail,
@@ -213,16 +213,16 @@ impl<L: Lower> Validator<L> {
         }
     }
 
-    /// Whether an entry point of the module is accepted, and what is kept of it (naga's `Validator::validate_entry_point`), all but
-    /// that none before it has its stage and its name. `mod_info` has what [`Validator::validate_function`] answered for the
-    /// functions of the module, in order, where stages and uses may have been noted since. The payload type is kept where the entry
-    /// point is accepted; a refusal leaves the validator as it was.
+    /// Whether an entry point of the module is valid, and the information on it (naga's `Validator::validate_entry_point`),
+    /// except that no earlier one has its stage and its name. `mod_info` has the results of [`Validator::validate_function`]
+    /// for the functions of the module, in order, in which stages and uses may have been noted since. The payload type is kept
+    /// if the entry point is valid; an error leaves the validator unchanged.
     ///
     /// Requires that the layer was made for the module, and that its handles are in order.
     ///
     /// # Errors
     ///
-    /// What [`validate_entry_point`] answers.
+    /// Those of [`validate_entry_point`].
     pub fn validate_entry_point(
         &mut self,
         ep: &EntryPoint,
@@ -253,12 +253,12 @@ impl<L: Lower> Validator<L> {
         }
     }
 
-    /// The same, where the trail leads to the call or to the statement at fault in its function, if the fault is one of these and the
+    /// The same, with a trail to the call or the statement with the error in its function, if it is in one of these and the
     /// trail is not lost.
     ///
     /// # Errors
     ///
-    /// What [`validate_entry_point`] answers.
+    /// Those of [`validate_entry_point`].
     pub fn validate_entry_point_placed(
         &mut self,
         trail: &mut Trail,
@@ -305,17 +305,17 @@ impl<L: Lower> Validator<L> {
         }
     }
 
-    /// Whether the module may have a global variable of its own, by the typing of global expressions that the layer has (naga's
-    /// `Validator::validate_global_var`). Where the variable has an initializer, it takes time and memory for each global
-    /// expression; [`Validator::validate`] goes over them only once.
+    /// Whether a global variable of the module is valid, with the types of global expressions of the layer (naga's
+    /// `Validator::validate_global_var`). If the variable has an initializer, it takes time and memory for each global
+    /// expression; [`Validator::validate`] visits them only once.
     ///
-    /// Requires that the layer was made for the module, that the handles of the module are in order, and that the variable is one
-    /// of the module's.
+    /// Requires that the layer was made for the module, that the handles of the module are in order, and that the variable is
+    /// one of the module's.
     ///
     /// # Errors
     ///
-    /// [`Refusal::Fault`] exactly where the module may not have the variable, with a fault that it has and no span; of several
-    /// faults it is one. [`Refusal::Memory`] where memory ran out. The validator is as it was in any case.
+    /// [`Refusal::Fault`] exactly if the variable is invalid, with an error whose condition holds and no span; if several hold,
+    /// it is one of them. [`Refusal::Memory`] if out of memory. The validator is unchanged in any case.
     pub fn validate_global_var(
         &self,
         var: &GlobalVariable,
@@ -340,16 +340,15 @@ impl<L: Lower> Validator<L> {
         )
     }
 
-    /// Judges all functions of a module in order, and says what is kept of each (the part of naga's `Validator::validate` that
-    /// speaks of functions). What was judged before is forgotten first, so that the answer is that of a fresh validator; after
-    /// it the type of the payloads of these functions is kept, and after a refusal none.
+    /// Validates all functions of a module in order, and returns the information on each (the part of naga's
+    /// `Validator::validate` that concerns functions). Earlier results are cleared first, so that the result is that of a fresh
+    /// validator; afterwards the payload type of these functions is kept, and after an error none.
     ///
     /// Requires that the layer was made for the module, and that its handles are in order.
     ///
     /// # Errors
     ///
-    /// The first function that is refused, with a fault of its own and no span, as [`validate_function`] answers it; or out of
-    /// memory.
+    /// The first invalid function, with an error of its own and no span, from [`validate_function`]; or out of memory.
     pub fn validate_functions(
         &mut self,
         module: &Module,

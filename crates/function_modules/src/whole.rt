@@ -10,8 +10,8 @@ ghost use Rattle.module_steps.specs.Faults.{IsModuleFault};
 ghost use Rattle.module_steps.specs.Refusals.{IsVariableFault};
 ghost use Rattle.module_steps.specs.Reported.{IsInfoOf};
 ghost use Rattle.ir_items.specs.found.Filters.{ParentsPrecede};
-ghost use Rattle.function_real_lower.specs.Made.{IsMadeOf};
-ghost use Rattle.function_real_lower.specs.Severities.{AreKnown};
+ghost use Rattle.function_modules.specs.Made.{IsMadeOf};
+ghost use Rattle.function_modules.specs.Severities.{AreKnown};
 ghost use Rattle.spec_expressions.specs.judged.Context.{outside};
 ghost use Rattle.spec_interface.specs.judged.Globals.{GlobalsOK};
 ghost use Rattle.spec_expressions.specs.judged.ModuleHandles.{HandlesOK};
@@ -20,9 +20,9 @@ ghost use Rattle.typing_infos.specs.Types.{AreTypes};
 
 use crate::entries::judge_entries;
 use crate::functions::judge_all;
+use crate::real::RealLower;
 use crate::validator::Validator;
 use function_errors::{InvalidEntryPoint, InvalidFunction, ValidationError, with_spans};
-use function_real_lower::RealLower;
 use function_statement_checks::descriptors_of;
 use ir_items::Module;
 use ir_types::refusal::Refusal;
@@ -31,7 +31,7 @@ use module_steps::{InvalidGlobalVariable, ModuleError, ModuleValidator, validate
 use std::alloc::{AllocError, Global};
 use typing_infos::ModuleInfo;
 
-// ---- refusals of steps
+// ---- errors of steps
 
 fn module_refusal(alloc: Global, refusal: Refusal<ModuleError>) -> Refusal<ValidationError>
     ensures { IsReportedBy error.Module refusal result }
@@ -86,7 +86,7 @@ fn entry_refusal(alloc: Global, refusal: Refusal<InvalidEntryPoint>) -> Refusal<
 
 // ---- steps
 
-// The steps up to overrides, which have values given to them where they are resolved.
+// The steps up to overrides, with overrides resolved or not.
 fn judge_items(
     validator: &Validator<RealLower>,
     module: &Module,
@@ -104,7 +104,7 @@ fn judge_items(
     }
 }
 
-// The step of global variables, where this is kept of the module.
+// The step of global variables, given the information on the module.
 fn judge_variables(
     validator: &Validator<RealLower>,
     module: &Module,
@@ -127,8 +127,8 @@ fn judge_variables(
     )
 }
 
-// A validator with the settings of another one, over what is kept of a module and the severities at the nodes of its diagnostic filters. The
-// error is out of memory.
+// A validator with the settings of another one, over the information on a module and the severities at the nodes of its
+// diagnostic filters. The error is out of memory.
 fn over(
     validator: &Validator<RealLower>,
     info: ModuleInfo,
@@ -148,7 +148,7 @@ fn over(
     })
 }
 
-// The steps of functions and of entry points, over what is kept of their module.
+// The steps of functions and of entry points, over the information on their module.
 fn judge_after(
     own: Validator<RealLower>,
     module: &Module,
@@ -209,19 +209,18 @@ fn judge(
 }
 
 impl Validator<RealLower> {
-    /// Whether a module is accepted, and what is kept of it (naga's `Validator::validate`): what is reported of its types and their
-    /// layouts, the types of its global expressions, and of each function and of the function of each entry point what it uses
-    /// and samples over all chains of calls that begin at it.
+    /// Whether a module is valid, and the information on it (naga's `Validator::validate`): the `TypeInfo`s and layouts of its
+    /// types, the types of its global expressions, and for each function and the function of each entry point its uses and
+    /// sampling pairs over all call chains from it.
     ///
-    /// The answer depends on the module, the flags, the capabilities and the operations of subgroups with their stages alone:
-    /// what was judged before is forgotten first, after a refusal and without memory as well, and the validator's own layer is
-    /// not used.
+    /// The result depends only on the module, the flags, the capabilities and the subgroup operations with their stages:
+    /// earlier results are cleared first, after an error and without memory too, and the validator's own layer is not used.
     ///
     /// # Errors
     ///
-    /// [`Refusal::Fault`] exactly where some step fails: the first that does, at the first item that fails it, with a fault of its
-    /// own. Its spans are those that are known of the items which it names: the expression or the variable of a function that is
-    /// at fault first, and then the function, or the item that is refused. [`Refusal::Memory`] where memory ran out.
+    /// [`Refusal::Fault`] exactly if some step fails: the first that does, at the first item that fails it, with an error of
+    /// its own. Its spans are the known ones of the items that it names: the expression or the variable of the function first,
+    /// and then the function, or the invalid item. [`Refusal::Memory`] if out of memory.
     pub fn validate(&mut self, module: &Module) -> Result<ModuleInfo, Refusal<ValidationError>>
         ensures judged { MatchResult result
             (IsValidated self.old.settings false (module_view «module».now))
@@ -233,12 +232,12 @@ impl Validator<RealLower> {
         with_spans(module, judged)
     }
 
-    /// The same of a module whose overrides all have values given to them (naga's `Validator::validate_resolved_overrides`): an
-    /// override without one is refused, and so is a size of an array that an override says.
+    /// The same for a module whose overrides must be resolved (naga's `Validator::validate_resolved_overrides`): an override
+    /// without a value is invalid, and so is an array size that is an override.
     ///
     /// # Errors
     ///
-    /// As those of [`Validator::validate`].
+    /// Those of [`Validator::validate`].
     pub fn validate_resolved_overrides(
         &mut self,
         module: &Module,

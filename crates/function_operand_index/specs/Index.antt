@@ -3,7 +3,7 @@ use Rattle.std.specs.Prelude.{◌≡◌, ℕ, ◌<◌, ◌≤◌, true, List, le
 use Rattle.std.specs.Ordering.{nat_cmp}
 use Rattle.std.specs.FinSet as set
 
--- the pair at a place is of a user from one on, below another, and of an operand below the first of these that may be lacking
+-- the pair at an index has a user of the range and an operand before it that may be missing
 pub record IsNeeded (operands users : List ℕ) (lacking : set.FinSet nat_cmp) (first end place : ℕ) : Type 0 where
   pub within : place < length operands
   pub lacks : set.contains lacking place ≡ true
@@ -11,7 +11,7 @@ pub record IsNeeded (operands users : List ℕ) (lacking : set.FinSet nat_cmp) (
   pub below : slice_index_or users place 0 < end
   pub before : slice_index_or operands place 0 < first
 
--- an operand and a user are one of the pairs
+-- an operand and its user are one of the pairs
 pub record ArePaired (operands users : List ℕ) (operand user : ℕ) : Type 0 where
   pub place : ℕ
   pub within : place < length operands

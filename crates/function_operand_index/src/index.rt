@@ -1,4 +1,4 @@
-//! Pairs of a number and of one that needs it.
+//! Pairs of an operand and its user, by number.
 
 ghost use Rattle.std.specs.Prelude.{◌≡◌, ◌⊎◌, ◌+◌, ◌<◌, ◌≤◌, ℕ, true, false, IsTrue, IsFalse, IfOk, IfNone, IfSome, OnOk, length, slice_index_or};
 ghost use Rattle.std.specs.FinSet as set;
@@ -9,16 +9,16 @@ use crate::runs::{FAR, NEAR, Runs, count_inside, count_outside, is_outside, runs
 use ir_sets::range_set::RangeSet;
 use std::alloc::{AllocError, Global};
 
-/// Pairs of a number, the operand, and of one that needs it, its user, and which of the operands are lacking. Which operands
-/// are there is said range by range, and whether a range of users has all that it needs is found without looking at the pairs
-/// one by one: of runs of 64 and of 4096 pairs the least and the greatest numbers are kept.
+/// Pairs of an operand and its user, by number, and which of the operands are missing. Operands become present by range, and
+/// whether a range of users has all its operands is found without looking at the pairs one by one: the minimum and maximum of
+/// each run of 64 and of 4096 pairs are kept.
 #[derive(Drop)]
 pub struct OperandIndex {
     /// The operands.
     pub operands: Vec<u32>,
-    /// The users, in step with them.
+    /// The users, in the same order.
     pub users: Vec<u32>,
-    /// The places of the pairs whose operand may be lacking.
+    /// The indices of the pairs whose operand may be missing.
     pub lacking: RangeSet,
     by_operand: Runs,
     by_user: Runs,
@@ -28,7 +28,7 @@ pub struct OperandIndex {
     ghost in_step: { length users.items ≡ length operands.items },
 }
 
-// Whether a pair is of no matter: its operand is there, or none that is needed before a range of users.
+// Whether a pair can be skipped: its operand is present, or not one before a range of users.
 fn is_free(index: &OperandIndex, place: usize, first: usize, end: usize) -> bool
     ensures free { IsTrue result → ¬ IsNeeded index.now.operands.items index.now.users.items index.now.lacking first end place }
     ensures needed { IsFalse result → place < length index.now.operands.items → IsNeeded index.now.operands.items index.now.users.items index.now.lacking first end place }
@@ -46,7 +46,7 @@ fn is_free(index: &OperandIndex, place: usize, first: usize, end: usize) -> bool
     user < first || end <= user || first <= *operand as usize
 }
 
-// Whether a run of pairs is of no matter, as far as is seen of the whole of it.
+// Whether a run of pairs can be skipped, as far as its minimum and maximum tell.
 fn is_near_free(index: &OperandIndex, place: usize, first: usize, end: usize) -> bool
     ensures { IsTrue result → (k : ℕ) → place ≤ k → k < place + 64 → ¬ IsNeeded index.now.operands.items index.now.users.items index.now.lacking first end k }
 {
@@ -66,7 +66,7 @@ fn is_near_free(index: &OperandIndex, place: usize, first: usize, end: usize) ->
         )
 }
 
-// The same of a long run.
+// The same for a long run.
 fn is_far_free(index: &OperandIndex, place: usize, first: usize, end: usize) -> bool
     ensures { IsTrue result → (k : ℕ) → place ≤ k → k < place + 4096 → ¬ IsNeeded index.now.operands.items index.now.users.items index.now.lacking first end k }
 {
@@ -92,7 +92,7 @@ fn is_far_free(index: &OperandIndex, place: usize, first: usize, end: usize) -> 
         )
 }
 
-// Of how many pairs from a place on it is seen in one step that they are of no matter.
+// The number of pairs from an index on that are known to be skippable in one step.
 fn count_free(index: &OperandIndex, place: usize, first: usize, end: usize) -> usize
     ensures few { result ≤ 4096 }
     ensures free { (k : ℕ) → place ≤ k → k < place + result → ¬ IsNeeded index.now.operands.items index.now.users.items index.now.lacking first end k }
@@ -112,7 +112,7 @@ fn count_free(index: &OperandIndex, place: usize, first: usize, end: usize) -> u
 }
 
 impl OperandIndex {
-    /// The index of some pairs, of which all lack their operands. The error is out of memory.
+    /// The index of pairs whose operands are all missing. The error is out of memory.
     pub fn new(
         alloc: Global,
         operands: Vec<u32>,
@@ -137,7 +137,7 @@ impl OperandIndex {
         })
     }
 
-    /// The operands from one on, below another, are there: no pair lacks one of them any more, and all others are as before.
+    /// Makes the operands of a range present: no pair misses one of them any more, and all others are unchanged.
     pub fn add(&mut self, from: usize, end: usize)
         ensures operands { self.new.operands.items ≡ self.old.operands.items }
         ensures users { self.new.users.items ≡ self.old.users.items }
@@ -158,11 +158,11 @@ impl OperandIndex {
         }
     }
 
-    /// The operands from one on, below another, are there no more: all their pairs lack them, and all others are as before.
+    /// Makes the operands of a range missing: all their pairs miss them, and all others are unchanged.
     ///
     /// # Errors
     ///
-    /// `AllocError` where there is no memory. Some pairs of these operands may lack them then, and others not yet.
+    /// `AllocError` if out of memory. Only some pairs of these operands may miss them then.
     pub fn remove(&mut self, from: usize, end: usize) -> Result<(), AllocError>
         ensures operands { self.new.operands.items ≡ self.old.operands.items }
         ensures users { self.new.users.items ≡ self.old.users.items }
@@ -184,8 +184,8 @@ impl OperandIndex {
         Ok(())
     }
 
-    /// The operand of a pair whose user is one from `first` on, below another, and whose operand is below `first` and may be
-    /// lacking, if there is such a pair.
+    /// The operand of a pair whose user is in a range and whose operand is before the range and may be missing, if there is
+    /// such a pair.
     pub fn first_needed(&self, first: usize, end: usize) -> Option<usize>
         ensures none { IfNone result ((k : ℕ) → ¬ IsNeeded self.now.operands.items self.now.users.items self.now.lacking first end k) }
         ensures some { IfSome result (λ operand. (k : ℕ) × IsNeeded self.now.operands.items self.now.users.items self.now.lacking first end k × (operand ≡ slice_index_or self.now.operands.items k 0)) }

@@ -1,5 +1,5 @@
-//! Pairs of an operand and of its user, and an index over them: whether users in a range need an operand that is not there,
-//! found without a look at each of them.
+//! Pairs of an operand and its user, and an index of them: whether the users of a range need a missing operand is found without
+//! looking at each.
 #![tactic(auto)]
 
 pub mod index;

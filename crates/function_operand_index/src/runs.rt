@@ -1,29 +1,29 @@
-//! The least and the greatest of many numbers, run by run.
+//! The minimum and maximum of many numbers, run by run.
 
 ghost use Rattle.std.specs.Prelude.{◌≡◌, ◌+◌, ◌/◌, ◌<◌, ◌≤◌, ℕ, IfOk, IsTrue, length, slice_index_or};
 ghost use Rattle.function_operand_index.specs.Runs.{AreRuns};
 
 use std::alloc::{AllocError, Global};
 
-/// How many numbers are in a run.
+/// The length of a run.
 pub(crate) const NEAR: usize = 64;
-/// How many are in a long run.
+/// The length of a long run.
 pub(crate) const FAR: usize = 4096;
 
-/// Of a list of numbers the least and the greatest of each run of 64, and of each run of 4096.
+/// The minimum and maximum of each run of 64, and of each run of 4096, of a list of numbers.
 #[derive(Drop)]
 pub(crate) struct Runs {
-    /// The least of 64 each.
+    /// The minima of runs of 64.
     pub(crate) lows: Vec<u32>,
-    /// The greatest of 64 each.
+    /// The maxima of runs of 64.
     pub(crate) highs: Vec<u32>,
-    /// The least of 4096 each.
+    /// The minima of runs of 4096.
     pub(crate) far_lows: Vec<u32>,
-    /// The greatest of 4096 each.
+    /// The maxima of runs of 4096.
     pub(crate) far_highs: Vec<u32>,
 }
 
-// Makes a number no greater than another.
+// Lowers a number to another one if that is less.
 fn lower(numbers: &mut [u32], index: usize, most: u32)
     requires { index < length numbers.old }
     ensures len { length numbers.new ≡ length numbers.old }
@@ -33,7 +33,7 @@ fn lower(numbers: &mut [u32], index: usize, most: u32)
     numbers[index] = numbers[index].min(most);
 }
 
-// Makes a number no less than another.
+// Raises a number to another one if that is greater.
 fn raise(numbers: &mut [u32], index: usize, least: u32)
     requires { index < length numbers.old }
     ensures len { length numbers.new ≡ length numbers.old }
@@ -43,7 +43,7 @@ fn raise(numbers: &mut [u32], index: usize, least: u32)
     numbers[index] = numbers[index].max(least);
 }
 
-// For each run of 64 numbers one that is no greater than any of them. The error is out of memory.
+// For each run of 64 numbers a lower bound. The error is out of memory.
 fn near_lows(alloc: Global, numbers: &[u32]) -> Result<Vec<u32>, AllocError>
     ensures { IfOk result (λ lows. (k : ℕ) → k < length numbers.now → slice_index_or lows.items (k / 64) 0 ≤ slice_index_or numbers.now k 0) }
 {
@@ -54,7 +54,7 @@ fn near_lows(alloc: Global, numbers: &[u32]) -> Result<Vec<u32>, AllocError>
     Ok(lows)
 }
 
-// The same of each run of 4096.
+// The same for runs of 4096.
 fn far_lows(alloc: Global, numbers: &[u32]) -> Result<Vec<u32>, AllocError>
     ensures { IfOk result (λ lows. (k : ℕ) → k < length numbers.now → slice_index_or lows.items (k / 4096) 0 ≤ slice_index_or numbers.now k 0) }
 {
@@ -65,7 +65,7 @@ fn far_lows(alloc: Global, numbers: &[u32]) -> Result<Vec<u32>, AllocError>
     Ok(lows)
 }
 
-// For each run of 64 numbers one that is no less than any of them. The error is out of memory.
+// For each run of 64 numbers an upper bound. The error is out of memory.
 fn near_highs(alloc: Global, numbers: &[u32]) -> Result<Vec<u32>, AllocError>
     ensures { IfOk result (λ highs. (k : ℕ) → k < length numbers.now → slice_index_or numbers.now k 0 ≤ slice_index_or highs.items (k / 64) 0) }
 {
@@ -76,7 +76,7 @@ fn near_highs(alloc: Global, numbers: &[u32]) -> Result<Vec<u32>, AllocError>
     Ok(highs)
 }
 
-// The same of each run of 4096.
+// The same for runs of 4096.
 fn far_highs(alloc: Global, numbers: &[u32]) -> Result<Vec<u32>, AllocError>
     ensures { IfOk result (λ highs. (k : ℕ) → k < length numbers.now → slice_index_or numbers.now k 0 ≤ slice_index_or highs.items (k / 4096) 0) }
 {
@@ -103,7 +103,7 @@ pub(crate) fn runs_of(alloc: Global, numbers: &[u32]) -> Result<Runs, AllocError
     })
 }
 
-/// Whether no number of a run is one from one on, below another.
+/// Whether no number of a run is in a range.
 pub(crate) fn is_outside(lows: &[u32], highs: &[u32], index: usize, from: usize, end: usize) -> bool
     ensures { IsTrue result → (x : ℕ) → slice_index_or lows.now index 0 ≤ x → x ≤ slice_index_or highs.now index 0 → from ≤ x → x < end → ⊥ }
 {
@@ -116,7 +116,7 @@ pub(crate) fn is_outside(lows: &[u32], highs: &[u32], index: usize, from: usize,
     end <= *low as usize || (*high as usize) < from
 }
 
-// Whether all numbers of a run are such.
+// Whether all numbers of a run are in a range.
 fn is_inside(lows: &[u32], highs: &[u32], index: usize, from: usize, end: usize) -> bool
     ensures { IsTrue result → (x : ℕ) → slice_index_or lows.now index 0 ≤ x → x ≤ slice_index_or highs.now index 0 → (from ≤ x) × (x < end) }
 {
@@ -129,7 +129,7 @@ fn is_inside(lows: &[u32], highs: &[u32], index: usize, from: usize, end: usize)
     from <= *low as usize && (*high as usize) < end
 }
 
-/// Of how many numbers from a place on it is seen in one step that none of them is one from one on, below another.
+/// The number of numbers from an index on that are known in one step not to be in a range.
 pub(crate) fn count_outside(
     numbers: &[u32],
     runs: &Runs,
@@ -160,7 +160,7 @@ pub(crate) fn count_outside(
     }
 }
 
-/// Of how many it is seen that all of them are such.
+/// The number of numbers known to be in a range.
 pub(crate) fn count_inside(
     numbers: &[u32],
     runs: &Runs,

@@ -1,14 +1,12 @@
 -- What is marked, one type after another.
 use Rattle.std.proofs.Common.{◌≡◌, ◌↔◌, ◌+◌, zero, suc, ℕ, Bool, IsTrue, List, [], ◌∷◌, ◌++◌, Option, None, Some, length, slice_get, ap, sym, subst, ◌∙◌}
 use Rattle.std.proofs.lemmas.List.{length-append}
+use Rattle.std.proofs.lemmas.Option.{same_Some}
 use Rattle.ir_types.specs.judged.Plain.{PlainType}
 use Rattle.function_statement_checks.specs.Descriptors.{AreDescriptors, IsDescriptorAt}
 
 pub longer : (marks : List Bool) (b : Bool) (n : ℕ) → length marks ≡ n → length (marks ++ b ∷ []) ≡ n + 1
 longer marks b n many = length-append marks (b ∷ []) ∙ ap (λ k. k + 1) many
-
-some_is : {X : Type 0} {x y : X} → Some x ≡ Some y → x ≡ y
-some_is e = cc (e)
 
 none_some : {X : Type 0} {x : X} → None ≡ Some x → ⊥
 none_some e = cc
@@ -19,7 +17,7 @@ none_marked types declared type marked at = absurd (none_some at)
 -- what is at a place of a longer list is the last, or was there
 at_last : (P : ℕ → Bool → Type 0) (marks : List Bool) (b : Bool) → ((k : ℕ) (m : Bool) → slice_get marks k ≡ Some m → P k m) → P (length marks) b
     → (k : ℕ) (m : Bool) → slice_get (marks ++ b ∷ []) k ≡ Some m → P k m
-at_last P [] b before last zero m at = subst (P zero) (some_is at) last
+at_last P [] b before last zero m at = subst (P zero) (same_Some _ _ at) last
 at_last P [] b before last (suc k) m at = absurd (none_some at)
 at_last P (x ∷ marks) b before last zero m at = before zero m at
 at_last P (x ∷ marks) b before last (suc k) m at = at_last (λ n. P (suc n)) marks b (λ n. before (suc n)) last k m at

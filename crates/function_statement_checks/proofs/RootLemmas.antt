@@ -1,13 +1,11 @@
 -- A table of what chains begin at.
 use Rattle.std.proofs.Common.{◌≡◌, ℕ, zero, suc, ◌+◌, ◌<◌, ◌≤◌, List, [], ◌∷◌, ◌++◌, length, get_or, Option, Some, None, slice_get, refl, sym, ap, subst, ◌∙◌, arith}
 use Rattle.std.specs.Prelude.{option_and_then}
+use Rattle.std.proofs.lemmas.Option.{same_Some}
 use Rattle.ir_items.specs.judged.Bases.{base_of, BasesPrecede}
 use Rattle.ir_types.specs.judged.ExpressionPlain.{PlainExpression}
 use Rattle.spec_statements.specs.judged.Stores.{base_at, BeginsAt, itself, through}
 use Rattle.function_statement_checks.specs.Roots.{root_by, AreRoots}
-
-some_is : {A : Type 0} {x y : A} → Some x ≡ Some y → x ≡ y
-some_is e = cc (e)
 
 pub none_known : (expressions : List PlainExpression) → AreRoots expressions []
 none_known expressions handle root at = absurd (let e = at in cc)
@@ -20,7 +18,7 @@ data Where (roots : List ℕ) (last handle root : ℕ) : Type 0 where
   at_last : handle ≡ length roots → last ≡ root → Where roots last handle root
 
 found : (roots : List ℕ) (last handle root : ℕ) → slice_get (roots ++ last ∷ []) handle ≡ Some root → Where roots last handle root
-found [] last zero root at = at_last refl (some_is at)
+found [] last zero root at = at_last refl (same_Some _ _ at)
 found [] last (suc handle) root at = absurd (let e = at in cc)
 found (r ∷ roots) last zero root at = before at
 found (r ∷ roots) last (suc handle) root at = elim (found roots last handle root at) [ before here ↦ before here | at_last is same ↦ at_last (ap suc is) same ]
@@ -79,7 +77,7 @@ by_itself expressions roots handle is = ap (root_by roots handle) (sym is)
 module _ (expressions : List PlainExpression) (roots : List ℕ) (precede : BasesPrecede expressions) (known : AreRoots expressions roots) where
   begins_by : (n handle root : ℕ) → handle < n → (base : Option ℕ) → base_at expressions handle ≡ base → root_by roots handle base ≡ Some root → BeginsAt expressions handle root
   begins_by zero handle root lt base at told = absurd (omega (arith, lt))
-  begins_by (suc n) handle root lt None at told = subst (BeginsAt expressions handle) (some_is told) (itself at)
+  begins_by (suc n) handle root lt None at told = subst (BeginsAt expressions handle) (same_Some _ _ told) (itself at)
   begins_by (suc n) handle root lt (Some base) at told =
       let below = base_below expressions handle base precede at in
       through at (begins_by n base root (omega (arith, lt, below)) (base_at expressions base) refl (known base root told))

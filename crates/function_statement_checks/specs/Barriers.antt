@@ -1,4 +1,4 @@
--- What is wrong with a barrier.
+-- Errors of barriers.
 use Rattle.std.specs.Prelude.{◌≡◌, bit_or}
 use Rattle.typing_errors.specs.declared.error.FunctionError.{FunctionError}
 use Rattle.typing_errors.specs.declared.error.FunctionError.TheVariants as error
@@ -11,7 +11,7 @@ use Rattle.ir_flags.specs.declared.settings.TheConstants.Capabilities.{SUBGROUP,
 use Rattle.ir_flags.specs.declared.stages.TheConstants.SubgroupOperationSet.{BASIC}
 use Rattle.spec_statements.specs.judged.BlockContext.{BlockContext}
 
--- subgroups don't wait at barriers here
+-- subgroup barriers are not supported
 abbrev pub IsUnsupported : BlockContext → SubgroupError → Type 0
 IsUnsupported c (UnsupportedOperation set) = (set ≡ BASIC) × ¬ Has c.operations.0 BASIC.0
 IsUnsupported c _ = ⊥

@@ -1,4 +1,4 @@
--- What is wrong with a call.
+-- Errors of calls.
 use Rattle.std.specs.Prelude.{◌≡◌, ℕ, ◌<◌, List, Option, Some, slice_get}
 use Rattle.typing_errors.specs.declared.error.FunctionError.{FunctionError}
 use Rattle.typing_errors.specs.declared.error.FunctionError.TheVariants as error
@@ -9,16 +9,16 @@ use Rattle.spec_statements.specs.judged.BlockContext.{BlockContext, form_at}
 use Rattle.spec_statements.specs.judged.Calls.{CallResultOK}
 use Rattle.typing_forms.specs.judged.Forms.{form_of_type}
 
--- what is passed at a place is of the type that is declared there
+-- the argument at an index has the declared type
 abbrev pub PassesAt : BlockContext → PlainFunction → (arguments : List ℕ) → (place : ℕ) → Type 0
 PassesAt c callee arguments place =
     (e : ℕ) (a : PlainArgument) → slice_get arguments place ≡ Some e → slice_get callee.arguments place ≡ Some a → form_at c e ≡ form_of_type c.m.types a.ty
 
--- so it is at each place before one
+-- so has each before an index
 pub record PassesBelow (c : BlockContext) (callee : PlainFunction) (arguments : List ℕ) (place : ℕ) : Type 0 where
   pub each : (k : ℕ) → k < place → PassesAt c callee arguments k
 
--- it is of another type there
+-- it has another type
 pub record IsArgumentFault (c : BlockContext) (callee : PlainFunction) (arguments : List ℕ) (place required seen : ℕ) : Type 0 where
   pub argument : PlainArgument
   pub passed : slice_get arguments place ≡ Some seen
@@ -31,7 +31,7 @@ IsCallError c function callee arguments result (ArgumentType place required seen
 IsCallError c function callee arguments result (ExpressionMismatch e) = (e ≡ result) × ¬ CallResultOK c function callee result
 IsCallError c function callee arguments result _ = ⊥
 
--- the function that is called, and what is wrong
+-- the callee, and the error
 pub record IsCallFaultOf (c : BlockContext) (function : ℕ) (arguments : List ℕ) (result : Option ℕ) (called : ℕ) (e : CallError) : Type 0 where
   pub same : called ≡ function
   pub callee : PlainFunction

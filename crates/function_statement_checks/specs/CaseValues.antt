@@ -1,4 +1,4 @@
--- A case's value as a number, beside the kind that it is of: no two values have the same.
+-- The value of a case as a number, with its kind: no two values have the same.
 use Rattle.std.specs.Prelude.{ℕ, ℤ, pos}
 use Rattle.ir_kinds.specs.declared.values.SwitchValue.{SwitchValue}
 use Rattle.ir_kinds.specs.declared.values.SwitchValue.TheVariants.{I32, U32, Default}

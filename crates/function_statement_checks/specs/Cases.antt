@@ -1,4 +1,4 @@
--- What is wrong with the cases of a switch.
+-- Errors of switch cases.
 use Rattle.std.specs.Prelude.{◌≡◌, ◌≢◌, ◌⊎◌, ℕ, ◌<◌, List, Some, true, false, Contains, slice_get}
 use Rattle.std.specs.List.{AllPairs}
 use Rattle.typing_errors.specs.declared.error.FunctionError.{FunctionError}
@@ -9,7 +9,7 @@ use Rattle.ir_kinds.specs.declared.values.SwitchValue.{SwitchValue}
 use Rattle.ir_kinds.specs.declared.values.SwitchValue.TheVariants.{Default}
 use Rattle.spec_statements.specs.judged.Switches.{case_values, FitsKind, falls_at_end}
 
--- A value stands at two places.
+-- A value occurs twice.
 pub record OccursTwice (values : List SwitchValue) (v : SwitchValue) : Type 0 where
   pub first : ℕ
   pub again : ℕ
@@ -17,19 +17,19 @@ pub record OccursTwice (values : List SwitchValue) (v : SwitchValue) : Type 0 wh
   pub stands : slice_get values first ≡ Some v
   pub stands_again : slice_get values again ≡ Some v
 
--- one is of another kind, or stands twice
+-- one has another kind, or occurs twice
 abbrev pub IsValueFault : ScalarKind → List SwitchValue → FunctionError → Type 0
 IsValueFault kind values error.ConflictingCaseType = (v : SwitchValue) × Contains values v × ¬ FitsKind kind v
 IsValueFault kind values (error.ConflictingSwitchCase v) = OccursTwice values v × (v ≢ Default)
 IsValueFault kind values error.MultipleDefaultCases = OccursTwice values Default
 IsValueFault kind values _ = ⊥
 
--- The values are of this kind and differ.
+-- The values have this kind and are distinct.
 pub record AreApart (kind : ScalarKind) (values : List SwitchValue) : Type 0 where
   pub fit : (v : SwitchValue) → Contains values v → FitsKind kind v
   pub differ : AllPairs (λ v w. v ≢ w) values
 
--- none is the default, or the last case falls through
+-- there is no default, or the last case falls through
 abbrev pub IsEndFault : PlainCases → FunctionError → Type 0
 IsEndFault cases error.MissingDefaultCase = ¬ Contains (case_values cases) Default
 IsEndFault cases error.LastCaseFallTrough = falls_at_end false cases ≡ true

@@ -1,4 +1,4 @@
--- What is wrong with a condition.
+-- Errors of conditions.
 use Rattle.std.specs.Prelude.{◌≡◌, ℕ}
 use Rattle.typing_errors.specs.declared.error.FunctionError.{FunctionError}
 use Rattle.typing_errors.specs.declared.error.FunctionError.TheVariants as error

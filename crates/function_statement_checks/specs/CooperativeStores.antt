@@ -1,4 +1,4 @@
--- What is wrong with a cooperative matrix that is stored.
+-- Errors of stores of cooperative matrices.
 use Rattle.std.specs.Prelude.{◌≡◌, ℕ, Option, Some, None}
 use Rattle.typing_errors.specs.declared.error.FunctionError.{FunctionError}
 use Rattle.typing_errors.specs.declared.error.FunctionError.TheVariants as error

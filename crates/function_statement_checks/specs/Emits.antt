@@ -1,4 +1,4 @@
--- What is wrong with a range that is emitted.
+-- Errors of emitted ranges.
 use Rattle.std.specs.Prelude.{ℕ, Bool, true, false, List, length, Option, None, Some, IfSome, MatchOption, slice_get}
 use Rattle.typing_errors.specs.declared.error.FunctionError.{FunctionError}
 use Rattle.typing_errors.specs.declared.error.FunctionError.TheVariants as error
@@ -11,12 +11,12 @@ use Rattle.typing_rules.specs.judged.Laws.{IsAmong}
 use Rattle.spec_statements.specs.judged.BlockContext.{BlockContext}
 use Rattle.spec_statements.specs.judged.Emits.{EmitOK, IsEmittable}
 
--- one of the range denotes the result of a statement, or is not there
+-- an expression of the range is the result of a statement, or does not exist
 abbrev pub IsEmitFault : BlockContext → (first end : ℕ) → FunctionError → Type 0
 IsEmitFault c first end (error.EmitResult e) = IsAmong e (handles_between (first, end)) × ¬ IfSome (slice_get c.f.expressions e) IsEmittable
 IsEmitFault c first end _ = ⊥
 
--- whether an expression denotes the result of a statement
+-- whether an expression is the result of a statement
 abbrev pub is_answer_itself : Expression → Bool
 is_answer_itself (x.Literal value) = false
 is_answer_itself (x.Constant constant) = false
@@ -61,15 +61,15 @@ abbrev pub is_answer_there : Option PlainExpression → Bool
 is_answer_there None = false
 is_answer_there (Some expression) = is_answer expression
 
--- the same of the expression at a handle
+-- the same for the expression at a handle
 abbrev pub is_answer_at : List PlainExpression → ℕ → Bool
 is_answer_at expressions e = is_answer_there (slice_get expressions e)
 
--- for each expression the first from it on that denotes the result of a statement
+-- for each expression the first one from it on that is the result of a statement
 abbrev pub AreAnswers : List PlainExpression → List ℕ → Type 0
 AreAnswers expressions next = AreNext (is_answer_at expressions) (length expressions) next
 
--- the first of a range that denotes the result of a statement, if there is one
+-- the first of a range that is the result of a statement, if any
 abbrev pub IsAnswerOf : List PlainExpression → (range : ℕ × ℕ) → Option ℕ → Type 0
 IsAnswerOf expressions range found =
     MatchOption found (EmitOK expressions range.0 range.1) (λ e. IsAmong e (handles_between range) × ¬ IfSome (slice_get expressions e) IsEmittable)

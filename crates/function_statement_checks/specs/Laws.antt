@@ -1,4 +1,4 @@
--- A statement with a fault does not meet its rule.
+-- A statement with an error breaks its rule.
 use Rattle.std.specs.Prelude.{ℕ, List, Option}
 use Rattle.typing_errors.specs.declared.error.FunctionError.{FunctionError}
 use Rattle.ir_types.specs.declared.expressions.CooperativeData.{CooperativeData}
@@ -19,7 +19,7 @@ use Rattle.function_statement_checks.specs.Emits.{IsEmitFault}
 use Rattle.function_statement_checks.specs.Returns.{IsReturnFault}
 use Rattle.function_statement_checks.specs.Stores.{IsStoreFault}
 
--- What refutes the rule of each kind.
+-- The refutation of the rule of each kind.
 pub record Refuted (c : BlockContext) (e : FunctionError) : Type 0 where
   pub barrier : (barrier : Barrier) → IsBarrierFault c barrier e → BarrierOK c barrier → ⊥
   pub call : (function : ℕ) (arguments : List ℕ) (result : Option ℕ) → IsCallFault c function arguments result e → CallOK c function arguments result → ⊥

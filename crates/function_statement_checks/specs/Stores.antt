@@ -1,4 +1,4 @@
--- What is wrong with a value that is stored.
+-- Errors of stores.
 use Rattle.std.specs.Prelude.{◌≡◌, ◌⊎◌, ℕ, None}
 use Rattle.typing_errors.specs.declared.error.FunctionError.{FunctionError}
 use Rattle.typing_errors.specs.declared.error.FunctionError.TheVariants as error
@@ -7,7 +7,7 @@ use Rattle.spec_statements.specs.judged.BlockContext.{BlockContext, form_at}
 use Rattle.spec_statements.specs.judged.Stores.{BeginsAt, IsVariableAt, IsStorable, FitsAt, IsWritable}
 use Rattle.typing_forms.specs.judged.Forms.{form_in}
 
--- what the pointer begins at is no variable and no argument; or it points where nothing is written
+-- the pointer's origin is neither a variable nor an argument; or its address space is read-only
 abbrev pub IsBadPlace : BlockContext → (pointer start : ℕ) → Type 0
 IsBadPlace c pointer start =
     (BeginsAt c.f.expressions pointer start × ¬ IsVariableAt c.f.expressions start) ⊎ ((start ≡ pointer) × ¬ IsWritable (form_at c pointer))

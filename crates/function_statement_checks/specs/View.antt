@@ -1,4 +1,4 @@
--- What a context holds, as plain data.
+-- The view of a context.
 use Rattle.ir_items.specs.found.View.{function_view, module_view}
 use Rattle.spec_statements.specs.judged.BlockContext.{BlockContext as PlainContext}
 use Rattle.function_statement_checks.specs.declared.context.BlockContext.{BlockContext}
@@ -15,7 +15,7 @@ context_view c = record {
   forms = c.forms.now;
 }
 
--- the kinds are those of all expressions, the answers the next ones among them, and the descriptors are marked among the types
+-- the kinds are those of all expressions, the results the next ones among them, and the descriptors are marked among the types
 pub record IsKnown (c : BlockContext) : Type 0 where
   pub kinds : AreKinds (context_view c).f.expressions c.kinds.now
   pub answers : AreAnswers (context_view c).f.expressions c.answers.now

@@ -10,7 +10,7 @@ use bitflags::Flags;
 use ir_flags::{Barrier, Capabilities, SubgroupOperationSet};
 use typing_errors::{FunctionError, SubgroupError};
 
-// Whether subgroups may wait at barriers, as far as capabilities say.
+// Whether the capabilities allow subgroup barriers.
 fn has_barriers(capabilities: Capabilities) -> bool
     ensures { IsTrue result ↔ (Has capabilities.0 Capabilities.SUBGROUP.0 × Has capabilities.0 Capabilities.SUBGROUP_BARRIER.0) }
 {
@@ -18,12 +18,12 @@ fn has_barriers(capabilities: Capabilities) -> bool
         && capabilities.contains(Capabilities::SUBGROUP_BARRIER)
 }
 
-/// Whether a barrier may be used: one of a subgroup has its capabilities and its operation.
+/// Whether a barrier is valid: a subgroup barrier needs its capabilities and its operation.
 ///
 /// # Errors
 ///
-/// [`FunctionError::MissingCapability`], or [`FunctionError::InvalidSubgroup`] with
-/// [`SubgroupError::UnsupportedOperation`], for a barrier of a subgroup where that is not so.
+/// [`FunctionError::MissingCapability`], or [`FunctionError::InvalidSubgroup`] with [`SubgroupError::UnsupportedOperation`],
+/// for a subgroup barrier without them.
 pub fn check_barrier<C: StatementContext>(
     context: &C,
     barrier: Barrier,

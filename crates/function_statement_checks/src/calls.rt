@@ -14,7 +14,7 @@ use ir_types::{Expression, key};
 use module_context::are_same;
 use typing_errors::{CallError, FunctionError};
 
-// The argument that a function declares at a place.
+// The argument of a function at an index.
 #[tactic(auto, using(crate::proofs::CallLemmas::declared))]
 fn declared_at(callee: &Function, place: usize) -> Option<&FunctionArgument>
     ensures { option_map (λ found. argument_view found.now) result ≡ slice_get (function_view callee.now).arguments place }
@@ -22,7 +22,7 @@ fn declared_at(callee: &Function, place: usize) -> Option<&FunctionArgument>
     callee.arguments.get(place)
 }
 
-// What is wrong with what is passed at a place.
+// The error of the argument passed at an index.
 fn argument_fault<C: StatementContext>(
     context: &C,
     callee: &Function,
@@ -47,7 +47,7 @@ fn argument_fault<C: StatementContext>(
     })
 }
 
-// What is wrong with the first argument of another type.
+// The error of the first argument of another type.
 fn arguments_fault<C: StatementContext>(
     context: &C,
     callee: &Function,
@@ -64,7 +64,7 @@ fn arguments_fault<C: StatementContext>(
     None
 }
 
-// Whether an expression denotes what a function answers.
+// Whether an expression is the `CallResult` of a function.
 fn is_answer_of(expression: &Expression, function: Handle<key::Function>) -> bool
     ensures { IsTrue result ↔ (expression_view expression.now ≡ plain (x.CallResult function)) }
 {
@@ -74,7 +74,7 @@ fn is_answer_of(expression: &Expression, function: Handle<key::Function>) -> boo
     }
 }
 
-// Whether there is an answer exactly where the function answers something, and it is that of this function.
+// Whether a call has a result exactly if the function has one, and it is that of the function.
 fn is_answered<C: StatementContext>(
     context: &C,
     function: Handle<key::Function>,
@@ -92,14 +92,14 @@ fn is_answered<C: StatementContext>(
     }
 }
 
-/// Whether a call passes what its function declares, and answers by what denotes its answer. A call of a function that is not
-/// there is not refused here: that it is there, and that as much is passed as it declares, is checked beforehand.
+/// Whether a call passes the declared arguments of its function, and has its `CallResult`. A call of a missing function is not
+/// refused here: that it exists, and takes as many arguments, is checked before.
 ///
 /// # Errors
 ///
-/// [`FunctionError::InvalidCall`] with [`CallError::ArgumentType`] for an argument of another type (the first, which no clause says), or with
-/// [`CallError::ExpressionMismatch`] where the answer is no `CallResult` of the function, or is there exactly where there
-/// should be none.
+/// [`FunctionError::InvalidCall`] with [`CallError::ArgumentType`] for an argument of another type (the first, which no clause
+/// states), or with [`CallError::ExpressionMismatch`] if the result is not a `CallResult` of the function, or exists exactly if
+/// it should not.
 pub fn check_call<C: StatementContext>(
     context: &C,
     function: Handle<key::Function>,

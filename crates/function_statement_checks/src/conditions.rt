@@ -12,7 +12,7 @@ use ir_types::key;
 use typing_errors::FunctionError;
 use typing_forms::Form;
 
-// Whether a type is that of a truth value alone.
+// Whether a type is a scalar `bool`.
 const fn is_condition(of: Form) -> bool
     ensures { IsTrue result ↔ ConditionOK of }
 {
@@ -42,11 +42,11 @@ const fn is_condition(of: Form) -> bool
     }
 }
 
-/// Whether an expression is a condition: a truth value alone.
+/// Whether an expression is a condition: a scalar `bool`.
 ///
 /// # Errors
 ///
-/// [`FunctionError::InvalidIfType`] where it is none.
+/// [`FunctionError::InvalidIfType`] if it is not.
 pub fn check_condition<C: StatementContext>(
     context: &C,
     condition: Handle<key::Expression>,

@@ -1,4 +1,4 @@
-//! What the rules of a statement may look at.
+//! The context in which a statement is checked.
 
 ghost use Rattle.std.specs.Prelude.{◌≡◌, ◌↔◌, IsTrue, map, option_map, slice_get};
 ghost use Rattle.ir_blocks.specs.found.View.{block_view};
@@ -29,33 +29,33 @@ use ir_types::{Expression, IrType, TypeInner, key};
 use typing_forms::{Form, form_of_type, inner_of};
 use typing_layout::ExpressionKindTracker;
 
-/// What the rules of a statement may look at: a module, one of its functions, and what is known of its expressions. The rules
-/// are the same whatever holds it.
+/// The context in which a statement is checked: a module, one of its functions, and the facts about its expressions. The rules
+/// are generic over it.
 pub trait StatementContext {
-    /// What it holds.
+    /// Its view.
     ghost seen: { Self → PlainContext };
 
-    /// What is found once is that of these: of all expressions when their values are known, and which denote answers; of all
-    /// types which are made as the module's type of rays.
+    /// The precomputed facts are right: the kinds of all expressions, and which are results; for all types, whether they are
+    /// equivalent to the module's ray descriptor.
     ghost known: { Self → Type 0 };
 
-    /// What shaders may use beyond the common part.
+    /// The enabled capabilities.
     fn capabilities(&self) -> Capabilities
         ensures { result ≡ (seen self.now).capabilities };
 
-    /// The operations of subgroups that may be used.
+    /// The enabled subgroup operations.
     fn operations(&self) -> SubgroupOperationSet
         ensures { result ≡ (seen self.now).operations };
 
-    /// The form of the type of an expression, [`Form::Nothing`] where there is none.
+    /// The form of the type of an expression, [`Form::Nothing`] if it has none.
     fn form_at(&self, handle: Handle<key::Expression>) -> Form
         ensures { result ≡ form_at (seen self.now) handle };
 
-    /// The form of a type of the module, [`Form::Nothing`] where there is none.
+    /// The form of a type of the module, [`Form::Nothing`] if there is none.
     fn form_of(&self, ty: Handle<key::IrType>) -> Form
         ensures { result ≡ form_of_type (seen self.now).m.types ty };
 
-    /// What a type of the module is made of, if there is one.
+    /// The inner type of a type of the module, if it exists.
     fn inner_of(&self, ty: Handle<key::IrType>) -> Option<&TypeInner>
         ensures { option_map (λ found. inner_view found.now) result ≡ inner_at (seen self.now).m.types ty };
 
@@ -63,77 +63,76 @@ pub trait StatementContext {
     fn types(&self) -> &UniqueArena<IrType, key::IrType>
         ensures { map type_view (values_of result.now) ≡ (seen self.now).m.types };
 
-    /// A global variable of the module, if there is one at the handle.
+    /// A global variable of the module, if it exists.
     fn global_at(&self, handle: Handle<key::GlobalVariable>) -> Option<&GlobalVariable>
         ensures { option_map (λ found. global_view found.now) result ≡ slice_get (seen self.now).m.globals handle };
 
-    /// A function of the module, if there is one at the handle.
+    /// A function of the module, if it exists.
     fn function_at(&self, handle: Handle<key::Function>) -> Option<&Function>
         ensures { option_map (λ found. function_view found.now) result ≡ slice_get (seen self.now).m.functions handle };
 
-    /// The module's type of rays, if it has one.
+    /// The module's ray descriptor type, if it has one.
     fn ray_descriptor(&self) -> Option<Handle<key::IrType>>
         ensures { result ≡ (seen self.now).m.special.ray_desc };
 
-    /// Whether a type of the module is made of the same as its type of rays, if it has one.
+    /// Whether a type of the module is equivalent to its ray descriptor type, if it has one.
     fn is_descriptor(&self, ty: Handle<key::IrType>) -> bool
         requires { known self.now }
         ensures { IsTrue result ↔ IsDescriptorAt (seen self.now).m.types (seen self.now).m.special.ray_desc ty };
 
-    /// An expression of the function, if there is one at the handle.
+    /// An expression of the function, if it exists.
     fn expression_at(&self, handle: Handle<key::Expression>) -> Option<&Expression>
         ensures { option_map (λ found. expression_view found.now) result ≡ slice_get (seen self.now).f.expressions handle };
 
-    /// What a chain of accesses begins at. Requires that the base of each access comes before it.
+    /// The origin of a chain of accesses. Requires that the base of each access precedes it.
     fn beginning_of(&self, pointer: Handle<key::Expression>) -> Handle<key::Expression>
         requires { BasesPrecede (seen self.now).f.expressions }
         ensures { BeginsAt (seen self.now).f.expressions pointer result };
 
-    /// Whether the value of an expression is known as the module is written.
+    /// Whether an expression is constant.
     fn is_const(&self, handle: Handle<key::Expression>) -> bool
         requires { known self.now }
         ensures { IsTrue result ↔ IsOfKind (seen self.now).f.expressions handle Const };
 
-    /// The first expression of a range that denotes the result of a statement, if there is one. That takes the same time for
-    /// any range.
+    /// The first expression of a range that is the result of a statement, if any. It takes the same time for any range.
     fn answer_of(&self, range: Range<key::Expression>) -> Option<Handle<key::Expression>>
         requires { known self.now }
         ensures { IsAnswerOf (seen self.now).f.expressions range result };
 
-    /// The type of a variable of the function, if there is one at the handle.
+    /// The type of a local variable of the function, if it exists.
     fn local_type(&self, handle: Handle<key::LocalVariable>) -> Option<Handle<key::IrType>>
         ensures { result ≡ option_map (λ v. v.ty) (slice_get (seen self.now).f.locals handle) };
 
-    /// What the function answers, if it answers something.
+    /// The result of the function, if it has one.
     fn result(&self) -> Option<FunctionResult>
         ensures { result ≡ (seen self.now).f.result };
 
-    /// The statements of the function.
+    /// The body of the function.
     fn body(&self) -> &Block
         ensures { block_view result.now ≡ (seen self.now).f.body };
 }
 
-/// What the rules of a statement may look at (naga's `BlockContext`).
+/// The context in which a statement is checked (naga's `BlockContext`).
 #[derive(Clone, Copy)]
 pub struct BlockContext<'a> {
-    /// What shaders may use beyond the common part.
+    /// The enabled capabilities.
     pub capabilities: Capabilities,
-    /// The operations of subgroups that may be used.
+    /// The enabled subgroup operations.
     pub operations: SubgroupOperationSet,
     /// The module.
     pub module: &'a Module,
-    /// The function whose body it is.
+    /// The function with the body.
     pub function: &'a Function,
     /// The form of the type of each of its expressions.
     pub forms: &'a [Form],
-    /// When the value of each of them is known.
+    /// The expression kind of each of them.
     pub kinds: &'a ExpressionKindTracker,
-    /// For each of them the first from it on that denotes the result of a statement.
+    /// For each of them the first from it on that is the result of a statement.
     pub answers: &'a [u32],
-    /// Of each type of the module, whether it is made of the same as its type of rays; those that have no mark here are compared
-    /// with it.
+    /// For each type of the module, whether it is equivalent to its ray descriptor type; types past the end are compared with
+    /// it.
     pub descriptors: &'a [bool],
-    /// For each of its expressions what the chain of accesses from it begins at; one that has none here is walked back.
+    /// For each of its expressions the origin of its chain of accesses; for expressions past the end it is searched.
     pub roots: &'a [Handle<key::Expression>],
     ghost begin: { AreRoots (expressions_of function.now.expressions) roots.now },
 }

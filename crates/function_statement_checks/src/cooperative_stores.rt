@@ -1,4 +1,4 @@
-//! Cooperative matrices that are stored.
+//! Stores of cooperative matrices.
 
 ghost use Rattle.std.specs.Prelude.{◌≡◌, ◌↔◌, IsTrue, MatchResult, Some, option_and_then};
 ghost use Rattle.ir_types.specs.judged.Plain.{inner_view};
@@ -52,7 +52,7 @@ fn scalar_of(inner: &TypeInner) -> Option<Scalar>
     }
 }
 
-// The scalar of what lies at a type.
+// The scalar of the value at a type.
 fn scalar_at<C: StatementContext>(context: &C, base: Handle<key::IrType>) -> Option<Scalar>
     ensures { result ≡ option_and_then scalar_of (inner_at (C.seen context.now).m.types base) }
 {
@@ -62,7 +62,7 @@ fn scalar_at<C: StatementContext>(context: &C, base: Handle<key::IrType>) -> Opt
     }
 }
 
-// The scalar of what a pointer leads to.
+// The scalar of a pointer's target.
 fn pointed_scalar<C: StatementContext>(context: &C, pointer: Form) -> Option<Scalar>
     ensures { result ≡ pointed_scalar (C.seen context.now).m.types pointer }
 {
@@ -83,13 +83,13 @@ fn is_scalar(found: Option<Scalar>, scalar: Scalar) -> bool
     }
 }
 
-/// Whether a cooperative matrix may be stored where a pointer leads: scalars of its kind lie there, and may be written.
+/// Whether a cooperative matrix can be stored through a pointer: its scalars are of the same kind, and writable.
 ///
 /// # Errors
 ///
-/// [`FunctionError::InvalidCooperativeStoreTarget`] for what is no cooperative matrix,
-/// [`FunctionError::InvalidCooperativeDataPointer`] where other scalars lie, or none, and
-/// [`FunctionError::InvalidStorePointer`] where nothing is written.
+/// [`FunctionError::InvalidCooperativeStoreTarget`] for a value that is not a cooperative matrix,
+/// [`FunctionError::InvalidCooperativeDataPointer`] for other scalars, or none, and [`FunctionError::InvalidStorePointer`] for
+/// a read-only address space.
 pub fn check_cooperative_store<C: StatementContext>(
     context: &C,
     target: Handle<key::Expression>,

@@ -1,4 +1,4 @@
-//! Which types of a module are made as its type of rays is.
+//! Which types of a module are equivalent to its ray descriptor type.
 
 ghost use Rattle.std.specs.Prelude.{◌≡◌, ◌↔◌, IfOk, IsTrue, Some};
 ghost use Rattle.ir_types.specs.judged.Plain.{inner_view};
@@ -11,7 +11,7 @@ use ir_types::{IrType, TypeInner, key};
 use std::alloc::{AllocError, Global};
 use typing_forms::inner_of;
 
-// Whether two types are made of the same.
+// Whether two types are equivalent.
 #[tactic(auto, using(module_type_checks::proofs::SameInner::inner_equality))]
 fn are_made_same(left: &TypeInner, right: &TypeInner) -> bool
     ensures { IsTrue result ↔ (inner_view left.now ≡ inner_view right.now) }
@@ -19,7 +19,7 @@ fn are_made_same(left: &TypeInner, right: &TypeInner) -> bool
     *left == *right
 }
 
-// Whether two types of a module are made of the same.
+// Whether two types of a module are equivalent.
 fn are_made_same_at(
     types: &UniqueArena<IrType, key::IrType>,
     left: Handle<key::IrType>,
@@ -36,7 +36,7 @@ fn are_made_same_at(
     }
 }
 
-/// Whether a type of a module is made as the declared one, if one is.
+/// Whether a type of a module is equivalent to the declared one, if any.
 pub(crate) fn is_descriptor(
     types: &UniqueArena<IrType, key::IrType>,
     declared: Option<Handle<key::IrType>>,
@@ -50,7 +50,7 @@ pub(crate) fn is_descriptor(
     }
 }
 
-// Of each type of a module, whether it is made as the one at a handle. The error is out of memory.
+// For each type of a module, whether it is equivalent to the one at a handle. The error is out of memory.
 fn marks_of(
     alloc: Global,
     types: &UniqueArena<IrType, key::IrType>,
@@ -66,8 +66,8 @@ fn marks_of(
     Ok(marks)
 }
 
-/// Of each type of a module, whether it is made as the declared one; of none, where none is declared. No more is compared than
-/// each is made of. The error is out of memory.
+/// For each type of a module, whether it is equivalent to the declared one; for none, if none is declared. The time is that of
+/// the types' parts. The error is out of memory.
 pub fn descriptors_of(
     alloc: Global,
     types: &UniqueArena<IrType, key::IrType>,

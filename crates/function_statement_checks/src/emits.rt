@@ -12,7 +12,7 @@ use ir_sets::next::first_passing;
 use ir_types::key;
 use typing_errors::FunctionError;
 
-// The first expression of a range that denotes the result of a statement, where for each expression the first from it on that does is known.
+// The first expression of a range that is the result of a statement, given for each expression the first from it on that is.
 pub(crate) fn answer_of(
     answers: &[u32],
     range: Range<key::Expression>,
@@ -26,11 +26,11 @@ pub(crate) fn answer_of(
     }
 }
 
-/// Whether each expression of a range is computed where it is emitted.
+/// Whether no expression of an emitted range is the result of a statement.
 ///
 /// # Errors
 ///
-/// [`FunctionError::EmitResult`] for one that denotes the result of a statement.
+/// [`FunctionError::EmitResult`] for one that is.
 pub fn check_emit<C: StatementContext>(
     context: &C,
     range: Range<key::Expression>,

@@ -1,5 +1,5 @@
-//! Whether statements meet the rules of their kinds: barriers, stores, calls, conditions, cases of switches and `Emit`; and the context
-//! of these checks, in addition to that of expressions (`CheckContext` of `module_context`).
+//! The checks of single statements: barriers, stores, calls, conditions, switch cases and `Emit`; and their context, in
+//! addition to that of expressions (`CheckContext` of `module_context`).
 #![tactic(auto)]
 
 mod barriers;

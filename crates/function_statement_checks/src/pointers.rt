@@ -1,4 +1,4 @@
-//! Pointers: where they begin, and what lies where they lead.
+//! Pointers: their origins, and their targets.
 
 ghost use Rattle.std.specs.Prelude.{◌≡◌, ◌↔◌, IsTrue, Some};
 ghost use Rattle.ir_types.specs.judged.ExpressionPlain.{expression_view};
@@ -17,7 +17,7 @@ use ir_types::{Expression, TypeInner, key};
 use module_context::are_same;
 use typing_forms::Form;
 
-// ---- where a pointer begins
+// ---- the origin of a pointer
 
 // The base of an access, if the expression is one.
 pub(crate) fn base_of(expression: &Expression) -> Option<Handle<key::Expression>>
@@ -30,7 +30,7 @@ pub(crate) fn base_of(expression: &Expression) -> Option<Handle<key::Expression>
     }
 }
 
-/// The base of the access that the expression at a handle is, if it is one.
+/// The base of the access at a handle, if it is one.
 pub fn base_at<C: StatementContext>(
     context: &C,
     handle: Handle<key::Expression>,
@@ -98,9 +98,9 @@ pub(crate) fn is_variable_at<C: StatementContext>(
     }
 }
 
-// ---- where it leads
+// ---- its target
 
-/// The space that a pointer points into.
+/// The address space of a pointer.
 pub const fn pointer_space(pointer: Form) -> Option<AddressSpace>
     ensures { result ≡ pointer_space pointer }
 {
@@ -123,7 +123,7 @@ pub const fn pointer_space(pointer: Form) -> Option<AddressSpace>
     }
 }
 
-/// Whether it is a pointer to what may be written.
+/// Whether it is a pointer to writable memory.
 pub(crate) fn is_writable(pointer: Form) -> bool
     ensures { IsTrue result ↔ IsWritable pointer }
 {
@@ -133,7 +133,7 @@ pub(crate) fn is_writable(pointer: Form) -> bool
     }
 }
 
-// What is loaded of a value pointer.
+// The loaded value of a value pointer.
 const fn loaded_value(size: Option<VectorSize>, scalar: Scalar) -> Form
     ensures { result ≡ loaded_value size scalar }
 {
@@ -143,7 +143,7 @@ const fn loaded_value(size: Option<VectorSize>, scalar: Scalar) -> Form
     }
 }
 
-// What is loaded of what a pointer leads to: of an atomic its scalar, and else the whole.
+// The loaded value of a pointer's target: the scalar of an atomic, else the target.
 fn loaded<C: StatementContext>(context: &C, base: Handle<key::IrType>) -> Form
     ensures { result ≡ loaded (C.seen context.now).m.types base (inner_at (C.seen context.now).m.types base) }
 {
@@ -153,7 +153,7 @@ fn loaded<C: StatementContext>(context: &C, base: Handle<key::IrType>) -> Form
     }
 }
 
-/// Whether a value is of the type that would be loaded.
+/// Whether a value has the type that would be loaded.
 pub(crate) fn fits_at<C: StatementContext>(context: &C, pointer: Form, value: Form) -> bool
     ensures { IsTrue result ↔ FitsAt (C.seen context.now).m.types pointer value }
 {

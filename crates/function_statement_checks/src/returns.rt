@@ -1,4 +1,4 @@
-//! Values that functions answer.
+//! The values of `Return`.
 
 ghost use Rattle.std.specs.Prelude.{◌≡◌, ◌↔◌, IsTrue, MatchResult};
 ghost use Rattle.spec_statements.specs.judged.Returns.{ReturnOK};
@@ -10,7 +10,7 @@ use ir_types::key;
 use module_context::are_same;
 use typing_errors::FunctionError;
 
-// Whether what is returned is what the function answers.
+// Whether a returned value matches the function's result.
 fn is_answer<C: StatementContext>(context: &C, value: &Option<Handle<key::Expression>>) -> bool
     ensures { IsTrue result ↔ ReturnOK (C.seen context.now) value.now }
 {
@@ -21,11 +21,11 @@ fn is_answer<C: StatementContext>(context: &C, value: &Option<Handle<key::Expres
     }
 }
 
-/// Whether a return has a value exactly where the function answers one, and it is of its type.
+/// Whether a `Return` has a value exactly if the function has a result, and it has its type.
 ///
 /// # Errors
 ///
-/// [`FunctionError::InvalidReturnType`] where that is not so.
+/// [`FunctionError::InvalidReturnType`] if not.
 pub fn check_return<C: StatementContext>(
     context: &C,
     value: Option<Handle<key::Expression>>,

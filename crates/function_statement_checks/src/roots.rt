@@ -1,4 +1,4 @@
-//! What chains of accesses begin at, found once for a function.
+//! The origins of chains of accesses, computed once for a function.
 
 ghost use Rattle.std.specs.Prelude.{◌≡◌, IfOk, Some, length};
 ghost use Rattle.ir_items.specs.judged.Bases.{BasesPrecede, expressions_of};
@@ -11,7 +11,7 @@ use ir_arena::handle::Handle;
 use ir_types::{Expression, key};
 use std::alloc::{AllocError, Global};
 
-// The base of the access that the expression at a handle is, if it is one.
+// The base of the access at a handle, if it is one.
 #[tactic(auto, using(module_context::proofs::Lookups::found, module_context::proofs::Lookups::missing))]
 fn base_in(
     expressions: &Arena<Expression, key::Expression>,
@@ -25,7 +25,7 @@ fn base_in(
     }
 }
 
-/// What a chain of accesses begins at, step by step. Requires that the base of each access comes before it.
+/// The origin of a chain of accesses, step by step. Requires that the base of each access precedes it.
 pub(crate) fn walked_back(
     expressions: &Arena<Expression, key::Expression>,
     pointer: Handle<key::Expression>,
@@ -40,7 +40,7 @@ pub(crate) fn walked_back(
     current
 }
 
-// What the chain from an expression begins at, by what those before it do.
+// The origin of the chain from an expression, given those of earlier expressions.
 fn root_of(
     expressions: &Arena<Expression, key::Expression>,
     roots: &[Handle<key::Expression>],
@@ -59,8 +59,8 @@ fn root_of(
     }
 }
 
-/// For each expression what the chain of accesses from it begins at. Requires that the base of each access comes before it. The
-/// error is out of memory.
+/// For each expression the origin of its chain of accesses. Requires that the base of each access precedes it. The error is out
+/// of memory.
 pub fn roots_of(
     alloc: Global,
     expressions: &Arena<Expression, key::Expression>,

@@ -1,4 +1,4 @@
-//! Values that are stored.
+//! `Store`.
 
 ghost use Rattle.std.specs.Prelude.{◌≡◌, List, MatchResult, IfSome, None};
 ghost use Rattle.ir_types.specs.judged.Plain.{inner_view, PlainType};
@@ -15,7 +15,7 @@ use ir_types::{TypeInner, key};
 use typing_errors::FunctionError;
 use typing_forms::Form;
 
-// The type of an image or a sampler, which are not stored.
+// The type of an image or a sampler, which can't be stored.
 fn unstorable(value: Form) -> Option<TypeInner>
     ensures stored { result ≡ None → IsStorable value }
     ensures found { IfSome result (λ i. (¬ IsStorable value) × ((types : List PlainType) → form_in types None (inner_view i) ≡ value)) }
@@ -47,7 +47,7 @@ fn unstorable(value: Form) -> Option<TypeInner>
     }
 }
 
-// Whether a value that may be stored is stored where it fits and may be written.
+// Whether a storable value fits its target and the target is writable.
 fn check_target<C: StatementContext>(
     context: &C,
     pointer: Handle<key::Expression>,
@@ -72,14 +72,14 @@ fn check_target<C: StatementContext>(
     Ok(())
 }
 
-/// Whether a value may be stored where a pointer leads: through a chain of accesses on a variable or an argument, of the type
-/// that would be loaded, and in a space that is written. Requires that the base of each access comes before it.
+/// Whether a value can be stored through a pointer: a chain of accesses to a variable or an argument, to the type that would be
+/// loaded, in a writable address space. Requires that the base of each access precedes it.
 ///
 /// # Errors
 ///
-/// [`FunctionError::InvalidStorePointer`] at what the pointer begins at where that is neither a variable nor an argument, or at
-/// the pointer where nothing is written in its space; [`FunctionError::InvalidStoreTexture`] for an image or a sampler;
-/// [`FunctionError::InvalidStoreTypes`] where the value is of another type.
+/// [`FunctionError::InvalidStorePointer`] with the pointer's origin if that is neither a variable nor an argument, or with the
+/// pointer if its address space is read-only; [`FunctionError::InvalidStoreTexture`] for an image or a sampler;
+/// [`FunctionError::InvalidStoreTypes`] for a value of another type.
 pub fn check_store<C: StatementContext>(
     context: &C,
     pointer: Handle<key::Expression>,

@@ -54,7 +54,7 @@ const fn fits_kind(kind: ScalarKind, value: SwitchValue) -> bool
     }
 }
 
-// The value as a number, beside the kind that it is of.
+// The value as a number, with its kind.
 const fn value_key(value: SwitchValue) -> (u8, i64)
     ensures { result ≡ value_key value }
 {
@@ -129,10 +129,10 @@ fn falls_at_end(cases: &[SwitchCase]) -> bool
     falls
 }
 
-/// What is wrong with the cases of a switch by a selector of such a kind: `None` where their values are of that kind and differ,
-/// one of them is the default, and the last case doesn't fall through; and else one of
-/// [`FunctionError::ConflictingCaseType`], [`FunctionError::ConflictingSwitchCase`] or [`FunctionError::MultipleDefaultCases`],
-/// [`FunctionError::MissingDefaultCase`], [`FunctionError::LastCaseFallTrough`]. The time is that of sorting the values.
+/// The error of the cases of a switch with a selector of this kind, or `None` if their values have that kind and are distinct,
+/// there is a default, and the last case does not fall through; else one of [`FunctionError::ConflictingCaseType`],
+/// [`FunctionError::ConflictingSwitchCase`] or [`FunctionError::MultipleDefaultCases`], [`FunctionError::MissingDefaultCase`],
+/// [`FunctionError::LastCaseFallTrough`]. The time is that of sorting the values.
 ///
 /// # Errors
 ///

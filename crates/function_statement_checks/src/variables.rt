@@ -1,4 +1,4 @@
-//! The global variables that expressions are.
+//! The global variables named by expressions.
 
 ghost use Rattle.std.specs.Prelude.{◌≡◌, option_map, slice_get};
 ghost use Rattle.std.specs.Option.{option_or};
@@ -13,7 +13,7 @@ use ir_arena::handle::Handle;
 use ir_items::GlobalVariable;
 use ir_types::{Expression, key};
 
-// The global variable that an expression is.
+// The global variable that an expression names.
 fn global_of(expression: &Expression) -> Option<Handle<key::GlobalVariable>>
     ensures { result ≡ global_of (expression_view expression.now) }
 {
@@ -23,7 +23,7 @@ fn global_of(expression: &Expression) -> Option<Handle<key::GlobalVariable>>
     }
 }
 
-/// The global variable that the expression at a handle is.
+/// The global variable that the expression at a handle names.
 pub fn variable_at<'a, C: StatementContext>(
     context: &'a C,
     handle: Handle<key::Expression>,
@@ -46,7 +46,7 @@ pub fn accessed_at<'a, C: StatementContext>(
     variable_at(context, base)
 }
 
-/// The global variable that the expression at a handle is, or that it is an access directly on.
+/// The global variable that the expression at a handle names, or is an access directly on.
 pub fn named_at<'a, C: StatementContext>(
     context: &'a C,
     handle: Handle<key::Expression>,

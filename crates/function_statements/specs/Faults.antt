@@ -1,4 +1,4 @@
--- What is wrong with a statement, by its own rule: a row a kind.
+-- Errors of statements, by their own rules: a row per kind.
 use Rattle.std.specs.Prelude.{IsSomeAnd, ◌≡◌, []}
 use Rattle.typing_errors.specs.declared.error.FunctionError.{FunctionError}
 use Rattle.ir_blocks.specs.judged.Places.{Place, OccursAt}
@@ -54,22 +54,22 @@ IsStatementFault c (call function arguments answer) e = IsCallFault c function a
 
 -- ---- where it occurs
 
--- The statement at the place has this fault.
+-- The statement at the place has this error.
 pub record IsBodyFaultAt (c : BlockContext) (e : FunctionError) (place : Place) : Type 0 where
   pub statement : PlainStatement
   pub stands : OccursAt c.f.body place statement
   pub wrong : IsStatementFault c statement e
 
--- A statement of the body has this fault.
+-- A statement of the body has this error.
 abbrev pub IsBodyFault : BlockContext → FunctionError → Type 0
 IsBodyFault c e = (p : Place) × IsBodyFaultAt c e p
 
--- memory ran out, or this is so of the fault that is reported
+-- out of memory, or this holds for the error
 abbrev pub IfFault : StatementError → (FunctionError → Type 0) → Type 0
 IfFault (Memory e) P = Unit {0}
 IfFault (Fault e) P = P e
 
--- a refusal tells such a fault of the place, or that there is no memory
+-- a refusal has such an error of the place, or is out of memory
 abbrev pub IsBodyRefusalAt : BlockContext → Refusal FunctionError → Place → Type 0
 IsBodyRefusalAt c (refusal.Memory e) p = Unit {0}
 IsBodyRefusalAt c (refusal.Fault e) p = IsBodyFaultAt c (error_of e) p × (spans_of e ≡ [])

@@ -1,4 +1,4 @@
--- A body with a fault has a statement that does not meet its rule.
+-- A body with an error has a statement that breaks its rule.
 use Rattle.typing_errors.specs.declared.error.FunctionError.{FunctionError}
 use Rattle.ir_blocks.specs.judged.Places.{Place, OccursAt}
 use Rattle.ir_blocks.specs.judged.Plain.{PlainStatement}

@@ -1,4 +1,4 @@
--- What follows rays with a fault does not meet its rule.
+-- A ray statement with an error breaks its rule.
 use Rattle.std.specs.Prelude.{ℕ, Option}
 use Rattle.typing_errors.specs.declared.error.FunctionError.{FunctionError}
 use Rattle.ir_blocks.specs.declared.operations.RayPipelineFunction.{RayPipelineFunction}
@@ -11,7 +11,7 @@ use Rattle.spec_statements.specs.judged.Payloads.{PayloadsOK}
 use Rattle.spec_statements.specs.judged.RayPipelines.{RayPipelineOK}
 use Rattle.spec_statements.specs.judged.RayQueries.{RayQueryOK}
 
--- What refutes the rule of each kind.
+-- The refutation of the rule of each kind.
 pub record Refuted (c : BlockContext) (e : FunctionError) : Type 0 where
   pub query : (query : ℕ) (fun : RayQueryFunction) → IsRayQueryFault c query fun e → RayQueryOK c query fun → ⊥
   pub pipeline : (fun : RayPipelineFunction) → IsRayPipelineFault c fun e → RayPipelineOK c fun → ⊥

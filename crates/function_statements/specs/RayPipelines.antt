@@ -1,4 +1,4 @@
--- What is wrong with a ray that a pipeline traces.
+-- Errors of rays traced by a pipeline.
 use Rattle.std.specs.Prelude.{◌≡◌, ◌⊎◌, ℕ, Some, None, IsSomeAnd}
 use Rattle.typing_errors.specs.declared.error.FunctionError.{FunctionError}
 use Rattle.typing_errors.specs.declared.error.FunctionError.TheVariants as error
@@ -10,11 +10,11 @@ use Rattle.spec_statements.specs.judged.RayQueries.{structure_of, IsRayDescripto
 use Rattle.spec_statements.specs.judged.Stores.{pointer_space}
 use Rattle.spec_statements.specs.judged.Variables.{variable_at}
 
--- a global variable in a space of payloads
+-- a global variable in an address space of payloads
 abbrev pub IsPayload : BlockContext → (payload : ℕ) → Type 0
 IsPayload c payload = IsSomeAnd (variable_at c.m c.f payload) (λ g. IsPayloadSpace g.space)
 
--- what is none is no pointer, one into another space, or no variable itself
+-- otherwise it is not a pointer, points into another address space, or is not itself a variable
 abbrev pub IsPayloadFault : BlockContext → (payload : ℕ) → FunctionError → Type 0
 IsPayloadFault c payload error.InvalidPayloadType = (pointer_space (form_at c payload) ≡ None) × ¬ IsPayload c payload
 IsPayloadFault c payload (error.InvalidPayloadAddressSpace space) =
@@ -22,7 +22,7 @@ IsPayloadFault c payload (error.InvalidPayloadAddressSpace space) =
 IsPayloadFault c payload error.PayloadPointerNotGlobal = IsSomeAnd (pointer_space (form_at c payload)) IsPayloadSpace × ¬ IsPayload c payload
 IsPayloadFault c payload _ = ⊥
 
--- it is traced in no structure, or nothing describes it
+-- it has no acceleration structure, or no ray descriptor
 abbrev pub IsRayFault : BlockContext → (structure descriptor : ℕ) → FunctionError → Type 0
 IsRayFault c structure descriptor (error.InvalidAccelerationStructure e) = (e ≡ structure) × (structure_of (form_at c structure) ≡ None)
 IsRayFault c structure descriptor (error.InvalidRayDescriptor e) = (e ≡ descriptor) × ¬ IsRayDescriptor c (form_at c descriptor)

@@ -1,4 +1,4 @@
--- What is wrong with what is done with a ray query.
+-- Errors of operations on ray queries.
 use Rattle.std.specs.Prelude.{◌≡◌, ◌⊎◌, ℕ, Some, None, Bool, IsSomeAnd, option_and_then}
 use Rattle.typing_errors.specs.declared.error.FunctionError.{FunctionError}
 use Rattle.typing_errors.specs.declared.error.FunctionError.TheVariants as error
@@ -30,15 +30,15 @@ IsStepFault c query vertices (ray.GenerateIntersection hit_t) e = IsDistanceFaul
 IsStepFault c query vertices ray.ConfirmIntersection e = ⊥
 IsStepFault c query vertices ray.Terminate e = ⊥
 
--- ---- the whole
+-- ---- the rule
 
--- it is no variable of the function, or one of another type
+-- it is not a local variable, or has another type
 abbrev pub IsVariableFault : BlockContext → (query : ℕ) → FunctionError → Type 0
 IsVariableFault c query (error.InvalidRayQueryExpression e) = (e ≡ query) × (local_type_at c.f query ≡ None)
 IsVariableFault c query (error.InvalidRayQueryType type) = (local_type_at c.f query ≡ Some type) × (query_of (inner_at c.m.types type) ≡ None)
 IsVariableFault c query _ = ⊥
 
--- that, or what is done with a query is wrong
+-- that, or an error of the operation
 abbrev pub IsRayQueryFault : BlockContext → (query : ℕ) → RayQueryFunction → FunctionError → Type 0
 IsRayQueryFault c query fun e = IsVariableFault c query e
     ⊎ IsSomeAnd (option_and_then (λ t. query_of (inner_at c.m.types t)) (local_type_at c.f query)) (λ vertices. IsStepFault c query vertices fun e)

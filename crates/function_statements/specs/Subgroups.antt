@@ -1,4 +1,4 @@
--- What is wrong with an operation of a subgroup.
+-- Errors of subgroup operations.
 use Rattle.std.specs.Prelude.{◌≡◌, ◌⊎◌, ℕ, Option, Some, IsSomeAnd}
 use Rattle.typing_errors.specs.declared.error.FunctionError.{FunctionError}
 use Rattle.typing_errors.specs.declared.error.FunctionError.TheVariants as error
@@ -18,14 +18,14 @@ use Rattle.spec_statements.specs.judged.BlockContext.{BlockContext, form_at}
 use Rattle.spec_statements.specs.judged.Subgroups.{collective_needs, gather_needs, AnswersAs, IsSubgroupNumber, TakesShape, GoesOver, IndexIsKnown}
 use Rattle.typing_forms.specs.declared.form.Form.TheVariants as form
 
--- ---- what is needed
+-- ---- required operations
 
--- the validator doesn't allow the operation
+-- the operation is not supported
 abbrev pub IsUnsupported : BlockContext → (needed : SubgroupOperationSet) → SubgroupError → Type 0
 IsUnsupported c needed (fault.UnsupportedOperation set) = (set ≡ needed) × ¬ Has c.operations.0 needed.0
 IsUnsupported c needed _ = ⊥
 
--- subgroups may not be used, or not so
+-- subgroup operations are not enabled, or this one is not supported
 abbrev pub IsOperationFault : BlockContext → (needed : SubgroupOperationSet) → FunctionError → Type 0
 IsOperationFault c needed (error.MissingCapability missing) = (missing ≡ SUBGROUP) × ¬ Has c.capabilities.0 SUBGROUP.0
 IsOperationFault c needed (error.InvalidSubgroup e) = IsUnsupported c needed e
@@ -62,7 +62,7 @@ IsCollectiveFault c done over argument result e = IsOperationFault c (collective
 
 -- ---- gathers
 
--- the index is no `u32`, or what is gathered is no number
+-- the index is not `u32`, or the argument is not numeric
 abbrev pub IsBadOperand : BlockContext → GatherMode → (argument e : ℕ) → Type 0
 IsBadOperand c how argument e =
     ((gather_index how ≡ Some e) × ¬ (form_at c e ≡ form.Scalar (unsigned 4))) ⊎ ((e ≡ argument) × ¬ IsMadeOf IsScalarOrVector IsSubgroupNumber (form_at c argument))

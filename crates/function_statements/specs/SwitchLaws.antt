@@ -1,4 +1,4 @@
--- A switch with a fault does not meet its rule.
+-- A switch with an error breaks its rule.
 use Rattle.std.specs.Prelude.{ℕ}
 use Rattle.typing_errors.specs.declared.error.FunctionError.{FunctionError}
 use Rattle.ir_blocks.specs.judged.Plain.{PlainCases}
@@ -8,7 +8,7 @@ use Rattle.spec_statements.specs.judged.Switches.{CasesOK, SwitchOK}
 use Rattle.function_statement_checks.specs.Cases.{IsCaseFault}
 use Rattle.function_statements.specs.Switches.{IsSwitchFault}
 
--- What refutes the rules.
+-- The refutation of the rules.
 pub record Refuted (c : BlockContext) (e : FunctionError) : Type 0 where
   pub cases : (kind : ScalarKind) (cases : PlainCases) → IsCaseFault kind cases e → CasesOK kind cases → ⊥
   pub switch : (selector : ℕ) (cases : PlainCases) → IsSwitchFault c selector cases e → SwitchOK (form_at c selector) cases → ⊥

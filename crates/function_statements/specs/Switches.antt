@@ -1,4 +1,4 @@
--- What is wrong with a switch.
+-- Errors of switches.
 use Rattle.std.specs.Prelude.{◌≡◌, ◌⊎◌, ℕ, [], IsSomeAnd}
 use Rattle.function_statement_checks.specs.Cases.{IsCaseFault}
 use Rattle.typing_errors.specs.declared.error.FunctionError.{FunctionError}
@@ -14,22 +14,22 @@ use Rattle.typing_forms.specs.declared.form.Form.{Form}
 
 -- ---- the selector
 
--- the form is made of integers of this kind
+-- the form consists of integers of this kind
 abbrev pub Selects : Form → ScalarKind → Type 0
 Selects selector kind = IsSomeAnd (shaped_of selector) (λ x. (x.scalar.kind ≡ kind) × IsInteger kind)
 
--- it is not made of integers
+-- it does not consist of integers
 abbrev pub IsSelectorFault : BlockContext → (selector : ℕ) → FunctionError → Type 0
 IsSelectorFault c selector (error.InvalidSwitchType e) = (e ≡ selector) × ¬ IsSomeAnd (shaped_of (form_at c selector)) (λ x. IsInteger x.scalar.kind)
 IsSelectorFault c selector _ = ⊥
 
--- ---- the whole
+-- ---- the rule
 
 abbrev pub IsSwitchFault : BlockContext → (selector : ℕ) → PlainCases → FunctionError → Type 0
 IsSwitchFault c selector cases e = IsSelectorFault c selector e
     ⊎ ((kind : ScalarKind) × Selects (form_at c selector) kind × IsCaseFault kind cases e)
 
--- there is no memory for the values of the cases of a switch by integers
+-- there is no memory for the values of the cases
 abbrev pub IsSwitchRefusal : BlockContext → (selector : ℕ) → PlainCases → Refusal FunctionError → Type 0
 IsSwitchRefusal c selector cases (refusal.Memory e) = (kind : ScalarKind) × Selects (form_at c selector) kind
 IsSwitchRefusal c selector cases (refusal.Fault f) = IsSwitchFault c selector cases (error_of f) × (spans_of f ≡ [])

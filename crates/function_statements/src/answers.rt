@@ -1,4 +1,4 @@
-//! Which expressions of a function denote the results of statements.
+//! Which expressions of a function are results of statements.
 
 ghost use Rattle.std.specs.Prelude.{◌≡◌, ◌<◌, IfOk};
 ghost use Rattle.ir_items.specs.found.View.{function_view};
@@ -10,7 +10,7 @@ use ir_items::{Expression, Function};
 use ir_sets::next::{PlaceTest, next_passing};
 use std::alloc::{AllocError, Global};
 
-// Whether an expression denotes the result of a statement, and so is not computed where it is emitted.
+// Whether an expression is the result of a statement, and so can't be emitted.
 fn is_answer(expression: &Expression) -> bool
     ensures { result ≡ is_answer (expression_view expression.now) }
 {
@@ -52,7 +52,7 @@ fn is_answer(expression: &Expression) -> bool
     }
 }
 
-// Whether an expression of a function denotes the result of a statement.
+// Whether an expression of a function is the result of a statement.
 #[derive(Drop)]
 struct AnswerTest<'a> {
     function: &'a Function,
@@ -73,12 +73,11 @@ impl PlaceTest for AnswerTest<'_> {
     }
 }
 
-/// For each expression of a function the first from it on that denotes the result of a statement, their number where there
-/// is none.
+/// For each expression of a function the first from it on that is the result of a statement, or their number if there is none.
 ///
 /// # Errors
 ///
-/// `AllocError` where there is no memory.
+/// `AllocError` if out of memory.
 pub fn next_answers(alloc: Global, function: &Function) -> Result<Vec<u32>, AllocError>
     ensures { IfOk result (λ next. AreAnswers (function_view function.now).expressions next.items) }
 {

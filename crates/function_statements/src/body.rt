@@ -18,15 +18,14 @@ use ir_types::with_span::WithSpan;
 use std::alloc::Global;
 use typing_errors::FunctionError;
 
-/// Whether each statement of the context's function, at any depth, meets the rule of its kind (a part of naga's
-/// `validate_block_impl`). Scope, and how statements leave their blocks, are no part of it. Requires that the base of each access
-/// comes before it, that the functions called are there, and that what the context reports of constants is reported of all of them.
+/// Whether each statement of the context's function, at any depth, meets its rule (a part of naga's `validate_block_impl`).
+/// Scope and control flow are not part of it. Requires that the base of each access precedes it, that the callees exist, and
+/// that the context has the expression kinds of all constants.
 ///
 /// # Errors
 ///
-/// [`Refusal::Fault`] with a fault of a statement that has one, where the trail leads, as its check answers it: the first in the
-/// order of the text, which no clause says.
-/// [`Refusal::Memory`] where memory ran out.
+/// [`Refusal::Fault`] with an error of a statement at the place of the trail, from its check: the first in text order, which no
+/// clause states. [`Refusal::Memory`] if out of memory.
 pub fn validate_statements<C: StatementContext>(
     alloc: Global,
     trail: &mut Trail,

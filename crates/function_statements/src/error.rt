@@ -3,11 +3,11 @@
 use std::alloc::AllocError;
 use typing_errors::FunctionError;
 
-/// There is no memory, or a statement has a fault.
+/// Out of memory, or the error of a statement.
 #[derive(Drop)]
 pub enum StatementError {
-    /// Memory was refused.
+    /// Out of memory.
     Memory(AllocError),
-    /// What is wrong.
+    /// The error.
     Fault(FunctionError),
 }

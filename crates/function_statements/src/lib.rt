@@ -1,6 +1,6 @@
-//! Whether each statement of a body, at any depth, meets its rule: switches among them, and statements that operate on subgroups
-//! (ballots, collective operations and gathers) or follow rays (ray queries, and rays that a pipeline traces, with the types of
-//! their payloads). The rules of other kinds stand in `function_statement_checks` and `function_atomic_checks`.
+//! The check of each statement of a body, at any depth: switches, subgroup statements (ballots, collective operations and
+//! gathers) and ray statements (ray queries, and rays traced by a pipeline, with their payload types). The rules of other kinds
+//! are in `function_statement_checks` and `function_atomic_checks`.
 #![tactic(auto)]
 
 mod answers;

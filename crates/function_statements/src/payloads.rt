@@ -32,7 +32,7 @@ fn type_at<C: StatementContext>(
     }
 }
 
-// The type of the payload of the ray that a pipeline traces.
+// The payload type of a ray traced by a pipeline.
 fn traced_type<C: StatementContext>(
     context: &C,
     fun: &RayPipelineFunction,
@@ -44,7 +44,7 @@ fn traced_type<C: StatementContext>(
     }
 }
 
-// The type of the payload of the ray that a statement traces.
+// The payload type of a ray traced by a statement.
 fn payload_type<C: StatementContext>(
     context: &C,
     statement: &Statement,
@@ -78,7 +78,7 @@ fn payload_type<C: StatementContext>(
     }
 }
 
-// A type, where it is another one.
+// A type, if it is another one.
 fn unlike(ty: Option<Handle<key::IrType>>, held: Handle<key::IrType>) -> Option<Handle<key::IrType>>
     ensures { result ≡ unlike held ty }
 {
@@ -123,7 +123,7 @@ impl<'a, C: StatementContext> StatementLook<Handle<key::IrType>> for OtherPayloa
     }
 }
 
-// The type of a payload of the function, if it has one.
+// The payload type of the function, if any.
 fn first_payload<C: StatementContext>(context: &C) -> Option<Handle<key::IrType>>
     ensures { MatchOption result
         ((type : ℕ) → HasPayload (C.seen context.now).m (C.seen context.now).f type → ⊥)
@@ -133,7 +133,7 @@ fn first_payload<C: StatementContext>(context: &C) -> Option<Handle<key::IrType>
     first_in(&any, context.body())
 }
 
-// Another type of a payload of the function, if it has one, and where that one stands.
+// Another payload type of the function, if any, and its place.
 fn other_payload<C: StatementContext>(
     trail: &mut Trail,
     context: &C,
@@ -147,13 +147,13 @@ fn other_payload<C: StatementContext>(
     placed_in(trail, &other, context.body())
 }
 
-/// The type of the payloads of all functions so far, if there is one: that of those before, which is given, or else that of the
-/// payloads of this function. The body is walked twice at most. Whether a payload is a variable at all is no part of it.
+/// The payload type of all functions so far, if any: that of earlier ones, which is given, or else that of this function. The
+/// body is walked at most twice. Whether a payload is a variable is not part of it.
 ///
 /// # Errors
 ///
-/// [`FunctionError::MismatchedPayloadType`] where a payload is of another type than that of those before, or than an earlier one
-/// of the function: that of the ray where the trail leads.
+/// [`FunctionError::MismatchedPayloadType`] for a payload of another type than that of earlier functions, or than an earlier
+/// one of the function: that of the ray at the place of the trail.
 #[tactic(auto, using(crate::proofs::PayloadLemmas::before_held, crate::proofs::PayloadLemmas::found_held))]
 pub fn payload_of<C: StatementContext>(
     trail: &mut Trail,

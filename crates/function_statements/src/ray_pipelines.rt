@@ -12,7 +12,7 @@ use ir_kinds::AddressSpace;
 use ir_types::key;
 use typing_errors::FunctionError;
 
-// Whether a space is one of payloads.
+// Whether an address space is one of payloads.
 const fn is_payload_space(space: AddressSpace) -> bool
     ensures { IsTrue result ↔ IsPayloadSpace space }
 {
@@ -29,7 +29,7 @@ const fn is_payload_space(space: AddressSpace) -> bool
     }
 }
 
-// Whether an expression is a payload: a global variable in a space of such.
+// Whether an expression is a payload: a global variable in such an address space.
 fn is_payload<C: StatementContext>(context: &C, payload: Handle<key::Expression>) -> bool
     ensures { IsTrue result ↔ IsPayload (C.seen context.now) payload }
 {
@@ -39,7 +39,7 @@ fn is_payload<C: StatementContext>(context: &C, payload: Handle<key::Expression>
     }
 }
 
-// The error of an expression that is no payload.
+// The error of an expression that is not a payload.
 fn payload_error<C: StatementContext>(
     context: &C,
     payload: Handle<key::Expression>,
@@ -59,7 +59,7 @@ fn payload_error<C: StatementContext>(
     }
 }
 
-// Whether a ray is traced in a structure, with a payload and what describes it.
+// Whether a ray has an acceleration structure, a descriptor and a payload.
 fn check_trace<C: StatementContext>(
     context: &C,
     structure: Handle<key::Expression>,
@@ -84,15 +84,14 @@ fn check_trace<C: StatementContext>(
     Ok(())
 }
 
-/// Whether a pipeline may do this: a ray is traced in an acceleration structure, with what describes it, and its
-/// payload is a global variable in a space of payloads. Of what type that is, is no part of it.
+/// Whether a ray traced by a pipeline is valid: it has an acceleration structure, a ray descriptor, and a payload that is a
+/// global variable in an address space of payloads. The payload's type is not part of it.
 ///
 /// # Errors
 ///
-/// [`FunctionError::InvalidAccelerationStructure`] or [`FunctionError::InvalidRayDescriptor`] where one of these is not so. For
-/// what is no payload [`FunctionError::InvalidPayloadType`] where it is no pointer,
-/// [`FunctionError::InvalidPayloadAddressSpace`] where it points into another space, and
-/// [`FunctionError::PayloadPointerNotGlobal`] where it is no variable itself.
+/// [`FunctionError::InvalidAccelerationStructure`] or [`FunctionError::InvalidRayDescriptor`] for another type. For the payload
+/// [`FunctionError::InvalidPayloadType`] if it is not a pointer, [`FunctionError::InvalidPayloadAddressSpace`] for another
+/// address space, and [`FunctionError::PayloadPointerNotGlobal`] if it is not itself a variable.
 pub fn check_ray_pipeline<C: StatementContext>(
     context: &C,
     fun: RayPipelineFunction,

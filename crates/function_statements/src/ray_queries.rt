@@ -21,7 +21,7 @@ use typing_forms::Form;
 
 // ---- the query
 
-// The variable of the function that an expression is.
+// The local variable that an expression names.
 fn local_of(expression: &Expression) -> Option<Handle<key::LocalVariable>>
     ensures { result ≡ local_of (expression_view expression.now) }
 {
@@ -31,7 +31,7 @@ fn local_of(expression: &Expression) -> Option<Handle<key::LocalVariable>>
     }
 }
 
-// The type of the variable of the function that the expression at a handle is.
+// The type of the local variable that the expression at a handle names.
 fn local_type_at<C: StatementContext>(
     context: &C,
     handle: Handle<key::Expression>,
@@ -47,7 +47,7 @@ fn local_type_at<C: StatementContext>(
     }
 }
 
-// Whether the ray query that a type of the module is gives the vertices of a hit.
+// Whether a ray query type has vertex return.
 fn query_at<C: StatementContext>(context: &C, ty: Handle<key::IrType>) -> Option<bool>
     ensures { result ≡ query_of (inner_at (C.seen context.now).m.types ty) }
 {
@@ -59,7 +59,7 @@ fn query_at<C: StatementContext>(context: &C, ty: Handle<key::IrType>) -> Option
 
 // ---- steps
 
-// Whether a structure gives the vertices of a hit where they are required.
+// Whether an acceleration structure has vertex return if required.
 const fn gives_vertices(asked: bool, given: bool) -> bool
     ensures { IsTrue result ↔ GivesVertices asked given }
 {
@@ -96,7 +96,7 @@ fn check_start<C: StatementContext>(
     }
 }
 
-// Whether a type is that of a distance: one float.
+// Whether a type is that of a distance: `f32`.
 fn is_distance(of: Form) -> bool
     ensures { IsTrue result ↔ IsMadeOf IsScalarShape IsFloating of }
 {
@@ -136,15 +136,15 @@ fn check_step<C: StatementContext>(
     }
 }
 
-/// Whether this may be done with a ray query: it is a variable of the function; it begins in an acceleration structure, which
-/// gives the vertices of a hit where the query does, with what describes a ray; and a hit is made at a float.
+/// Whether an operation on a ray query is valid: the query is a local variable; it is initialized with an acceleration
+/// structure, which has vertex return if the query does, and a ray descriptor; and a generated hit has an `f32` distance.
 ///
 /// # Errors
 ///
-/// [`FunctionError::InvalidRayQueryExpression`] where it is no variable of the function, and
-/// [`FunctionError::InvalidRayQueryType`] where that is no ray query; [`FunctionError::InvalidAccelerationStructure`],
-/// [`FunctionError::MissingAccelerationStructureVertexReturn`] or [`FunctionError::InvalidRayDescriptor`] where it doesn't begin
-/// so; [`FunctionError::InvalidHitDistanceType`] where the distance is no float.
+/// [`FunctionError::InvalidRayQueryExpression`] if it is not a local variable, and [`FunctionError::InvalidRayQueryType`] if
+/// that is not a ray query; [`FunctionError::InvalidAccelerationStructure`],
+/// [`FunctionError::MissingAccelerationStructureVertexReturn`] or [`FunctionError::InvalidRayDescriptor`] for invalid operands
+/// of the initialization; [`FunctionError::InvalidHitDistanceType`] for a distance that is not `f32`.
 pub fn check_ray_query<C: StatementContext>(
     context: &C,
     query: Handle<key::Expression>,

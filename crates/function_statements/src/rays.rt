@@ -9,7 +9,7 @@ use ir_types::key;
 use module_context::are_same;
 use typing_forms::Form;
 
-/// Whether the acceleration structure that a type is gives the vertices of a hit.
+/// Whether an acceleration structure type has vertex return.
 pub(crate) const fn structure_of(of: Form) -> Option<bool>
     ensures { result ≡ structure_of of }
 {
@@ -32,7 +32,7 @@ pub(crate) const fn structure_of(of: Form) -> Option<bool>
     }
 }
 
-// Whether a type is made as the module's type of rays, which is this.
+// Whether a type is equivalent to this one, the module's ray descriptor type.
 fn is_made_as<C: StatementContext>(context: &C, declared: Handle<key::IrType>, of: &Form) -> bool
     requires known { C.known context.now }
     requires declared { (C.seen context.now).m.special.ray_desc ≡ Some declared }
@@ -57,7 +57,7 @@ fn is_made_as<C: StatementContext>(context: &C, declared: Handle<key::IrType>, o
     }
 }
 
-/// Whether a type is made as that of what describes a ray.
+/// Whether a type is equivalent to that of a ray descriptor.
 pub(crate) fn is_ray_descriptor<C: StatementContext>(context: &C, of: &Form) -> bool
     requires { C.known context.now }
     ensures { IsTrue result ↔ IsRayDescriptor (C.seen context.now) of.now }

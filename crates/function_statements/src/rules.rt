@@ -1,4 +1,4 @@
-//! The rules of statements, as they are required of each statement of a body.
+//! The rules of statements, as required of each statement of a body.
 
 use crate::error::StatementError;
 use crate::statement::check_own;
@@ -10,9 +10,9 @@ use std::alloc::Global;
 /// The rule of each kind of statement, in a context.
 #[derive(Drop)]
 pub(crate) struct Rules<'a, C> {
-    /// Where the values of a switch are kept while they are compared.
+    /// The allocator for the values of a switch.
     pub alloc: Global,
-    /// What the rules may look at.
+    /// The context.
     pub context: &'a C,
 }
 

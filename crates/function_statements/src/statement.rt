@@ -1,6 +1,6 @@
 //! The rules of statements: one arm for each kind.
 
-ghost use Rattle.std.specs.Prelude.{IfSome, IsSomeAnd, MatchResult, map};
+ghost use Rattle.std.specs.Prelude.{◌≡◌, IfSome, IsSomeAnd, MatchResult, map};
 ghost use Rattle.ir_blocks.specs.found.View.{statement_view, case_view, cases_of};
 ghost use Rattle.ir_items.specs.judged.Bases.{BasesPrecede};
 ghost use Rattle.function_atomic_checks.specs.StorageImages.{IsImageStoreFault};
@@ -9,7 +9,7 @@ ghost use Rattle.spec_statements.specs.judged.Conditions.{ConditionOK};
 ghost use Rattle.spec_statements.specs.judged.StorageImages.{ImageStoreOK};
 ghost use Rattle.spec_statements.specs.judged.Switches.{SwitchOK};
 ghost use Rattle.function_statement_checks.specs.Conditions.{IsConditionFault};
-ghost use Rattle.function_statements.specs.Bodies.{Meets, MeetsPlainly, TakesNoMemory};
+ghost use Rattle.function_statements.specs.Bodies.{Meets, without_memory};
 ghost use Rattle.function_statements.specs.Faults.{IfFault, IsStatementFault};
 ghost use Rattle.function_statements.specs.Switches.{IsSwitchFault};
 
@@ -49,7 +49,7 @@ fn check_cases<C: StatementContext>(
     }
 }
 
-// A texel that is written.
+// An image store.
 fn check_written<C: StatementContext>(
     alloc: Global,
     context: &C,
@@ -87,70 +87,18 @@ fn check_break_if<C: StatementContext>(
     }
 }
 
-// Whether a statement meets its rule, what stands inside it aside, whose rule takes no memory: it is no switch, and writes no
-// texel.
-fn check_plain<C: StatementContext>(context: &C, statement: &Statement) -> Result<(), FunctionError>
-    requires plain { TakesNoMemory (statement_view statement.now) }
-    requires known { C.known context.now }
-    requires precede { BasesPrecede (C.seen context.now).f.expressions }
-    ensures { MatchResult result
-        (λ _. MeetsPlainly (C.seen context.now) (statement_view statement.now))
-        (IsStatementFault (C.seen context.now) (statement_view statement.now)) }
+// The answer of a check that allocates nothing.
+fn without_memory(checked: Result<(), FunctionError>) -> Result<(), StatementError>
+    ensures { result ≡ without_memory checked }
 {
-    match statement {
-        Statement::Block(_) | Statement::Break | Statement::Continue | Statement::Kill => Ok(()),
-        Statement::Emit(range) => check_emit(context, *range),
-        Statement::If { condition, .. } => check_condition(context, *condition),
-        Statement::Loop { break_if, .. } => check_break_if(context, break_if),
-        Statement::Return { value } => check_return(context, *value),
-        Statement::ControlBarrier(barrier) => check_barrier(context, *barrier),
-        Statement::MemoryBarrier(barrier) => check_barrier(context, *barrier),
-        Statement::Store { pointer, value } => check_store(context, *pointer, *value),
-        Statement::Atomic {
-            pointer,
-            fun,
-            value,
-            result: answer,
-        } => check_atomic(context, *pointer, *fun, *value, *answer),
-        Statement::ImageAtomic {
-            image,
-            coordinate,
-            array_index,
-            fun,
-            value,
-        } => check_image_atomic(context, *image, *coordinate, *array_index, *fun, *value),
-        Statement::WorkGroupUniformLoad {
-            pointer,
-            result: answer,
-        } => check_uniform_load(context, *pointer, *answer),
-        Statement::Call {
-            function,
-            arguments,
-            result: answer,
-        } => check_call(context, *function, arguments, *answer),
-        Statement::RayQuery { query, fun } => check_ray_query(context, *query, *fun),
-        Statement::SubgroupBallot { predicate, .. } => check_ballot(context, *predicate),
-        Statement::SubgroupCollectiveOperation {
-            op,
-            collective_op,
-            argument,
-            result: answer,
-        } => check_collective(context, *op, *collective_op, *argument, *answer),
-        Statement::SubgroupGather {
-            mode,
-            argument,
-            result: answer,
-        } => check_gather(context, *mode, *argument, *answer),
-        Statement::CooperativeStore { target, block } => {
-            check_cooperative_store(context, *target, *block)
-        }
-        Statement::RayPipelineFunction(fun) => check_ray_pipeline(context, *fun),
-        Statement::Switch { .. } | Statement::ImageStore { .. } => unreachable!(),
+    match checked {
+        Ok(()) => Ok(()),
+        Err(error) => Err(StatementError::Fault(error)),
     }
 }
 
-/// Whether a statement meets its rule, what stands inside it aside. A call of a function that is not there is not refused here:
-/// that it is there is checked beforehand.
+/// Whether a statement meets its rule, without its inner blocks. A call of a missing function is not refused here: that it
+/// exists is checked before.
 pub(crate) fn check_own<C: StatementContext>(
     alloc: Global,
     context: &C,
@@ -163,36 +111,72 @@ pub(crate) fn check_own<C: StatementContext>(
         (λ r. IfFault r (IsStatementFault (C.seen context.now) (statement_view statement.now))) }
 {
     match statement {
+        Statement::Block(_) | Statement::Break | Statement::Continue | Statement::Kill => Ok(()),
+        Statement::Emit(range) => without_memory(check_emit(context, *range)),
+        Statement::If { condition, .. } => without_memory(check_condition(context, *condition)),
         Statement::Switch { selector, cases } => check_cases(alloc, context, *selector, cases),
+        Statement::Loop { break_if, .. } => without_memory(check_break_if(context, break_if)),
+        Statement::Return { value } => without_memory(check_return(context, *value)),
+        Statement::ControlBarrier(barrier) => without_memory(check_barrier(context, *barrier)),
+        Statement::MemoryBarrier(barrier) => without_memory(check_barrier(context, *barrier)),
+        Statement::Store { pointer, value } => {
+            without_memory(check_store(context, *pointer, *value))
+        }
         Statement::ImageStore {
             image,
             coordinate,
             array_index,
             value,
         } => check_written(alloc, context, *image, *coordinate, *array_index, *value),
-        Statement::Emit(_)
-        | Statement::Block(_)
-        | Statement::If { .. }
-        | Statement::Loop { .. }
-        | Statement::Break
-        | Statement::Continue
-        | Statement::Return { .. }
-        | Statement::Kill
-        | Statement::ControlBarrier(_)
-        | Statement::MemoryBarrier(_)
-        | Statement::Store { .. }
-        | Statement::Atomic { .. }
-        | Statement::ImageAtomic { .. }
-        | Statement::WorkGroupUniformLoad { .. }
-        | Statement::Call { .. }
-        | Statement::RayQuery { .. }
-        | Statement::SubgroupBallot { .. }
-        | Statement::SubgroupCollectiveOperation { .. }
-        | Statement::SubgroupGather { .. }
-        | Statement::CooperativeStore { .. }
-        | Statement::RayPipelineFunction(_) => match check_plain(context, statement) {
-            Ok(()) => Ok(()),
-            Err(error) => Err(StatementError::Fault(error)),
-        },
+        Statement::Atomic {
+            pointer,
+            fun,
+            value,
+            result: answer,
+        } => without_memory(check_atomic(context, *pointer, *fun, *value, *answer)),
+        Statement::ImageAtomic {
+            image,
+            coordinate,
+            array_index,
+            fun,
+            value,
+        } => without_memory(check_image_atomic(
+            context,
+            *image,
+            *coordinate,
+            *array_index,
+            *fun,
+            *value,
+        )),
+        Statement::WorkGroupUniformLoad {
+            pointer,
+            result: answer,
+        } => without_memory(check_uniform_load(context, *pointer, *answer)),
+        Statement::Call {
+            function,
+            arguments,
+            result: answer,
+        } => without_memory(check_call(context, *function, arguments, *answer)),
+        Statement::RayQuery { query, fun } => {
+            without_memory(check_ray_query(context, *query, *fun))
+        }
+        Statement::SubgroupBallot { predicate, .. } => {
+            without_memory(check_ballot(context, *predicate))
+        }
+        Statement::SubgroupCollectiveOperation {
+            op,
+            collective_op,
+            argument,
+            result: answer,
+        } => without_memory(check_collective(context, *op, *collective_op, *argument, *answer)),
+        Statement::SubgroupGather {
+            mode,
+            argument,
+            result: answer,
+        } => without_memory(check_gather(context, *mode, *argument, *answer)),
+        Statement::CooperativeStore { target, block } => {
+            without_memory(check_cooperative_store(context, *target, *block))
+        }
+        Statement::RayPipelineFunction(fun) => { without_memory(check_ray_pipeline(context, *fun)) }
     }
 }

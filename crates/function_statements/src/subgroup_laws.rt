@@ -1,7 +1,7 @@
-//! Laws of the checks of operations of subgroups.
+//! Laws of the checks of subgroup operations.
 ghost use Rattle.function_statements.specs.SubgroupLaws.{FaultsRefute};
 
-/// An operation with a fault does not meet its rule: so an error is answered exactly where the rule is not met.
+/// An operation with an error breaks its rule: an error is returned exactly if the rule is broken.
 pub fn faults_refute()
     ensures { FaultsRefute }
 {}

@@ -1,4 +1,4 @@
-//! Operations of subgroups.
+//! Subgroup operations.
 
 ghost use Rattle.std.specs.Prelude.{◌≡◌, ◌↔◌, IsTrue, MatchResult, IfSome, IsSomeAnd, Some, None, option_and_then, slice_get};
 ghost use Rattle.ir_types.specs.judged.ExpressionPlain.{expression_view};
@@ -23,7 +23,7 @@ use spec_statements::Shape;
 use typing_errors::{FunctionError, SubgroupError};
 use typing_forms::Form;
 
-// ---- what is needed
+// ---- required operation sets
 
 // The operation set that a collective operation needs.
 const fn collective_needs(op: SubgroupOperation) -> SubgroupOperationSet
@@ -55,7 +55,7 @@ const fn gather_needs(mode: &GatherMode) -> SubgroupOperationSet
     }
 }
 
-// Whether an operation of a subgroup is allowed.
+// Whether a subgroup operation is supported.
 fn check_operation<C: StatementContext>(
     context: &C,
     needed: SubgroupOperationSet,
@@ -73,9 +73,9 @@ fn check_operation<C: StatementContext>(
     Ok(())
 }
 
-// ---- answers
+// ---- results
 
-// The type that the result of an operation of a subgroup declares.
+// The type that the result of a subgroup operation declares.
 fn answered_type(expression: &Expression) -> Option<Handle<key::IrType>>
     ensures { result ≡ answered_type (expression_view expression.now) }
 {
@@ -85,7 +85,7 @@ fn answered_type(expression: &Expression) -> Option<Handle<key::IrType>>
     }
 }
 
-// The same of the expression at a handle.
+// The same for the expression at a handle.
 fn answered_at<C: StatementContext>(
     context: &C,
     handle: Handle<key::Expression>,
@@ -114,7 +114,7 @@ fn answers_as<C: StatementContext>(
 
 // ---- ballots
 
-// Whether the predicate of an allowed ballot is a bool or absent.
+// Whether the predicate of a supported ballot is a `bool` or absent.
 fn check_predicate<C: StatementContext>(
     context: &C,
     predicate: &Option<Handle<key::Expression>>,
@@ -136,13 +136,13 @@ fn check_predicate<C: StatementContext>(
     }
 }
 
-/// Whether a ballot of a subgroup is allowed: the module and the validator allow it, and it is by a truth value, if by any.
+/// Whether a ballot is valid: subgroup operations are enabled and ballots supported, and the predicate, if any, is a `bool`.
 ///
 /// # Errors
 ///
-/// [`FunctionError::MissingCapability`] without that of subgroups; [`FunctionError::InvalidSubgroup`] with
-/// [`SubgroupError::UnsupportedOperation`] where ballots aren't allowed, and with [`SubgroupError::InvalidOperand`] for what is
-/// no truth value.
+/// [`FunctionError::MissingCapability`] without subgroup operations; [`FunctionError::InvalidSubgroup`] with
+/// [`SubgroupError::UnsupportedOperation`] if ballots are not supported, and with [`SubgroupError::InvalidOperand`] for another
+/// predicate.
 pub fn check_ballot<C: StatementContext>(
     context: &C,
     predicate: Option<Handle<key::Expression>>,
@@ -159,7 +159,7 @@ pub fn check_ballot<C: StatementContext>(
 
 // ---- collective operations
 
-// Whether a kind of scalar is one of integers or floats.
+// Whether a scalar kind is one of integers or floats.
 const fn is_number(kind: ScalarKind) -> bool
     ensures { IsTrue result ↔ IsSubgroupNumber kind }
 {
@@ -223,7 +223,7 @@ const fn goes_over(collective_op: CollectiveOperation, op: SubgroupOperation) ->
     }
 }
 
-// Whether an allowed operation has a suitable argument, collective mode and result.
+// Whether a supported operation has a suitable argument, collective mode and result.
 fn check_collected<C: StatementContext>(
     context: &C,
     op: SubgroupOperation,
@@ -248,14 +248,14 @@ fn check_collected<C: StatementContext>(
     Ok(())
 }
 
-/// Whether an operation over a subgroup may be used: the module and the validator allow it, it takes such an argument, it goes
-/// over these invocations, and the answer is of the argument's type.
+/// Whether a collective operation is valid: subgroup operations are enabled and it is supported, takes its argument, has its
+/// collective mode, and its result has the argument's type.
 ///
 /// # Errors
 ///
-/// [`FunctionError::MissingCapability`] without that of subgroups; [`FunctionError::InvalidSubgroup`] with
+/// [`FunctionError::MissingCapability`] without subgroup operations; [`FunctionError::InvalidSubgroup`] with
 /// [`SubgroupError::UnsupportedOperation`], [`SubgroupError::InvalidOperand`], [`SubgroupError::UnknownOperation`] or
-/// [`SubgroupError::ResultTypeMismatch`] for what of this is not so.
+/// [`SubgroupError::ResultTypeMismatch`] for the broken requirement.
 pub fn check_collective<C: StatementContext>(
     context: &C,
     op: SubgroupOperation,
@@ -275,7 +275,7 @@ pub fn check_collective<C: StatementContext>(
 
 // ---- gathers
 
-// The index of the invocation that is read.
+// The invocation index of a gather.
 const fn gather_index(mode: &GatherMode) -> Option<Handle<key::Expression>>
     ensures { result ≡ gather_index mode.now }
 {
@@ -290,7 +290,7 @@ const fn gather_index(mode: &GatherMode) -> Option<Handle<key::Expression>>
     }
 }
 
-// The index, where it is of another type than `u32`.
+// The index, if its type is not `u32`.
 fn bad_index<C: StatementContext>(context: &C, mode: &GatherMode) -> Option<Handle<key::Expression>>
     ensures good { result ≡ None → IfSome (gather_index mode.now) (λ e. form_at (C.seen context.now) e ≡ Form.Scalar (unsigned 4)) }
     ensures bad { IfSome result (λ e. (gather_index mode.now ≡ Some e) × ¬ (form_at (C.seen context.now) e ≡ Form.Scalar (unsigned 4))) }
@@ -307,7 +307,7 @@ fn bad_index<C: StatementContext>(context: &C, mode: &GatherMode) -> Option<Hand
     }
 }
 
-// The index, where it must be constant and is not.
+// The index, if it must be constant and is not.
 fn unknown_index<C: StatementContext>(
     context: &C,
     mode: &GatherMode,
@@ -343,7 +343,7 @@ fn is_gathered(of: Form) -> bool
     }
 }
 
-// Whether an allowed gather is correct.
+// Whether a supported gather is valid.
 fn check_gathered<C: StatementContext>(
     context: &C,
     mode: &GatherMode,
@@ -373,15 +373,14 @@ fn check_gathered<C: StatementContext>(
     Ok(())
 }
 
-/// Whether values may be taken from other invocations of a subgroup: the module and the validator allow it, the index of the
-/// invocation is a `u32`, known as the module is written where it is one for all, and the answer is of the type of the numbers
-/// that are taken.
+/// Whether a gather is valid: subgroup operations are enabled and it is supported, the invocation index is a `u32`, constant
+/// for a broadcast, and the result has the argument's numeric type.
 ///
 /// # Errors
 ///
-/// [`FunctionError::MissingCapability`] without that of subgroups; [`FunctionError::InvalidSubgroup`] with
-/// [`SubgroupError::UnsupportedOperation`], [`SubgroupError::InvalidOperand`], [`SubgroupError::InvalidInvocationIdExprType`] or
-/// [`SubgroupError::ResultTypeMismatch`] for what of this is not so.
+/// [`FunctionError::MissingCapability`] without subgroup operations; [`FunctionError::InvalidSubgroup`] with
+/// [`SubgroupError::UnsupportedOperation`], [`SubgroupError::InvalidOperand`], [`SubgroupError::InvalidInvocationIdExprType`]
+/// or [`SubgroupError::ResultTypeMismatch`] for the broken requirement.
 pub fn check_gather<C: StatementContext>(
     context: &C,
     mode: GatherMode,

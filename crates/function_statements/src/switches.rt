@@ -17,7 +17,7 @@ use module_context::{is_integer, shaped_of};
 use std::alloc::Global;
 use typing_errors::FunctionError;
 
-// The kind of the integers that a selector is made of.
+// The integer kind of a selector.
 fn check_selector<C: StatementContext>(
     context: &C,
     selector: Handle<key::Expression>,
@@ -38,15 +38,15 @@ fn check_selector<C: StatementContext>(
     }
 }
 
-/// Whether a switch is as it may be: the selector is made of integers, in whatever shape; the values of the cases are of its kind
-/// and differ, one of them is the default, and the last case doesn't fall through. The time is that of sorting the values.
+/// Whether a switch is valid: its selector is of integers, in any shape; the values of the cases have its kind and are
+/// distinct, there is a default, and the last case does not fall through. The time is that of sorting the values.
 ///
 /// # Errors
 ///
-/// [`FunctionError::InvalidSwitchType`] for the selector; for the values [`FunctionError::ConflictingCaseType`] where one is of
-/// another kind, and [`FunctionError::ConflictingSwitchCase`] or [`FunctionError::MultipleDefaultCases`] where one occurs twice;
-/// [`FunctionError::MissingDefaultCase`] and [`FunctionError::LastCaseFallTrough`]. [`Refusal::Memory`] where there is none for the
-/// values.
+/// [`FunctionError::InvalidSwitchType`] for the selector; for the values [`FunctionError::ConflictingCaseType`] for another
+/// kind, and [`FunctionError::ConflictingSwitchCase`] or [`FunctionError::MultipleDefaultCases`] for one that occurs twice;
+/// [`FunctionError::MissingDefaultCase`] and [`FunctionError::LastCaseFallTrough`]. [`Refusal::Memory`] if there is no memory
+/// for the values.
 pub fn check_switch<C: StatementContext>(
     alloc: Global,
     context: &C,

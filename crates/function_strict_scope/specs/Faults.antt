@@ -1,4 +1,4 @@
--- What is wrong with the strict scope of a function's body, by places.
+-- Errors of the strict scope of a function's body, by place.
 use Rattle.std.specs.Prelude.{◌≡◌, ◌⊎◌, ◌<◌, ◌≤◌, ℕ, List, Option, Some, Contains, slice_get, []}
 use Rattle.function_body_checks.specs.Faults.{NoCallAt}
 use Rattle.typing_errors.specs.declared.expressions.ExpressionError.TheVariants.{NotInScope}
@@ -18,7 +18,7 @@ use Rattle.ir_items.specs.judged.Plain.{PlainFunction}
 use Rattle.spec_expressions.specs.judged.ExpressionNames.{expression_operands}
 use Rattle.spec_statements.specs.judged.Strict.{InStrictScope, Needs}
 
--- an operand is used where it is not in strict scope, by another statement than a call
+-- an operand is used out of strict scope, by a statement other than a call
 pub record IsUsedUnsurely (f : PlainFunction) (place : Place) (o : ℕ) : Type 0 where
   pub other : NoCallAt f place
   pub used : Needs f.body place o
@@ -38,7 +38,7 @@ pub record IsOperandOfEmitted (f : PlainFunction) (place : Place) (o : ℕ) : Ty
   pub later : ¬ ((first ≤ o) × (o < expression))
   pub unknown : ¬ InStrictScope f place o
 
--- what is passed to a function at a place is not in strict scope
+-- an argument of a call is out of strict scope
 pub record IsPassedUnsurely (f : PlainFunction) (place : Place) (function place_of_argument : ℕ) : Type 0 where
   pub arguments : List ℕ
   pub answer : Option ℕ
@@ -47,7 +47,7 @@ pub record IsPassedUnsurely (f : PlainFunction) (place : Place) (function place_
   pub is : slice_get arguments place_of_argument ≡ Some passed
   pub unknown : ¬ InStrictScope f place passed
 
--- what denotes the answer of a `Proceed` or of a ballot is of another kind
+-- the result of a `Proceed` or a ballot has another kind
 pub data IsOfOtherKind (f : PlainFunction) (p : Place) (e : ℕ) : Type 0 where
   of_proceed : (query : ℕ) → OccursAt f.body p (operation (ray_query query (Proceed e))) → ¬ (slice_get f.expressions e ≡ Some (plain RayQueryProceedResult)) → IsOfOtherKind f p e
   of_ballot : (predicate : Option ℕ) → OccursAt f.body p (operation (ballot e predicate)) → ¬ (slice_get f.expressions e ≡ Some (plain SubgroupBallotResult)) → IsOfOtherKind f p e
@@ -56,7 +56,7 @@ abbrev pub IsStrictCallError : PlainFunction → Place → (function : ℕ) → 
 IsStrictCallError f p function (call_error.Argument place source) = (source ≡ NotInScope) × IsPassedUnsurely f p function place
 IsStrictCallError f p function _ = ⊥
 
--- what the error says is so at this place
+-- the error occurs at this place
 abbrev pub IsStrictFaultAt : PlainFunction → FunctionError → Place → Type 0
 IsStrictFaultAt f (error.Expression o source) p = (source ≡ NotInScope) × (IsUsedUnsurely f p o ⊎ IsOperandOfEmitted f p o)
 IsStrictFaultAt f (error.InvalidCall function e) p = IsStrictCallError f p function e
@@ -67,7 +67,7 @@ IsStrictFaultAt f _ p = ⊥
 abbrev pub IsStrictFault : PlainFunction → FunctionError → Type 0
 IsStrictFault f e = (p : Place) × IsStrictFaultAt f e p
 
--- a refusal tells such a fault of the place, or that there is no memory
+-- a refusal has such an error of the place, or is out of memory
 abbrev pub IsStrictRefusalAt : PlainFunction → Refusal FunctionError → Place → Type 0
 IsStrictRefusalAt f (refusal.Memory e) p = Unit {0}
 IsStrictRefusalAt f (refusal.Fault e) p = IsStrictFaultAt f (error_of e) p × (spans_of e ≡ [])

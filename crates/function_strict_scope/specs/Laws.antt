@@ -1,4 +1,4 @@
--- A fault of strict scope refutes what is required.
+-- An error of strict scope refutes its requirements.
 use Rattle.typing_errors.specs.declared.error.FunctionError.{FunctionError}
 use Rattle.ir_items.specs.judged.Plain.{PlainFunction}
 use Rattle.spec_statements.specs.judged.Strict.{StrictOK}

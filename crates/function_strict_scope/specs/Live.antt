@@ -1,4 +1,4 @@
--- What is known of the operands that are in scope.
+-- The index of the operands in scope.
 use Rattle.std.specs.Prelude.{◌≡◌, ℕ, ◌<◌, true, false, List, Contains, length, slice_get, slice_index_or}
 use Rattle.std.specs.Ordering.{nat_cmp}
 use Rattle.std.specs.FinSet as set
@@ -13,25 +13,25 @@ use Rattle.function_strict_scope.specs.declared.live.LiveOperands.{LiveOperands}
 abbrev pub operands_at : PlainFunction → ℕ → List ℕ
 operands_at f e = operands_given (slice_get f.expressions e)
 
--- an operand that is not always in scope stands before the expression at a place, and is paired with it
+-- an operand that is not always in scope precedes the expression, and is paired with it
 abbrev pub IsPairedAt : PlainFunction → (operands users : List ℕ) → (place o : ℕ) → Type 0
 IsPairedAt f operands users place o = ¬ PreEmitted f o → (o < place) × ArePaired operands users o place
 
--- so it is with an operand of an expression
+-- for an operand of an expression
 abbrev pub IsIndexed : PlainFunction → (operands users : List ℕ) → (e o : ℕ) → Type 0
 IsIndexed f operands users e o = Contains (operands_at f e) o → IsPairedAt f operands users e o
 
--- each operand of the function is
+-- for each operand of the function
 pub record IsWhole (f : PlainFunction) (operands users : List ℕ) : Type 0 where
   pub in_step : length users ≡ length operands
   pub indexed : (e o : ℕ) → IsIndexed f operands users e o
 
--- and the ranges are what is in scope, and an operand that is not lacking is in scope
+-- and the ranges are the scope, and an operand that is not missing is in scope
 pub record AreLive (f : PlainFunction) (operands users : List ℕ) (lacking : set.FinSet nat_cmp) (ranges : List (ℕ × ℕ)) (sure : List ℕ) : Type 0 where
   pub indexed : (e o : ℕ) → IsIndexed f operands users e o
   pub brought : listed ranges ≡ sure
   pub there : (k : ℕ) → k < length operands → set.contains lacking k ≡ false → Contains sure (slice_index_or operands k 0)
 
--- so it is where all operands are indexed
+-- if all operands are indexed
 pub record Follows (f : PlainFunction) (live : LiveOperands) (sure : List ℕ) : Type 0 where
   pub are : live.whole ≡ true → AreLive f live.index.operands.items live.index.users.items live.index.lacking live.ranges.items sure

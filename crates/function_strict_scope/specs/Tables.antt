@@ -1,4 +1,4 @@
--- What a walk looks at in statements and expressions: a row a kind.
+-- What a walk reads from statements and expressions: a row per kind.
 use Rattle.std.specs.Prelude.{ℕ, Bool, true, false, List, Option, Some, None, []}
 use Rattle.ir_blocks.specs.judged.Plain.{PlainOperation, control_barrier, memory_barrier, store, image_store, atomic, image_atomic, uniform_load, ray_query, ballot, collective, gather, cooperative_store, ray_pipeline, PlainStatement, emit, block, if_, switch, loop, break, continue, return, kill, operation, call}
 use Rattle.ir_types.specs.judged.ExpressionPlain.{PlainExpression, plain}
@@ -11,7 +11,7 @@ abbrev pub operands_given : Option PlainExpression → List ℕ
 operands_given None = []
 operands_given (Some x) = expression_operands x
 
--- what denotes the answer of a `Proceed`
+-- the result of a `Proceed`
 abbrev pub operation_proceeds : PlainOperation → Option ℕ
 operation_proceeds (control_barrier barrier) = None
 operation_proceeds (memory_barrier barrier) = None
@@ -40,7 +40,7 @@ proceeds_by kill = None
 proceeds_by (operation a) = operation_proceeds a
 proceeds_by (call function arguments result) = None
 
--- what denotes the answer of a ballot
+-- the result of a ballot
 abbrev pub operation_ballots : PlainOperation → Option ℕ
 operation_ballots (control_barrier barrier) = None
 operation_ballots (memory_barrier barrier) = None
@@ -69,12 +69,12 @@ ballots_by kill = None
 ballots_by (operation a) = operation_ballots a
 ballots_by (call function arguments result) = None
 
--- whether an expression denotes the answer of a `Proceed`
+-- whether an expression is the result of a `Proceed`
 abbrev pub is_proceed : Option PlainExpression → Bool
 is_proceed (Some (plain RayQueryProceedResult)) = true
 is_proceed _ = false
 
--- whether it denotes that of a ballot
+-- whether it is that of a ballot
 abbrev pub is_ballot : Option PlainExpression → Bool
 is_ballot (Some (plain SubgroupBallotResult)) = true
 is_ballot _ = false

@@ -1,4 +1,4 @@
--- What a walk over a body requires for strict scope, with the expressions that it carries there.
+-- What a walk over a body requires for strict scope, with the scope at each place.
 use Rattle.std.specs.Prelude.{◌≡◌, ◌⊎◌, ℕ, if◌then◌else◌, List, [], ◌∷◌, ◌++◌, All, Option, Some, None, Contains, length, take, slice_get}
 use Rattle.function_body_checks.specs.Carried.{Known, IsUnknown, callee_at}
 use Rattle.typing_errors.specs.declared.expressions.ExpressionError.TheVariants.{NotInScope}
@@ -22,7 +22,7 @@ use Rattle.function_strict_scope.specs.Tables.{operands_given, proceeds_by, ball
 use Rattle.function_strict_scope.specs.declared.error.StrictError.{StrictError}
 use Rattle.function_strict_scope.specs.declared.error.StrictError.TheVariants as strict_error
 
--- what an error speaks of, which is nothing where there is no memory
+-- the expression named by the error; none if out of memory
 abbrev pub IfFault : StrictError → (FunctionError → Type 0) → Type 0
 IfFault (strict_error.Memory e) P = Unit {0}
 IfFault (strict_error.Unknown e) P = P (error.Expression e NotInScope)
@@ -32,12 +32,12 @@ IfFault (strict_error.OtherAnswer e) P = P (error.StrictResultMismatch e)
 
 -- ---- ranges
 
--- each of these comes into scope after the others, and its operands are known there
+-- each of these enters the scope in order, with its operands known
 abbrev pub EachKnown : PlainFunction → (sure : List ℕ) → List ℕ → Type 0
 EachKnown f sure [] = Unit {0}
 EachKnown f sure (e ∷ es) = All (Known f sure) (operands_given (slice_get f.expressions e)) × EachKnown f (sure ++ e ∷ []) es
 
--- what is emitted
+-- the emitted range
 abbrev pub emitted_by : PlainStatement → List ℕ
 emitted_by (emit first end) = handles_between (first, end)
 emitted_by (block b) = []
@@ -56,25 +56,25 @@ emitted_at nothing = []
 emitted_at (statement s) = emitted_by s
 emitted_at (loop_condition break_if) = []
 
--- an operand of one of these is not known where it comes into scope
+-- an operand of one of these is not known when it enters the scope
 abbrev pub IsEarlyOperand : PlainFunction → (sure : List ℕ) → List ℕ → ℕ → Type 0
 IsEarlyOperand f sure [] o = ⊥
 IsEarlyOperand f sure (e ∷ es) o = IsUnknown f sure (operands_given (slice_get f.expressions e)) o ⊎ IsEarlyOperand f (sure ++ e ∷ []) es o
 
--- one of these comes into scope again
+-- one of these enters the scope again
 abbrev pub IsAgainIn : (sure : List ℕ) → List ℕ → ℕ → Type 0
 IsAgainIn sure [] x = ⊥
 IsAgainIn sure (e ∷ es) x = ((x ≡ e) × Contains sure x) ⊎ IsAgainIn (sure ++ e ∷ []) es x
 
--- an operand of what is emitted is not known, or what comes into scope is there
+-- an operand of an emitted expression is not known, or an introduced expression is already in scope
 abbrev pub IsFaultOfNew : PlainFunction → (sure emitted introduced : List ℕ) → FunctionError → Type 0
 IsFaultOfNew f sure emitted introduced (error.Expression o source) = (source ≡ NotInScope) × IsEarlyOperand f sure emitted o
 IsFaultOfNew f sure emitted introduced (error.ExpressionAlreadyInScope e) = IsAgainIn sure introduced e
 IsFaultOfNew f sure emitted introduced _ = ⊥
 
--- ---- what is required of a statement
+-- ---- the rule of a statement
 
--- what denotes an answer is of its own kind
+-- a result has its own kind
 pub record AnswerKindOK (f : PlainFunction) (s : PlainStatement) : Type 0 where
   pub proceeds : (e : ℕ) → proceeds_by s ≡ Some e → slice_get f.expressions e ≡ Some (plain RayQueryProceedResult)
   pub ballots : (e : ℕ) → ballots_by s ≡ Some e → slice_get f.expressions e ≡ Some (plain SubgroupBallotResult)
@@ -84,7 +84,7 @@ pub record Meets (f : PlainFunction) (s : PlainStatement) (sure : List ℕ) : Ty
   pub emitted : EachKnown f sure (emitted_by s)
   pub kind : AnswerKindOK f s
 
--- ---- what is wrong at a place
+-- ---- errors at a place
 
 abbrev pub IsOtherAnswer : PlainFunction → Spot → ℕ → Type 0
 IsOtherAnswer f nothing e = ⊥
@@ -98,13 +98,13 @@ IsFaultHere f spot sure (error.Expression o source) =
 IsFaultHere f spot sure (error.InvalidCall function (call_error.Argument place source)) =
     (callee_at spot ≡ Some function) × (source ≡ NotInScope) × ((o : ℕ) × (slice_get (needed_at spot) place ≡ Some o) × ¬ Known f sure o)
 IsFaultHere f spot sure (error.StrictResultMismatch e) = IsOtherAnswer f spot e
--- only where a body brings an expression into scope again
+-- only if a body introduces an expression again
 IsFaultHere f spot sure (error.ExpressionAlreadyInScope e) = IsAgainIn sure (introduced_at spot) e
 IsFaultHere f spot sure _ = ⊥
 
--- ---- what is left of what has come into scope
+-- ---- what remains in scope
 
--- how many expressions there are after the first statement that holds a continue, where one does
+-- the size of the scope after the first statement with a `Continue`, if there is one
 abbrev pub left_in : (sure : List ℕ) → PlainBlock → Option ℕ
 left_in sure stop = None
 left_in sure (next s rest) = if holds_continue s then Some (length (sure ++ introduced s)) else left_in (sure ++ introduced s) rest
@@ -144,15 +144,15 @@ module _ (f : PlainFunction) where
     MeetInCases sure no_case = Unit {0}
     MeetInCases sure (case value body falls rest) = AllMeet sure body × MeetInCases sure rest
 
-  -- what an error speaks of is wrong at a place of a body, where so much is in scope as the body begins
+  -- the error occurs at a place of a body, with this scope at its start
   abbrev pub FaultAt : (sure : List ℕ) → PlainBlock → StrictError → Place → Type 0
   FaultAt sure b e p = IfFault e (IsFaultHere f (spot_at p b) (visible_by sure_level sure p b))
 
-  -- the same of a statement, seen from a block that has it at an index, whatever follows
+  -- the same for a statement, relative to a block that has it at an index, whatever follows
   abbrev pub FaultFrom : (sure : List ℕ) → (index : ℕ) → PlainStatement → StrictError → Place → Type 0
   FaultFrom sure k s e p = (q : Place) × (p ≡ later_by k q) × ((rest : PlainBlock) → FaultAt sure (next s rest) e q)
 
-  -- of a block in a part of that statement
+  -- of an inner block of that statement
   abbrev pub FaultInPart : (sure : List ℕ) → (index : ℕ) → Part → PlainBlock → StrictError → Place → Type 0
   FaultInPart sure k part b e p = (q : Place) × (p ≡ later_by k (at.inside part q)) × FaultAt sure b e q
 

@@ -17,7 +17,7 @@ use ir_items::{Expression, Function, RayQueryFunction, Statement, key};
 struct Answers {
     // The result of a `Proceed`.
     proceed: Option<Handle<key::Expression>>,
-    // That of a ballot.
+    // The result of a ballot.
     ballot: Option<Handle<key::Expression>>,
 }
 

@@ -8,7 +8,7 @@ use std::alloc::AllocError;
 /// an error of functions is not.
 #[derive(Clone, Copy)]
 pub enum StrictError {
-    /// Memory was refused.
+    /// Out of memory.
     Memory(AllocError),
     /// An operand is not in scope.
     Unknown(Handle<key::Expression>),

@@ -21,7 +21,7 @@ use ir_types::with_span::WithSpan;
 use std::alloc::Global;
 use typing_errors::{CallError, ExpressionError, FunctionError};
 
-// The refusal for an error.
+// The function's error for the error of the walk.
 fn refused(alloc: Global, error: StrictError) -> Refusal<FunctionError>
     ensures { (f : PlainFunction) (p : Place) → IfFault error (λ e. IsStrictFaultAt f e p) → IsStrictRefusalAt f result p }
 {
@@ -42,17 +42,16 @@ fn refused(alloc: Global, error: StrictError) -> Refusal<FunctionError>
     Refusal::Fault(WithSpan::new(alloc, error))
 }
 
-/// Whether every operand of a function's statements, of its loops' conditions and of the expressions that it emits is in strict
-/// scope where it is used, and what denotes the answer of a `Proceed` or of a ballot is of its own kind. The check is this
-/// library's own; it is made where the flag `STRICT_SCOPE` requires it, after the check of scope.
+/// Whether every operand of a function's statements, of its loop conditions and of its emitted expressions is in strict scope
+/// where it is used, and the results of `Proceed` and ballots have their own kinds. This check is this library's own, under the
+/// flag `STRICT_SCOPE`, after the scope check.
 ///
 /// # Errors
 ///
-/// A fault of a statement that has one, where the trail leads (the first in the order of the text, which no clause says):
-/// [`FunctionError::Expression`] with `NotInScope` for an operand, [`FunctionError::InvalidCall`] with `Argument` for what is
-/// passed to a function, [`FunctionError::StrictResultMismatch`] for the answer of a `Proceed` or of a ballot.
-/// [`Refusal::Memory`] where there is no memory. Where the scope of the function is not in order the error may be of another
-/// kind.
+/// An error of a statement at the place of the trail (the first in text order, which no clause states):
+/// [`FunctionError::Expression`] with `NotInScope` for an operand, [`FunctionError::InvalidCall`] with `Argument` for an
+/// argument, [`FunctionError::StrictResultMismatch`] for the result of a `Proceed` or a ballot. [`Refusal::Memory`] if out of
+/// memory. If the function fails the scope check, the error may be of another kind.
 pub fn check_strict(
     alloc: Global,
     trail: &mut Trail,

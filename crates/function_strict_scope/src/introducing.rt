@@ -21,7 +21,7 @@ use ir_items::{Function, Statement, key};
 use std::alloc::{AllocError, Global};
 use typing_references::{range_of, result_of};
 
-// Introduces an expression after the others.
+// Introduces an expression last.
 fn add(sure: &mut ExpressionList, handle: Handle<key::Expression>) -> Result<(), StrictError>
     ensures added { OnOk result (sure.new ≡ sure.old ++ handle ∷ []) }
     ensures fault { IfErr result (λ r. IfFault r (λ e. (f : PlainFunction) → IsFaultOfNew f sure.old [] (handle ∷ []) e)) }
@@ -33,7 +33,7 @@ fn add(sure: &mut ExpressionList, handle: Handle<key::Expression>) -> Result<(),
     }
 }
 
-// The first of these that is not in scope.
+// The first of these handles that is not in scope.
 fn first_of(
     function: &Function,
     sure: &ExpressionList,
@@ -86,7 +86,7 @@ fn emit_each(
     Ok(())
 }
 
-// Emits a range as a whole where the index shows that this is allowed, and returns whether it did.
+// Emits a range at once if the index shows that its operands are in scope, and returns whether it did.
 fn emit_whole(
     sure: &mut ExpressionList,
     live: &LiveOperands,
@@ -102,7 +102,7 @@ fn emit_whole(
     sure.insert_range(range)
 }
 
-// Emits a range, expression by expression only where nothing is seen of the whole of it.
+// Emits a range, expression by expression only if the index does not decide it.
 fn emit_range(
     function: &Function,
     sure: &mut ExpressionList,

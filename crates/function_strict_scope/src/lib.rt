@@ -1,6 +1,6 @@
-//! Strict scope, which no other validator has: every operand of a statement, of a loop's condition and of an expression that
-//! is emitted is in scope where it is used, what a continue may skip doesn't count after the loop's body, and what denotes
-//! the answer of a `Proceed` or of a ballot is of its own kind.
+//! Strict scope, which no other validator checks: every operand of a statement, of a loop condition and of an emitted
+//! expression is in scope where it is used, what a `Continue` may skip is not in scope after the loop body, and the results of
+//! `Proceed` and ballots have their own kinds.
 #![tactic(auto)]
 
 mod answers;

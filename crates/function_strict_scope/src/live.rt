@@ -1,12 +1,12 @@
-//! Whether the operands of a range are in scope, without a look at each of its expressions.
+//! Whether the operands of a range are in scope, without looking at each of its expressions.
 //!
-//! A range may be emitted again and again, each time with all that its expressions name before it in scope. Where a body emits
-//! far more than there are expressions, all operands of the function stand in an index beside the expressions that they are
-//! operands of, and what comes into scope and leaves it is noted there range by range. Whether the expressions of a range lack
-//! something before it is then found by the runs of the index: a look at each run of 4096 pairs, and, where a bound of the range
-//! cuts one, at its runs of 64 and at their pairs. That is less than a look at each expression of the range, and not constant: for
-//! subsets of one set, whether each of many lies in each of many others is the question whether a graph has a triangle, and
-//! documents can spell it. What is wrong with a range is found as before, expression by expression.
+//! A range may be emitted repeatedly, each time with all operands before it in scope. If a body emits far more expressions than
+//! there are, all operands of the function are put into an index beside their users, which is updated range by range as they
+//! enter and leave the scope. Whether the expressions of a range miss an operand before it is then found by the runs of the
+//! index: one look at each run of 4096 pairs and, where a bound of the range cuts one, at its runs of 64 and at their pairs.
+//! That is less than a look at each expression of the range, and not constant: whether each of many subsets is contained in
+//! each of many others is as hard as whether a graph has a triangle, and documents can encode it. The error of a range is found
+//! expression by expression.
 
 ghost use Rattle.std.specs.Prelude.{◌≡◌, ◌++◌, ◌+◌, ◌-◌, ◌<◌, ◌≤◌, ℕ, List, IsTrue, length, take};
 ghost use Rattle.ir_arena.specs.judged.Handles.{handles_between};
@@ -23,17 +23,17 @@ use std::alloc::Global;
 /// An index of the operands of a function's expressions, by whether they are in scope.
 #[derive(Drop)]
 pub struct LiveOperands {
-    /// Whether all operands are in the index. Where they are not, it tells nothing.
+    /// Whether all operands are in the index; if not, it decides nothing.
     pub whole: bool,
-    /// The operands that are not in scope everywhere, each beside the expression that it is an operand of.
+    /// The operands that are not in scope everywhere, each with its user.
     pub index: OperandIndex,
-    /// The ranges that have come into scope.
+    /// The ranges that have entered the scope.
     pub ranges: Vec<Range<key::Expression>>,
-    /// Where lists are made.
+    /// The allocator of lists.
     pub alloc: Global,
 }
 
-/// Whether it is seen that what the expressions of a range need before it is in scope.
+/// Whether the index shows that all operands before a range are in scope.
 pub fn has_all(live: &LiveOperands, range: Range<key::Expression>) -> bool
     ensures { IsTrue result → (f : PlainFunction) (sure : List ℕ) → Follows f live.now sure → EachKnown f sure (handles_between range) }
 {
@@ -67,8 +67,8 @@ pub fn bring(live: &mut LiveOperands, range: Range<key::Expression>)
     }
 }
 
-// The last range leaves the scope, in which so many expressions are, of which so many have to stay. Returns how many are left, or that the
-// index tells nothing any more.
+// Removes the last range from a scope of this many expressions, of which this many stay. Returns how many are left, or that the
+// index decides nothing any more.
 #[tactic(auto, using(crate::proofs::LiveLemmas::follows_nothing))]
 fn drop_last(live: &mut LiveOperands, many: usize, count: usize) -> usize
     requires { count < many }

@@ -23,7 +23,7 @@ fn emitted_in_cases(cases: &[SwitchCase]) -> usize {
     total
 }
 
-// How many a statement emits, with what stands inside it.
+// The number that a statement emits, including inner blocks.
 #[cycle(emitted)]
 fn emitted_at(statement: &Statement) -> usize {
     match statement {
@@ -51,7 +51,7 @@ fn emitted_at(statement: &Statement) -> usize {
     }
 }
 
-// How many the statements of a block emit.
+// The number that the statements of a block emit.
 #[cycle(emitted)]
 fn emitted_in(block: &Block) -> usize {
     let mut total: usize = 0;
@@ -61,8 +61,8 @@ fn emitted_in(block: &Block) -> usize {
     total
 }
 
-/// Whether a function's body emits more than the function has expressions, many times over. Nothing is required of the answer: it
-/// only says which way is the shorter one.
+/// Whether a function's body emits many times as many expressions as the function has. No contract depends on it: it only
+/// selects the faster way.
 pub fn emits_often(function: &Function) -> bool {
     let emitted = emitted_in(&function.body);
     emitted / OFTEN > function.expressions.len()

@@ -1,4 +1,4 @@
-//! The operands of a function's expressions, each beside the expression that it is an operand of.
+//! The operands of a function's expressions, each with its user.
 
 ghost use Rattle.std.specs.Prelude.{◌≡◌, ◌&&◌, ◌<◌, ℕ, [], true, false, Contains, IfOk, IfSome, OnOk, length, slice_get};
 ghost use Rattle.ir_items.specs.judged.Plain.{PlainFunction};
@@ -26,7 +26,7 @@ fn is_pre_emitted(expression: &Expression) -> bool
     expression.needs_pre_emit()
 }
 
-// The same of the expression at a handle.
+// The same for the expression at a handle.
 #[tactic(auto, using(typing_references::proofs::Entries::entries))]
 fn is_always_known(function: &Function, handle: Handle<key::Expression>) -> bool
     ensures { result ≡ pre_known (slice_get (function_view function.now).expressions handle) }
@@ -37,8 +37,8 @@ fn is_always_known(function: &Function, handle: Handle<key::Expression>) -> bool
     }
 }
 
-// Puts an operand beside the expression at a place, unless it is in scope everywhere. It returns whether it stands before the expression
-// then. The error is out of memory.
+// Adds the pair of an operand and a user, unless the operand is in scope everywhere. Returns whether the operand precedes the
+// user then. The error is out of memory.
 fn add_operand(
     pairs: &mut Pairs,
     function: &Function,
@@ -67,7 +67,7 @@ fn both(first: bool, second: bool) -> bool
     first && second
 }
 
-// The same of each of some operands. It returns whether all of these stand before the expression.
+// The same for each of several operands. Returns whether all of these precede the user.
 fn add_operands(
     pairs: &mut Pairs,
     function: &Function,
@@ -88,8 +88,7 @@ fn add_operands(
     Ok(whole)
 }
 
-// All operands of a function that are not in scope everywhere, if each stands before its expression. The error is out of
-// memory.
+// All operands of a function that are not in scope everywhere, if each precedes its user. The error is out of memory.
 fn all_operands(alloc: Global, function: &Function) -> Result<Option<Pairs>, AllocError>
     ensures { IfOk result (λ found. IfSome found (λ p. IsWhole (function_view function.now) p.operands.items p.users.items)) }
 {
@@ -104,7 +103,7 @@ fn all_operands(alloc: Global, function: &Function) -> Result<Option<Pairs>, All
     Ok(Some(pairs))
 }
 
-// No index. The error is out of memory.
+// An empty index. The error is out of memory.
 fn no_index(alloc: Global) -> Result<LiveOperands, AllocError>
     ensures { IfOk result (λ live. live.whole ≡ false) }
 {
@@ -116,7 +115,7 @@ fn no_index(alloc: Global) -> Result<LiveOperands, AllocError>
     })
 }
 
-// The index of pairs, where none of their operands is in scope yet. The error is out of memory.
+// The index of pairs, with no operand in scope. The error is out of memory.
 #[tactic(auto, using(crate::proofs::LiveLemmas::follows_nothing))]
 fn index_of(alloc: Global, pairs: &Pairs) -> Result<LiveOperands, AllocError>
     requires { length pairs.now.users.items ≡ length pairs.now.operands.items }
@@ -134,7 +133,7 @@ fn index_of(alloc: Global, pairs: &Pairs) -> Result<LiveOperands, AllocError>
     })
 }
 
-/// What is known of the operands where a function's body begins. The error is out of memory.
+/// The index at the start of a function's body. The error is out of memory.
 #[tactic(auto, using(crate::proofs::LiveLemmas::follows_nothing))]
 pub fn begin(alloc: Global, function: &Function) -> Result<LiveOperands, AllocError>
     ensures { IfOk result (λ live. Follows (function_view function.now) live []) }

@@ -1,4 +1,4 @@
-//! What is required of the statement of a block at an index itself, with its place.
+//! The rule of the statement at an index of a block itself, with its place.
 
 ghost use Rattle.std.specs.Prelude.{◌≡◌, ◌++◌, All, IfErr, OnOk};
 ghost use Rattle.ir_blocks.specs.judged.Places.{loop_condition};
@@ -19,7 +19,7 @@ use ir_arena::handle::Handle;
 use ir_items::{Function, Statement, key};
 use ir_places::Trail;
 
-/// Whether the operands of the statement are in scope, those of what stands inside it aside, and a loop's condition.
+/// Whether the operands of the statement are in scope, without its inner blocks and a loop's condition.
 #[tactic(auto, using(crate::proofs::Walks::here_wrong))]
 pub fn check_needed(
     function: &Function,
@@ -61,7 +61,7 @@ pub fn check_condition(
     }
 }
 
-/// Whether the statement, which holds no others, meets what is required; it brings into scope what it does.
+/// Whether the statement, which has no inner blocks, meets the rule; introduces what it introduces.
 #[tactic(auto, using(crate::proofs::Walks::here_wrong))]
 pub fn check_own(
     function: &Function,

@@ -79,7 +79,7 @@ fn operand_error(
     }
 }
 
-/// Whether the operands of a statement are in scope, those of what stands inside it aside, and a loop's condition.
+/// Whether the operands of a statement are in scope, without its inner blocks and a loop's condition.
 pub fn check_needed(
     function: &Function,
     sure: &ExpressionList,

@@ -19,7 +19,7 @@ use ir_blocks::plain_operation;
 use ir_items::{Block, Function, Statement, SwitchCase};
 use ir_places::{Part, Step, Trail};
 
-// Drops what was introduced beyond what is left.
+// Removes what was introduced beyond this count.
 fn cut_after(live: &mut LiveOperands, sure: &mut ExpressionList, left: Option<usize>)
     ensures cut { sure.new ≡ cut_to left sure.old }
     ensures live { (f : PlainFunction) → Follows f live.old sure.old → Follows f live.new sure.new }
@@ -29,7 +29,7 @@ fn cut_after(live: &mut LiveOperands, sure: &mut ExpressionList, left: Option<us
     }
 }
 
-// How many are left after a statement, with so many in scope there.
+// The number in scope after a statement.
 fn left_after(left: Option<usize>, continues: bool, count: usize) -> Option<usize>
     ensures { result ≡ first_left left (if continues then Some count else None) }
 {
@@ -45,9 +45,9 @@ fn either(first: bool, second: bool) -> bool
     first || second
 }
 
-/// Whether the statements of a block, and those inside them, meet what is required. What the block's own statements bring stays in scope.
-/// Returns how many expressions are in scope after the first of its statements that holds a continue of the loop around the block, if one
-/// does: no continue may skip these.
+/// Whether the statements of a block, at any depth, meet the rule. What the block's own statements introduce stays in scope.
+/// Returns how many expressions are in scope after the first of its statements that contains a `Continue` of the loop around
+/// the block, if one does: no `Continue` can skip these.
 #[cycle(walk)]
 pub fn check_block(
     function: &Function,
@@ -71,7 +71,7 @@ pub fn check_block(
     Ok(left)
 }
 
-// The same of a block in a part of a statement. The place is seen from the block that has the statement.
+// The same for an inner block of a statement. The place is relative to the block with the statement.
 #[cycle(walk)]
 fn check_part(
     function: &Function,
@@ -98,7 +98,7 @@ fn check_part(
     }
 }
 
-// The same of a block after whose end nothing of it is in scope. It returns whether a continue of the loop around it stands in it.
+// The same for a block whose introductions end with it. Returns whether it contains a `Continue` of the loop around it.
 #[cycle(walk)]
 fn check_inner(
     function: &Function,
@@ -122,7 +122,7 @@ fn check_inner(
     Ok(left.is_some())
 }
 
-// The same of the cases of a switch, one after another. The place is seen from the block that has the switch.
+// The same for the cases of a switch, in order. The place is relative to the block with the switch.
 #[cycle(walk)]
 fn check_cases(
     function: &Function,
@@ -148,7 +148,7 @@ fn check_cases(
     Ok(continues)
 }
 
-// The same of a statement and of what stands inside it. What it brings itself stays in scope. The place is seen from the block
+// The same for a statement with its inner blocks. What it introduces itself stays in scope. The place is relative to the block
 // that has it at an index.
 #[cycle(walk)]
 fn check_statement(

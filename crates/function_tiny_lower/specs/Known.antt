@@ -1,4 +1,4 @@
--- Which expressions the layer knows.
+-- The supported expressions.
 use Rattle.std.specs.Prelude.{Option, Some, None}
 use Rattle.ir_types.specs.judged.ExpressionPlain.{PlainExpression, compose, plain}
 use Rattle.ir_types.specs.declared.expressions.Expression.{Expression}

@@ -13,7 +13,7 @@ use Rattle.function_tiny_lower.specs.declared.value_type.ValueType.{ValueType}
 use Rattle.function_tiny_lower.specs.declared.value_type.ValueType.TheVariants.{U32, Bool, F32}
 use Rattle.typing_forms.specs.declared.form.Form.{Form}
 
--- ---- sorts of values
+-- ---- kinds of values
 
 abbrev pub is_word : ValueType → Truth
 is_word U32 = true
@@ -42,13 +42,13 @@ is_same F32 right = is_float right
 
 -- ---- operators
 
--- a value of this type may be its operand
+-- a value of this type is a valid operand
 abbrev pub takes_one : UnaryOperator → ValueType → Truth
 takes_one unary.Negate t = is_float t
 takes_one unary.LogicalNot t = is_truth t
 takes_one unary.BitwiseNot t = is_word t
 
--- two values of this type may be its operands
+-- two values of this type are valid operands
 abbrev pub takes_two : BinaryOperator → ValueType → Truth
 takes_two binary.Add t = is_number t
 takes_two binary.Subtract t = is_number t
@@ -71,7 +71,7 @@ takes_two binary.ShiftRight t = is_word t
 
 -- ---- expressions
 
--- the type of an operand, where types have these forms
+-- the type of an operand, given the forms of types
 abbrev pub type_given : List Form → ℕ → Option ValueType
 type_given forms operand = option_and_then type_of_form (slice_get forms operand)
 
@@ -93,7 +93,7 @@ abbrev pub is_condition : Option ValueType → Truth
 is_condition (Some t) = is_truth t
 is_condition None = false
 
--- the expression is known, and fits its operands where it is an operation
+-- the expression is supported, and if it is an operation, it fits its operands
 abbrev pub fits_in : List Form → Option Known → Truth
 fits_in forms None = false
 fits_in forms (Some (known.Literal value)) = true

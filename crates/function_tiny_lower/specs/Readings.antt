@@ -1,4 +1,4 @@
--- What the layer says of a function.
+-- The results of the layer for a function.
 use Rattle.std.specs.Prelude.{◌≡◌, ℕ, Bool, false, IsTrue, List, [], Option, Some, None, option_map, slice_get}
 use Rattle.typing_errors.specs.declared.expressions.ExpressionError.{ExpressionError}
 use Rattle.typing_errors.specs.declared.expressions.ExpressionError.TheVariants.{Other}
@@ -22,18 +22,18 @@ use Rattle.typing_forms.specs.declared.form.Form.{Form}
 use Rattle.typing_forms.specs.declared.resolution.TypeResolution.{TypeResolution}
 use Rattle.typing_errors.specs.Answers.{form_given}
 
--- The module has no global variables, and of its types this is reported.
+-- The module has no global variables, and these are the `TypeInfo`s of its types.
 pub record IsMadeOf (m : PlainModule) (infos : List TypeInfo) : Type 0 where
   pub told : AreReported m.types infos
   pub no_globals : m.globals ≡ []
 
--- The form is that of the type which is given for the global expression.
+-- The form is that of the given type of the global expression.
 pub record IsGiven (m : PlainModule) (types : List TypeResolution) (expression : ℕ) (of : Form) : Type 0 where
   pub type : TypeResolution
   pub given : slice_get types expression ≡ Some type
   pub form : of ≡ form_given m.types type
 
--- the result of a call is read where the function may run, and all else everywhere
+-- the result of a call can be read where the function may run, all else everywhere
 abbrev pub stages_in : (callees : List ShaderStages) → Option Known → ShaderStages
 stages_in callees None = all_stages
 stages_in callees (Some (known.Literal value)) = all_stages
@@ -50,7 +50,7 @@ stages_by callees expression = stages_in callees (known_of expression)
 abbrev pub IsRunBy : List ShaderStages → PlainFunction → ℕ → ShaderStages → Type 0
 IsRunBy callees f e stages = option_map (stages_by callees) (slice_get f.expressions e) ≡ Some stages
 
--- the expression at a handle fits its operands, where types have these forms
+-- the expression at a handle fits its operands, given the forms of types
 abbrev pub found_fits : List Form → Option PlainExpression → Bool
 found_fits forms (Some expression) = fits forms expression
 found_fits forms None = false
@@ -71,7 +71,7 @@ reading_of q = record {
 pub data IsTypeFault (m : PlainModule) (f : PlainFunction) : FunctionError → Type 0 where
   untyped : {e : ℕ} → IsUntyped m f e → IsTypeFault m f (Expression e Other)
 
--- an expression is refused where it doesn't fit its operands, or is of no kind that the layer knows
+-- an expression is invalid if it does not fit its operands, or is not supported
 abbrev pub IsUnfit : PlainFunction → List Form → ℕ → ExpressionError → Type 0
 IsUnfit f forms e x = (x ≡ Other) × (fits_at forms f e ≡ false)
 

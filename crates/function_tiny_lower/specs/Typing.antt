@@ -1,4 +1,4 @@
--- Which expressions have a type, and which.
+-- The types of expressions.
 use Rattle.std.specs.Prelude.{◌≡◌, ℕ, List, [], ◌∷◌, ◌++◌, Option, Some, None, option_map, option_and_then, slice_get}
 use Rattle.ir_types.specs.judged.ExpressionPlain.{PlainExpression}
 use Rattle.ir_items.specs.judged.Plain.{PlainArgument, PlainFunction, PlainModule}
@@ -17,7 +17,7 @@ use Rattle.function_tiny_lower.specs.declared.value_type.ValueType.TheVariants.{
 use Rattle.typing_forms.specs.judged.Resolutions.{inner_at}
 use Rattle.typing_forms.specs.declared.form.Form.{Form}
 
--- ---- values that are written or given
+-- ---- literals, zero values and arguments
 
 abbrev pub literal_type : Literal → Option ValueType
 literal_type (literal.U32 value) = Some U32
@@ -32,7 +32,7 @@ type_at types handle = option_and_then type_of_inner (inner_at types handle)
 abbrev pub argument_type : List PlainType → Option PlainArgument → Option ValueType
 argument_type types argument = option_and_then (λ (a : PlainArgument). type_at types a.ty) argument
 
--- what a function that is there declares as its result
+-- the declared result of an existing function
 abbrev pub answer_of : Option PlainFunction → Option FunctionResult
 answer_of (Some function) = function.result
 answer_of None = None
@@ -42,7 +42,7 @@ answer_type types function = option_and_then (λ (r : FunctionResult). type_at t
 
 -- ---- operations
 
--- of an operation of which the left operand has this type
+-- of an operation with a left operand of this type
 abbrev pub binary_type : BinaryOperator → ValueType → ValueType
 binary_type binary.Add left = left
 binary_type binary.Subtract left = left
@@ -65,11 +65,11 @@ binary_type binary.ShiftRight left = left
 
 -- ---- expressions
 
--- the type of one of the expressions before, if it has one
+-- the type of an earlier expression, if it has one
 abbrev pub earlier : List (Option ValueType) → ℕ → Option ValueType
 earlier past operand = option_and_then (λ t. t) (slice_get past operand)
 
--- the type of an expression, where those before it have these
+-- the type of an expression, given those of earlier ones
 abbrev pub type_in : PlainModule → PlainFunction → List (Option ValueType) → Known → Option ValueType
 type_in m f past (known.Literal value) = literal_type value
 type_in m f past (known.ZeroValue type) = type_at m.types type
@@ -95,6 +95,6 @@ types_of m f = types_after m f [] f.expressions
 abbrev pub HasForm : PlainModule → PlainFunction → ℕ → Form → Type 0
 HasForm m f e t = option_map form_of (earlier (types_of m f) e) ≡ Some t
 
--- it is there, and has no type
+-- it exists, and has no type
 abbrev pub IsUntyped : PlainModule → PlainFunction → ℕ → Type 0
 IsUntyped m f e = slice_get (types_of m f) e ≡ Some None

@@ -1,4 +1,4 @@
--- The types that values may have.
+-- The value types.
 use Rattle.std.specs.Prelude.{ℕ, ◌==◌, if◌then◌else◌, Option, Some, None}
 use Rattle.ir_kinds.specs.judged.Scalars.{unsigned, floating, boolean}
 use Rattle.ir_kinds.specs.declared.scalars.Scalar.{Scalar}
@@ -26,21 +26,21 @@ type_by kind.Sint width = None
 type_by kind.AbstractInt width = None
 type_by kind.AbstractFloat width = None
 
--- the type of values of a scalar, if it is one of the three
+-- the value type of a scalar, if it is one of the three
 abbrev pub type_of_scalar : Scalar → Option ValueType
 type_of_scalar s = type_by s.kind s.width
 
--- the type of values of what is made of this
+-- the value type of an inner type
 abbrev pub type_of_inner : PlainInner → Option ValueType
 type_of_inner (plain (inner.Scalar s)) = type_of_scalar s
 type_of_inner _ = None
 
--- the type of values of a form
+-- the value type of a form
 abbrev pub type_of_form : Form → Option ValueType
 type_of_form (form.Scalar s) = type_of_scalar s
 type_of_form _ = None
 
--- ---- how a type is reported
+-- ---- type resolutions
 
 abbrev pub resolution_of : ValueType → TypeResolution
 resolution_of t = resolution.Value (inner.Scalar (scalar_of t))

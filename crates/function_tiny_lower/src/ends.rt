@@ -1,4 +1,4 @@
-//! Whether a function may run `Kill`.
+//! Whether a function may execute `Kill`.
 
 ghost use Rattle.std.specs.Prelude.{◌≡◌, is_some, map, slice_get};
 ghost use Rattle.ir_items.specs.found.View.{function_view};
@@ -12,7 +12,7 @@ use ir_items::{Function, Statement};
 use ir_types::key;
 use typing_references::{StatementLook, first_in};
 
-// Whether a function that is called may.
+// Whether a callee may.
 fn may_end(callees: &[TinyInfo], function: Handle<key::Function>) -> bool
     ensures { result ≡ may_end (slice_get (map summary_of callees.now) function) }
 {
@@ -22,7 +22,7 @@ fn may_end(callees: &[TinyInfo], function: Handle<key::Function>) -> bool
     }
 }
 
-// Statements that run `Kill`, directly or in a callee.
+// Statements that execute `Kill`, directly or in a callee.
 #[derive(Drop)]
 struct Ends<'a> {
     callees: &'a [TinyInfo],
@@ -57,7 +57,7 @@ impl StatementLook<()> for Ends<'_> {
     }
 }
 
-/// Whether a function may, where this is kept of those that it calls.
+/// Whether a function may, given the information on its callees.
 pub(crate) fn may_kill(function: &Function, callees: &[TinyInfo]) -> bool
     ensures { result ≡ is_some (first_in (ends_in (map summary_of callees.now)) (function_view function.now).body) }
 {

@@ -1,4 +1,4 @@
-//! The type of an expression, by the types of those before it.
+//! The type of an expression, given those of earlier ones.
 
 ghost use Rattle.std.specs.Prelude.{◌≡◌, Some, map, option_map};
 ghost use Rattle.ir_types.specs.judged.ExpressionPlain.{expression_view};
@@ -32,7 +32,7 @@ fn literal_type(value: Literal) -> Option<ValueType>
     }
 }
 
-// The type of an operation of which the left operand has this type.
+// The type of an operation with a left operand of this type.
 fn binary_type(op: BinaryOperator, left: ValueType) -> ValueType
     ensures { result ≡ binary_type op left }
 {
@@ -58,7 +58,7 @@ fn binary_type(op: BinaryOperator, left: ValueType) -> ValueType
     }
 }
 
-// The type of one of the expressions before.
+// The type of an earlier expression.
 #[tactic(auto, using(crate::proofs::Typed::earlier_known))]
 fn earlier(past: &[ValueType], operand: Handle<key::Expression>) -> Option<ValueType>
     ensures { result ≡ earlier (map Some past.now) operand }
@@ -101,7 +101,7 @@ fn type_in(
     }
 }
 
-/// The type of an expression, where each of those before it has one.
+/// The type of an expression, if each earlier one has a type.
 pub(crate) fn expression_type(
     module: &Module,
     function: &Function,

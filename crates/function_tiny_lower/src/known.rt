@@ -1,4 +1,4 @@
-//! The expressions that the layer knows.
+//! The expressions that the layer supports.
 
 ghost use Rattle.std.specs.Prelude.{◌≡◌};
 ghost use Rattle.ir_types.specs.judged.ExpressionPlain.{expression_view};
@@ -8,12 +8,12 @@ use ir_arena::handle::Handle;
 use ir_kinds::{BinaryOperator, Literal, UnaryOperator};
 use ir_types::{Expression, key};
 
-/// An expression of a kind that the layer knows.
+/// An expression of a supported kind.
 #[derive(Clone, Copy)]
 pub(crate) enum Known {
     /// A literal.
     Literal(Literal),
-    /// The zero of a type.
+    /// The zero value of a type.
     ZeroValue(Handle<key::IrType>),
     /// The function's argument at this index.
     FunctionArgument(u32),
@@ -24,7 +24,7 @@ pub(crate) enum Known {
         /// The value.
         expr: Handle<key::Expression>,
     },
-    /// An operation on two values.
+    /// A binary operation.
     Binary {
         /// The operation.
         op: BinaryOperator,
@@ -33,7 +33,7 @@ pub(crate) enum Known {
         /// The second.
         right: Handle<key::Expression>,
     },
-    /// A selection: one of two values.
+    /// A `Select`.
     Select {
         /// The condition.
         condition: Handle<key::Expression>,
@@ -46,7 +46,7 @@ pub(crate) enum Known {
     CallResult(Handle<key::Function>),
 }
 
-/// The expression, if it is of such a kind.
+/// The expression, if it is of a supported kind.
 pub(crate) fn known_of(expression: &Expression) -> Option<Known>
     ensures { result ≡ known_of (expression_view expression.now) }
 {

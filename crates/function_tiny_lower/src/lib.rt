@@ -1,4 +1,4 @@
-//! The rules of functions over a small typing, of three scalars and of modules without global variables: `TinyLower`.
+//! The function checks over a small layer, for three scalars and modules without global variables: `TinyLower`.
 #![tactic(auto)]
 
 mod ends;

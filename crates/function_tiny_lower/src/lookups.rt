@@ -1,4 +1,4 @@
-//! The types of what is declared: arguments, and the results of functions.
+//! The types of declarations: arguments, and the results of functions.
 
 ghost use Rattle.std.specs.Prelude.{◌≡◌, map, option_map, slice_get};
 ghost use Rattle.ir_items.specs.found.View.{argument_view, function_view, module_view};
@@ -12,7 +12,7 @@ use ir_sets::unique_arena::UniqueArena;
 use ir_types::{IrType, key};
 use typing_forms::inner_of;
 
-/// The type of values of the type at a handle.
+/// The value type of the type at a handle.
 pub(crate) fn type_at(
     types: &UniqueArena<IrType, key::IrType>,
     ty: Handle<key::IrType>,
@@ -39,7 +39,7 @@ pub(crate) fn argument_type(
     }
 }
 
-// The function at a handle, if it is there.
+// The function at a handle, if it exists.
 #[tactic(auto, using(typing_references::proofs::Entries::entries))]
 fn function_at(module: &Module, function: Handle<key::Function>) -> Option<&Function>
     ensures { option_map (λ f. function_view f.now) result ≡ slice_get (module_view «module».now).functions function }
@@ -50,7 +50,7 @@ fn function_at(module: &Module, function: Handle<key::Function>) -> Option<&Func
     }
 }
 
-// The result that a function declares.
+// The declared result of a function.
 fn answer_of(module: &Module, function: Handle<key::Function>) -> Option<FunctionResult>
     ensures { result ≡ answer_of (slice_get (module_view «module».now).functions function) }
 {

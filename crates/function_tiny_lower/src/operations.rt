@@ -11,7 +11,7 @@ use ir_kinds::{BinaryOperator, UnaryOperator};
 use ir_types::{Expression, key};
 use typing_forms::Form;
 
-// ---- sorts of values
+// ---- kinds of values
 
 fn is_word(ty: ValueType) -> bool
     ensures { result ≡ is_word ty }
@@ -96,7 +96,7 @@ fn takes_two(op: BinaryOperator, ty: ValueType) -> bool
 
 // ---- operands
 
-// The type of an operand, where types have these forms.
+// The type of an operand, given the forms of types.
 fn type_given(forms: &[Form], operand: Handle<key::Expression>) -> Option<ValueType>
     ensures { result ≡ type_given forms.now operand }
 {
@@ -170,7 +170,7 @@ fn fits_in(forms: &[Form], known: &Known) -> bool
     }
 }
 
-/// Whether an expression is known and, where it is an operation, fits its operands, whose types have these forms.
+/// Whether an expression is supported and, if it is an operation, fits its operands, given the forms of their types.
 pub(crate) fn fits(forms: &[Form], expression: &Expression) -> bool
     ensures { result ≡ fits forms.now (expression_view expression.now) }
 {

@@ -13,7 +13,7 @@ use ir_arena::handle::Handle;
 use ir_flags::ShaderStages;
 use ir_types::{Expression, key};
 
-// Those that may run a function, and all where nothing is kept of it.
+// The stages that may run a function; all, if it has no information.
 fn stages_at(callees: &[TinyInfo], function: Handle<key::Function>) -> ShaderStages
     ensures { result ≡ callee_stages (map noted_of callees.now) function }
 {
@@ -37,7 +37,7 @@ fn stages_in(known: &Known, callees: &[TinyInfo]) -> ShaderStages
     }
 }
 
-/// The stages that may run an expression, where this is kept of functions.
+/// The stages that may run an expression, given the information on functions.
 pub(crate) fn stages_by(expression: &Expression, callees: &[TinyInfo]) -> ShaderStages
     ensures { result ≡ stages_by (map noted_of callees.now) (expression_view expression.now) }
 {

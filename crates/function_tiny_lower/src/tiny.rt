@@ -1,4 +1,4 @@
-//! The layer beneath the rules of functions.
+//! The layer below the function checks.
 
 ghost use Rattle.std.specs.Prelude.{◌≡◌};
 
@@ -21,8 +21,8 @@ use typing_errors::{ExpressionError, FunctionError};
 use typing_forms::TypeResolution;
 use typing_layout::TypeInfo;
 
-/// What is kept of a function: the types of its expressions, whether it may end the fragment, and what is noted of it. Of uses
-/// there are those that are noted alone: the function itself has none.
+/// The information on a function: the types of its expressions, whether it may execute `Kill`, and what is noted in it. It has
+/// only noted uses: the function itself has none.
 #[derive(Drop)]
 pub struct TinyInfo {
     types: Vec<TypeResolution>,
@@ -32,8 +32,8 @@ pub struct TinyInfo {
     uses: Vec<GlobalUse>,
 }
 
-/// A layer for modules without global variables that types values of `u32`, `bool` and `f32`: literals, zeros, arguments,
-/// operations and the results of calls. Any other expression is a fault of its analysis.
+/// A layer for modules without global variables that infers the types `u32`, `bool` and `f32`: of literals, zero values,
+/// arguments, operations and results of calls. Any other expression is an error of its analysis.
 #[derive(Drop)]
 pub struct TinyLower {
     infos: Vec<TypeInfo>,
@@ -41,7 +41,7 @@ pub struct TinyLower {
 }
 
 impl TinyLower {
-    /// The layer for the module of whose types this is reported, and whose global expressions have these types.
+    /// The layer for the module with these `TypeInfo`s, whose global expressions have these types.
     pub fn new(infos: Vec<TypeInfo>, globals: Vec<TypeResolution>) -> TinyLower
         ensures infos { result.infos ≡ infos }
         ensures globals { result.globals ≡ globals }

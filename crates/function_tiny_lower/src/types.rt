@@ -36,7 +36,7 @@ fn refused(
 ///
 /// # Errors
 ///
-/// The first expression that has none; or out of memory.
+/// The first expression without a type; or out of memory.
 pub(crate) fn types_of(
     alloc: Global,
     module: &Module,
@@ -58,7 +58,7 @@ pub(crate) fn types_of(
     Ok(types)
 }
 
-/// How these types are reported. The error is out of memory.
+/// The information on these types. The error is out of memory.
 pub(crate) fn resolutions_of(
     alloc: Global,
     types: &[ValueType],

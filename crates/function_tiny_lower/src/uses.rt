@@ -8,7 +8,7 @@ use ir_types::key;
 use spec_expressions::GlobalUse;
 use typing_infos::mark_at;
 
-/// Further uses of global variables. Where there is no such variable, nothing changes.
+/// Adds uses of a global variable. If it does not exist, nothing changes.
 pub(crate) fn mark_all(
     uses: &mut Vec<GlobalUse>,
     noted: &[(Handle<key::GlobalVariable>, GlobalUse)],

@@ -1,4 +1,4 @@
-//! The types that values may have.
+//! The value types.
 
 ghost use Rattle.std.specs.Prelude.{◌≡◌};
 ghost use Rattle.function_tiny_lower.specs.Values.{resolution_of, scalar_of, type_of_form, type_of_inner, type_of_scalar};
@@ -8,18 +8,18 @@ use ir_kinds::{Scalar, ScalarKind};
 use ir_types::TypeInner;
 use typing_forms::{Form, TypeResolution};
 
-/// A type that a value may have.
+/// A value type.
 #[derive(Clone, Copy)]
 pub(crate) enum ValueType {
-    /// An unsigned integer of four bytes.
+    /// `u32`.
     U32,
     /// `bool`.
     Bool,
-    /// A float of four bytes.
+    /// `f32`.
     F32,
 }
 
-// The type of values of a scalar.
+// The value type of a scalar.
 fn type_of_scalar(scalar: Scalar) -> Option<ValueType>
     ensures { result ≡ type_of_scalar scalar }
 {
@@ -43,7 +43,7 @@ fn type_of_scalar(scalar: Scalar) -> Option<ValueType>
     }
 }
 
-/// The type of values of what is made of this.
+/// The value type of an inner type.
 pub(crate) fn type_of_inner(inner: &TypeInner) -> Option<ValueType>
     ensures { result ≡ type_of_inner (inner_view inner.now) }
 {
@@ -65,7 +65,7 @@ pub(crate) fn type_of_inner(inner: &TypeInner) -> Option<ValueType>
     }
 }
 
-/// The type of values of a form.
+/// The value type of a form.
 pub(crate) fn type_of_form(form: &Form) -> Option<ValueType>
     ensures { result ≡ type_of_form form.now }
 {

@@ -1,4 +1,4 @@
-//! What holds of layers, of functions and entry points that are refused, and of modules that are accepted.
+//! Laws of layers, of the errors of functions and entry points, and of valid modules.
 
 pub use function_entries::laws::one_implied;
 pub use function_modules::laws::{entry_depth_bound, made_for_accepted};

@@ -1,4 +1,4 @@
--- What is wrong with varyings.
+-- Errors of varyings.
 use Rattle.std.specs.Prelude.{◌≡◌, ◌≢◌, ◌⊎◌, ◌<◌, ℕ, List, [], ◌∷◌, IsTrue, IsSome, Option, Some, None, min, slice_get, false, true}
 use Rattle.ir_flags.specs.Sets.{Has}
 use Rattle.ir_flags.specs.declared.settings.Capabilities.{Capabilities}
@@ -35,13 +35,13 @@ use Rattle.function_varying_checks.specs.declared.error.VaryingError.TheVariants
 use Rattle.function_varying_checks.specs.declared.error.VaryingRefusal.{VaryingRefusal}
 use Rattle.function_varying_checks.specs.declared.error.VaryingRefusal.TheVariants as refusal
 
--- ---- a built-in value
+-- ---- a built-in
 
--- what its row needs is not there
+-- the capability of its row is missing
 abbrev pub Misses : VaryingContext → BuiltInRow → Capabilities → Type 0
 Misses c r x = (r.capability ≡ Some x) × (¬ IsFree c.stage r.exception) × ¬ Has c.capabilities.0 x.0
 
--- it does not go this way at this stage, or not after a task
+-- it does not have this direction in this stage, or not with a task payload
 abbrev pub IsAstray : VaryingContext → BuiltInRow → Type 0
 IsAstray c r = (¬ RowOccursAt c.direction c.stage r) ⊎ ((r.exception ≡ NotAfterTasks) × ¬ HasNoTaskPayload c)
 
@@ -55,12 +55,12 @@ IsBuiltInFault c type b _ = ⊥
 
 -- ---- a value at a location
 
--- what it says of itself needs this, which is not there
+-- an attribute of the binding requires this capability, which is missing
 abbrev pub Needs : Location → Capabilities → Type 0
 Needs l x = (IsTrue l.per_primitive × (x ≡ MESH_SHADER))
     ⊎ (((l.interpolation ≡ Some PerVertex) × (x ≡ PER_VERTEX)) ⊎ ((l.sampling ≡ Some Sample) × (x ≡ MULTISAMPLED_SHADING)))
 
--- it lies between vertices, and is made of this
+-- it is interpolated, and has this scalar kind
 abbrev pub Lies : VaryingContext → (type : ℕ) → Location → ScalarKind → Type 0
 Lies c type l kind = NeedsInterpolation c.direction c.stage l.per_primitive × (kind_of (form_of_type c.types type) ≡ Some kind)
 
@@ -79,13 +79,13 @@ IsLocationFault c type l error.PerVertexNotArrayOfThree = (l.interpolation ≡ S
 IsLocationFault c type l error.InvalidPerVertexSampling = (l.interpolation ≡ Some PerVertex) × IsSome l.sampling × (l.sampling ≢ Some Center)
 IsLocationFault c type l _ = ⊥
 
--- ---- what has no binding of its own
+-- ---- without its own binding
 
--- the word of bindings by which members are sources of a blend
+-- the name of blend sources in binding errors
 abbrev pub blend_src : List ℕ
 blend_src = 98 ∷ 108 ∷ 101 ∷ 110 ∷ 100 ∷ 95 ∷ 115 ∷ 114 ∷ 99 ∷ []
 
--- sources of a blend are given by fragments alone
+-- only fragment results have blend sources
 abbrev pub IsBlendFault : VaryingContext → VaryingError → Type 0
 IsBlendFault c (error.InvalidAttributeInStage word stage) = (word.now ≡ blend_src) × (stage ≡ c.stage) × (c.stage ≢ Fragment)
 IsBlendFault c (error.InvalidInputAttributeInStage word stage) = (word.now ≡ blend_src) × (stage ≡ c.stage) × (c.direction ≢ Output)
@@ -95,7 +95,7 @@ abbrev pub IsUnboundFault : ValidationFlags → VaryingError → Type 0
 IsUnboundFault flags error.MissingBinding = Has flags.0 BINDINGS.0
 IsUnboundFault flags _ = ⊥
 
--- the member is named by its place, as far as the error's number goes
+-- the member is named by its index, as far as the error's number goes
 abbrev pub IsMemberFault : ValidationFlags → (place : ℕ) → VaryingError → Type 0
 IsMemberFault flags place (error.MemberMissingBinding k) = (k ≡ min place 4294967295) × Has flags.0 BINDINGS.0
 IsMemberFault flags place _ = ⊥
@@ -110,11 +110,11 @@ IsOwnFault c BlendSources e = IsBlendFault c e
 IsOwnFault c Nothing e = IsUnboundFault c.flags e
 IsOwnFault c (NoMember place) e = IsMemberFault c.flags place e
 
--- an earlier one shows this
+-- an earlier one has this fact
 abbrev pub ShowsBefore : {A : Type 0} → (Bound → Option A) → List Varying → (place : ℕ) → A → Type 0
 ShowsBefore shown vs place x = (earlier : ℕ) × (earlier < place) × ShowsAt shown vs earlier x
 
--- it is this built-in value
+-- it is this built-in
 abbrev pub IsBuiltIn : Bound → BuiltIn → Type 0
 IsBuiltIn (built_in type b) d = d ≡ b
 IsBuiltIn (at_location type l) d = ⊥
@@ -122,7 +122,7 @@ IsBuiltIn BlendSources d = ⊥
 IsBuiltIn Nothing d = ⊥
 IsBuiltIn (NoMember place) d = ⊥
 
--- an earlier one is the same built-in value, or takes the same location
+-- an earlier one is the same built-in, or has the same location
 abbrev pub IsRepeated : VaryingContext → List Varying → (place : ℕ) → Bound → VaryingError → Type 0
 IsRepeated c vs place bound (error.DuplicateBuiltIn d) = IsBuiltIn bound d × ShowsBefore built_in_of vs place (canonical d)
 IsRepeated c vs place bound (error.BindingCollision n) = Has c.flags.0 BINDINGS.0 × (location_of bound ≡ Some n) × ShowsBefore location_of vs place n
@@ -130,7 +130,7 @@ IsRepeated c vs place bound _ = ⊥
 
 -- ---- all
 
--- The fault stands at a varying of the argument with this index.
+-- The error is of a varying of the argument with this index.
 pub record IsVaryingFault (c : VaryingContext) (vs : List Varying) (index : ℕ) (e : VaryingError) : Type 0 where
   pub place : ℕ
   pub v : Varying
@@ -138,7 +138,7 @@ pub record IsVaryingFault (c : VaryingContext) (vs : List Varying) (index : ℕ)
   pub of : v.index ≡ index
   pub wrong : IsOwnFault c v.bound e ⊎ IsRepeated c vs place v.bound e
 
--- memory is refused, or the fault stands
+-- out of memory, or the error's condition holds
 abbrev pub IsRefusal : VaryingContext → List Varying → VaryingRefusal → Type 0
 IsRefusal c vs (refusal.Memory a) = Unit {0}
 IsRefusal c vs (refusal.Fault index e) = IsVaryingFault c vs index e

@@ -1,4 +1,4 @@
--- Why a value may not be the built-in one of a row.
+-- Why a value can't be the built-in of a row.
 use Rattle.std.specs.Prelude.{◌≡◌, ℕ, List, Some, None}
 use Rattle.ir_kinds.specs.declared.bindings.BuiltIn.{BuiltIn}
 use Rattle.ir_types.specs.judged.Plain.{PlainType, inner_view}
@@ -15,7 +15,7 @@ use Rattle.function_varying_checks.specs.declared.error.VaryingError.TheVariants
 use Rattle.function_varying_checks.specs.declared.built_ins.RowFault.{RowFault}
 use Rattle.function_varying_checks.specs.declared.built_ins.RowFault.TheVariants as fault
 
--- what a row says besides does not hold
+-- the additional condition of a row does not hold
 abbrev pub IsExcepted : VaryingContext → Exception → RowFault → Type 0
 IsExcepted c e (fault.Capability x) = ⊥
 IsExcepted c e fault.Rows = (e ≡ RowsOnly) × ¬ IsLinearWorkgroup c.sizes
@@ -28,7 +28,7 @@ IsRowFault c type r fault.Rows = (r.exception ≡ RowsOnly) × ¬ IsLinearWorkgr
 IsRowFault c type r fault.Stage = IsAstray c r
 IsRowFault c type r fault.Type = ¬ IsOfType c.types r.ty type
 
--- the error names what the type is made of, or the type where it is not there
+-- the error has the inner type, or the handle if the type does not exist
 abbrev pub IsTypeError : List PlainType → (type : ℕ) → BuiltIn → VaryingError → Type 0
 IsTypeError types type b (error.InvalidBuiltInType d i) = (d ≡ b) × (inner_at types type ≡ Some (inner_view i))
 IsTypeError types type b (error.InvalidType t) = (t ≡ type) × (inner_at types type ≡ None)

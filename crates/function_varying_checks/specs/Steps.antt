@@ -1,4 +1,4 @@
--- The steps in which a value at a location is checked.
+-- The steps of the check of a value at a location.
 use Rattle.std.specs.Prelude.{◌≡◌, ◌≢◌, ◌⊎◌, ℕ, Bool, true, false, Option, Some, None, IsTrue}
 use Rattle.ir_flags.specs.Sets.{Has}
 use Rattle.ir_flags.specs.declared.settings.TheConstants.Capabilities.{MESH_SHADER}
@@ -20,13 +20,13 @@ use Rattle.typing_forms.specs.judged.Forms.{form_of_type}
 use Rattle.function_varying_checks.specs.declared.error.VaryingError.{VaryingError}
 use Rattle.function_varying_checks.specs.declared.error.VaryingError.TheVariants as error
 
--- the type that counts is there, and every vertex may give its own value, where each does
+-- the relevant type exists, and per-vertex varyings are allowed, if it is one
 pub record IsSpread (c : VaryingContext) (type : ℕ) (l : Location) (element : ℕ) : Type 0 where
   pub capable : IsTrue l.per_primitive → Has c.capabilities.0 MESH_SHADER.0
   pub vertices : l.interpolation ≡ Some PerVertex → PerVertexOK c
   pub counts : varying_type c.types l.interpolation type ≡ Some element
 
--- a value of the type that counts goes to the location by itself
+-- a value of the relevant type is allowed at the location
 pub record IsKept (c : VaryingContext) (element : ℕ) (l : Location) : Type 0 where
   pub shared : HasFlag IoShareable (type_tree c.types element)
   pub primitive : PerPrimitiveOK c.direction c.stage l.per_primitive
@@ -37,11 +37,11 @@ IsPrimitiveFault direction stage per_primitive error.InvalidPerPrimitive = (per_
 IsPrimitiveFault direction stage per_primitive error.MissingPerPrimitive = (per_primitive ≡ false) × (direction ≡ PrimitiveOutput)
 IsPrimitiveFault direction stage per_primitive _ = ⊥
 
--- the place goes with the way in which the value is found
+-- the sampling is allowed with the interpolation
 abbrev pub AreCombined : Location → Type 0
 AreCombined l = (i : Interpolation) (s : Sampling) → l.interpolation ≡ Some i → l.sampling ≡ Some s → sampling_fits i s ≡ true
 
--- a value between vertices is not found as those of its kind are
+-- an interpolated value does not have the interpolation of its kind
 abbrev pub IsUnfound : ScalarKind → Option Interpolation → VaryingError → Type 0
 IsUnfound kind i error.InvalidInterpolationForInteger = ((kind ≡ Sint) ⊎ (kind ≡ Uint)) × (i ≢ Some Flat)
 IsUnfound kind i error.MissingInterpolation = (kind ≡ Float) × (i ≡ None)

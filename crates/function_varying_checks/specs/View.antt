@@ -1,4 +1,4 @@
--- What the rules look at, as plain data.
+-- The view of the context.
 use Rattle.std.specs.Prelude.{◌≡◌, length}
 use Rattle.spec_interface.specs.judged.Contexts.{VaryingContext as PlainContext}
 use Rattle.module_type_checks.specs.Known.{AreInfos}
@@ -16,7 +16,7 @@ context_view c = record {
   direction = c.direction;
 }
 
--- what is reported of the module's types is so, and reported of all
+-- the `TypeInfo`s are those of all types of the module
 pub record IsReported (c : VaryingContext) : Type 0 where
   pub told : AreInfos (types_view c.types.now) c.infos.now
   pub many : length c.infos.now ≡ length (types_view c.types.now)

@@ -25,14 +25,14 @@ use std::alloc::{AllocError, Global};
 use typing_forms::laws::form_equality;
 use typing_forms::{Form, form_of_type, inner_of};
 
-// Why a value may not be a built-in one.
+// The error of a built-in.
 #[derive(Clone, Copy)]
 pub(crate) enum RowFault {
     // This capability is missing.
     Capability(Capabilities),
     // Workgroups have more than one dimension.
     Rows,
-    // It has another direction at this stage.
+    // It has the other direction in this stage.
     Stage,
     // It has another type.
     Type,
@@ -62,7 +62,7 @@ fn has_stage(set: ShaderStages, stage: ShaderStage) -> bool
     set.contains(stage_set(stage))
 }
 
-// Whether a row says that it goes this way at a stage.
+// Whether a row has this direction in a stage.
 fn occurs_at(direction: Direction, stage: ShaderStage, row: &BuiltInRow) -> bool
     ensures { IsTrue result ↔ RowOccursAt direction stage row.now }
 {
@@ -73,7 +73,7 @@ fn occurs_at(direction: Direction, stage: ShaderStage, row: &BuiltInRow) -> bool
     }
 }
 
-// Whether it needs no capability at a stage, though its row names one.
+// Whether it needs no capability in a stage, though its row names one.
 fn is_free(stage: ShaderStage, exception: Exception) -> bool
     ensures { IsTrue result ↔ IsFree stage exception }
 {
@@ -83,7 +83,7 @@ fn is_free(stage: ShaderStage, exception: Exception) -> bool
     }
 }
 
-// Whether what a row needs is there.
+// Whether the capability of a row is enabled.
 fn check_need(context: &VaryingContext<'_>, row: &BuiltInRow) -> Result<(), RowFault>
     ensures { (ty : ℕ) → MatchResult result
         (λ _. IsFree context.now.stage row.now.exception ⊎ IfSome row.now.capability (λ x. Has context.now.capabilities.0 x.0))
@@ -118,7 +118,7 @@ pub fn is_ahead(context: &VaryingContext<'_>) -> bool
     context.stage != ShaderStage::Mesh || context.task_payload.is_none()
 }
 
-// Whether what a row says besides holds.
+// Whether the additional condition of a row holds.
 fn check_exception(context: &VaryingContext<'_>, exception: Exception) -> Result<(), RowFault>
     ensures { MatchResult result
         (λ _. ExceptionOK (context_view context.now) exception)
@@ -143,7 +143,7 @@ fn check_exception(context: &VaryingContext<'_>, exception: Exception) -> Result
     }
 }
 
-// Whether an array has so many elements, eight at most.
+// Whether an array has this many elements, at most eight.
 const fn are_few(size: ArraySize) -> bool
     ensures { IsTrue result ↔ IsCounted size (λ count. count ≤ 8) }
 {
@@ -153,7 +153,7 @@ const fn are_few(size: ArraySize) -> bool
     }
 }
 
-// Whether the elements of an array are floats of four bytes, eight at most.
+// Whether the elements of an array are `f32`, at most eight.
 fn are_distances(types: &UniqueArena<IrType, key::IrType>, form: &Form) -> bool
     ensures { IsTrue result ↔ AreDistances (types_view types.now) form.now }
 {
@@ -165,7 +165,7 @@ fn are_distances(types: &UniqueArena<IrType, key::IrType>, form: &Form) -> bool
     }
 }
 
-// Whether a type is one of which a built-in value is.
+// Whether a type is one of a built-in.
 fn is_of_type(
     types: &UniqueArena<IrType, key::IrType>,
     expected: &BuiltInType,
@@ -180,7 +180,7 @@ fn is_of_type(
     }
 }
 
-// Whether a value of a type may be the built-in one of a row.
+// Whether a type is that of the built-in of a row.
 fn check_row(
     context: &VaryingContext<'_>,
     ty: Handle<key::IrType>,
@@ -207,7 +207,7 @@ fn check_row(
     Ok(())
 }
 
-// That a built-in value is of another type. The error is out of memory.
+// The error of a built-in of another type. The error in its place is out of memory.
 fn type_error(
     alloc: Global,
     types: &UniqueArena<IrType, key::IrType>,
@@ -225,7 +225,7 @@ fn type_error(
     }
 }
 
-// The error of a fault of a built-in value. The error in its place is out of memory.
+// The error of a built-in. The error in its place is out of memory.
 fn error_of(
     alloc: Global,
     context: &VaryingContext<'_>,
@@ -243,7 +243,7 @@ fn error_of(
     }
 }
 
-/// What is wrong with a value of a type as a built-in one. The error is out of memory.
+/// The error of a value of a type as a built-in. The error in its place is out of memory.
 pub fn built_in_fault(
     alloc: Global,
     context: &VaryingContext<'_>,

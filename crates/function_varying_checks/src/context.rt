@@ -1,4 +1,4 @@
-//! The context of the rules of varyings.
+//! The context of the checks of varyings.
 
 use ir_arena::handle::Handle;
 use ir_flags::{Capabilities, ValidationFlags};
@@ -8,22 +8,22 @@ use ir_types::{IrType, key};
 use spec_interface::Direction;
 use typing_layout::TypeInfo;
 
-/// What the rules of varyings may look at (naga's `VaryingContext`, without what changes).
+/// The context in which varyings are checked (naga's `VaryingContext`, without its mutable parts).
 #[derive(Clone, Copy)]
 pub struct VaryingContext<'a> {
-    /// The checks that are made.
+    /// The validation flags.
     pub flags: ValidationFlags,
-    /// What shaders may use beyond the common part.
+    /// The enabled capabilities.
     pub capabilities: Capabilities,
     /// The module's types.
     pub types: &'a UniqueArena<IrType, key::IrType>,
-    /// What is reported of them.
+    /// Their `TypeInfo`s.
     pub infos: &'a [TypeInfo],
     /// The entry point's stage.
     pub stage: ShaderStage,
-    /// The size of its workgroups, in invocations.
+    /// The size of its workgroup, in invocations.
     pub workgroup_size: [u32; 3],
-    /// The variable that a task shader hands to mesh shaders.
+    /// The payload variable of a task or mesh shader.
     pub task_payload: Option<Handle<key::GlobalVariable>>,
     /// The direction of the varyings.
     pub direction: Direction,

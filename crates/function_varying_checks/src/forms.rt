@@ -1,4 +1,4 @@
-//! What types are made of.
+//! The parts of types.
 
 ghost use Rattle.std.specs.Prelude.{◌≡◌, ◌<◌, ◌↔◌, IsTrue, length};
 ghost use Rattle.typing_layout.specs.judged.Flags.{HasFlag, IoShareable};
@@ -16,7 +16,7 @@ use ir_types::{ArraySize, key};
 use typing_forms::Form;
 use typing_layout::TypeFlags;
 
-/// The elements of an array, and how many there are; `None` of anything else.
+/// The elements of an array, and their number; `None` for other types.
 pub(crate) fn array_of(form: &Form) -> Option<(Handle<key::IrType>, ArraySize)>
     ensures { result ≡ array_of_form form.now }
 {
@@ -39,7 +39,7 @@ pub(crate) fn array_of(form: &Form) -> Option<(Handle<key::IrType>, ArraySize)>
     }
 }
 
-// What an array of three is made of.
+// The inner type of the elements of an array of three.
 fn three(base: Handle<key::IrType>, size: ArraySize) -> Option<Handle<key::IrType>>
     ensures { result ≡ three base size }
 {
@@ -49,7 +49,7 @@ fn three(base: Handle<key::IrType>, size: ArraySize) -> Option<Handle<key::IrTyp
     }
 }
 
-/// The elements of an array of three; `None` of anything else.
+/// The elements of an array of three; `None` for other types.
 pub(crate) fn of_three(form: &Form) -> Option<Handle<key::IrType>>
     ensures { result ≡ of_three form.now }
 {
@@ -59,7 +59,7 @@ pub(crate) fn of_three(form: &Form) -> Option<Handle<key::IrType>>
     }
 }
 
-/// What the scalars of a scalar or of a vector are; `None` of anything else.
+/// The scalar of a scalar or a vector; `None` for other types.
 pub(crate) fn kind_of(form: &Form) -> Option<ScalarKind>
     ensures { result ≡ kind_of form.now }
 {
@@ -82,7 +82,7 @@ pub(crate) fn kind_of(form: &Form) -> Option<ScalarKind>
     }
 }
 
-/// Whether values of a type go from one stage to the next. Those of one that is not there do not.
+/// Whether values of a type can be passed between stages. Those of a missing type can't.
 pub(crate) fn is_shared(context: &VaryingContext<'_>, ty: Handle<key::IrType>) -> bool
     requires { IsReported context.now }
     ensures { IsTrue result ↔ HasFlag IoShareable (type_tree (context_view context.now).types ty) }

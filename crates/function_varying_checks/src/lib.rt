@@ -1,5 +1,5 @@
-//! Which varyings an entry point has (`spread.rt`), and whether it may have each of them by itself: as a built-in value by the
-//! table of `spec_interface` (`built_ins.rt`), or at a location (`locations.rt`).
+//! The varyings of an entry point (`spread.rt`), and the check of each: as a built-in by the table of `spec_interface`
+//! (`built_ins.rt`), or at a location (`locations.rt`).
 #![tactic(auto)]
 
 mod built_ins;

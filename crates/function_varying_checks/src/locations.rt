@@ -23,7 +23,7 @@ use ir_types::key;
 use spec_interface::{Direction, Location};
 use typing_forms::form_of_type;
 
-// Whether every vertex gives its own value.
+// Whether a varying is per vertex.
 const fn is_per_vertex(interpolation: Option<Interpolation>) -> bool
     ensures { IsTrue result ↔ (interpolation ≡ Some PerVertex) }
 {
@@ -36,14 +36,14 @@ const fn is_per_vertex(interpolation: Option<Interpolation>) -> bool
     }
 }
 
-/// Whether a stage is that of fragments.
+/// Whether a stage is the fragment stage.
 pub const fn is_fragment(stage: ShaderStage) -> bool
     ensures { IsTrue result ↔ (stage ≡ Fragment) }
 {
     matches!(stage, ShaderStage::Fragment)
 }
 
-// Whether a place in a fragment is given, and is not its centre.
+// Whether a sampling is given, and is not the center.
 const fn is_off_center(sampling: Option<Sampling>) -> bool
     ensures { IsTrue result ↔ (IsSome sampling × (sampling ≢ Some Center)) }
 {
@@ -56,7 +56,7 @@ const fn is_off_center(sampling: Option<Sampling>) -> bool
     }
 }
 
-// Whether what belongs to a primitive may.
+// Whether a per-primitive varying is allowed.
 fn check_mesh(context: &VaryingContext<'_>, at: &Location) -> Result<(), VaryingError>
     ensures { (ty : ℕ) → MatchResult result
         (λ _. IsTrue at.now.per_primitive → Has context.now.capabilities.0 MESH_SHADER.0)
@@ -68,7 +68,7 @@ fn check_mesh(context: &VaryingContext<'_>, at: &Location) -> Result<(), Varying
     Ok(())
 }
 
-// Whether every vertex may give its own value, where each does.
+// Whether a per-vertex varying is allowed.
 fn check_vertices(context: &VaryingContext<'_>, at: &Location) -> Result<(), VaryingError>
     ensures { (ty : ℕ) → MatchResult result
         (λ _. at.now.interpolation ≡ Some PerVertex → PerVertexOK (context_view context.now))
@@ -92,7 +92,7 @@ fn check_vertices(context: &VaryingContext<'_>, at: &Location) -> Result<(), Var
     Ok(())
 }
 
-// The type that counts: where every vertex gives its own value, that of the elements.
+// The relevant type: for a per-vertex varying, that of the elements.
 fn counted(
     context: &VaryingContext<'_>,
     ty: Handle<key::IrType>,
@@ -109,7 +109,7 @@ fn counted(
     }
 }
 
-// The type that counts, where it is there and every vertex may give its own value.
+// The relevant type, if it exists and per-vertex varyings are allowed.
 fn check_counted(
     context: &VaryingContext<'_>,
     ty: Handle<key::IrType>,
@@ -133,7 +133,7 @@ fn check_counted(
     }
 }
 
-// Whether what goes this way belongs to a primitive or not, as it says.
+// Whether a varying of this direction is per primitive exactly if it says so.
 fn check_primitive(
     direction: Direction,
     stage: ShaderStage,
@@ -168,7 +168,7 @@ fn check_primitive(
     }
 }
 
-// Whether a value of the type that counts goes to a location by itself.
+// Whether the relevant type of a value is allowed at a location.
 fn check_kept(
     context: &VaryingContext<'_>,
     ty: Handle<key::IrType>,
@@ -194,7 +194,7 @@ fn check_kept(
     Ok(())
 }
 
-// Whether a place is one of a vertex.
+// Whether a sampling is one of per-vertex varyings.
 const fn is_of_vertex(sampling: Sampling) -> bool
     ensures { result ≡ is_flat_sampling sampling }
 {
@@ -204,7 +204,7 @@ const fn is_of_vertex(sampling: Sampling) -> bool
     }
 }
 
-// Whether a place goes with a way of finding a value.
+// Whether a sampling is allowed with an interpolation.
 const fn goes_with(interpolation: Interpolation, sampling: Sampling) -> bool
     ensures { result ≡ sampling_fits interpolation sampling }
 {
@@ -215,7 +215,7 @@ const fn goes_with(interpolation: Interpolation, sampling: Sampling) -> bool
     }
 }
 
-// Whether the place goes with the way in which the value is found.
+// Whether the sampling is allowed with the varying's interpolation.
 fn check_combination(at: &Location) -> Result<(), VaryingError>
     ensures { (c : PlainContext) (ty : ℕ) → MatchResult result
         (λ _. AreCombined at.now)
@@ -239,7 +239,7 @@ fn check_combination(at: &Location) -> Result<(), VaryingError>
     }
 }
 
-// Whether values are taken at each sample.
+// Whether a varying is sampled per sample.
 const fn is_sample(sampling: Option<Sampling>) -> bool
     ensures { IsTrue result ↔ (sampling ≡ Some Sample) }
 {
@@ -253,7 +253,7 @@ const fn is_sample(sampling: Option<Sampling>) -> bool
     }
 }
 
-// Whether values may be taken at each sample, where they are.
+// Whether sampling per sample is enabled, if used.
 fn check_samples(context: &VaryingContext<'_>, at: &Location) -> Result<(), VaryingError>
     ensures { (ty : ℕ) → MatchResult result
         (λ _. at.now.sampling ≡ Some Sample → Has context.now.capabilities.0 MULTISAMPLED_SHADING.0)
@@ -269,14 +269,14 @@ fn check_samples(context: &VaryingContext<'_>, at: &Location) -> Result<(), Vary
     Ok(())
 }
 
-// Whether a stage gives values that lie between vertices.
+// Whether varyings of a stage are interpolated.
 const fn gives_vertices(stage: ShaderStage) -> bool
     ensures { IsTrue result ↔ ((stage ≡ Vertex) ⊎ (stage ≡ Mesh)) }
 {
     matches!(stage, ShaderStage::Vertex | ShaderStage::Mesh)
 }
 
-// Whether a value between vertices has to be found.
+// Whether an interpolated varying lacks its interpolation.
 const fn is_between(direction: Direction, stage: ShaderStage, per_primitive: bool) -> bool
     ensures { IsTrue result ↔ NeedsInterpolation direction stage per_primitive }
 {
@@ -288,7 +288,7 @@ const fn is_between(direction: Direction, stage: ShaderStage, per_primitive: boo
     }
 }
 
-// Whether values lie in no way between vertices.
+// Whether values are not interpolated.
 const fn is_flat(interpolation: Option<Interpolation>) -> bool
     ensures { IsTrue result ↔ (interpolation ≡ Some Flat) }
 {
@@ -301,7 +301,7 @@ const fn is_flat(interpolation: Option<Interpolation>) -> bool
     }
 }
 
-// Whether a value between vertices is found as those of its kind are.
+// Whether an interpolated varying has the interpolation of its kind.
 fn check_found(kind: ScalarKind, interpolation: Option<Interpolation>) -> Result<(), VaryingError>
     ensures { MatchResult result (λ _. InterpolationOK kind interpolation) (IsUnfound kind interpolation) }
 {
@@ -321,7 +321,7 @@ fn check_found(kind: ScalarKind, interpolation: Option<Interpolation>) -> Result
     }
 }
 
-// Whether it is a scalar or a vector, which is interpolated as it has to be, where it is one value.
+// Whether a single value is a scalar or a vector, with the required interpolation.
 fn check_value(
     context: &VaryingContext<'_>,
     ty: Handle<key::IrType>,
@@ -343,7 +343,7 @@ fn check_value(
     check_found(kind, at.interpolation)
 }
 
-/// Whether a value of a type may go to a location.
+/// Whether a value of a type is allowed at a location.
 pub fn check_location(
     context: &VaryingContext<'_>,
     ty: Handle<key::IrType>,

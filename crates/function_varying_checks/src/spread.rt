@@ -1,4 +1,4 @@
-//! Which varyings there are.
+//! The varyings of an entry point.
 
 ghost use Rattle.std.specs.Prelude.{◌≡◌, ◌++◌, IfOk, OnOk, is_some, map};
 ghost use Rattle.ir_items.specs.found.View.{argument_view};
@@ -51,7 +51,7 @@ const fn bound_member(place: usize, ty: Handle<key::IrType>, binding: Option<Bin
     }
 }
 
-// Whether what is bound so is a source of a blend.
+// Whether a binding has a blend source.
 fn is_source(binding: Option<Binding>) -> bool
     ensures { result ≡ is_some (blend_source binding) }
 {
@@ -61,7 +61,7 @@ fn is_source(binding: Option<Binding>) -> bool
     }
 }
 
-// Whether some member is a source of a blend.
+// Whether a member has a blend source.
 fn has_source(members: &[StructMember]) -> bool
     ensures { result ≡ has_source (map member_view members.now) }
 {
@@ -73,7 +73,7 @@ fn has_source(members: &[StructMember]) -> bool
     false
 }
 
-// Adds the members of a struct, each by itself. The error is out of memory.
+// Appends the members of a struct, each by itself. The error is out of memory.
 fn add_members(
     varyings: &mut Vec<Varying>,
     index: usize,
@@ -89,7 +89,7 @@ fn add_members(
     Ok(())
 }
 
-// Adds what denotes a value that is not bound. The error is out of memory.
+// Appends a value without a binding. The error is out of memory.
 fn add_unbound(
     types: &UniqueArena<IrType, key::IrType>,
     varyings: &mut Vec<Varying>,
@@ -124,11 +124,11 @@ fn add_unbound(
     Ok(())
 }
 
-/// Adds the varyings of one value.
+/// Appends the varyings of one value.
 ///
 /// # Errors
 ///
-/// `AllocError` where there is no memory. Some of the varyings may stand in the list then.
+/// `AllocError` if out of memory. The list may have some of the varyings then.
 pub fn add_value(
     types: &UniqueArena<IrType, key::IrType>,
     varyings: &mut Vec<Varying>,

@@ -3,7 +3,7 @@ use Rattle.std.proofs.Common.{◌≡◌, ◌⊎◌, inl, inr, ◌+◌, zero, suc
 use Rattle.std.specs.BTreeMap.{BTreeMap}
 use Rattle.std.proofs.lemmas.List.{append-nil}
 use Rattle.std.proofs.Common.{append_assoc}
-use Rattle.std.proofs.lemmas.Option.{slice_get_within}
+use Rattle.std.proofs.lemmas.Option.{same_Some, slice_get_within}
 use Rattle.ir_flags.specs.Sets.{Has}
 use Rattle.ir_flags.specs.declared.settings.ValidationFlags.{ValidationFlags}
 use Rattle.ir_flags.specs.declared.settings.TheConstants.ValidationFlags.{BINDINGS}
@@ -18,7 +18,6 @@ use Rattle.spec_interface.specs.declared.varyings.Bound.{Bound}
 use Rattle.spec_interface.specs.declared.varyings.Bound.TheVariants.{BuiltIn as built_in, Location as at_location, BlendSources, Nothing, NoMember}
 use Rattle.spec_interface.specs.declared.varyings.Varying.{Varying}
 use Rattle.function_varyings.proofs.MarkLaws.{none_some}
-use Rattle.function_varyings.proofs.Places.{some_is}
 use Rattle.function_varyings.specs.Known.{IsNewlyGiven}
 use Rattle.function_varyings.specs.Marks.{AreTaken, IsNumber, KeepsBits, KeepsNumbers, Takes, TakesAt, built_in_number}
 
@@ -30,7 +29,7 @@ number_canonical (Barycentric perspective) = refl
 number_canonical other = refl
 
 takes_built_in : (flags : ValidationFlags) (bound : Bound) (b : BuiltIn) → built_in_of bound ≡ Some b → Takes flags bound (built_in_number b)
-takes_built_in flags (built_in type d) b e = sym (number_canonical d) ∙ ap built_in_number (some_is (canonical d) b e)
+takes_built_in flags (built_in type d) b e = sym (number_canonical d) ∙ ap built_in_number (same_Some (canonical d) b e)
 takes_built_in flags (at_location type l) b e = absurd (none_some b e)
 takes_built_in flags BlendSources b e = absurd (none_some b e)
 takes_built_in flags Nothing b e = absurd (none_some b e)
@@ -38,8 +37,8 @@ takes_built_in flags (NoMember place) b e = absurd (none_some b e)
 
 takes_location : (flags : ValidationFlags) → Has flags.0 BINDINGS.0 → (bound : Bound) (n : ℕ) → location_of bound ≡ Some n → Takes flags bound (64 + n)
 takes_location flags is (built_in type d) n e = absurd (none_some n e)
-takes_location flags is (at_location type l) n e = (is, ap (λ k. 64 + k) (some_is l.location n e))
-takes_location flags is BlendSources n e = (is, ap (λ k. 64 + k) (some_is 0 n e))
+takes_location flags is (at_location type l) n e = (is, ap (λ k. 64 + k) (same_Some l.location n e))
+takes_location flags is BlendSources n e = (is, ap (λ k. 64 + k) (same_Some 0 n e))
 takes_location flags is Nothing n e = absurd (none_some n e)
 takes_location flags is (NoMember place) n e = absurd (none_some n e)
 
@@ -89,7 +88,7 @@ module _ (c : VaryingContext) (xs ys : List Varying) (left : VaryingsOK c xs) (r
 
 at_index : (i j : ℕ) (bs : List Bound) (k : ℕ) (v : Varying) → slice_get (map (varying i) bs) k ≡ Some v → slice_get (map (varying j) bs) k ≡ Some (varying j v.bound)
 at_index i j [] k v e = absurd (none_some v e)
-at_index i j (b ∷ bs) zero v e = ap (λ (w : Varying). Some (varying j w.bound)) (some_is (varying i b) v e)
+at_index i j (b ∷ bs) zero v e = ap (λ (w : Varying). Some (varying j w.bound)) (same_Some (varying i b) v e)
 at_index i j (b ∷ bs) (suc k) v e = at_index i j bs k v e
 
 of_index : (c : VaryingContext) (i j : ℕ) (bs : List Bound) → VaryingsOK c (map (varying i) bs) → VaryingsOK c (map (varying j) bs)
@@ -127,7 +126,7 @@ module _ (c : VaryingContext) (done : List PlainArgument) (a : PlainArgument) (b
   last = map (varying (0 + length done)) bs
 
   one_number : (n m mark : ℕ) → IsNumber after_ mark n → IsNumber after_ mark m → n ≡ m
-  one_number n m mark p q = some_is n m (sym p ∙ q)
+  one_number n m mark p q = same_Some n m (sym p ∙ q)
 
   no_meeting : (i j mark : ℕ) → TakesAt c.flags first i mark → TakesAt c.flags last j mark → ⊥
   no_meeting i j mark p q =

@@ -8,7 +8,7 @@ use Rattle.std.specs.declared.cmp.Ordering.TheVariants.{Less, Equal, Greater}
 use Rattle.std.proofs.lemmas.Bool.{cases_eq, eq-eqb}
 use Rattle.std.proofs.lemmas.Bool.Decides.{nat_tests}
 use Rattle.std.proofs.lemmas.List.{get_or-set_same, get_or-set_other, get_or_default, length-append}
-use Rattle.std.proofs.lemmas.Option.{slice_get_within}
+use Rattle.std.proofs.lemmas.Option.{same_Some, slice_get_within}
 use Rattle.std.proofs.lemmas.Map.Lookups.{exact_unsigned}
 use Rattle.std.proofs.lemmas.Nat.Bits.{bit_at_or, bit_at_and, bit_at-lt, bit_at-zero}
 use Rattle.ir_flags.specs.declared.settings.ValidationFlags.{ValidationFlags}
@@ -16,7 +16,7 @@ use Rattle.ir_sets.specs.Bits.{has_bit}
 use Rattle.ir_types.specs.judged.Plain.{PlainType}
 use Rattle.spec_interface.specs.judged.Varyings.{mesh_varyings}
 use Rattle.spec_interface.specs.declared.varyings.Varying.{Varying}
-use Rattle.function_varyings.proofs.Places.{below_or_same, some_is}
+use Rattle.function_varyings.proofs.Places.{below_or_same}
 use Rattle.function_varyings.specs.Marks.{AreNewlyTaken, IsAmong, IsIn, IsNumber, IsPartOf, KeepsBits, KeepsNumbers, KeepsWords, Takes, TakesAt}
 use Rattle.function_varyings.specs.declared.marks.Part.{Part}
 use Rattle.function_varyings.specs.declared.marks.Word.{Word}
@@ -36,7 +36,7 @@ none_some x e = cc (e)
 
 module _ {V : Type 0} (k : ℕ) (v : V) (old new : BTreeMap ℕ V) (told : (q : ℕ) → get nat_cmp new q ≡ cond (is_eq (nat_cmp k q)) (Some v) (get nat_cmp old q)) where
   one_more_by : (P : ℕ → V → Type 0) → P k v → (q : ℕ) (w : V) (is : Bool) → is_eq (nat_cmp k q) ≡ is → get nat_cmp new q ≡ cond is (Some v) (get nat_cmp old q) → get nat_cmp new q ≡ Some w → (get nat_cmp old q ≡ Some w → P q w) → P q w
-  one_more_by P this q w true e is found before = subst (λ n. P n w) (same_key k q e) (subst (P k) (some_is v w (sym is ∙ found)) this)
+  one_more_by P this q w true e is found before = subst (λ n. P n w) (same_key k q e) (subst (P k) (same_Some v w (sym is ∙ found)) this)
   one_more_by P this q w false e is found before = before (sym is ∙ found)
 
   -- what holds of all entries, and of one more
@@ -175,14 +175,14 @@ pub part_more : (words : List Word) (from place : ℕ) (w : Word) (old now new :
 part_more words from place w old now new at earlier later this before n among = elim (among_more words from place n among) [
   | inl less ↦ (later n (before n less).0, (before n less).1)
   | inr one ↦
-      (let is : IsIn w n = subst (λ x. IsIn x n) (some_is one.0 w (sym one.1 ∙ at)) one.2 in
+      (let is : IsIn w n = subst (λ x. IsIn x n) (same_Some one.0 w (sym one.1 ∙ at)) one.2 in
       ((this n is).0, not_before old now n earlier (this n is).1))
 ]
 
 -- ---- varyings, one after the other
 
 takes_here : (flags : ValidationFlags) (vs : List Varying) (k place mark : ℕ) (v : Varying) → slice_get vs place ≡ Some v → k ≡ place → TakesAt flags vs k mark → Takes flags v.bound mark
-takes_here flags vs k place mark v at same takes = subst (λ (x : Varying). Takes flags x.bound mark) (some_is takes.0 v (sym takes.1 ∙ (ap (slice_get vs) same ∙ at))) takes.2
+takes_here flags vs k place mark v at same takes = subst (λ (x : Varying). Takes flags x.bound mark) (same_Some takes.0 v (sym takes.1 ∙ (ap (slice_get vs) same ∙ at))) takes.2
 
 -- what those before and one more take has numbers that are found
 pub found_more : (flags : ValidationFlags) (vs : List Varying) (place : ℕ) (v : Varying) (old new : BTreeMap ℕ ℕ) (found more : List ℕ) → slice_get vs place ≡ Some v → KeepsNumbers old new

@@ -1,6 +1,6 @@
 -- The varying at a place, and those before it.
 use Rattle.std.proofs.Common.{◌≡◌, ◌⊎◌, inl, inr, ℕ, ◌+◌, ◌<◌, ◌≤◌, List, Option, Some, None, MatchOption, length, sym, ap, subst, ◌∙◌, slice_get, arith, rules}
-use Rattle.std.proofs.lemmas.Option.{slice_get_within}
+use Rattle.std.proofs.lemmas.Option.{same_Some, slice_get_within}
 use Rattle.spec_interface.specs.judged.Contexts.{VaryingContext}
 use Rattle.spec_interface.specs.judged.Varyings.{VaryingsApart, ShowsAt, VaryingsOK, built_in_of, location_of}
 use Rattle.spec_interface.specs.declared.varyings.Bound.{Bound}
@@ -13,9 +13,6 @@ below_or_same i end lt = search rules
 some_none : {A : Type 0} (x : A) → Some x ≡ None → ⊥
 some_none x e = cc
 
-pub some_is : {A : Type 0} (x y : A) → Some x ≡ Some y → x ≡ y
-some_is x y e = cc
-
 -- what is said where nothing is found
 pub of_none : {A : Type 0} (o : Option A) (P : Type 0) (Q : A → Type 0) → o ≡ None → MatchOption o P Q → P
 of_none None P Q is h = h
@@ -26,7 +23,7 @@ of_none (Some x) P Q is h = absurd (some_none x is)
 module _ {A : Type 0} (shown : Bound → Option A) (vs : List Varying) where
   -- what a varying shows is what stands at its place
   pub shows_here : (place : ℕ) (v : Varying) (x : A) → slice_get vs place ≡ Some v → ShowsAt shown vs place x → shown v.bound ≡ Some x
-  shows_here place v x at shows = let same : shows.0 ≡ v = some_is _ _ (sym shows.1 ∙ at) in ap (λ (w : Varying). shown w.bound) (sym same) ∙ shows.2
+  shows_here place v x at shows = let same : shows.0 ≡ v = same_Some _ _ (sym shows.1 ∙ at) in ap (λ (w : Varying). shown w.bound) (sym same) ∙ shows.2
 
   -- all places are new, so no two show the same
   pub new_apart : ((place : ℕ) → place < length vs → IsNew shown vs place) → VaryingsApart shown vs

@@ -1,4 +1,4 @@
--- What is known of types whose members went some way at some stage before.
+-- Facts about types whose members were varyings before.
 use Rattle.std.specs.Prelude.{◌≡◌, ◌↔◌, ◌+◌, ◌*◌, ℕ, Bool, true, false, IsTrue, List, Option}
 use Rattle.std.specs.BTreeMap.{BTreeMap}
 use Rattle.std.specs.BTreeSet.{BTreeSet, contains}
@@ -22,7 +22,7 @@ use Rattle.function_varyings.specs.declared.known.KnownTypes.{KnownTypes}
 use Rattle.function_varyings.specs.declared.known.Shown.{Shown}
 use Rattle.function_varyings.specs.declared.known.Way.{Way}
 
--- ---- ways, as numbers
+-- ---- directions and stages, as numbers
 
 abbrev pub stage_number : ShaderStage → ℕ
 stage_number Vertex = 0
@@ -45,13 +45,13 @@ abbrev pub digit : Bool → ℕ
 digit false = 0
 digit true = 1
 
--- a way and what is shown, as one number
+-- a direction, a stage and facts, as one number
 abbrev pub number_of : Way → Shown → ℕ
 number_of w s = digit s.blended + 2 * (digit s.positioned + 2 * (digit w.rows + 2 * (digit w.ahead + 2 * (direction_number w.direction + 4 * stage_number w.stage))))
 
 -- ---- what is known
 
--- what the rules of a built-in value look at besides types and capabilities
+-- the inputs of the conditions of built-ins, besides types and capabilities
 pub record IsWayOf (c : VaryingContext) (w : Way) : Type 0 where
   pub stage : w.stage ≡ c.stage
   pub direction : w.direction ≡ c.direction
@@ -68,7 +68,7 @@ pair_cmp p q = ordering_then (nat_cmp p.0 q.0) (nat_cmp p.1 q.1)
 abbrev pub IsNoted : BTreeSet (ℕ × ℕ) → (type : ℕ) → Way → Shown → Type 0
 IsNoted seen type w s = IsTrue (contains pair_cmp seen (type, number_of w s))
 
--- The members of each type that is noted are as they should be, wherever varyings go that way at that stage, and show that.
+-- The members of each noted type are valid varyings in that direction and stage, with these facts.
 abbrev pub AreNotedFor : ValidationFlags → Capabilities → List PlainType → BTreeSet (ℕ × ℕ) → Type 0
 AreNotedFor flags capabilities types seen = (c : VaryingContext) (w : Way) (type : ℕ) (s : Shown) → c.flags ≡ flags → c.capabilities ≡ capabilities → c.types ≡ types → IsWayOf c w
     → IsNoted seen type w s → VaryingsOK c (mesh_varyings types type) × IsShownBy (mesh_varyings types type) s
@@ -76,7 +76,7 @@ AreNotedFor flags capabilities types seen = (c : VaryingContext) (w : Way) (type
 abbrev pub AreNotedIn : VaryingContext → BTreeSet (ℕ × ℕ) → Type 0
 AreNotedIn c seen = AreNotedFor c.flags c.capabilities c.types seen
 
--- What is known is so wherever these checks are made, with these capabilities, of these types.
+-- The facts hold in all checks with these flags and capabilities, for these types.
 pub record AreKnownOf (flags : ValidationFlags) (capabilities : Capabilities) (types : List PlainType) (known : KnownTypes) : Type 0 where
   pub noted : AreNotedFor flags capabilities types known.seen
   pub marked : AreMarksOf flags types known.marks
@@ -84,7 +84,7 @@ pub record AreKnownOf (flags : ValidationFlags) (capabilities : Capabilities) (t
 abbrev pub AreKnown : VaryingContext → KnownTypes → Type 0
 AreKnown c known = AreKnownOf c.flags c.capabilities c.types known
 
--- An entry point may be given a value of a type with this binding by itself, and what it takes was not taken before.
+-- A value of a type with this binding is a valid argument by itself, and its marks were not taken before.
 pub record IsNewlyGiven (c : VaryingContext) (numbers : BTreeMap ℕ ℕ) (old new : List ℕ) (type : ℕ) (b : Option Binding) : Type 0 where
   pub fine : VaryingsOK c (varyings_of c.types 0 type b)
   pub taken : AreNewlyTaken c.flags numbers old new (varyings_of c.types 0 type b)

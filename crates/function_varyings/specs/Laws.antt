@@ -1,4 +1,4 @@
--- What is known of the faults of varyings.
+-- Laws of the errors of varyings.
 use Rattle.std.specs.Prelude.{ℕ, List}
 use Rattle.spec_interface.specs.judged.Contexts.{VaryingContext}
 use Rattle.spec_interface.specs.judged.Varyings.{VaryingsOK}
@@ -6,6 +6,6 @@ use Rattle.spec_interface.specs.declared.varyings.Varying.{Varying}
 use Rattle.function_varying_checks.specs.Faults.{IsVaryingFault}
 use Rattle.function_varying_checks.specs.declared.error.VaryingError.{VaryingError}
 
--- varyings with a fault are not as they should be
+-- varyings with an error are invalid
 abbrev pub FaultRefutes : Type 0
 FaultRefutes = (c : VaryingContext) (vs : List Varying) (index : ℕ) (e : VaryingError) → IsVaryingFault c vs index e → ¬ VaryingsOK c vs

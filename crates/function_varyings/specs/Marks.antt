@@ -1,4 +1,4 @@
--- What no two varyings of an entry point may both take, by numbers that are kept in words.
+-- Marks, of which no two varyings of an entry point may have the same, by numbers in words.
 use Rattle.std.specs.Prelude.{◌≡◌, ◌<◌, ◌≤◌, ◌+◌, ◌/◌, ◌%◌, ℕ, List, Some, length, slice_get, true, false}
 use Rattle.std.specs.BTreeMap.{BTreeMap, get}
 use Rattle.std.specs.Int.{bit_at}
@@ -20,7 +20,7 @@ use Rattle.function_varyings.specs.declared.marks.Word.{Word}
 
 -- ---- marks
 
--- the number of a built-in value, whatever it says besides
+-- the number of a built-in, without its fields
 abbrev pub built_in_number : BuiltIn → ℕ
 built_in_number PrimitiveIndex = 0
 built_in_number (Position invariant) = 1
@@ -72,7 +72,7 @@ built_in_number ObjectToWorld = 46
 built_in_number WorldToObject = 47
 built_in_number HitKind = 48
 
--- the mark of a built-in value is its number; a location has one, above these, where no location may be taken twice
+-- the mark of a built-in is its number; a location has one, above these, if locations must be distinct
 abbrev pub Takes : ValidationFlags → Bound → (mark : ℕ) → Type 0
 Takes flags (built_in type b) mark = built_in_number b ≡ mark
 Takes flags (at_location type l) mark = Has flags.0 BINDINGS.0 × (64 + l.location ≡ mark)
@@ -80,7 +80,7 @@ Takes flags BlendSources mark = Has flags.0 BINDINGS.0 × (64 ≡ mark)
 Takes flags Nothing mark = ⊥
 Takes flags (NoMember place) mark = ⊥
 
--- the varying at a place takes it
+-- the varying at an index has it
 abbrev pub TakesAt : ValidationFlags → List Varying → (place mark : ℕ) → Type 0
 TakesAt flags vs place mark = (v : Varying) × (slice_get vs place ≡ Some v) × Takes flags v.bound mark
 
@@ -89,7 +89,7 @@ TakesAt flags vs place mark = (v : Varying) × (slice_get vs place ≡ Some v) �
 abbrev pub IsNumber : BTreeMap ℕ ℕ → (mark n : ℕ) → Type 0
 IsNumber numbers mark n = get nat_cmp numbers mark ≡ Some n
 
--- each mark keeps its number
+-- the number of each mark is unchanged
 abbrev pub KeepsNumbers : BTreeMap ℕ ℕ → BTreeMap ℕ ℕ → Type 0
 KeepsNumbers old new = (mark n : ℕ) → IsNumber old mark n → IsNumber new mark n
 
@@ -98,33 +98,33 @@ KeepsNumbers old new = (mark n : ℕ) → IsNumber old mark n → IsNumber new m
 abbrev pub IsIn : Word → ℕ → Type 0
 IsIn w n = (w.index ≡ n / 64) × (bit_at w.bits (n % 64) ≡ 1)
 
--- in a word from a place on, before another
+-- in a word of the range
 abbrev pub IsAmong : List Word → (from end n : ℕ) → Type 0
 IsAmong words from end n = (k : ℕ) × (w : Word) × (from ≤ k) × (k < end) × (slice_get words k ≡ Some w) × IsIn w n
 
--- each word stays in its place
+-- each word keeps its index
 abbrev pub KeepsWords : List Word → List Word → Type 0
 KeepsWords old new = (k : ℕ) (w : Word) → slice_get old k ≡ Some w → slice_get new k ≡ Some w
 
--- each number of words stays
+-- each number in words remains
 abbrev pub KeepsBits : List ℕ → List ℕ → Type 0
 KeepsBits old new = (n : ℕ) → has_bit old n ≡ true → has_bit new n ≡ true
 
 -- ---- what is known
 
--- a part of the words has the number of each mark that the varyings take
+-- a part of the words has the numbers of all marks of the varyings
 pub record IsPartOf (flags : ValidationFlags) (numbers : BTreeMap ℕ ℕ) (words : List Word) (vs : List Varying) (p : Part) : Type 0 where
   pub within : p.end ≤ length words
   pub numbered : (place mark : ℕ) → TakesAt flags vs place mark → (n : ℕ) × IsNumber numbers mark n × IsAmong words p.from p.end n
 
--- each part that is noted is that of the members of its type
+-- each noted part is that of the members of its type
 abbrev pub AreMarksOf : ValidationFlags → List PlainType → Marks → Type 0
 AreMarksOf flags types m = (type : ℕ) (p : Part) → get nat_cmp m.parts type ≡ Some p → IsPartOf flags m.numbers m.words.items (mesh_varyings types type) p
 
--- the words have the number of each mark that the varyings take
+-- the words have the numbers of all marks of the varyings
 abbrev pub AreTaken : ValidationFlags → BTreeMap ℕ ℕ → (taken : List ℕ) → List Varying → Type 0
 AreTaken flags numbers taken vs = (place mark : ℕ) → TakesAt flags vs place mark → (n : ℕ) × IsNumber numbers mark n × (has_bit taken n ≡ true)
 
--- and other words don't have it
+-- and other words do not
 abbrev pub AreNewlyTaken : ValidationFlags → BTreeMap ℕ ℕ → (old new : List ℕ) → List Varying → Type 0
 AreNewlyTaken flags numbers old new vs = (place mark : ℕ) → TakesAt flags vs place mark → (n : ℕ) × IsNumber numbers mark n × (has_bit new n ≡ true) × (has_bit old n ≡ false)

@@ -1,4 +1,4 @@
-//! Types whose members are as they should be as varyings, found once for all entry points of a module.
+//! Types with valid varyings, found once for all entry points of a module.
 
 ghost use Rattle.std.specs.Prelude.{◌≡◌, ◌↔◌, ◌≤◌, IfOk, IfSome, IsTrue, List, MatchResult, None, OnOk, Some, [], map};
 ghost use Rattle.ir_flags.specs.declared.settings.Capabilities.{Capabilities};
@@ -23,17 +23,17 @@ use spec_interface::{Direction, Varying};
 use std::alloc::{AllocError, Global};
 use std::collections::BTreeSet;
 
-/// What is read of varyings.
+/// Facts about varyings.
 #[derive(Clone, Copy)]
 pub struct Shown {
-    /// A position is among them.
+    /// One is a position.
     pub positioned: bool,
-    /// Two sources of a blend are among them.
+    /// Two are blend sources.
     pub blended: bool,
 }
 
 impl Shown {
-    /// What is shown where there are no varyings.
+    /// The facts without varyings.
     pub const fn nothing() -> Shown
         ensures { IsShownBy [] result }
     {
@@ -44,19 +44,19 @@ impl Shown {
     }
 }
 
-// Which way varyings go at a stage, and what the rules of built-in values require besides.
+// The direction and stage of varyings, and the additional conditions of built-ins.
 #[derive(Clone, Copy)]
 pub(crate) struct Way {
     stage: ShaderStage,
     direction: Direction,
-    // No task hands a mesh shader a payload.
+    // A mesh shader has no task payload.
     ahead: bool,
-    // Workgroups have one invocation in all ways but the first.
+    // The workgroup is one-dimensional.
     rows: bool,
 }
 
-/// Types whose members are as they should be as varyings that go some way at some stage, and what these take. It grows by a
-/// number for each type and way, and by what a type takes that was one of several arguments.
+/// Types with valid varyings in some direction and stage, and their marks. It grows by a number for each type, direction and
+/// stage, and by the marks of a type that was one of several arguments.
 #[derive(Drop)]
 pub struct KnownTypes {
     seen: BTreeSet<(u32, u32)>,
@@ -102,7 +102,7 @@ const fn digit(bit: bool) -> u32
     if bit { 1 } else { 0 }
 }
 
-// The number of a way and of what is shown.
+// The number of a direction, a stage and facts.
 const fn number_of(way: Way, shown: Shown) -> u32
     ensures { result ≡ number_of way shown }
 {
@@ -111,7 +111,7 @@ const fn number_of(way: Way, shown: Shown) -> u32
     digit(shown.blended) + 2 * (digit(shown.positioned) + 2 * own)
 }
 
-// The way in which varyings go.
+// The direction and stage of varyings.
 fn way_of(context: &VaryingContext<'_>) -> Way
     ensures { IsWayOf (context_view context.now) result }
 {
@@ -123,7 +123,7 @@ fn way_of(context: &VaryingContext<'_>) -> Way
     }
 }
 
-// What is read of varyings.
+// Facts about varyings.
 fn shown_by(varyings: &[Varying]) -> Shown
     ensures { IsShownBy varyings.now result }
 {
@@ -133,7 +133,7 @@ fn shown_by(varyings: &[Varying]) -> Shown
     }
 }
 
-// This, where it is noted that a type shows it on this way.
+// These, if they are noted for a type in this direction and stage.
 fn noted(
     seen: &BTreeSet<(u32, u32)>,
     ty: Handle<key::IrType>,
@@ -149,7 +149,7 @@ fn noted(
     }
 }
 
-// What is noted that a type shows on this way, where it shows something.
+// The facts noted for a type in this direction and stage, if there are any.
 fn found_else(seen: &BTreeSet<(u32, u32)>, ty: Handle<key::IrType>, way: Way) -> Option<Shown>
     ensures { IfSome result (IsNoted seen.now ty way) }
 {
@@ -167,7 +167,7 @@ fn found_else(seen: &BTreeSet<(u32, u32)>, ty: Handle<key::IrType>, way: Way) ->
     }
 }
 
-// What is noted that a type shows on this way.
+// The facts noted for a type in this direction and stage.
 fn found(seen: &BTreeSet<(u32, u32)>, ty: Handle<key::IrType>, way: Way) -> Option<Shown>
     ensures { IfSome result (IsNoted seen.now ty way) }
 {
@@ -177,7 +177,7 @@ fn found(seen: &BTreeSet<(u32, u32)>, ty: Handle<key::IrType>, way: Way) -> Opti
     }
 }
 
-// Notes that a type shows this on this way. The error is out of memory.
+// Notes these facts for a type in this direction and stage. The error is out of memory.
 fn note(
     seen: &mut BTreeSet<(u32, u32)>,
     context: &VaryingContext<'_>,
@@ -197,7 +197,7 @@ fn note(
     }
 }
 
-// Whether some argument has no binding, so that the members of its type are looked at. Both answers are right where it is called.
+// Whether an argument has no binding, so that the members of its type are checked. Both results are correct for the caller.
 fn has_unbound(arguments: &[FunctionArgument]) -> bool {
     for argument in arguments {
         if argument.binding.is_none() {
@@ -208,7 +208,7 @@ fn has_unbound(arguments: &[FunctionArgument]) -> bool {
 }
 
 impl KnownTypes {
-    /// None is known. It takes no memory.
+    /// None. It allocates nothing.
     pub fn new(alloc: Global) -> KnownTypes
         ensures { (flags : ValidationFlags) (capabilities : Capabilities) (types : List PlainType) → AreKnownOf flags capabilities types result }
     {
@@ -218,7 +218,7 @@ impl KnownTypes {
         }
     }
 
-    // What the members of a type show, where an entry point may give them.
+    // The facts about the members of a type, if they are valid results.
     fn validate(
         &mut self,
         alloc: Global,
@@ -245,12 +245,12 @@ impl KnownTypes {
         }
     }
 
-    /// What the varyings show that a value is, or the members of its type, where an entry point may give these, as
-    /// [`validate_value`](crate::validate_value) says it. Of a type without a binding that is found once for each way and stage.
+    /// The facts about a result value or the members of its type, if valid, as in [`validate_value`](crate::validate_value).
+    /// For a type without a binding they are found once for each direction and stage.
     ///
     /// # Errors
     ///
-    /// Those of [`validate_value`](crate::validate_value), and [`VaryingRefusal::Memory`] where there is no memory to note it.
+    /// Those of [`validate_value`](crate::validate_value), and [`VaryingRefusal::Memory`] if there is no memory to note them.
     pub fn validate_value(
         &mut self,
         alloc: Global,
@@ -274,7 +274,7 @@ impl KnownTypes {
         }
     }
 
-    // Takes what the members of a type take, and returns whether an entry point may be given them, and nothing of it was taken before. The
+    // Takes the marks of the members of a type, and returns whether they are valid arguments with no mark taken before. The
     // error is out of memory.
     fn take_type(
         &mut self,
@@ -300,7 +300,7 @@ impl KnownTypes {
         Ok(free)
     }
 
-    // The same of a value with a binding.
+    // The same for a value with a binding.
     fn take_value(
         &mut self,
         alloc: Global,
@@ -324,7 +324,7 @@ impl KnownTypes {
         Ok(free)
     }
 
-    // The same of an argument.
+    // The same for an argument.
     fn take_argument(
         &mut self,
         alloc: Global,
@@ -345,7 +345,7 @@ impl KnownTypes {
         }
     }
 
-    // Whether an entry point may be given each argument by itself, and no two take the same. The error is out of memory.
+    // Whether each argument is valid by itself, and no mark occurs twice. The error is out of memory.
     fn are_apart(
         &mut self,
         alloc: Global,
@@ -368,8 +368,8 @@ impl KnownTypes {
         Ok(true)
     }
 
-    // Whether an entry point may be given several arguments. Where types were seen before, it looks at what they take, and at no
-    // member; if these meet, all members are looked at, to tell which do.
+    // Whether several arguments are valid. For types that were seen before it compares their marks, not their members; if marks
+    // occur twice, all members are checked, to find the error.
     fn validate_several(
         &mut self,
         alloc: Global,
@@ -394,13 +394,13 @@ impl KnownTypes {
         }
     }
 
-    /// Whether an entry point may be given arguments, as [`validate_arguments`](crate::validate_arguments) says it. Of a type
-    /// without a binding that is found once for each stage, and what its members take once.
+    /// Whether arguments are valid, as in [`validate_arguments`](crate::validate_arguments). For a type without a binding this
+    /// is found once for each stage, and the marks of its members once.
     ///
     /// # Errors
     ///
-    /// Those of [`validate_arguments`](crate::validate_arguments), and [`VaryingRefusal::Memory`] where there is no memory to note
-    /// it.
+    /// Those of [`validate_arguments`](crate::validate_arguments), and [`VaryingRefusal::Memory`] if there is no memory to note
+    /// them.
     pub fn validate_arguments(
         &mut self,
         alloc: Global,

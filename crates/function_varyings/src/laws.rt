@@ -1,8 +1,8 @@
-//! What is known of the faults of varyings.
+//! Laws of the errors of varyings.
 
 ghost use Rattle.function_varyings.specs.Laws.{FaultRefutes};
 
-/// Varyings with a fault are not as they should be.
+/// Varyings with an error are invalid.
 pub fn fault_refutes()
     ensures { FaultRefutes }
 {}

@@ -1,8 +1,8 @@
-//! Whether an entry point may have the varyings that it has.
+//! The check of the varyings of an entry point.
 //!
-//! `validate_arguments` and `validate_value` say it of all varyings that go one way, in three steps: which varyings there are and
-//! each by itself (`function_varying_checks`), and all of them (`validate.rt`).
-//! `KnownTypes` says it of the members of a type once for all entry points of a module.
+//! `validate_arguments` and `validate_value` check all varyings of one direction: which they are and each by itself
+//! (`function_varying_checks`), and all together (`validate.rt`). `KnownTypes` checks the members of a type once for all entry
+//! points of a module.
 #![tactic(auto)]
 
 mod known;

@@ -1,8 +1,7 @@
-//! What no two varyings of an entry point may both take: built-in values, and locations where none may be taken twice. Of each type it is
-//! found once, as numbers in words of 64, so that types are compared word by word.
+//! Marks, of which no two varyings of an entry point may have the same: built-ins, and locations where these must be distinct.
+//! The marks of each type are found once, as numbers in words of 64 bits, so that types are compared word by word.
 //!
-//! A mark has a number, which is given as it is first met: so the numbers of a module are few, however far its locations lie
-//! apart.
+//! A mark is numbered when it first occurs, so the numbers of a module are small, whatever its locations are.
 
 ghost use Rattle.std.specs.Prelude.{◌≡◌, ◌∷◌, ◌⊎◌, ◌<◌, ◌≤◌, ◌+◌, ◌/◌, ℕ, List, Contains, IfOk, IsTrue, None, OnOk, Some, false, length, min, slice_get, true};
 ghost use Rattle.ir_flags.specs.Sets.{Has};
@@ -26,23 +25,23 @@ use spec_interface::{Bound, Varying};
 use std::alloc::{AllocError, Global};
 use std::collections::BTreeMap;
 
-// Numbers of one word.
+// The numbers of one word.
 #[derive(Clone, Copy)]
 pub(crate) struct Word {
-    // Which word it is.
+    // The index of the word.
     index: u32,
     bits: u64,
 }
 
-/// Words from one place on, before another.
+/// The words of a range.
 #[derive(Clone, Copy)]
 pub(crate) struct Part {
     from: usize,
     end: usize,
 }
 
-/// What the members of types take, as far as it was found. It grows by a number for each mark, and by as many words for a type as
-/// its numbers lie in.
+/// The known marks of the members of types. It grows by a number for each mark, and for a type by the words that its numbers
+/// are in.
 #[derive(Drop)]
 pub(crate) struct Marks {
     numbers: BTreeMap<u64, u32>,
@@ -50,7 +49,7 @@ pub(crate) struct Marks {
     parts: BTreeMap<u32, Part>,
 }
 
-// The number of a built-in value, whatever it says besides.
+// The number of a built-in, without its fields.
 const fn built_in_number(built_in: BuiltIn) -> u64
     ensures { result ≡ built_in_number built_in }
 {
@@ -107,7 +106,7 @@ const fn built_in_number(built_in: BuiltIn) -> u64
     }
 }
 
-// The mark of a location, where none may be taken twice.
+// The mark of a location, if locations must be distinct.
 fn location_mark(flags: ValidationFlags, location: u32) -> Option<u64>
     ensures { Has flags.0 BINDINGS.0 → result ≡ Some (64 + location) }
 {
@@ -118,7 +117,7 @@ fn location_mark(flags: ValidationFlags, location: u32) -> Option<u64>
     }
 }
 
-// The mark that a varying takes, if it takes one.
+// The mark of a varying, if it has one.
 fn mark_of(flags: ValidationFlags, bound: &Bound) -> Option<u64>
     ensures { (mark : ℕ) → Takes flags bound.now mark → result ≡ Some mark }
 {
@@ -141,7 +140,7 @@ const fn short(count: usize) -> u32
     }
 }
 
-// The number of a mark, which is given to it where it has none. The error is out of memory.
+// The number of a mark, which gets one if it has none. The error is out of memory.
 fn number_of(numbers: &mut BTreeMap<u64, u32>, mark: u64) -> Result<u32, AllocError>
     ensures noted { IfOk result (λ n. IsNumber numbers.new mark n) }
     ensures kept { OnOk result (KeepsNumbers numbers.old numbers.new) }
@@ -156,7 +155,7 @@ fn number_of(numbers: &mut BTreeMap<u64, u32>, mark: u64) -> Result<u32, AllocEr
     }
 }
 
-// Adds the number of the mark that a varying takes, if it takes one. The error is out of memory.
+// Appends the number of a varying's mark, if it has one. The error is out of memory.
 fn push_number(
     numbers: &mut BTreeMap<u64, u32>,
     found: &mut Vec<u32>,
@@ -175,7 +174,7 @@ fn push_number(
     Ok(())
 }
 
-// The numbers of the marks that varyings take, in ascending order. The error is out of memory.
+// The numbers of the marks of varyings, in ascending order. The error is out of memory.
 fn numbers_of(
     alloc: Global,
     numbers: &mut BTreeMap<u64, u32>,
@@ -196,7 +195,7 @@ fn numbers_of(
     Ok(found)
 }
 
-// A word with a number that lies in it.
+// A word with a number in it.
 fn with_number(word: Word, number: u32) -> Word
     requires { word.index ≡ number / 64 }
     ensures index { result.index ≡ word.index }
@@ -209,8 +208,8 @@ fn with_number(word: Word, number: u32) -> Word
     }
 }
 
-// The word that a number is put into: the last, which is not added yet, where the number lies in it, or another, where the last is
-// added. The error is out of memory.
+// The word that a number is added to: the last, not yet appended, if the number is in it, else a new one, after the last is
+// appended. The error is out of memory.
 fn add_number(words: &mut Vec<Word>, word: Word, number: u32) -> Result<Word, AllocError>
     ensures kept { OnOk result (KeepsWords words.old.items words.new.items) }
     ensures longer { length words.old.items ≤ length words.new.items }
@@ -225,7 +224,7 @@ fn add_number(words: &mut Vec<Word>, word: Word, number: u32) -> Result<Word, Al
     Ok(with_number(Word { index, bits: 0 }, number))
 }
 
-// Adds words with numbers, as few as may be where these ascend. The error is out of memory.
+// Appends words with these numbers; as few as possible if they ascend. The error is out of memory.
 fn add_words(words: &mut Vec<Word>, numbers: &[u32]) -> Result<(), AllocError>
     ensures kept { OnOk result (KeepsWords words.old.items words.new.items) }
     ensures longer { length words.old.items ≤ length words.new.items }
@@ -242,7 +241,7 @@ fn add_words(words: &mut Vec<Word>, numbers: &[u32]) -> Result<(), AllocError>
     Ok(())
 }
 
-// Adds words with what the members of a type take. The error is out of memory.
+// Appends words with the marks of a type's members. The error is out of memory.
 fn add_part(
     alloc: Global,
     numbers: &mut BTreeMap<u64, u32>,
@@ -268,7 +267,7 @@ fn add_part(
 }
 
 impl Marks {
-    /// Empty. It takes no memory.
+    /// Empty. It allocates nothing.
     pub(crate) fn new(alloc: Global) -> Marks
         ensures { (flags : ValidationFlags) (types : List PlainType) → AreMarksOf flags types result }
     {
@@ -279,7 +278,7 @@ impl Marks {
         }
     }
 
-    // The words with what the members of a type take. The error is out of memory.
+    // The words with the marks of a type's members. The error is out of memory.
     fn part_of(
         &mut self,
         alloc: Global,
@@ -303,7 +302,7 @@ impl Marks {
         }
     }
 
-    /// Takes what the members of a type take, and returns whether none of it was taken before. The error is out of memory.
+    /// Takes the marks of a type's members, and returns whether none was taken before. The error is out of memory.
     pub(crate) fn take_members(
         &mut self,
         alloc: Global,
@@ -323,7 +322,7 @@ impl Marks {
         Ok(free)
     }
 
-    /// Takes what varyings take, each by itself, and returns whether none of it was taken before. The error is out of memory.
+    /// Takes the marks of varyings, one by one, and returns whether none was taken before. The error is out of memory.
     pub(crate) fn take_each(
         &mut self,
         flags: ValidationFlags,
@@ -346,7 +345,7 @@ impl Marks {
     }
 }
 
-// Takes the numbers of a word, and returns whether none of them was taken before. Where there is no room for it, it answers that one was.
+// Takes the numbers of a word, and returns whether none was taken before. Without room for it, it returns false.
 fn take_word(taken: &mut Vec<u64>, word: Word) -> bool
     ensures still { KeepsBits taken.old.items taken.new.items }
     ensures free { IsTrue result → (n : ℕ) → IsIn word n → (has_bit taken.new.items n ≡ true) × (has_bit taken.old.items n ≡ false) }
@@ -362,7 +361,7 @@ fn take_word(taken: &mut Vec<u64>, word: Word) -> bool
     true
 }
 
-// Takes the numbers of some words, and returns whether none of them was taken before.
+// Takes the numbers of some words, and returns whether none was taken before.
 fn take_words(taken: &mut Vec<u64>, words: &[Word], part: Part) -> bool
     requires { part.end ≤ length words.now }
     ensures still { KeepsBits taken.old.items taken.new.items }
@@ -384,7 +383,7 @@ fn room_for(taken: &mut Vec<u64>, index: u32) -> Result<(), AllocError>
     Ok(())
 }
 
-// Makes room for words, of which the last has the greatest numbers. The error is out of memory.
+// Makes room for words, the last of which has the largest numbers. The error is out of memory.
 fn make_room(taken: &mut Vec<u64>, words: &[Word], part: Part) -> Result<(), AllocError>
     requires { part.end ≤ length words.now }
     ensures { OnOk result ((n : ℕ) → has_bit taken.new.items n ≡ has_bit taken.old.items n) }
@@ -395,7 +394,7 @@ fn make_room(taken: &mut Vec<u64>, words: &[Word], part: Part) -> Result<(), All
     Ok(())
 }
 
-// Takes the numbers of some words, and returns whether none of them was taken before. The error is out of memory.
+// Takes the numbers of some words, and returns whether none was taken before. The error is out of memory.
 fn take_part(taken: &mut Vec<u64>, words: &[Word], part: Part) -> Result<bool, AllocError>
     requires { part.end ≤ length words.now }
     ensures still { OnOk result (KeepsBits taken.old.items taken.new.items) }
@@ -405,7 +404,7 @@ fn take_part(taken: &mut Vec<u64>, words: &[Word], part: Part) -> Result<bool, A
     Ok(take_words(taken, words, part))
 }
 
-// Takes what a varying takes, and returns whether it was not taken before. The error is out of memory.
+// Takes the mark of a varying, and returns whether it was not taken before. The error is out of memory.
 fn take_one(
     numbers: &mut BTreeMap<u64, u32>,
     flags: ValidationFlags,

@@ -1,4 +1,4 @@
-//! What is read of varyings.
+//! Facts about varyings.
 
 ghost use Rattle.std.specs.Prelude.{◌≡◌, ◌↔◌, ◌≤◌, IsTrue, Some, length};
 ghost use Rattle.spec_interface.specs.judged.Varyings.{HasBlendSources, HasBuiltIn, built_in_of, canonical, location_of};
@@ -8,7 +8,7 @@ ghost use Rattle.function_varying_checks.specs.Faults.{ShowsBefore};
 use ir_kinds::BuiltIn;
 use spec_interface::{Bound, Varying, are_same};
 
-/// The location that is taken, if one is; sources of a blend take the first one.
+/// The location of a varying, if any; blend sources have location 0.
 pub(crate) const fn location_of(bound: &Bound) -> Option<u32>
     ensures { result ≡ location_of bound.now }
 {
@@ -19,7 +19,7 @@ pub(crate) const fn location_of(bound: &Bound) -> Option<u32>
     }
 }
 
-// Whether it is the built-in value, whatever that says besides.
+// Whether it is the built-in, without its fields.
 fn shows(bound: &Bound, built_in: BuiltIn) -> bool
     ensures { IsTrue result ↔ (built_in_of bound.now ≡ Some (canonical built_in)) }
 {
@@ -34,7 +34,7 @@ fn shows(bound: &Bound, built_in: BuiltIn) -> bool
     }
 }
 
-/// Whether the built-in value is among the varyings before a place, whatever it says besides.
+/// Whether the built-in is among the varyings before an index, without its fields.
 pub(crate) fn shows_before(varyings: &[Varying], place: usize, built_in: BuiltIn) -> bool
     requires { place ≤ length varyings.now }
     ensures { IsTrue result ↔ ShowsBefore built_in_of varyings.now place (canonical built_in) }
@@ -47,14 +47,14 @@ pub(crate) fn shows_before(varyings: &[Varying], place: usize, built_in: BuiltIn
     false
 }
 
-/// Whether a built-in value is among varyings, whatever it says besides.
+/// Whether a built-in is among varyings, without its fields.
 pub fn has_built_in(varyings: &[Varying], built_in: BuiltIn) -> bool
     ensures { IsTrue result ↔ HasBuiltIn varyings.now built_in }
 {
     shows_before(varyings, varyings.len(), built_in)
 }
 
-// Whether it is the sources of a blend.
+// Whether it has a blend source.
 const fn are_sources(bound: &Bound) -> bool
     ensures { IsTrue result ↔ (bound.now ≡ BlendSources) }
 {
@@ -65,7 +65,7 @@ const fn are_sources(bound: &Bound) -> bool
     }
 }
 
-/// Whether two sources of a blend are among varyings.
+/// Whether two blend sources are among varyings.
 pub fn has_blend_sources(varyings: &[Varying]) -> bool
     ensures { IsTrue result ↔ HasBlendSources varyings.now }
 {

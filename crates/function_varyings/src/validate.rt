@@ -27,7 +27,7 @@ use spec_interface::{Bound, Direction, Location, Varying};
 use std::alloc::{AllocError, Global};
 use std::collections::BTreeSet;
 
-// What is wrong with a value at a location.
+// The error of a value at a location.
 fn location_fault(
     context: &VaryingContext<'_>,
     ty: Handle<key::IrType>,
@@ -44,7 +44,7 @@ fn location_fault(
     }
 }
 
-// Whether an entry point answers what goes this way.
+// Whether varyings of this direction are results.
 const fn is_output(direction: Direction) -> bool
     ensures { IsTrue result ↔ (direction ≡ Output) }
 {
@@ -54,7 +54,7 @@ const fn is_output(direction: Direction) -> bool
     }
 }
 
-// What is wrong with sources of a blend: fragments alone give them.
+// The error of blend sources: only fragment results have them.
 fn blend_fault(context: &VaryingContext<'_>) -> Option<VaryingError>
     ensures { MatchOption result
         (BoundOK (context_view context.now) BlendSources)
@@ -69,7 +69,7 @@ fn blend_fault(context: &VaryingContext<'_>) -> Option<VaryingError>
     None
 }
 
-// That a value is not bound, where that is required.
+// The error of a missing binding, if one is required.
 fn unbound_fault(flags: ValidationFlags) -> Option<VaryingError>
     ensures { MatchOption result
         (¬ Has flags.0 BINDINGS.0)
@@ -93,7 +93,7 @@ const fn short(place: usize) -> u32
     }
 }
 
-// That a member is not bound, where that is required.
+// The error of a member without a binding, if one is required.
 fn member_fault(flags: ValidationFlags, place: usize) -> Option<VaryingError>
     ensures { MatchOption result
         (¬ Has flags.0 BINDINGS.0)
@@ -106,7 +106,7 @@ fn member_fault(flags: ValidationFlags, place: usize) -> Option<VaryingError>
     }
 }
 
-// What is wrong with a varying by itself. The error is out of memory.
+// The error of a varying by itself. The error in its place is out of memory.
 fn own_fault(
     alloc: Global,
     context: &VaryingContext<'_>,
@@ -126,7 +126,7 @@ fn own_fault(
     }
 }
 
-// The built-in value at a place, where it occurs before.
+// The built-in at an index, if it occurs before.
 fn built_in_again(varyings: &[Varying], place: usize) -> Option<BuiltIn>
     requires { place < length varyings.now }
     ensures { MatchOption result (IsNew built_in_of varyings.now place) (IsBuiltInAgain varyings.now place) }
@@ -145,7 +145,7 @@ fn built_in_again(varyings: &[Varying], place: usize) -> Option<BuiltIn>
     }
 }
 
-// Notes the location that is taken at a place, and returns it where it is taken before. The error is out of memory.
+// Notes the location at an index, and returns it if it was noted before. The error is out of memory.
 fn note_location(
     noted: &mut BTreeSet<u32>,
     varyings: &[Varying],
@@ -167,7 +167,7 @@ fn note_location(
     }
 }
 
-// What is wrong with the varying at a place. The error is out of memory.
+// The error of the varying at an index. The error in its place is out of memory.
 fn fault_at(
     alloc: Global,
     context: &VaryingContext<'_>,
@@ -200,7 +200,7 @@ fn fault_at(
     }
 }
 
-// Whether varyings are as they should be.
+// Whether varyings are valid.
 fn check_varyings(
     alloc: Global,
     context: &VaryingContext<'_>,
@@ -227,7 +227,7 @@ fn check_varyings(
     Ok(())
 }
 
-// These varyings, where they are as they should be.
+// These varyings, if they are valid.
 fn accepted(
     alloc: Global,
     context: &VaryingContext<'_>,
@@ -244,14 +244,13 @@ fn accepted(
     }
 }
 
-/// The varyings that are an entry point's arguments, or members of them, where an entry point may be given these (naga's
-/// `VaryingContext::validate` for each). The direction of the context is that of inputs.
+/// The varyings of an entry point's arguments, if they are valid (naga's `VaryingContext::validate` for each). The direction of
+/// the context is that of inputs.
 ///
 /// # Errors
 ///
-/// [`VaryingRefusal::Fault`] for one that it may not be given (the first, which no clause says), by the argument that it is or
-/// belongs to;
-/// [`VaryingRefusal::Memory`] where there is no memory for the varyings, their locations or what an error speaks of.
+/// [`VaryingRefusal::Fault`] for an invalid one (the first, which no clause states), with the index of its argument;
+/// [`VaryingRefusal::Memory`] if there is no memory for the varyings, their locations or the details of an error.
 pub fn validate_arguments(
     alloc: Global,
     context: &VaryingContext<'_>,
@@ -268,13 +267,13 @@ pub fn validate_arguments(
     }
 }
 
-/// The varyings that a value is, or the members of its type, where an entry point may give these: a result, or, with no
-/// binding, what a mesh shader gives with a vertex or a primitive (naga's `VaryingContext::validate`).
+/// The varyings of a value or the members of its type, if they are valid: of a result or, without a binding, of the vertices or
+/// primitives of a mesh shader (naga's `VaryingContext::validate`).
 ///
 /// # Errors
 ///
-/// [`VaryingRefusal::Fault`] for one that it may not give (the first, which no clause says); [`VaryingRefusal::Memory`] where there is no memory for the
-/// varyings, their locations or what an error speaks of.
+/// [`VaryingRefusal::Fault`] for an invalid one (the first, which no clause states); [`VaryingRefusal::Memory`] if there is no
+/// memory for the varyings, their locations or the details of an error.
 pub fn validate_value(
     alloc: Global,
     context: &VaryingContext<'_>,

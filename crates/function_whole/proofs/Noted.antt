@@ -1,6 +1,7 @@
 -- Uses of variables that are noted, one after the other.
 use Rattle.std.proofs.Common.{◌≡◌, ◌⊎◌, ◌↔◌, inl, inr, ◌||◌, ℕ, Bool, true, false, List, [], ◌∷◌, ◌++◌, Option, Some, None, take, slice_get, refl, sym, ap, subst, suc, zero, ◌+◌, ◌∙◌, arith}
 use Rattle.std.specs.Int.{bit_at}
+use Rattle.std.proofs.lemmas.Option.{same_Some}
 use Rattle.spec_expressions.specs.declared.global_use.GlobalUse.{GlobalUse}
 use Rattle.typing_infos.specs.Infos.{NotesUse}
 
@@ -12,16 +13,13 @@ one_use h kinds g k u same at bit = (
   subst (λ (v : ℕ × GlobalUse). bit_at v.1.0 k ≡ 1) (sym same) bit,
 )
 
-some_is : {A : Type 0} {x y : A} → Some x ≡ Some y → x ≡ y
-some_is e = cc (e)
-
 pub notes_one : (h : ℕ) (kinds : GlobalUse) (g k : ℕ) → NotesUse ((h, kinds) ∷ []) g k ↔ ((Some h ≡ Some g) × (bit_at kinds.0 k ≡ 1))
 notes_one h kinds g k = (
   λ n. elim n.1 [
     | inl same ↦ one_use h kinds g k n.0 same n.2 n.3
     | inr none ↦ elim none [ ]
   ],
-  λ p. ((h, kinds), (inl refl), some_is p.0, p.1),
+  λ p. ((h, kinds), (inl refl), same_Some _ _ p.0, p.1),
 )
 
 -- ---- relations with one more
@@ -67,7 +65,7 @@ or_false false = refl
 
 next_taken : {A : Type 0} (xs : List A) (i : ℕ) (x : A) → slice_get xs i ≡ Some x → take (suc i) xs ≡ take i xs ++ x ∷ []
 next_taken [] i x at = absurd (let h = at in cc)
-next_taken (y ∷ ys) zero x at = ap (λ z. z ∷ []) (some_is at)
+next_taken (y ∷ ys) zero x at = ap (λ z. z ∷ []) (same_Some _ _ at)
 next_taken (y ∷ ys) (suc i) x at = ap (λ zs. y ∷ zs) (next_taken ys i x at)
 
 pub one_more_taken : {A : Type 0} (xs : List A) (i : ℕ) (x : A) → slice_get xs i ≡ Some x → take (i + 1) xs ≡ take i xs ++ x ∷ []

@@ -1,4 +1,4 @@
--- What is wrong with an entry point, over what a lower layer says.
+-- Errors of entry points, over any layer.
 use Rattle.std.specs.Prelude.{◌≡◌, ℕ, Option, true, List, []}
 use Rattle.function_entry_checks.specs.Faults.{IsPayloadFault, IsStageFault}
 use Rattle.function_entry_checks.specs.declared.error.EntryPointError.{EntryPointError}
@@ -23,9 +23,9 @@ use Rattle.spec_interface.specs.judged.Uses.{EntryUses}
 use Rattle.spec_statements.specs.judged.Functions.{Reading, AllowsStage}
 use Rattle.spec_interface.specs.judged.Contexts.{stage_set}
 
--- What is wrong with an entry point of whose function the lower layer says this, where these stages may run its callees and its
--- function uses global variables so: with its stage, its function, its payload, what its function does at its stage, or what
--- connects it with other stages and with hosts. What is wrong with its function stands at the place, where it is a call or in the body.
+-- The errors of an entry point, given the layer's results for its function, the stages that may run its callees and its uses of
+-- global variables: of its stage, its function, its payload, operations that its stage forbids, or its interface. An error of
+-- its function is at the place, if it is of a call or in the body.
 pub data IsEntryPointFaultAt (reading : Reading) (faults : Faults) (callees : List ShaderStages) (Uses : ℕ → ℕ → Type 0) (s : Settings) (before : Option ℕ) (m : PlainModule) (e : PlainEntry) (p : Place) : EntryPointError → Type 0 where
   of_stage : {x : EntryPointError} → IsStageFault s.capabilities e x → IsEntryPointFaultAt reading faults callees Uses s before m e p x
   of_function : {x : FunctionError} → IsFunctionFaultAt reading faults s true before m e.function x p → IsEntryPointFaultAt reading faults callees Uses s before m e p (Function x)
@@ -37,12 +37,12 @@ pub data IsEntryPointFaultAt (reading : Reading) (faults : Faults) (callees : Li
 abbrev pub IsEntryPointFault : Reading → Faults → (callees : List ShaderStages) → (Uses : ℕ → ℕ → Type 0) → Settings → (before : Option ℕ) → PlainModule → PlainEntry → EntryPointError → Type 0
 IsEntryPointFault reading faults callees Uses s before m e x = (p : Place) × IsEntryPointFaultAt reading faults callees Uses s before m e p x
 
--- The entry point is not accepted, and this is wrong with it.
+-- The entry point is invalid, with this error.
 pub record IsRefusedAs (reading : Reading) (faults : Faults) (callees : List ShaderStages) (Uses : ℕ → ℕ → Type 0) (s : Settings) (before : Option ℕ) (m : PlainModule) (e : PlainEntry) (x : EntryPointError) : Type 0 where
   pub refused : ¬ EntryOK reading callees Uses s before m e
   pub fault : IsEntryPointFault reading faults callees Uses s before m e x
 
--- What connects the entry point with other stages and with hosts is not as it may be, and this is wrong with it.
+-- The interface of the entry point is invalid, with this error.
 pub record IsUnconnected (flags : ValidationFlags) (capabilities : Capabilities) (m : PlainModule) (e : PlainEntry) (Uses : ℕ → ℕ → Type 0) (x : EntryPointError) : Type 0 where
   pub refused : ¬ ConnectionsOK flags capabilities m e Uses
   pub fault : IsConnectionFault flags capabilities m e Uses x
@@ -54,7 +54,7 @@ IsReportedAs (refusal.Memory e) (refusal.Fault d) = ⊥
 IsReportedAs (refusal.Fault e) (refusal.Memory d) = ⊥
 IsReportedAs (refusal.Fault e) (refusal.Fault d) = (error_of d ≡ Function (error_of e)) × (spans_of d ≡ [])
 
--- memory ran out, or the fault that is reported is one at a place, to which the trail leads
+-- out of memory, or the error is one at the place of the trail
 abbrev pub IsRefusedAt : Trail → (Place → EntryPointError → Type 0) → Refusal EntryPointError → Type 0
 IsRefusedAt t IsFault (refusal.Memory x) = Unit {0}
 IsRefusedAt t IsFault (refusal.Fault x) = IsPlaced t (λ p. IsFault p (error_of x))

@@ -1,4 +1,4 @@
--- The names of entry points that were seen, each beside its stage.
+-- The names of entry points so far, each with its stage.
 use Rattle.std.specs.Prelude.{◌≡◌, ◌++◌, ◌<◌, ℕ, IsTrue, List, Some, codes, slice_get}
 use Rattle.std.specs.BTreeSet.{contains_text}
 use Rattle.function_whole.specs.declared.entry_names.SeenNames.{SeenNames}
@@ -6,7 +6,7 @@ use Rattle.ir_items.specs.judged.Plain.{PlainEntry, PlainModule}
 use Rattle.ir_kinds.specs.declared.stages.ShaderStage.{ShaderStage}
 use Rattle.ir_kinds.specs.declared.stages.ShaderStage.TheVariants.{Vertex, Fragment, Compute, Mesh, Task, RayGeneration, AnyHit, ClosestHit, Miss}
 
--- a letter for each stage, no two of them the same
+-- a letter for each stage, all distinct
 abbrev pub stage_letter : ShaderStage → List ℕ
 stage_letter Vertex = codes "v"
 stage_letter Fragment = codes "f"
@@ -18,7 +18,7 @@ stage_letter AnyHit = codes "a"
 stage_letter ClosestHit = codes "h"
 stage_letter Miss = codes "s"
 
--- a text of the stage and the name
+-- a string of the stage and the name
 abbrev pub key_of : ShaderStage → (name : List ℕ) → List ℕ
 key_of stage name = stage_letter stage ++ name
 
@@ -26,7 +26,7 @@ key_of stage name = stage_letter stage ++ name
 abbrev pub IsSeen : SeenNames → ShaderStage → (name : List ℕ) → Type 0
 IsSeen names stage name = IsTrue (contains_text names.keys (key_of stage name))
 
--- one of the first so many entry points has this stage and this name
+-- one of the first entry points has this stage and this name
 pub record IsNamedBelow (m : PlainModule) (count : ℕ) (stage : ShaderStage) (name : List ℕ) : Type 0 where
   pub index : ℕ
   pub entry : PlainEntry
@@ -35,7 +35,7 @@ pub record IsNamedBelow (m : PlainModule) (count : ℕ) (stage : ShaderStage) (n
   pub stage_is : entry.stage ≡ stage
   pub name_is : entry.name ≡ name
 
--- those that were seen are those of the first so many entry points
+-- the names are those of the first entry points
 pub record AreNamesBelow (m : PlainModule) (count : ℕ) (names : SeenNames) : Type 0 where
   pub seen : (stage : ShaderStage) (name : List ℕ) → IsSeen names stage name → IsNamedBelow m count stage name
   pub noted : (stage : ShaderStage) (name : List ℕ) → IsNamedBelow m count stage name → IsSeen names stage name

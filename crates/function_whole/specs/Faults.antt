@@ -1,4 +1,4 @@
--- What is wrong with a function: of its parts in their order the first with which something is wrong.
+-- Errors of functions: of the first invalid part.
 use Rattle.std.specs.Prelude.{◌⊎◌, ◌<◌, ℕ, Option, Bool, List, length}
 use Rattle.function_body_checks.specs.ControlFaults.{IsControlFaultAt}
 use Rattle.typing_errors.specs.declared.expressions.ExpressionError.{ExpressionError}
@@ -32,7 +32,7 @@ use Rattle.typing_forms.specs.declared.form.Form.{Form}
 
 -- ---- expressions
 
--- it is the first that is refused
+-- it is the first invalid one
 pub record IsRefusedAt (reading : Reading) (faults : Faults) (c : BlockContext) (e : ℕ) (x : ExpressionError) : Type 0 where
   pub within : e < length c.f.expressions
   pub wrong : faults.IsFaultAt c.capabilities c.forms e x
@@ -42,18 +42,18 @@ abbrev pub IsExpressionFault : Reading → Faults → BlockContext → FunctionE
 IsExpressionFault reading faults c (error.Expression e x) = IsRefusedAt reading faults c e x
 IsExpressionFault reading faults c _ = ⊥
 
--- where expressions are checked, all are accepted
+-- if expressions are validated, all are valid
 abbrev pub AllAccepted : Reading → Settings → BlockContext → Type 0
 AllAccepted reading s c = Has s.flags.0 EXPRESSIONS.0 → (e : ℕ) → e < length c.f.expressions → reading.IsAccepted c.capabilities c.forms e
 
 -- ---- the body
 
--- how statements leave their blocks, what is in scope, what they answer by, their rules, the payloads of rays, or strict scope where it is required
+-- control flow, scope, results, the rules of statements, ray payloads, or strict scope if it is checked
 abbrev pub IsFaultOfBodyAt : Settings → (before : Option ℕ) → BlockContext → FunctionError → Place → Type 0
 IsFaultOfBodyAt s before c e p =
     IsControlFaultAt c.f.body e p ⊎ (IsScopeFaultAt s.flags c.f e p ⊎ (IsBodyFaultAt c e p ⊎ (IsPayloadsFaultAt c.m c.f before e p ⊎ (Has s.flags.0 STRICT_SCOPE.0 × IsStrictFaultAt c.f e p))))
 
--- nothing of this is wrong with the body
+-- the body has no such error
 pub record IsBodyInOrder (s : Settings) (before : Option ℕ) (c : BlockContext) : Type 0 where
   pub control : ControlOK c.f.body
   pub scope : ScopeOK c.f
@@ -62,7 +62,7 @@ pub record IsBodyInOrder (s : Settings) (before : Option ℕ) (c : BlockContext)
   pub payloads : PayloadsOK c.m c.f before
   pub strict : Has s.flags.0 STRICT_SCOPE.0 → StrictOK c.f
 
--- what denotes an answer is answered by no statement
+-- a result expression belongs to no statement
 pub record IsNotAnswered (f : PlainFunction) (e : ℕ) : Type 0 where
   pub stands : DenotesResult f.expressions e
   pub none : (p : Place) → AnswersBy f.body p e → ⊥
@@ -73,16 +73,16 @@ IsUnanswered f _ = ⊥
 
 -- ---- all parts
 
--- after the arity of calls and the analysis; what is wrong with the body stands at the place
+-- after the arity of calls and the analysis; an error of the body is at the place
 pub data IsFaultAfter (reading : Reading) (faults : Faults) (s : Settings) (entry : Bool) (before : Option ℕ) (c : BlockContext) (e : FunctionError) (p : Place) : Type 0 where
   in_interface : IsInterfaceFault c entry e → IsFaultAfter reading faults s entry before c e p
   in_expressions : InterfaceOK c entry → Has s.flags.0 EXPRESSIONS.0 → IsExpressionFault reading faults c e → IsFaultAfter reading faults s entry before c e p
   in_body : InterfaceOK c entry → AllAccepted reading s c → Has s.flags.0 BLOCKS.0 → IsFaultOfBodyAt s before c e p → IsFaultAfter reading faults s entry before c e p
   unanswered : InterfaceOK c entry → AllAccepted reading s c → Has s.flags.0 BLOCKS.0 → IsBodyInOrder s before c → Has s.flags.0 EXPRESSIONS.0 → IsUnanswered c.f e → IsFaultAfter reading faults s entry before c e p
 
--- The arity of calls, the analysis, the variables with the arguments and the result, the expressions, the body, and what stands
--- for answers: the fault is one of the first of these with which something is wrong. That of a call and that of the body stand at
--- the place, of which the others don't speak.
+-- The arity of calls, the analysis, the variables with the arguments and the result, the expressions, the body, and result
+-- expressions: the error is of the first invalid one of these. An error of a call or of the body is at the place; the others
+-- have no place.
 pub data IsFunctionFaultAt (reading : Reading) (faults : Faults) (s : Settings) (entry : Bool) (before : Option ℕ) (m : PlainModule) (f : PlainFunction) (e : FunctionError) (p : Place) : Type 0 where
   in_arity : IsArityFaultAt m f e p → IsFunctionFaultAt reading faults s entry before m f e p
   in_analysis : AritiesMatch m f → faults.IsAnalysisFault s.flags e → IsFunctionFaultAt reading faults s entry before m f e p

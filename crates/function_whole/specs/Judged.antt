@@ -1,4 +1,4 @@
--- What the parts of a check of a function find.
+-- The results of the parts of the check of a function.
 use Rattle.std.specs.Prelude.{◌↔◌, ◌⊎◌, ◌<◌, ℕ, Bool, Contains, List, Option, length}
 use Rattle.function_whole.specs.Faults.{AllAccepted, IsBodyInOrder, IsFaultOfBodyAt, IsUnanswered}
 use Rattle.typing_errors.specs.declared.error.FunctionError.{FunctionError}
@@ -24,20 +24,20 @@ use Rattle.spec_statements.specs.judged.Strict.{StrictOK}
 
 -- ---- expressions
 
--- The expressions before a place are accepted, and these stages are those that may run them all.
+-- The expressions before an index are valid, and these are the stages that may run them all.
 pub record AcceptedBelow (reading : Reading) (c : BlockContext) (end : ℕ) (stages : ShaderStages) : Type 0 where
   pub each : (e : ℕ) → e < end → reading.IsAccepted c.capabilities c.forms e
   pub run : (stage : ℕ) → Has stages.0 stage ↔ (Has all_stages.0 stage × ((e : ℕ) (own : ShaderStages) → e < end → reading.IsRunBy e own → Has own.0 stage))
 
--- Where expressions are checked, all are accepted, and these stages are those that may run them all; else any.
+-- If expressions are validated, all are valid, and these are the stages that may run them all; else any.
 pub record AreExpressionsMet (reading : Reading) (s : Settings) (c : BlockContext) (stages : ShaderStages) : Type 0 where
   pub accepted : AllAccepted reading s c
   pub run : (stage : ℕ) → Has stages.0 stage ↔ (Has all_stages.0 stage × (Has s.flags.0 EXPRESSIONS.0 → (e : ℕ) (own : ShaderStages) → e < length c.f.expressions → reading.IsRunBy e own → Has own.0 stage))
 
 -- ---- the body
 
--- All that is required of a body is met, but that each that denotes an answer is answered; these are answered by, and this type
--- of payloads is kept after it.
+-- The body is valid, except that each result expression belongs to a statement; these are the results, and this payload type is
+-- kept afterwards.
 pub record IsBodyMet (s : Settings) (before : Option ℕ) (c : BlockContext) (answered : List ℕ) (held : Option ℕ) : Type 0 where
   pub control : ControlOK c.f.body
   pub scope : ScopeOK c.f
@@ -48,24 +48,24 @@ pub record IsBodyMet (s : Settings) (before : Option ℕ) (c : BlockContext) (an
   pub payloads : AreOfOneType c.m c.f before held
   pub strict : Has s.flags.0 STRICT_SCOPE.0 → StrictOK c.f
 
--- each that denotes an answer is answered by a statement
+-- each result expression belongs to a statement
 abbrev pub AllAnswer : BlockContext → Type 0
 AllAnswer c = (e : ℕ) → DenotesResult c.f.expressions e → (p : Place) × AnswersBy c.f.body p e
 
--- Where bodies are checked, all that is required of this one is met, and these stages are those that may run all its statements;
--- else any. This type of payloads is kept after it.
+-- If bodies are validated, this one is valid, and these are the stages that may run all its statements; else any. This payload
+-- type is kept afterwards.
 pub record AreBlocksMet (s : Settings) (before : Option ℕ) (c : BlockContext) (callees : List ShaderStages) (stages : ShaderStages) (held : Option ℕ) : Type 0 where
   pub body : Has s.flags.0 BLOCKS.0 → BodyOK s before c
   pub run : (stage : ℕ) → Has stages.0 stage ↔ (Has all_stages.0 stage × (Has s.flags.0 BLOCKS.0 → (p : Place) (u : PlainStatement) → OccursAt c.f.body p u → Has (statement_stages s.subgroup_stages callees u).0 stage))
   pub held_after : IsPayloadAfter s.flags c.m c.f before held
 
--- something is wrong with the body, or nothing is, and what denotes an answer is not answered
+-- the body has an error, or it has none, and a result expression belongs to no statement
 abbrev pub IsBlocksFaultAt : Settings → (before : Option ℕ) → BlockContext → FunctionError → Place → Type 0
 IsBlocksFaultAt s before c e p = Has s.flags.0 BLOCKS.0 × (IsFaultOfBodyAt s before c e p ⊎ (IsBodyInOrder s before c × Has s.flags.0 EXPRESSIONS.0 × IsUnanswered c.f e))
 
 -- ---- all parts after the analysis
 
--- They are in order; these stages are those that may run the function, and this type of payloads is kept after it.
+-- They are valid; these are the stages that may run the function, and this payload type is kept afterwards.
 pub record ArePartsMet (reading : Reading) (s : Settings) (entry : Bool) (before : Option ℕ) (c : BlockContext) (callees : List ShaderStages) (stages : ShaderStages) (held : Option ℕ) : Type 0 where
   pub interface : InterfaceOK c entry
   pub expressions : AllAccepted reading s c

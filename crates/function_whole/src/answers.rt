@@ -1,4 +1,4 @@
-//! Whether each expression that denotes an answer is answered.
+//! Whether each result expression belongs to a statement.
 
 ghost use Rattle.std.specs.Prelude.{◌≡◌, ◌↔◌, ◌<◌, ◌≤◌, ℕ, Contains, IfOk, MatchResult, Some, length, slice_get, true};
 ghost use Rattle.function_whole.specs.Faults.{IsUnanswered};
@@ -17,7 +17,7 @@ use ir_types::with_span::WithSpan;
 use std::alloc::{AllocError, Global};
 use typing_errors::FunctionError;
 
-// Of each of so many expressions, whether it is among these. The error is out of memory.
+// For each of this many expressions, whether it is among these. The error is out of memory.
 fn marks_of(alloc: Global, answered: &ExpressionList, count: usize) -> Result<Vec<bool>, AllocError>
     requires { count ≤ 4294967295 }
     ensures many { IfOk result (λ marks. length marks.items ≡ count) }
@@ -30,12 +30,11 @@ fn marks_of(alloc: Global, answered: &ExpressionList, count: usize) -> Result<Ve
     Ok(marks)
 }
 
-/// Whether each expression that denotes the result of a call or of an atomic operation is answered. `answered` has all that
-/// are answered by a statement.
+/// Whether each result of a call or an atomic operation belongs to a statement. `answered` has all that do.
 ///
 /// # Errors
 ///
-/// [`FunctionError::UnvisitedExpression`] for the first that is not; or out of memory.
+/// [`FunctionError::UnvisitedExpression`] for the first that does not; or out of memory.
 pub(crate) fn check_answers(
     alloc: Global,
     context: &BlockContext<'_>,

@@ -34,18 +34,18 @@ use typing_errors::FunctionError;
 pub(crate) struct BodyFound {
     /// The results of its calls and atomic operations.
     pub answered: ExpressionList,
-    /// The type of the payloads of all functions so far, if one has any.
+    /// The payload type of all functions so far, if any.
     pub held: Option<Handle<key::IrType>>,
 }
 
-// Whether strict scope is required.
+// Whether strict scope is checked.
 fn requires_strict(flags: ValidationFlags) -> bool
     ensures { IsTrue result ↔ Has flags.0 STRICT_SCOPE.0 }
 {
     flags.contains(ValidationFlags::STRICT_SCOPE)
 }
 
-// Whether strict scope is as it should be, where it is required. It goes over a body whose scope is in order.
+// Whether strict scope holds, if it is checked, for a body that passed the scope check.
 fn check_strictly(
     alloc: Global,
     trail: &mut Trail,
@@ -64,8 +64,7 @@ fn check_strictly(
     }
 }
 
-/// Whether all that is required of the body of the context's function is met, but that each expression that denotes an answer is
-/// answered.
+/// Whether the body of the context's function is valid, except that each result expression belongs to a statement.
 pub(crate) fn check_body(
     alloc: Global,
     trail: &mut Trail,

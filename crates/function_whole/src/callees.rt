@@ -1,4 +1,4 @@
-//! The stages that a layer has noted of functions.
+//! The stages that a layer has noted for functions.
 
 use bitflags::Flags;
 use function_interface::{CalleeStages, Lower};
@@ -6,12 +6,12 @@ use ir_arena::handle::Handle;
 use ir_flags::ShaderStages;
 use ir_types::key;
 
-/// Stages that are noted in what a layer keeps of functions.
+/// The stages noted in a layer's information on functions.
 #[derive(Clone, Copy)]
 pub(crate) struct KeptStages<'a, L: Lower> {
     /// The layer.
     pub lower: &'a L,
-    /// What is kept of each function.
+    /// The information on each function.
     pub infos: &'a [L::Info],
 }
 

@@ -1,4 +1,4 @@
-//! What connects an entry point with other stages and with hosts, where this is kept of its function.
+//! The interface of an entry point with other stages and with hosts, given the information on its function.
 
 ghost use Rattle.std.specs.Prelude.{◌≡◌, ◌<◌, ◌↔◌, ◌||◌, IfOk, IfSome, IsTrue, MatchResult, OnOk, false, length};
 ghost use Rattle.function_entry_checks.specs.Faults.{IsRefusedFor};
@@ -22,8 +22,7 @@ use ir_items::{EntryPoint, Module};
 use ir_types::refusal::Refusal;
 use std::alloc::Global;
 
-// Whether it is as it may be, where these are the uses of an entry point with its own; then whether two sources of a blend are
-// among what it answers.
+// Whether it is valid, with these uses by the entry point; then whether its results have two blend sources.
 fn judge<L: Lower>(
     lower: &L,
     alloc: Global,
@@ -62,7 +61,7 @@ fn judge<L: Lower>(
     }
 }
 
-// What is kept, with the uses that an entry point makes beside its function noted.
+// The information with the uses by the entry point besides its function noted.
 fn with_own<L: Lower>(lower: &L, info: L::Info, entry: &EntryPoint) -> L::Info
     requires payload { IfSome entry.now.task_payload (λ g. g < length (L.summary lower.now info).uses) }
     requires output { IfSome (mesh_output (entry_view entry.now)) (λ g. g < length (L.summary lower.now info).uses) }
@@ -76,7 +75,7 @@ fn with_own<L: Lower>(lower: &L, info: L::Info, entry: &EntryPoint) -> L::Info
     info
 }
 
-// What is kept, with whether sources are blended noted.
+// The information with dual source blending noted.
 fn with_blending<L: Lower>(lower: &L, info: L::Info, blended: bool) -> L::Info
     ensures same { ReportsSame (L.summary lower.now info) (L.summary lower.now result) }
     ensures stages { (L.noted lower.now result).0 ≡ (L.noted lower.now info).0 }
@@ -89,15 +88,15 @@ fn with_blending<L: Lower>(lower: &L, info: L::Info, blended: bool) -> L::Info
     info
 }
 
-/// Whether what connects an entry point with other stages and with hosts is as it may be, where this is kept of its function; what
-/// is kept of it then, its own uses and whether sources are blended noted.
+/// Whether the interface of an entry point with other stages and with hosts is valid, given the information on its function;
+/// returns the information with its own uses and dual source blending noted.
 ///
-/// Requires that the layer was made for the module, that the payload and the output of a mesh shader are there, that uses are reported of
-/// all global variables, and that no blending is noted before.
+/// Requires that the layer was made for the module, that the payload and mesh output variables exist, uses for all global
+/// variables, and that no dual source blending is noted yet.
 ///
 /// # Errors
 ///
-/// What is wrong with it, only where it occurs; or out of memory.
+/// An error of the interface, returned only if its condition holds; or out of memory.
 pub(crate) fn connect<L: Lower>(
     lower: &L,
     alloc: Global,

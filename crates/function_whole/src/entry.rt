@@ -1,4 +1,4 @@
-//! Whether a module may have an entry point.
+//! Whether an entry point is valid.
 
 ghost use Rattle.std.specs.Prelude.{◌<◌, ◌↔◌, IfErr, IfOk, IfSome, IsTrue, MatchResult, OnOk, length, map};
 ghost use Rattle.function_entry_checks.specs.Faults.{IsRefusedFor};
@@ -46,27 +46,27 @@ fn reported_of_function(alloc: Global, refusal: Refusal<FunctionError>) -> Refus
     }
 }
 
-// Whether what is kept of a function says that a stage may run it.
+// Whether a stage may run a function, by its information.
 fn allows_stage<L: Lower>(lower: &L, info: &L::Info, stage: ShaderStage) -> bool
     ensures { IsTrue result ↔ Has (L.noted lower.now info.now).0 (stage_set stage).0 }
 {
     lower.stages(info).contains(stage_set(stage))
 }
 
-/// Whether a module may have an entry point, and what is kept of it (naga's `validate_entry_point`); that an earlier one of the
-/// stage has its name is checked elsewhere. `callees` has what [`validate_function`](crate::validate_function)
-/// answered for the functions of the module, in order, where stages and uses may have been noted since. `held`
-/// is the type of the payloads of the functions and the entry points before it, if one has any.
+/// Whether an entry point is valid, and the information on it (naga's `validate_entry_point`); that no earlier one of the stage
+/// has its name is checked elsewhere. `callees` has the results of [`validate_function`](crate::validate_function) for the
+/// functions of the module, in order, in which stages and uses may have been noted since. `held` is the payload type of the
+/// functions and the entry points before it, if any.
 ///
-/// Requires that the layer was made for the module, and that its handles are in order, as in a module that `validate_module_handles`
-/// accepts.
+/// Requires that the layer was made for the module, and that its handles are in order, as in a module that
+/// `validate_module_handles` accepts.
 ///
 /// # Errors
 ///
-/// [`Refusal::Fault`] exactly where the entry point is not accepted, with a fault that stands. It has no span, and is of the first of
-/// these with which something is wrong, which no clause says: its stage, its function ([`EntryPointError::Function`]), its payload, what its function does at its
-/// stage ([`EntryPointError::ForbiddenStageOperations`]), its arguments, its result, the global variables that it uses, and what a
-/// mesh shader gives. The trail is that of its function. [`Refusal::Memory`] where memory ran out.
+/// [`Refusal::Fault`] exactly if the entry point is invalid, with an error whose condition holds and no span, of the first
+/// invalid part, which no clause states: its stage, its function ([`EntryPointError::Function`]), its payload, operations that
+/// its stage forbids ([`EntryPointError::ForbiddenStageOperations`]), its arguments, its result, the global variables that it
+/// uses, and its mesh output. The trail is that of its function. [`Refusal::Memory`] if out of memory.
 pub fn validate_entry_point<L: Lower>(
     lower: &L,
     alloc: Global,
@@ -111,9 +111,9 @@ pub fn validate_entry_point<L: Lower>(
     )
 }
 
-/// The same, where `descriptors` has marks of the types that are made as the module's type of rays is, found once for all its
-/// entry points (`descriptors_of` of `function_statement_checks`), and `known` what was found of the interfaces of those before, with the
-/// same flags and capabilities.
+/// The same, where `descriptors` marks the types equivalent to the module's ray descriptor type, found once for all its entry
+/// points (`descriptors_of` of `function_statement_checks`), and `known` has the facts found for the interfaces of earlier
+/// ones, under the same flags and capabilities.
 ///
 /// # Errors
 ///

@@ -1,4 +1,4 @@
-//! The names of entry points, each beside its stage.
+//! The names of entry points, each with its stage.
 
 ghost use Rattle.std.specs.Prelude.{◌≡◌, ◌⊎◌, ◌↔◌, ℕ, IfOk, IsTrue, List, OnErr, OnOk, if◌then◌else◌, not, string_bytes, true};
 ghost use Rattle.std.specs.BTreeSet.{contains_text};
@@ -12,7 +12,7 @@ use ir_kinds::ShaderStage;
 use std::alloc::{AllocError, Global};
 use std::collections::BTreeSet;
 
-/// The names of the entry points that were seen, each beside its stage. It grows by a text for each.
+/// The names of the entry points so far, each with its stage. It grows by a string for each.
 #[derive(Drop)]
 pub struct SeenNames {
     keys: BTreeSet<String>,
@@ -35,7 +35,7 @@ fn stage_letter(stage: ShaderStage) -> &'static str
     }
 }
 
-// A text of an entry point's stage and its name.
+// The string of an entry point's stage and name.
 fn key_of(alloc: Global, entry: &EntryPoint) -> Result<String, AllocError>
     ensures { IfOk result (λ key. string_bytes key ≡ key_of (entry_view entry.now).stage (entry_view entry.now).name) }
 {
@@ -44,7 +44,7 @@ fn key_of(alloc: Global, entry: &EntryPoint) -> Result<String, AllocError>
     Ok(key)
 }
 
-// Notes a text, and whether it is new.
+// Notes a string, and returns whether it is new.
 fn note_key(keys: &mut BTreeSet<String>, key: String) -> Result<bool, AllocError>
     ensures fresh { IfOk result (λ fresh. fresh ≡ not (contains_text keys.old (string_bytes key))) }
     ensures noted { OnOk result ((bs : List ℕ) → contains_text keys.new bs ≡ (if bytes_eq (string_bytes key) bs then true else contains_text keys.old bs)) }
@@ -58,7 +58,7 @@ fn note_key(keys: &mut BTreeSet<String>, key: String) -> Result<bool, AllocError
 }
 
 impl SeenNames {
-    /// None is seen. It takes no memory.
+    /// Empty. It allocates nothing.
     pub fn new(alloc: Global) -> SeenNames
         ensures { (stage : ShaderStage) (name : List ℕ) → ¬ IsSeen result stage name }
     {
@@ -67,8 +67,8 @@ impl SeenNames {
         }
     }
 
-    /// Notes an entry point, and whether none of its stage and its name was seen. The error is out of memory, and leaves what
-    /// was seen.
+    /// Notes an entry point, and returns whether none before has its stage and name. The error is out of memory; nothing has
+    /// changed then.
     pub fn note(&mut self, alloc: Global, entry: &EntryPoint) -> Result<bool, AllocError>
         ensures fresh { IfOk result (λ fresh. IsTrue fresh ↔ ¬ IsSeen self.old (entry_view entry.now).stage (entry_view entry.now).name) }
         ensures noted { OnOk result ((stage : ShaderStage) (name : List ℕ) → IsSeen self.new stage name

@@ -13,11 +13,11 @@ use ir_arena::handle::Handle;
 use ir_flags::ShaderStages;
 use typing_errors::FunctionError;
 
-/// Whether all expressions of the context's function are accepted, and which stages may run them all.
+/// Whether all expressions of the context's function are valid, and which stages may run them all.
 ///
 /// # Errors
 ///
-/// [`FunctionError::Expression`] for the first that is not.
+/// [`FunctionError::Expression`] for the first invalid one.
 pub(crate) fn check_expressions<L: Lower>(
     lower: &L,
     context: &BlockContext<'_>,

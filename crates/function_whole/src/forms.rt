@@ -11,7 +11,7 @@ use ir_types::{IrType, key};
 use std::alloc::{AllocError, Global};
 use typing_forms::{Form, form_of};
 
-/// The form of the type of each expression of which an info tells the type. The error is out of memory.
+/// The form of the type of each expression, by its type in the information. The error is out of memory.
 pub(crate) fn forms_of<L: Lower>(
     lower: &L,
     alloc: Global,

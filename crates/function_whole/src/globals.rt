@@ -1,4 +1,4 @@
-//! Whether a module may have a global variable.
+//! Whether a global variable is valid.
 
 ghost use Rattle.std.specs.Prelude.{IfOk, MatchResult};
 ghost use Rattle.function_whole.specs.Globals.{IsRefusedFor, IsVariableOf};
@@ -19,7 +19,7 @@ use std::alloc::{AllocError, Global};
 use typing_forms::form_of;
 use typing_layout::ExpressionKindTracker;
 
-// What is known of the initializer of a variable, if it has one. The error is out of memory.
+// The facts about the initializer of a variable, if it has one. The error is out of memory.
 fn initializer_of<L: Lower>(
     lower: &L,
     alloc: Global,
@@ -42,17 +42,16 @@ fn initializer_of<L: Lower>(
     }))
 }
 
-/// Whether a module may have a global variable of its own, read with the typing of global expressions of the layer beneath
-/// (naga's `Validator::validate_global_var`). Where the variable has an initializer, it takes time and memory for each global
-/// expression.
+/// Whether a global variable of a module is valid, with the types of global expressions of the layer below (naga's
+/// `Validator::validate_global_var`). If the variable has an initializer, it takes time and memory for each global expression.
 ///
 /// Requires that the layer was made for the module, that the handles of the module are in order, and that the variable is one
 /// of the module's.
 ///
 /// # Errors
 ///
-/// [`Refusal::Fault`] exactly where the module may not have the variable, with a fault that it has and no span; of several
-/// faults it is one. [`Refusal::Memory`] where memory ran out.
+/// [`Refusal::Fault`] exactly if the variable is invalid, with an error whose condition holds and no span; if several hold, it
+/// is one of them. [`Refusal::Memory`] if out of memory.
 pub fn validate_global_var<L: Lower>(
     lower: &L,
     alloc: Global,

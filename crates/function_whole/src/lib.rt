@@ -1,6 +1,6 @@
-//! Whether a function is accepted, and whether a module may have an entry point, over any layer that types expressions, analyses
-//! functions and reports on types. Of an entry point that is its stage (`function_entry_checks`), its function, its payload, and
-//! what connects it with other stages and with hosts (`function_entries`); and the names of those before it.
+//! The check of a function and of an entry point, over any layer that infers the types of expressions, analyses functions and
+//! has the `TypeInfo`s of types. For an entry point that is its stage (`function_entry_checks`), its function, its payload, and
+//! its interface with other stages and with hosts (`function_entries`); and the names of earlier ones.
 #![tactic(auto)]
 
 mod answers;

@@ -1,4 +1,4 @@
-//! The parts of a check of a function after its analysis.
+//! The parts of the check of a function after its analysis.
 
 ghost use Rattle.std.specs.Prelude.{◌↔◌, ℕ, Contains, IsTrue, MatchResult, map};
 ghost use Rattle.function_whole.specs.Faults.{IsExpressionFault, IsFaultAfter, IsUnanswered};
@@ -30,30 +30,30 @@ use ir_types::with_span::WithSpan;
 use std::alloc::Global;
 use typing_errors::FunctionError;
 
-/// The result of checking an accepted function.
+/// The result of checking a valid function.
 #[derive(Clone, Copy)]
 pub(crate) struct Met {
     /// The stages that may run it.
     pub stages: ShaderStages,
-    /// The type of the payloads of all functions so far, if one has any.
+    /// The payload type of all functions so far, if any.
     pub held: Option<Handle<key::IrType>>,
 }
 
-// Whether expressions are checked.
+// Whether expressions are validated.
 fn requires_expressions(flags: ValidationFlags) -> bool
     ensures { IsTrue result ↔ Has flags.0 EXPRESSIONS.0 }
 {
     flags.contains(ValidationFlags::EXPRESSIONS)
 }
 
-// Whether bodies are checked.
+// Whether bodies are validated.
 fn requires_blocks(flags: ValidationFlags) -> bool
     ensures { IsTrue result ↔ Has flags.0 BLOCKS.0 }
 {
     flags.contains(ValidationFlags::BLOCKS)
 }
 
-// Whether all expressions are accepted, where they are checked.
+// Whether all expressions are valid, if they are validated.
 #[tactic(auto, using(crate::proofs::PartLaws::unasked_expressions, crate::proofs::PartLaws::asked_expressions))]
 fn expressions_met<L: Lower>(
     lower: &L,
@@ -77,7 +77,7 @@ fn expressions_met<L: Lower>(
     }
 }
 
-// Whether each expression that denotes an answer is answered, where expressions are checked.
+// Whether each result expression belongs to a statement, if expressions are validated.
 #[tactic(auto, using(crate::proofs::PartLaws::asked_answers))]
 fn answers_met(
     alloc: Global,
@@ -99,7 +99,7 @@ fn answers_met(
     }
 }
 
-// Whether all that is required of the body is met, where it is checked.
+// Whether the body is valid, if bodies are validated.
 #[tactic(auto, using(crate::proofs::PartLaws::unasked_blocks, crate::proofs::PartLaws::asked_blocks))]
 fn blocks_met<L: Lower>(
     lower: &L,
@@ -141,12 +141,12 @@ fn blocks_met<L: Lower>(
     })
 }
 
-/// Whether the variables, the arguments and the result, the expressions and the body of the context's function are in order, in
-/// this order, and which stages may run it.
+/// Whether the local variables, arguments and result, the expressions and the body of the context's function are valid, in this
+/// order, and which stages may run it.
 ///
 /// # Errors
 ///
-/// A fault of the first of these with which something is wrong, where the trail leads if it stands in the body; or out of memory.
+/// An error of the first invalid part, at the place of the trail if it is in the body; or out of memory.
 #[tactic(auto, using(crate::proofs::PartLaws::parts_met))]
 pub(crate) fn check_parts<L: Lower>(
     lower: &L,

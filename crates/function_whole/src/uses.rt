@@ -1,4 +1,4 @@
-//! What an entry point does with the variables that it names beside its function.
+//! The uses of global variables by an entry point besides its function.
 
 ghost use Rattle.std.specs.Prelude.{◌≡◌, ◌<◌, ◌≤◌, ◌↔◌, ◌⊎◌, ℕ, IfOk, IfSome, Some, length};
 ghost use Rattle.std.specs.Int.{bit_at};
@@ -68,7 +68,7 @@ fn note_use<L: Lower>(
     }
 }
 
-/// Notes how an entry point uses its payload and what a mesh shader gives. Requires that both are there. No memory is taken.
+/// Notes the uses of the payload and mesh output variables of an entry point. Requires that both exist. It allocates nothing.
 pub(crate) fn note_own<L: Lower>(lower: &L, info: &mut L::Info, entry: &EntryPoint)
     requires payload { IfSome entry.now.task_payload (λ g. g < length (L.summary lower.now info.old).uses) }
     requires output { IfSome (mesh_output (entry_view entry.now)) (λ g. g < length (L.summary lower.now info.old).uses) }
@@ -86,7 +86,7 @@ pub(crate) fn note_own<L: Lower>(lower: &L, info: &mut L::Info, entry: &EntryPoi
     note_use(lower, info, mesh_output(entry), GlobalUse::READ);
 }
 
-/// The uses of all global variables, in order. Requires that there are so many. The error is out of memory.
+/// The uses of all global variables, in order. Requires that there are this many. The error is out of memory.
 pub(crate) fn uses_of<L: Lower>(
     lower: &L,
     alloc: Global,

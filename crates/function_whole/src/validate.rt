@@ -1,4 +1,4 @@
-//! Whether a function is accepted.
+//! Whether a function is valid.
 
 ghost use Rattle.std.specs.Prelude.{◌≡◌, ◌↔◌, ◌||◌, ℕ, IfErr, IfOk, MatchResult, OnOk, bit_and, false, length, map};
 ghost use Rattle.function_whole.specs.Faults.{IsFaultAfter, IsFunctionFault, IsFunctionFaultAt};
@@ -33,16 +33,16 @@ use std::alloc::Global;
 use typing_errors::FunctionError;
 use typing_layout::ExpressionKindTracker;
 
-/// The info of an accepted function.
+/// The result for a valid function.
 #[derive(Drop)]
 pub struct Validated<I> {
-    /// What the layer keeps of it, with the stages that may run it noted.
+    /// The layer's information on it, with the stages that may run it noted.
     pub info: I,
-    /// The type of the payloads of all functions so far, if one has any.
+    /// The payload type of all functions so far, if any.
     pub held: Option<Handle<key::IrType>>,
 }
 
-// The parts after the analysis, of a function of which this is kept.
+// The parts after the analysis, for a function with this information.
 fn judge<L: Lower>(
     lower: &L,
     alloc: Global,
@@ -110,7 +110,7 @@ fn judge<L: Lower>(
     }
 }
 
-// The info, with the stages noted.
+// The information, with the stages noted.
 fn noted<L: Lower>(lower: &L, info: L::Info, met: Met) -> Validated<L::Info>
     ensures stages { (L.noted lower.now result.info).0 ≡ bit_and (L.noted lower.now info).0 met.stages.0 }
     ensures uses { (g k : ℕ) → HasUseBit (L.summary lower.now result.info).uses g k ↔ HasUseBit (L.summary lower.now info).uses g k }
@@ -130,21 +130,20 @@ fn noted<L: Lower>(lower: &L, info: L::Info, met: Met) -> Validated<L::Info>
     }
 }
 
-/// Whether a function is accepted, and what is kept of it (naga's `validate_function`). `callees` has what this call answered
-/// for the functions before it, in order, where stages and uses may have been noted since. `entry_point` says that the function is
-/// an entry point's, and `held` is the type of the payloads of the functions and the entry points before it, if one has any.
+/// Whether a function is valid, and the information on it (naga's `validate_function`). `callees` has the results of this call
+/// for earlier functions, in order, in which stages and uses may have been noted since. `entry_point` is whether the function
+/// is an entry point's, and `held` is the payload type of the functions and the entry points before it, if any.
 ///
-/// Requires that the layer was made for the module, and that the handles of the function are in order, as those of a module are
-/// that `validate_module_handles` accepts.
+/// Requires that the layer was made for the module, and that the handles of the function are in order, as in a module that
+/// `validate_module_handles` accepts.
 ///
 /// # Errors
 ///
-/// [`Refusal::Fault`] exactly where the function is not accepted: with a fault of the first of these with which something is
-/// wrong: the arity of calls ([`FunctionError::InvalidCall`] with `ArgumentCount`), the analysis, the variables, the arguments
-/// and the result, then under [`ValidationFlags::EXPRESSIONS`] the expressions, of which it is the first that is refused, under
-/// [`ValidationFlags::BLOCKS`] the body, and under both whether each that denotes an answer is answered. The fault of a call and
-/// that of the body stand where the trail leads, unless it is lost; the trail is not written for the others.
-/// [`Refusal::Memory`] where memory ran out.
+/// [`Refusal::Fault`] exactly if the function is invalid, with an error of the first invalid part: the arity of calls
+/// ([`FunctionError::InvalidCall`] with `ArgumentCount`), the analysis, the local variables, the arguments and the result, then
+/// under [`ValidationFlags::EXPRESSIONS`] the first invalid expression, under [`ValidationFlags::BLOCKS`] the body, and under
+/// both a result expression without a statement. An error of a call or of the body is at the place of the trail, unless that is
+/// lost; for other errors the trail is not written. [`Refusal::Memory`] if out of memory.
 pub fn validate_function<L: Lower>(
     lower: &L,
     alloc: Global,
@@ -192,7 +191,7 @@ pub fn validate_function<L: Lower>(
     )
 }
 
-/// The same, where `descriptors` has marks of the types that are made as the module's type of rays is, found once for all its
+/// The same, where `descriptors` marks the types equivalent to the module's ray descriptor type, found once for all its
 /// functions (`descriptors_of` of `function_statement_checks`).
 ///
 /// # Errors

@@ -4,6 +4,7 @@ use Rattle.std.specs.Bool.{beq}
 use Rattle.std.specs.String.{string_eq}
 use Rattle.std.specs.Option.{option_eq}
 use Rattle.std.specs.Cmp.Lexicographic.{pointwise}
+use Rattle.std.proofs.lemmas.Option.{same_Some}
 use Rattle.ir_types.specs.judged.Plain.{PlainMember, PlainInner, PlainType, struct, plain, member_view, inner_view, type_view}
 use Rattle.ir_types.specs.declared.types.ArraySize.{ArraySize}
 use Rattle.ir_types.specs.contracts.types.ArraySizePartialEq.TheImpl as size
@@ -152,28 +153,25 @@ same_inner a b e = same_view types.enum inner_view laws a b e
 
 -- ---- equal views compare equal
 
-some_is : {A : Type 0} (x y : A) → Some x ≡ Some y → x ≡ y
-some_is x y e = cc
-
 -- the inner type is no struct
 abbrev unplain : PlainInner → Option TypeInner
 unplain (struct members span) = None
 unplain (plain t) = Some t
 
 same_plain : (a b : TypeInner) → unplain (inner_view b) ≡ Some a → IsTrue (of_inner.ghosts.eq a b)
-same_plain a (inner.Scalar z) e = subst (λ c. IsTrue (of_inner.ghosts.eq c (inner.Scalar z))) (some_is _ _ e) (inner_laws.laws-law.refl (inner.Scalar z))
-same_plain a (inner.Vector y z) e = subst (λ c. IsTrue (of_inner.ghosts.eq c (inner.Vector y z))) (some_is _ _ e) (inner_laws.laws-law.refl (inner.Vector y z))
-same_plain a (inner.Matrix x y z) e = subst (λ c. IsTrue (of_inner.ghosts.eq c (inner.Matrix x y z))) (some_is _ _ e) (inner_laws.laws-law.refl (inner.Matrix x y z))
-same_plain a (inner.CooperativeMatrix w x y z) e = subst (λ c. IsTrue (of_inner.ghosts.eq c (inner.CooperativeMatrix w x y z))) (some_is _ _ e) (inner_laws.laws-law.refl (inner.CooperativeMatrix w x y z))
-same_plain a (inner.Atomic z) e = subst (λ c. IsTrue (of_inner.ghosts.eq c (inner.Atomic z))) (some_is _ _ e) (inner_laws.laws-law.refl (inner.Atomic z))
-same_plain a (inner.Pointer y z) e = subst (λ c. IsTrue (of_inner.ghosts.eq c (inner.Pointer y z))) (some_is _ _ e) (inner_laws.laws-law.refl (inner.Pointer y z))
-same_plain a (inner.ValuePointer x y z) e = subst (λ c. IsTrue (of_inner.ghosts.eq c (inner.ValuePointer x y z))) (some_is _ _ e) (inner_laws.laws-law.refl (inner.ValuePointer x y z))
-same_plain a (inner.Array x y z) e = subst (λ c. IsTrue (of_inner.ghosts.eq c (inner.Array x y z))) (some_is _ _ e) (inner_laws.laws-law.refl (inner.Array x y z))
-same_plain a (inner.Image x y z) e = subst (λ c. IsTrue (of_inner.ghosts.eq c (inner.Image x y z))) (some_is _ _ e) (inner_laws.laws-law.refl (inner.Image x y z))
-same_plain a (inner.Sampler z) e = subst (λ c. IsTrue (of_inner.ghosts.eq c (inner.Sampler z))) (some_is _ _ e) (inner_laws.laws-law.refl (inner.Sampler z))
-same_plain a (inner.AccelerationStructure z) e = subst (λ c. IsTrue (of_inner.ghosts.eq c (inner.AccelerationStructure z))) (some_is _ _ e) (inner_laws.laws-law.refl (inner.AccelerationStructure z))
-same_plain a (inner.RayQuery z) e = subst (λ c. IsTrue (of_inner.ghosts.eq c (inner.RayQuery z))) (some_is _ _ e) (inner_laws.laws-law.refl (inner.RayQuery z))
-same_plain a (inner.BindingArray y z) e = subst (λ c. IsTrue (of_inner.ghosts.eq c (inner.BindingArray y z))) (some_is _ _ e) (inner_laws.laws-law.refl (inner.BindingArray y z))
+same_plain a (inner.Scalar z) e = subst (λ c. IsTrue (of_inner.ghosts.eq c (inner.Scalar z))) (same_Some _ _ e) (inner_laws.laws-law.refl (inner.Scalar z))
+same_plain a (inner.Vector y z) e = subst (λ c. IsTrue (of_inner.ghosts.eq c (inner.Vector y z))) (same_Some _ _ e) (inner_laws.laws-law.refl (inner.Vector y z))
+same_plain a (inner.Matrix x y z) e = subst (λ c. IsTrue (of_inner.ghosts.eq c (inner.Matrix x y z))) (same_Some _ _ e) (inner_laws.laws-law.refl (inner.Matrix x y z))
+same_plain a (inner.CooperativeMatrix w x y z) e = subst (λ c. IsTrue (of_inner.ghosts.eq c (inner.CooperativeMatrix w x y z))) (same_Some _ _ e) (inner_laws.laws-law.refl (inner.CooperativeMatrix w x y z))
+same_plain a (inner.Atomic z) e = subst (λ c. IsTrue (of_inner.ghosts.eq c (inner.Atomic z))) (same_Some _ _ e) (inner_laws.laws-law.refl (inner.Atomic z))
+same_plain a (inner.Pointer y z) e = subst (λ c. IsTrue (of_inner.ghosts.eq c (inner.Pointer y z))) (same_Some _ _ e) (inner_laws.laws-law.refl (inner.Pointer y z))
+same_plain a (inner.ValuePointer x y z) e = subst (λ c. IsTrue (of_inner.ghosts.eq c (inner.ValuePointer x y z))) (same_Some _ _ e) (inner_laws.laws-law.refl (inner.ValuePointer x y z))
+same_plain a (inner.Array x y z) e = subst (λ c. IsTrue (of_inner.ghosts.eq c (inner.Array x y z))) (same_Some _ _ e) (inner_laws.laws-law.refl (inner.Array x y z))
+same_plain a (inner.Image x y z) e = subst (λ c. IsTrue (of_inner.ghosts.eq c (inner.Image x y z))) (same_Some _ _ e) (inner_laws.laws-law.refl (inner.Image x y z))
+same_plain a (inner.Sampler z) e = subst (λ c. IsTrue (of_inner.ghosts.eq c (inner.Sampler z))) (same_Some _ _ e) (inner_laws.laws-law.refl (inner.Sampler z))
+same_plain a (inner.AccelerationStructure z) e = subst (λ c. IsTrue (of_inner.ghosts.eq c (inner.AccelerationStructure z))) (same_Some _ _ e) (inner_laws.laws-law.refl (inner.AccelerationStructure z))
+same_plain a (inner.RayQuery z) e = subst (λ c. IsTrue (of_inner.ghosts.eq c (inner.RayQuery z))) (same_Some _ _ e) (inner_laws.laws-law.refl (inner.RayQuery z))
+same_plain a (inner.BindingArray y z) e = subst (λ c. IsTrue (of_inner.ghosts.eq c (inner.BindingArray y z))) (same_Some _ _ e) (inner_laws.laws-law.refl (inner.BindingArray y z))
 same_plain a (inner.Struct ms n) e = let x = e in cc
 
 -- the members of a struct
@@ -199,7 +197,7 @@ option_same : {A : Type 0} (eq : A → A → Bool) → ((a : A) → IsTrue (eq a
 option_same eq same None None e = refl
 option_same eq same None (Some y) e = let x = e in cc
 option_same eq same (Some x) None e = let x = e in cc
-option_same eq same (Some x) (Some y) e = subst (λ z. IsTrue (eq x z)) (some_is x y e) (same x)
+option_same eq same (Some x) (Some y) e = subst (λ z. IsTrue (eq x z)) (same_Some x y e) (same x)
 
 member_same : (a b : StructMember) → member_view a ≡ member_view b → IsTrue (of_member.ghosts.eq a b)
 member_same a b e =
@@ -217,7 +215,7 @@ members_same (x ∷ xs) (y ∷ ys) e =
 
 inner_same : (a b : TypeInner) → inner_view a ≡ inner_view b → IsTrue (of_inner.ghosts.eq a b)
 inner_same (inner.Struct ms n) (inner.Struct ns m) e =
-    all (pointwise of_member.ghosts.eq ms.items ns.items) (nat_eq n m) (members_same ms.items ns.items (some_is _ _ (ap members_of e))) (number_same n m (ap span_of e))
+    all (pointwise of_member.ghosts.eq ms.items ns.items) (nat_eq n m) (members_same ms.items ns.items (same_Some _ _ (ap members_of e))) (number_same n m (ap span_of e))
 inner_same (inner.Struct ms n) (inner.Scalar z) e = let x = e in cc
 inner_same (inner.Struct ms n) (inner.Vector y z) e = let x = e in cc
 inner_same (inner.Struct ms n) (inner.Matrix x y z) e = let x = e in cc

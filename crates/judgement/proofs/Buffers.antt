@@ -1,7 +1,7 @@
 -- The buffers of a valid module.
 use Rattle.std.proofs.Common.{◌≡◌, ◌<◌, ◌⊎◌, inl, inr, ℕ, List, Bool, true, true≢false, Option, Some, None, IsTrue, All, length, slice_get, unwrap_or, zero, suc, [], ◌∷◌, refl, sym, ap, subst, ◌∙◌, arith, if◌then◌else◌}
 use Rattle.std.proofs.lemmas.List.Elements.{All-contains_itself}
-use Rattle.std.proofs.lemmas.Option.{slice_get_within}
+use Rattle.std.proofs.lemmas.Option.{same_Some, slice_get_within}
 use Rattle.ir_flags.specs.Sets.{Has}
 use Rattle.ir_flags.specs.declared.settings.Capabilities.{Capabilities}
 use Rattle.ir_flags.specs.declared.settings.TheConstants.ValidationFlags.{STRUCT_LAYOUTS}
@@ -91,12 +91,9 @@ counted_within types back ty many lt = unwrapped types back ty many (inner_at ty
 
 -- ---- what valid handles imply
 
-some_is : {A : Type 0} {x y : A} → Some x ≡ Some y → x ≡ y
-some_is e = cc (e)
-
 found : (types : List PlainType) (handle : ℕ) (i : PlainInner) → inner_at types handle ≡ Some i → (x : PlainType) × (slice_get types handle ≡ Some x) × (x.inner ≡ i)
 found [] handle i e = cc (e)
-found (x ∷ xs) zero i e = (x, refl, some_is e)
+found (x ∷ xs) zero i e = (x, refl, same_Some _ _ e)
 found (x ∷ xs) (suc k) i e = found xs k i e
 
 pub types_go_back : (m : PlainModule) → HandlesOK m → TypesGoBack m.types
@@ -126,7 +123,7 @@ module _ (s : Settings) (resolved : Bool) (m : PlainModule) (asked : Has s.flags
   accepted : (number : ℕ) (v : PlainGlobal) → slice_get m.globals number ≡ Some v → VariableOK s.flags s.capabilities m v
   accepted number v at =
       let g = globals number (slice_get_within m.globals number v at) in
-      subst (VariableOK s.flags s.capabilities m) (some_is (sym g.at ∙ at)) g.ok
+      subst (VariableOK s.flags s.capabilities m) (same_Some _ _ (sym g.at ∙ at)) g.ok
 
   is_buffer_type : (number : ℕ) (v : PlainGlobal) → slice_get m.globals number ≡ Some v → IsTrue (is_buffer v.space) → Everywhere StrideOK (buffer_type m.types v) → IsBuffer (buffer_type m.types v)
   is_buffer_type number v at b strides = record {

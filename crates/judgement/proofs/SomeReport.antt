@@ -1,6 +1,7 @@
 -- Every module with valid handles has a report (as a double negation).
 use Rattle.std.proofs.Common.{◌≡◌, ◌<◌, ℕ, zero, suc, ◌+◌, List, [], ◌∷◌, ◌++◌, length, Option, Some, None, slice_get, refl, ap, subst, ◌∙◌, arith}
 use Rattle.std.specs.Prelude.{flat_map, slice_index_or}
+use Rattle.std.proofs.lemmas.Option.{same_Some}
 use Rattle.spec_expressions.specs.declared.global_use.GlobalUse.{GlobalUse}
 use Rattle.spec_expressions.specs.declared.sampling.GlobalOrArgument.{GlobalOrArgument}
 use Rattle.spec_expressions.specs.declared.sampling.GlobalOrArgument.TheVariants.{Global, Argument}
@@ -98,14 +99,11 @@ record ReportsFrom (m : PlainModule) (first : ℕ) (es : List PlainEntry) (told 
   pub many : length told ≡ length es
   pub each : (i : ℕ) (e : PlainEntry) (lines : List ℕ) → slice_get es i ≡ Some e → slice_get told i ≡ Some lines → IsEntryReport m (first + i) e lines
 
-some_is : {A : Type 0} {a b : A} → Some a ≡ Some b → a ≡ b
-some_is e = cc (e)
-
 module _ (m : PlainModule) where
   first_reported : (first : ℕ) (e : PlainEntry) (es : List PlainEntry) (lines : List ℕ) (told : List (List ℕ)) → IsEntryReport m first e lines → ReportsFrom m (suc first) es told
       → (i : ℕ) (d : PlainEntry) (ls : List ℕ) → slice_get (e ∷ es) i ≡ Some d → slice_get (lines ∷ told) i ≡ Some ls → IsEntryReport m (first + i) d ls
   first_reported first e es lines told is rest zero d ls a b =
-      subst (λ n. IsEntryReport m n d ls) (let z : first ≡ first + 0 = omega arith in z) (subst (λ y. IsEntryReport m first y ls) (some_is a) (subst (λ y. IsEntryReport m first e y) (some_is b) is))
+      subst (λ n. IsEntryReport m n d ls) (let z : first ≡ first + 0 = omega arith in z) (subst (λ y. IsEntryReport m first y ls) (same_Some _ _ a) (subst (λ y. IsEntryReport m first e y) (same_Some _ _ b) is))
   first_reported first e es lines told is rest (suc i) d ls a b = subst (λ n. IsEntryReport m n d ls) (let z : suc first + i ≡ first + suc i = omega arith in z) (rest.each i d ls a b)
 
   one_more : (first : ℕ) (e : PlainEntry) (es : List PlainEntry) → (lines : List ℕ) × IsEntryReport m first e lines → (told : List (List ℕ)) × ReportsFrom m (suc first) es told

@@ -3,7 +3,7 @@ use Rattle.std.proofs.Common.{◌≡◌, ◌∙◌, ◌⊎◌, inl, inr, ℕ, ze
 use Rattle.std.specs.Prelude.{IsSomeAnd, option_to_list}
 use Rattle.std.specs.List.{AllByRecursion, range_with_len}
 use Rattle.std.proofs.lemmas.List.Elements.{Contains-append_left, Contains-append_right, Contains-append_cases, Contains-push}
-use Rattle.std.proofs.lemmas.Option.{slice_get_within, slice_get_cases, slice_get-get_or, unwrap_or-slice_get}
+use Rattle.std.proofs.lemmas.Option.{same_Some, slice_get-get_or, slice_get_cases, slice_get_within, unwrap_or-slice_get}
 use Rattle.ir_flags.specs.Sets.{Has}
 use Rattle.ir_flags.specs.declared.settings.TheConstants.ValidationFlags.{STRICT_SCOPE}
 use Rattle.ir_flags.specs.declared.stages.ShaderStages.{ShaderStages}
@@ -48,15 +48,12 @@ use Rattle.spec_runs.proofs.Invariance.{invariants_hold}
 use Rattle.spec_runs.proofs.Strict.{strict_is_lawful, strict_suffices}
 use Rattle.spec_runs.proofs.Scopes.{skipped_is_lawful, scope_suffices, known, introduced_known}
 
-some_is : {A : Type 0} {x y : A} → Some x ≡ Some y → x ≡ y
-some_is e = cc (e)
-
 first_held : (e : ℕ) (es : List ℕ) → Contains (e ∷ es) e
 first_held e es = Contains-append_left (e ∷ []) es e (Contains-push [] e)
 
 get_held : (xs : List ℕ) (i e : ℕ) → slice_get xs i ≡ Some e → Contains xs e
 get_held [] i e at = absurd (cc (at))
-get_held (x ∷ xs) zero e at = subst (λ y. Contains (y ∷ xs) e) (sym (some_is at)) (first_held e xs)
+get_held (x ∷ xs) zero e at = subst (λ y. Contains (y ∷ xs) e) (sym (same_Some _ _ at)) (first_held e xs)
 get_held (x ∷ xs) (suc i) e at = Contains-append_right (x ∷ []) xs e (get_held xs i e at)
 
 one_payload : (e x : ℕ) → Contains (x ∷ []) e → e ≡ x
@@ -146,8 +143,8 @@ module _ (s : Settings) (m : PlainModule) (f : PlainFunction) (forms : List Form
   passes_types p function arguments result callee stands found =
       let ok = body.statements p (call function arguments result) stands in
       let fits = arity p function arguments result stands in
-      let same : ok.callee ≡ callee = some_is (sym ok.called ∙ found) in
-      let matching : fits.0 ≡ callee = some_is (sym fits.1 ∙ found) in
+      let same : ok.callee ≡ callee = same_Some _ _ (sym ok.called ∙ found) in
+      let matching : fits.0 ≡ callee = same_Some _ _ (sym fits.1 ∙ found) in
       record {
         many = subst (λ g. length arguments ≡ length g.arguments) matching fits.2;
         each = λ i e a at declared.
@@ -196,7 +193,7 @@ module _ (s : Settings) (m : PlainModule) (number : ℕ) (a : IsAcceptedEntry s 
   function_fits : (index : ℕ) (f : PlainFunction) → slice_get m.functions index ≡ Some f → AllowsStage (reading_over stages m f) s stages f stage → FitsAt index f
   function_fits index f at allows =
       let here = a.functions index (slice_get_within m.functions index f at) in
-      let same : here.function ≡ f = some_is (sym here.at ∙ at) in
+      let same : here.function ≡ f = same_Some _ _ (sym here.at ∙ at) in
       let ok : FunctionOK _ s false here.held m f = subst (λ g. FunctionOK (reading_of g) s false here.held m g) same (here.ok stages) in
       fits_in s m f ok.forms ok.typed.many ok.typed.each (ok.body a.blocks) (a.handles.functions index f at) ok.arity s.subgroup_stages stages stage index
       (λ p function arguments result stands. a.handles.back (a_function index) (a_function function) (function_on_callee at (statement_calls stands refl)))

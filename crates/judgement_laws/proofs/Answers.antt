@@ -1,6 +1,6 @@
 -- An expression that denotes a result is the result of one statement of its kind.
 use Rattle.std.proofs.Common.{◌≡◌, ◌∙◌, ℕ, [], Bool, Option, Some, None, is_some, option_and_then, slice_get, sym, ap, subst}
-use Rattle.std.proofs.lemmas.Option.{slice_get_within}
+use Rattle.std.proofs.lemmas.Option.{same_Some, slice_get_within}
 use Rattle.std.specs.Prelude.{IsSomeAnd}
 use Rattle.ir_blocks.specs.judged.Plain.{PlainOperation, control_barrier, memory_barrier, store, image_store, atomic, image_atomic, uniform_load, ray_query, ballot, collective, gather, cooperative_store, ray_pipeline, PlainStatement, emit, block, if_, switch, loop, break, continue, return, kill, operation, call}
 use Rattle.ir_types.specs.judged.ExpressionPlain.{PlainExpression, plain}
@@ -18,9 +18,6 @@ use Rattle.spec_statements.specs.judged.BlockContext.{BlockContext, form_at}
 use Rattle.spec_statements.specs.judged.Functions.{BodyOK}
 use Rattle.spec_statements.specs.judged.Results.{of_call, of_atomic, answer_of}
 use Rattle.spec_statements.specs.judged.Statements.{OperationOK, StatementOK}
-
-some_is : {A : Type 0} {x y : A} → Some x ≡ Some y → x ≡ y
-some_is e = cc (e)
 
 some_and : {A : Type 0} (P : A → Type 0) (o : Option A) → IsSomeAnd o P → (a : A) × P a
 some_and P None h = absurd h
@@ -45,7 +42,7 @@ module _ (c : BlockContext) (e : ℕ) where
     no_operation (atomic pointer done value None) ok is = cc (is)
     no_operation (atomic pointer done value (Some result)) ok is =
         let changed : (s : Scalar) × AtomicChangeOK c pointer done value (Some result) s = some_and (AtomicChangeOK c pointer done value (Some result)) (changed_scalar c.m.types (form_at c pointer)) ok in
-        undeclared (AtomicAnswerOK c changed.0 (comparand done)) (slice_get c.f.expressions result) function (ap (slice_get c.f.expressions) (some_is is) ∙ at) changed.1.answered
+        undeclared (AtomicAnswerOK c changed.0 (comparand done)) (slice_get c.f.expressions result) function (ap (slice_get c.f.expressions) (same_Some _ _ is) ∙ at) changed.1.answered
     no_operation (image_atomic image coordinate array_index done value) ok is = cc (is)
     no_operation (uniform_load pointer result) ok is = cc (is)
     no_operation (ray_query query done) ok is = cc (is)
@@ -68,7 +65,7 @@ module _ (c : BlockContext) (e : ℕ) where
     is_call (operation a) ok is = absurd (no_operation a ok is)
     is_call (call g arguments None) ok is = cc (is)
     is_call (call g arguments (Some result)) ok is =
-        let same : result ≡ e = some_is is in
+        let same : result ≡ e = same_Some _ _ is in
         let named = sym ok.answered.1 ∙ (ap (slice_get c.f.expressions) same ∙ at) in
         let callee : g ≡ function = cc (named) in
         (arguments, λ i. call (callee i) arguments (Some (same i)))
@@ -89,7 +86,7 @@ module _ (c : BlockContext) (e : ℕ) where
   is_atomic type comparison at (operation (image_store image coordinate array_index value)) ok is = cc (is)
   is_atomic type comparison at (operation (atomic pointer done value None)) ok is = cc (is)
   is_atomic type comparison at (operation (atomic pointer done value (Some result))) ok is =
-      let same : result ≡ e = some_is is in
+      let same : result ≡ e = same_Some _ _ is in
       let changed : (s : Scalar) × AtomicChangeOK c pointer done value (Some result) s = some_and (AtomicChangeOK c pointer done value (Some result)) (changed_scalar c.m.types (form_at c pointer)) ok in
       let answered = subst (λ o. IsSomeAnd (option_and_then declared_answer o) (AtomicAnswerOK c changed.0 (comparand done))) (ap (slice_get c.f.expressions) same ∙ at) changed.1.answered in
       (pointer, done, value, (λ i. operation (atomic pointer done value (Some (same i)))), compared c changed.0 (comparand done) (record { ty = type; comparison = comparison }) answered)
@@ -103,7 +100,7 @@ module _ (c : BlockContext) (e : ℕ) where
   is_atomic type comparison at (operation (ray_pipeline done)) ok is = cc (is)
   is_atomic type comparison at (call g arguments None) ok is = cc (is)
   is_atomic type comparison at (call g arguments (Some result)) ok is =
-      let named = sym ok.answered.1 ∙ (ap (slice_get c.f.expressions) (some_is is) ∙ at) in
+      let named = sym ok.answered.1 ∙ (ap (slice_get c.f.expressions) (same_Some _ _ is) ∙ at) in
       cc (named)
 
 module _ (s : Settings) (held : Option ℕ) (c : BlockContext) (body : BodyOK s held c) (expressions : Has s.flags.0 EXPRESSIONS.0) where
@@ -132,11 +129,11 @@ module _ (s : Settings) (held : Option ℕ) (c : BlockContext) (body : BodyOK s 
 pub answered_by_one : AnsweredByOne
 answered_by_one s m ok blocks expressions index f at =
     let here = ok index (slice_get_within m.functions index f at) in
-    let same : here.function ≡ f = some_is (sym here.at ∙ at) in
+    let same : here.function ≡ f = same_Some _ _ (sym here.at ∙ at) in
     subst EachAnswered same (each_answered _ _ _ ((here.ok []).body blocks) expressions)
 
 pub answered_in_entries : AnsweredByOneInEntries
 answered_in_entries s m ok blocks expressions number e at =
     let here = ok number (slice_get_within m.entries number e at) in
-    let same : here.entry ≡ e = some_is (sym here.at ∙ at) in
+    let same : here.entry ≡ e = same_Some _ _ (sym here.at ∙ at) in
     subst (λ (found : PlainEntry). EachAnswered found.function) same (each_answered _ _ _ (here.ok.function.body blocks) expressions)

@@ -1,7 +1,7 @@
 -- The global variables of an entry point's report have distinct bindings.
 use Rattle.std.proofs.Common.{◌≡◌, ◌<◌, inl, inr, ℕ, List, Option, Some, None, IsSome, IsTrue, length, slice_get, option_and_then, refl, subst, sym, ap, ◌∙◌, true≢false}
 use Rattle.std.specs.Int.{bit_at}
-use Rattle.std.proofs.lemmas.Option.{slice_get_within}
+use Rattle.std.proofs.lemmas.Option.{same_Some, slice_get_within}
 use Rattle.ir_items.specs.judged.GlobalPlain.{PlainGlobal}
 use Rattle.ir_items.specs.judged.Plain.{PlainEntry, PlainModule}
 use Rattle.ir_kinds.specs.declared.bindings.ResourceBinding.{ResourceBinding}
@@ -14,9 +14,6 @@ use Rattle.spec_interface.specs.judged.Uses.{EntryUses, own_payload_use}
 use Rattle.spec_interface.specs.judged.UsedVariables.{IsUsed}
 use Rattle.judgement.proofs.Named.{used_bit}
 use Rattle.judgement.specs.judged.Reports.{IsEntryReport}
-
-some_is : {A : Type 0} {x y : A} → Some x ≡ Some y → x ≡ y
-some_is e = cc (e)
 
 -- a variable with a binding is one of the module
 bound_in : (m : PlainModule) (g : ℕ) (b : ResourceBinding) (o : Option PlainGlobal) → slice_get m.globals g ≡ o → option_and_then (λ (v : PlainGlobal). v.binding) o ≡ Some b → g < length m.globals
@@ -43,7 +40,7 @@ pub bindings_differ : BindingsDiffer
 bindings_differ s m ok asked number e at lines r g h b g_told h_told g_at h_at =
     let within = slice_get_within m.entries number e at in
     let entry = ok number within in
-    let same : entry.entry ≡ e = some_is (sym entry.at ∙ at) in
+    let same : entry.entry ≡ e = same_Some _ _ (sym entry.at ∙ at) in
     let apart = subst (λ (x : PlainEntry). (j k : ℕ) (d : ResourceBinding) → IsUsed (EntryUses x (HasUse m x.function)) j → IsUsed (EntryUses x (HasUse m x.function)) k → binding_at m j ≡ Some d → binding_at m k ≡ Some d → j ≡ k) same
     (entry.ok.connections.variables.bound asked) in
     let payload = subst (PayloadOK m) same entry.ok.payload in

@@ -2,7 +2,7 @@
 use Rattle.std.proofs.Common.{◌≡◌, ◌∙◌, ℕ, zero, suc, ℤ, ◌+◌, ◌<◌, length, List, [], ◌∷◌, ◌++◌, inl, map, Option, Some, None, slice_get, option_map, refl, sym, ap, subst, arith}
 use Rattle.std.specs.Prelude.{unwrap_or}
 use Rattle.std.specs.List.{AllByRecursion}
-use Rattle.std.proofs.lemmas.Option.{slice_get-map}
+use Rattle.std.proofs.lemmas.Option.{same_Some, slice_get-map}
 use Rattle.ir_flags.specs.declared.settings.Settings.{Settings}
 use Rattle.spec_expressions.specs.declared.sampling.GlobalOrArgument.{GlobalOrArgument}
 use Rattle.spec_expressions.specs.declared.sampling.GlobalOrArgument.TheVariants.{Global, Argument}
@@ -29,9 +29,6 @@ use Rattle.spec_runs.specs.judged.Machine.{Frame, global_meant, global_denoted, 
 use Rattle.judgement_laws.proofs.Accepted.{Fine, callee_fine, entry_fine, all_weaken}
 use Rattle.spec_runs.proofs.Invariance.{invariants_hold}
 use Rattle.spec_runs.proofs.Scopes.{skipped_is_lawful}
-
-some_is : {A : Type 0} {x y : A} → Some x ≡ Some y → x ≡ y
-some_is e = cc (e)
 
 -- ---- a call in a body is one of its effects
 
@@ -73,7 +70,7 @@ call_among f p function arguments result stands =
 expression_among : (first e : ℕ) (xs : List PlainExpression) (x : PlainExpression) (y : Effect) → slice_get xs e ≡ Some x → IsAmong y (sampling_at (first + e) x) → IsAmong y (expressions_effects first xs)
 expression_among first e [] x y at h = absurd (cc (at))
 expression_among first zero (z ∷ xs) x y at h =
-    let same : x ≡ z = some_is (sym at) in
+    let same : x ≡ z = same_Some _ _ (sym at) in
     let number : first + 0 ≡ first = omega arith in
     among-left (expression_effects first z) (expressions_effects (first + 1) xs) y
     (among-right (map takes (expression_uses z)) (sampling_at first z) y (subst (λ n. IsAmong y (sampling_at n z)) number (subst (λ w. IsAmong y (sampling_at (first + 0) w)) same h)))
@@ -99,7 +96,7 @@ entry_chain : (m : PlainModule) (f : PlainFunction) → InChain m f (entry_frame
 entry_chain m f = record { chain = []; is_chain = tt; ends = refl; means = λ e g is. by_place (global_or_argument f.expressions e) g is }
   where
     by_place : (o : Option GlobalOrArgument) (g : ℕ) → global_meant [] o ≡ Some g → o ≡ Some (Global g)
-    by_place (Some (Global h)) g is = ap (λ x. Some (Global x)) (some_is is)
+    by_place (Some (Global h)) g is = ap (λ x. Some (Global x)) (same_Some _ _ is)
     by_place (Some (Argument n)) g is = absurd (cc (is))
     by_place None g is = absurd (cc (is))
 
@@ -115,7 +112,7 @@ callee_chain m f frame c p function arguments result callee stands found =
     by_argument None g is = absurd (cc (is))
 
     by_place : (o : Option GlobalOrArgument) (g : ℕ) → global_meant (map (global_denoted frame) arguments) o ≡ Some g → seen_through (meaning_at_start f c.chain) arguments o ≡ Some (Global g)
-    by_place (Some (Global h)) g is = ap (λ x. Some (Global x)) (some_is is)
+    by_place (Some (Global h)) g is = ap (λ x. Some (Global x)) (same_Some _ _ is)
     by_place (Some (Argument n)) g is = by_argument (slice_get arguments n) g (sym (ap (λ (o : Option (Option ℕ)). unwrap_or o None) (slice_get-map (global_denoted frame) arguments n)) ∙ is)
     by_place None g is = absurd (cc (is))
 

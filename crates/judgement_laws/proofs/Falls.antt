@@ -1,7 +1,7 @@
 -- If missing returns are inserted, a function with a result falls off its end only by a break out of a final switch.
 use Rattle.std.proofs.Common.{◌≡◌, ◌∙◌, ℕ, List, Option, Some, None, slice_get, refl, sym, subst}
 use Rattle.std.specs.Prelude.{IsSomeAnd}
-use Rattle.std.proofs.lemmas.Option.{slice_get_within}
+use Rattle.std.proofs.lemmas.Option.{same_Some, slice_get_within}
 use Rattle.ir_flags.specs.declared.settings.Settings.{Settings}
 use Rattle.ir_blocks.specs.judged.Places.{Place, nothing, statement, spot_at, OccursAt}
 use Rattle.ir_blocks.specs.judged.Plain.{PlainStatement, switch, return, PlainBlock}
@@ -17,9 +17,6 @@ use Rattle.spec_statements.specs.declared.shapes.Shaped.{Shaped}
 use Rattle.spec_runs.specs.found.Ended.{HasNoOpenEnd}
 use Rattle.judgement_laws.specs.found.Accepted.{HasReturns, RunsFallByBreaks}
 use Rattle.spec_runs.proofs.Falls.{Closed, CasesEnd, SwitchesEnd, falls_by_breaks}
-
-some_is : {A : Type 0} {x y : A} → Some x ≡ Some y → x ≡ y
-some_is e = cc (e)
 
 -- no statement is at an open end
 open_nothing : {b : PlainBlock} {p : Place} → IsOpenEnd b p → spot_at p b ≡ nothing
@@ -54,7 +51,7 @@ runs_fall_by_breaks s m number a returns u answers n = falls_by_breaks u m funct
     function_closed : (index : ℕ) (f : PlainFunction) → slice_get m.functions index ≡ Some f → Closed f
     function_closed index f at =
         let here = a.functions index (slice_get_within m.functions index f at) in
-        let same : here.function ≡ f = some_is (sym here.at ∙ at) in
+        let same : here.function ≡ f = same_Some _ _ (sym here.at ∙ at) in
         let ok = here.ok a.entry.stages in
         let ends : SwitchesEnd here.function.body = switches_end s m here.function ok.forms (ok.body a.blocks) in
         record { no_open = returned_closed f (returns.functions index f at); switches = subst (λ g. SwitchesEnd g.body) same ends }

@@ -1,6 +1,7 @@
 -- Modules that differ only in returns: how they arise, and the symmetry of the relation.
 use Rattle.std.proofs.Common.{◌≡◌, inl, ℕ, zero, suc, Some, None, List, [], ◌∷◌, slice_get, refl, sym, ap, subst, ◌∙◌}
 use Rattle.std.specs.List.{AllZip}
+use Rattle.std.proofs.lemmas.Option.{same_Some}
 use Rattle.ir_blocks.specs.judged.Plain.{PlainBlock}
 use Rattle.ir_blocks.proofs.OneCompleted.{one_completed}
 use Rattle.ir_items.specs.judged.Plain.{PlainFunction, PlainEntry, PlainModule}
@@ -75,9 +76,6 @@ over_entry {m} {n} {x} {y} P l k h = subst (λ z. P z y) (sym l.rest) (subst (P 
 
 -- ---- from a module with missing returns inserted
 
-some_is : {A : Type 0} {x y : A} → Some x ≡ Some y → x ≡ y
-some_is e = cc (e)
-
 none_some : {A B : Type 0} {x : A} → None ≡ Some x → B
 none_some e = absurd (cc (e))
 
@@ -90,11 +88,11 @@ zipped {A} R S (x ∷ xs) (y ∷ ys) f z =
     record { many = ap suc more.many; there = there more; back = back more }
   where
     there : Matched S xs ys → (i : ℕ) (u : A) → slice_get (x ∷ xs) i ≡ Some u → (v : A) × (slice_get (y ∷ ys) i ≡ Some v) × S u v
-    there more zero u at = (y, refl, subst (λ w. S w y) (some_is at) (f zero x y refl z.0))
+    there more zero u at = (y, refl, subst (λ w. S w y) (same_Some _ _ at) (f zero x y refl z.0))
     there more (suc i) u at = more.there i u at
 
     back : Matched S xs ys → (i : ℕ) (v : A) → slice_get (y ∷ ys) i ≡ Some v → (u : A) × (slice_get (x ∷ xs) i ≡ Some u) × S u v
-    back more zero v at = (x, refl, subst (λ w. S x w) (some_is at) (f zero x y refl z.0))
+    back more zero v at = (x, refl, subst (λ w. S x w) (same_Some _ _ at) (f zero x y refl z.0))
     back more (suc i) v at = more.back i v at
 
 like_function : (f g : PlainFunction) → f.result ≡ None → IsReturnedFunction f g → LikeFunction f g

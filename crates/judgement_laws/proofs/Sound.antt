@@ -2,7 +2,7 @@
 use Rattle.std.proofs.Common.{◌≡◌, ◌∙◌, ◌⊎◌, inl, inr, ℕ, zero, suc, Bool, true, false, true≢false, IsTrue, List, [], ◌∷◌, Some, length, slice_get, refl, sym, subst}
 use Rattle.std.specs.List.{AllZip}
 use Rattle.std.specs.Prelude.{slice_index_or}
-use Rattle.std.proofs.lemmas.Option.{slice_get_within}
+use Rattle.std.proofs.lemmas.Option.{same_Some, slice_get_within}
 use Rattle.ir_flags.specs.declared.settings.Settings.{Settings}
 use Rattle.ir_items.specs.judged.Plain.{PlainEntry, PlainModule}
 use Rattle.ir_items.specs.judged.Returned.{IsReturnedFunction, IsReturnedEntry, IsReturned}
@@ -25,15 +25,12 @@ use Rattle.judgement_laws.proofs.Chains.{runs_name_reached, runs_sample_pairs}
 use Rattle.judgement_laws.proofs.Falls.{runs_fall_by_breaks}
 use Rattle.judgement_laws.proofs.Lines.{global_told, pair_told, entries_are_reported, buffers_are_reported}
 
-some_is : {A : Type 0} {x y : A} → Some x ≡ Some y → x ≡ y
-some_is e = cc (e)
-
 -- an item of the second list is related to one of the first
 zipped : {A B : Type 0} (R : A → B → Type 0) (xs : List A) (ys : List B) → AllZip R xs ys → (i : ℕ) (y : B) → slice_get ys i ≡ Some y → (x : A) × R x y
 zipped R [] [] h i y at = absurd (cc (at))
 zipped R [] (z ∷ ys) h i y at = absurd h
 zipped R (x ∷ xs) [] h i y at = absurd h
-zipped R (x ∷ xs) (z ∷ ys) h zero y at = (x, subst (R x) (some_is at) h.0)
+zipped R (x ∷ xs) (z ∷ ys) h zero y at = (x, subst (R x) (same_Some _ _ at) h.0)
 zipped R (x ∷ xs) (z ∷ ys) h (suc i) y at = zipped R xs ys h.1 i y at
 
 returned_have : (d m : PlainModule) → IsReturned d m → HaveReturns m
@@ -86,7 +83,7 @@ accepted_entry s m strict found checked number e at =
 entry_is_sound : (returns : Bool) (s : Settings) (d m : PlainModule) (strict : Bool) → IsPrepared returns d m → IsFinding s m (Accepted strict) → AreChecked s → (report : List ℕ) → IsReport m report → (number : ℕ) (e : PlainEntry) → slice_get m.entries number ≡ Some e → EntryIsSound returns s m report number e
 entry_is_sound returns s d m strict prepared found checked report is number e at =
     let a : IsAcceptedEntry s m number = accepted_entry s m strict found checked number e at in
-    let same : a.entry.entry ≡ e = some_is (sym a.entry.at ∙ at) in
+    let same : a.entry.entry ≡ e = same_Some _ _ (sym a.entry.at ∙ at) in
     subst (EntryIsSound returns s m report number) same
     (let own = a.entry.entry in
     let t = entries_are_reported m report is number own a.entry.at in
@@ -113,5 +110,5 @@ accepted_is_sound returns s d m strict prepared found checked report is = record
 pub functions_bound_depth : FunctionsBoundDepth
 functions_bound_depth m s strict found checked number e at =
     let a : IsAcceptedEntry s m number = accepted_entry s m strict found checked number e at in
-    let same : a.entry.entry ≡ e = some_is (sym a.entry.at ∙ at) in
+    let same : a.entry.entry ≡ e = same_Some _ _ (sym a.entry.at ∙ at) in
     subst (λ x. OnEveryRun m x (DepthOK (length m.functions))) same (runs_nest s m number a checked_operands)

@@ -8,3 +8,4 @@ pub mod Listed
 pub mod Reported
 pub mod LeavesWritten
 pub mod RunLaws
+pub mod Kept

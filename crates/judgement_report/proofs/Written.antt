@@ -3,6 +3,7 @@ use Rattle.std.proofs.Common.{◌≡◌, ◌≤◌, ◌+◌, ◌⊎◌, inl, inr
 use Rattle.std.specs.List.{cons_option}
 use Rattle.std.specs.Prelude.{◌↔◌}
 use Rattle.std.proofs.lemmas.List.{append_assoc, append-nil, drop_all, flat_map_more}
+use Rattle.std.proofs.lemmas.Option.{same_Some}
 use Rattle.spec_expressions.specs.judged.Pairs.{SamplingPair}
 use Rattle.spec_expressions.specs.declared.sampling.GlobalOrArgument.{GlobalOrArgument}
 use Rattle.spec_expressions.specs.declared.sampling.GlobalOrArgument.TheVariants.{Argument, Global}
@@ -10,8 +11,8 @@ use Rattle.typing_infos.specs.declared.function_info.FunctionInfo.{FunctionInfo}
 use Rattle.ir_items.specs.judged.Plain.{PlainEntry, PlainModule}
 use Rattle.judgement_report.specs.Reported.{numbers_in, numbers_of, IsEntryInfo, Tells, AreLinesOf, AreEntryLines}
 use Rattle.typing_rules.specs.judged.Laws.{IsAmong}
-use Rattle.judgement.specs.judged.Lines.{each_from}
-use Rattle.judgement.specs.judged.Reports.{IsEntryReport}
+use Rattle.judgement.specs.judged.Lines.{buffers, each_from}
+use Rattle.judgement.specs.judged.Reports.{IsEntryReport, IsReport}
 
 -- one more piece
 pub further : (before middle after a b : List ℕ) → middle ≡ before ++ a → after ≡ middle ++ b → after ≡ before ++ (a ++ b)
@@ -39,9 +40,6 @@ pub each_done : {X : Type 0} (told : ℕ → X → List ℕ) (xs : List X) (numb
 each_done told xs number text whole past is = sym (append-nil text) ∙ (sym (ap (λ rest. text ++ each_from told number rest) (drop_all number xs past)) ∙ is)
 
 -- ---- pairs
-
-some_is : {A : Type 0} {x y : A} → Some x ≡ Some y → x ≡ y
-some_is e = cc (e)
 
 global_is : {x y : ℕ} → Global x ≡ Global y → x ≡ y
 global_is e = cc (e)
@@ -135,3 +133,21 @@ one_more m number e info before middle after at is so_far next =
         told = ap (λ t. t ++ next.lines) held.told ∙ flat_map_more (λ told. told) [] held.entries next.lines;
       };
     }
+
+-- ---- the whole
+
+-- buffers, and then all entry points
+pub whole : (m : PlainModule) (before middle after : List ℕ) → middle ≡ before ++ buffers m → Tells (AreEntryLines m (length m.entries)) middle after → Tells (IsReport m) before after
+whole m before middle after first rest = record {
+  lines = buffers m ++ rest.lines;
+  behind = further before middle after (buffers m) rest.lines first rest.behind;
+  holds = record {
+    entries = rest.holds.entries;
+    are_entries = record { many = rest.holds.many; each = rest.holds.each };
+    told = ap (λ lines. buffers m ++ lines) rest.holds.told;
+  };
+}
+
+-- after nothing else
+pub alone : (m : PlainModule) (before after : List ℕ) → before ≡ [] → Tells (IsReport m) before after → IsReport m after
+alone m before after none all = subst (IsReport m) (sym (all.behind ∙ ap (λ t. t ++ all.lines) none)) all.holds

@@ -1,6 +1,6 @@
-//! The lines of buffers.
+//! The rows of buffers.
 
-ghost use Rattle.std.specs.Prelude.{◌≡◌, ◌++◌, ◌<◌, OnOk, Some, length, string_bytes};
+ghost use Rattle.std.specs.Prelude.{◌≡◌, ◌++◌, ◌<◌, OnOk, Some, length};
 ghost use Rattle.ir_items.specs.found.GlobalView.{global_view};
 ghost use Rattle.ir_items.specs.found.View.{module_view};
 ghost use Rattle.ir_types.specs.judged.Plain.{inner_view};
@@ -8,16 +8,17 @@ ghost use Rattle.judgement_report.specs.Reported.{AreLaid, IsReported};
 ghost use Rattle.spec_interface.specs.judged.Spaces.{array_base, effective_type};
 ghost use Rattle.judgement.specs.judged.Lines.{is_buffer, buffer_of, buffers};
 
-use crate::lines::write_buffer;
+use crate::rows::RowSink;
 use ir_arena::handle::Handle;
 use ir_items::{GlobalVariable, Module};
 use ir_kinds::AddressSpace;
 use ir_types::{TypeInner, key};
+use judgement_rows::{BufferRow, ReportRow};
 use std::alloc::AllocError;
 use typing_infos::ModuleInfo;
 
-// Whether an address space is that of a buffer.
-const fn is_buffer(space: AddressSpace) -> bool
+/// Whether an address space is that of a buffer.
+pub(crate) const fn is_buffer(space: AddressSpace) -> bool
     ensures { result ≡ is_buffer space }
 {
     match space {
@@ -51,9 +52,9 @@ fn counted(module: &Module, ty: Handle<key::IrType>) -> Handle<key::IrType>
     array_base(&module.types[ty].inner).unwrap_or(ty)
 }
 
-// The line of a global variable, if it is a buffer.
-fn write_variable(
-    text: &mut String,
+// The row of a global variable, if it is a buffer.
+fn tell_variable<S: RowSink>(
+    out: &mut S,
     module: &Module,
     info: &ModuleInfo,
     number: usize,
@@ -61,27 +62,31 @@ fn write_variable(
 ) -> Result<(), AllocError>
     requires laid { AreLaid (module_view «module».now) info.now }
     requires typed { variable.now.ty < length (module_view «module».now).types }
-    ensures { OnOk result (string_bytes text.new ≡ string_bytes text.old ++ buffer_of (module_view «module».now).types number (global_view variable.now)) }
+    ensures { OnOk result (S.told out.new ≡ S.told out.old ++ buffer_of (module_view «module».now).types number (global_view variable.now)) }
 {
     if !is_buffer(variable.space) {
         return Ok(());
     }
     let layout = info.layout(counted(module, variable.ty));
-    write_buffer(text, number, layout.size, layout.alignment.get())
+    out.row(ReportRow::Buffer(BufferRow {
+        global: number,
+        size: layout.size,
+        alignment: layout.alignment.get(),
+    }))
 }
 
-/// The lines of all buffers, in order.
-pub(crate) fn write_buffers(
-    text: &mut String,
+/// The rows of all buffers, in order.
+pub(crate) fn tell_buffers<S: RowSink>(
+    out: &mut S,
     module: &Module,
     info: &ModuleInfo,
 ) -> Result<(), AllocError>
     requires { IsReported (module_view «module».now) info.now }
-    ensures { OnOk result (string_bytes text.new ≡ string_bytes text.old ++ buffers (module_view «module».now)) }
+    ensures { OnOk result (S.told out.new ≡ S.told out.old ++ buffers (module_view «module».now)) }
 {
     for number in 0..module.global_variables.len() {
         let variable = &module.global_variables[Handle::at(number)];
-        write_variable(text, module, info, number, variable)?;
+        tell_variable(out, module, info, number, variable)?;
     }
     Ok(())
 }

@@ -1,16 +1,19 @@
-//! The lines of entry points.
+//! The rows of entry points.
 
-ghost use Rattle.std.specs.Prelude.{◌≡◌, ◌++◌, OnOk, length, string_bytes};
+ghost use Rattle.std.specs.Prelude.{◌≡◌, ◌++◌, OnOk, codes, length};
 ghost use Rattle.ir_items.specs.found.View.{entry_view, module_view};
 ghost use Rattle.judgement_report.specs.Reported.{IsReported, Tells, AreLinesOf, AreEntryLines};
-ghost use Rattle.judgement.specs.judged.Lines.{each_from, is_at, is_own, global_line, variable_lines};
+ghost use Rattle.judgement_report.specs.Lines.{uses_of};
+ghost use Rattle.judgement.specs.judged.Lines.{each_from, has, is_at, is_own, is_used, global_line, own_line, variable_lines};
 ghost use Rattle.spec_interface.specs.judged.Uses.{mesh_output};
 
-use crate::lines::{is_used, write_global, write_head, write_own};
-use crate::pairs::write_samples;
+use crate::pairs::tell_samples;
+use crate::rows::RowSink;
+use bitflags::Flags;
 use ir_arena::handle::Handle;
 use ir_items::{EntryPoint, Module};
 use ir_types::key;
+use judgement_rows::{ReportRow, Uses};
 use spec_expressions::GlobalUse;
 use std::alloc::{AllocError, Global};
 use typing_infos::{FunctionInfo, ModuleInfo};
@@ -42,74 +45,133 @@ fn is_own(entry: &EntryPoint, number: usize) -> bool
     is_at(entry.task_payload, number) || is_at(mesh_output(entry), number)
 }
 
-// The line of a global variable that is used and is neither payload nor mesh output.
-fn write_use(
-    text: &mut String,
+// Whether a global variable is used.
+fn is_used(kinds: GlobalUse) -> bool
+    ensures { result ≡ is_used kinds }
+{
+    !kinds.is_empty()
+}
+
+// Whether the uses contain this flag.
+fn has(kinds: GlobalUse, kind: GlobalUse) -> bool
+    ensures { result ≡ has kinds kind }
+{
+    kinds.contains(kind)
+}
+
+// The uses by name.
+fn uses_of(kinds: GlobalUse) -> Uses
+    ensures { result ≡ uses_of kinds }
+{
+    Uses {
+        read: has(kinds, GlobalUse::READ),
+        write: has(kinds, GlobalUse::WRITE),
+        query: has(kinds, GlobalUse::QUERY),
+        atomic: has(kinds, GlobalUse::ATOMIC),
+    }
+}
+
+// The row of a global variable that is used and is neither payload nor mesh output.
+fn tell_use<S: RowSink>(
+    out: &mut S,
     entry: &EntryPoint,
     number: usize,
     kinds: GlobalUse,
 ) -> Result<(), AllocError>
-    ensures { OnOk result (string_bytes text.new ≡ string_bytes text.old ++ global_line (entry_view entry.now) number kinds) }
+    ensures { OnOk result (S.told out.new ≡ S.told out.old ++ global_line (entry_view entry.now) number kinds) }
 {
     if !is_own(entry, number) && is_used(kinds) {
-        write_global(text, number, kinds)
+        out.row(ReportRow::Global {
+            global: number,
+            uses: uses_of(kinds),
+        })
     } else {
         Ok(())
     }
 }
 
-// The lines of the global variables that are used and are neither payload nor mesh output.
-fn write_uses(text: &mut String, entry: &EntryPoint, uses: &[GlobalUse]) -> Result<(), AllocError>
-    ensures { OnOk result (string_bytes text.new ≡ string_bytes text.old ++ each_from (global_line (entry_view entry.now)) 0 uses.now) }
+// The rows of the global variables that are used and are neither payload nor mesh output.
+fn tell_uses<S: RowSink>(
+    out: &mut S,
+    entry: &EntryPoint,
+    uses: &[GlobalUse],
+) -> Result<(), AllocError>
+    ensures { OnOk result (S.told out.new ≡ S.told out.old ++ each_from (global_line (entry_view entry.now)) 0 uses.now) }
 {
     for number in 0..uses.len() {
-        write_use(text, entry, number, uses[number])?;
+        tell_use(out, entry, number, uses[number])?;
     }
     Ok(())
 }
 
-// The lines of an entry point up to those of its global variables, by its index and their uses.
-fn write_variables(
-    text: &mut String,
+// The row of the payload, if there is one.
+fn tell_payload<S: RowSink>(
+    out: &mut S,
+    own: Option<Handle<key::GlobalVariable>>,
+) -> Result<(), AllocError>
+    ensures { OnOk result (S.told out.new ≡ S.told out.old ++ own_line (codes "payload") own) }
+{
+    match own {
+        Some(variable) => out.row(ReportRow::Payload(variable.index())),
+        None => Ok(()),
+    }
+}
+
+// The row of the mesh output, if there is one.
+fn tell_mesh<S: RowSink>(
+    out: &mut S,
+    own: Option<Handle<key::GlobalVariable>>,
+) -> Result<(), AllocError>
+    ensures { OnOk result (S.told out.new ≡ S.told out.old ++ own_line (codes "mesh") own) }
+{
+    match own {
+        Some(variable) => out.row(ReportRow::Mesh(variable.index())),
+        None => Ok(()),
+    }
+}
+
+// The rows of an entry point up to those of its global variables, by its index and their uses.
+fn tell_variables<S: RowSink>(
+    out: &mut S,
     number: usize,
     entry: &EntryPoint,
     uses: &[GlobalUse],
 ) -> Result<(), AllocError>
-    ensures { OnOk result (string_bytes text.new ≡ string_bytes text.old ++ variable_lines number (entry_view entry.now) uses.now) }
+    ensures { OnOk result (S.told out.new ≡ S.told out.old ++ variable_lines number (entry_view entry.now) uses.now) }
 {
-    write_head(text, number)?;
-    write_own(text, "payload", entry.task_payload)?;
-    write_own(text, "mesh", mesh_output(entry))?;
-    write_uses(text, entry, uses)
+    out.row(ReportRow::Entry(number))?;
+    tell_payload(out, entry.task_payload)?;
+    tell_mesh(out, mesh_output(entry))?;
+    tell_uses(out, entry, uses)
 }
 
-// The lines of an entry point, by its index and its `FunctionInfo`.
-fn write_entry(
+// The rows of an entry point, by its index and its `FunctionInfo`.
+fn tell_entry<S: RowSink>(
     alloc: Global,
-    text: &mut String,
+    out: &mut S,
     number: usize,
     entry: &EntryPoint,
     info: &FunctionInfo,
 ) -> Result<(), AllocError>
-    ensures { OnOk result (Tells (AreLinesOf number (entry_view entry.now) info.now) (string_bytes text.old) (string_bytes text.new)) }
+    ensures { OnOk result (Tells (AreLinesOf number (entry_view entry.now) info.now) (S.told out.old) (S.told out.new)) }
 {
-    write_variables(text, number, entry, info.uses())?;
-    write_samples(alloc, text, info.pairs())
+    tell_variables(out, number, entry, info.uses())?;
+    tell_samples(alloc, out, info.pairs())
 }
 
-/// The lines of all entry points, in order.
-pub(crate) fn write_entries(
+/// The rows of all entry points, in order.
+pub(crate) fn tell_entries<S: RowSink>(
     alloc: Global,
-    text: &mut String,
+    out: &mut S,
     module: &Module,
     info: &ModuleInfo,
 ) -> Result<(), AllocError>
     requires { IsReported (module_view «module».now) info.now }
-    ensures { OnOk result (Tells (AreEntryLines (module_view «module».now) (length (module_view «module».now).entries)) (string_bytes text.old) (string_bytes text.new)) }
+    ensures { OnOk result (Tells (AreEntryLines (module_view «module».now) (length (module_view «module».now).entries)) (S.told out.old) (S.told out.new)) }
 {
     for number in 0..module.entry_points.len() {
         let entry = &module.entry_points[number];
-        write_entry(alloc, text, number, entry, info.get_entry_point(number))?;
+        tell_entry(alloc, out, number, entry, info.get_entry_point(number))?;
     }
     Ok(())
 }

@@ -1,9 +1,11 @@
 //! Paths of leaves, step by step.
 
-ghost use Rattle.std.specs.Prelude.{◌≡◌, ◌++◌, IfOk, OnOk, option_map, string_bytes};
+ghost use Rattle.std.specs.Prelude.{◌≡◌, ◌++◌, ◌∷◌, [], IfOk, OnOk, option_map, string_bytes};
+ghost use Rattle.judgement_report.specs.Lines.{repeat_words};
 ghost use Rattle.judgement_report.specs.Paths.{are_word_bytes, dot_after, is_word, is_word_byte, member_word, range_word, stride_word, to_elements, to_member};
 ghost use Rattle.judgement_report.specs.Runs.{to_each};
 
+use judgement_rows::Repeat;
 use std::alloc::{AllocError, Global};
 
 // Whether a byte is an ASCII letter, a digit, an underscore or part of a non-ASCII character.
@@ -96,18 +98,36 @@ pub(crate) fn to_elements(alloc: Global, before: &str, count: u32) -> Result<Str
     Ok(path)
 }
 
-/// The strides with that of an array appended: nothing is appended if it has one element.
-pub(crate) fn with_stride(
+/// These arrays.
+pub(crate) fn copied(alloc: Global, repeats: &[Repeat]) -> Result<Vec<Repeat>, AllocError>
+    ensures { IfOk result (λ all. all.items ≡ repeats.now) }
+{
+    let mut all = Vec::new(alloc);
+    all.extend_from_slice(repeats)?;
+    Ok(all)
+}
+
+// Appends an array.
+fn append(repeats: &mut Vec<Repeat>, repeat: Repeat) -> Result<(), AllocError>
+    ensures { OnOk result (repeats.new.items ≡ repeats.old.items ++ repeat ∷ []) }
+{
+    repeats.push(repeat)?;
+    Ok(())
+}
+
+/// The arrays around a leaf with a further one: nothing is appended if it has one element.
+pub(crate) fn with_repeat(
     alloc: Global,
-    before: &str,
+    before: &[Repeat],
     count: u32,
     stride: u32,
-) -> Result<String, AllocError>
-    ensures { IfOk result (λ strides. string_bytes strides ≡ before.now ++ stride_word (to_each count stride)) }
+) -> Result<Vec<Repeat>, AllocError>
+    ensures { IfOk result (λ repeats. repeat_words repeats.items ≡ repeat_words before.now ++ stride_word (to_each count stride)) }
 {
-    let mut strides = String::from_str(alloc, before)?;
-    if count != 1 {
-        write!(strides, " stride {stride}")?;
+    if count == 1 {
+        return copied(alloc, before);
     }
-    Ok(strides)
+    let mut repeats = copied(alloc, before)?;
+    append(&mut repeats, Repeat { count, stride })?;
+    Ok(repeats)
 }

@@ -9,3 +9,4 @@ pub mod Compositions
 pub mod GlobalExpressions
 pub mod Items
 pub mod Literals
+mod Lookups

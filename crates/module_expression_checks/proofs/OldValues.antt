@@ -1,5 +1,6 @@
 -- The old value of an exchange.
 use Rattle.std.proofs.Common.{◌≡◌, ◌↔◌, List, [], ◌∷◌, Option, Some, None, Bool, false, true≢false, IsTrue, codes, subst, refl, sym, ap}
+use Rattle.std.proofs.lemmas.Option.{same_Some}
 use Rattle.ir_types.specs.judged.Plain.{PlainInner, PlainMember, PlainType, struct, plain}
 use Rattle.typing_forms.specs.judged.Forms.{form_of_type}
 use Rattle.typing_forms.specs.declared.form.Form.{Form}
@@ -8,13 +9,10 @@ use Rattle.spec_statements.specs.judged.Shapes.{IsMadeOf, IsScalarShape, IsBool}
 
 -- ---- two members
 
-some_is : (a b : Form) → Some a ≡ Some b → a ≡ b
-some_is a b e = cc
-
 pub found : (types : List PlainType) (old exchanged : PlainMember) → old.name ≡ Some (codes "old_value") → exchanged.name ≡ Some (codes "exchanged")
     → IsMadeOf IsScalarShape IsBool (form_of_type types exchanged.ty) → (of : Form) → (Some (form_of_type types old.ty) ≡ Some of) ↔ AreExchanged (λ x. x ≡ of) types old exchanged
 found types old exchanged first second truth of =
-    (λ e. record { old_name = first; old_type = some_is _ _ e; exchanged_name = second; exchanged_type = truth }, λ h. ap Some h.old_type)
+    (λ e. record { old_name = first; old_type = same_Some _ _ e; exchanged_name = second; exchanged_type = truth }, λ h. ap Some h.old_type)
 
 pub missing : (types : List PlainType) (old exchanged : PlainMember)
     → ((of : Form) → AreExchanged (λ x. x ≡ of) types old exchanged → ⊥) → (of : Form) → (None ≡ Some of) ↔ AreExchanged (λ x. x ≡ of) types old exchanged

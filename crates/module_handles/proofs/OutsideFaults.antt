@@ -1,11 +1,12 @@
 -- What an error outside functions says, and what its absence says.
 use Rattle.std.proofs.Common.{◌≡◌, inl, inr, ℕ, ◌+◌, ◌<◌, ◌≤◌, List, true, false, if◌then◌else◌, Option, Some, None, option_map, option_and_then, nat_lt, refl, sym, ap, ◌∙◌, subst, slice_get, length, Contains, arith}
+use Rattle.std.proofs.lemmas.Option.{same_Some}
 use borrow.Author.Tests.{ltb-true, ltb-false}
 use Rattle.ir_types.specs.judged.ExpressionPlain.{PlainExpression}
 use Rattle.ir_items.specs.judged.GlobalPlain.{PlainConstant, PlainOverride, PlainGlobal}
 use Rattle.ir_items.specs.judged.Plain.{PlainEntry, PlainModule}
 use Rattle.typing_references.proofs.FaultLaws.{missing_none, missing_some, then_some, map_none, map_some}
-use Rattle.typing_references.proofs.FirstLaws.{or_some, some_is, below_each, past_one}
+use Rattle.typing_references.proofs.FirstLaws.{or_some, below_each, past_one}
 use Rattle.typing_references.specs.Faults.{outside_functions, missing, item_missing}
 use Rattle.typing_references.specs.declared.fault.HandleFault.{HandleFault}
 use Rattle.typing_references.specs.declared.fault.HandleFault.TheVariants as fault
@@ -37,7 +38,7 @@ forward_none k place depends_on e = elim (nat_lt depends_on place) as (λ b. nat
 pub forward_some : (k : ItemKind) (place depends_on : ℕ) (h : HandleFault) → forward k place depends_on ≡ Some h → (h ≡ fault.Forward k place depends_on) × ¬ (depends_on < place)
 forward_some k place depends_on h e = elim (nat_lt depends_on place) as (λ b. nat_lt depends_on place ≡ b → (if b then None else Some (fault.Forward k place depends_on)) ≡ Some h → (h ≡ fault.Forward k place depends_on) × ¬ (depends_on < place)) [
   | true ↦ λ lt g. cc
-  | false ↦ λ lt g. (sym (some_is _ h g), λ before. let past = ltb-false depends_on place lt in omega (arith, past, before))
+  | false ↦ λ lt g. (sym (same_Some _ h g), λ before. let past = ltb-false depends_on place lt in omega (arith, past, before))
 ] refl e
 
 -- no handle is out of bounds, so each item exists
@@ -146,7 +147,7 @@ module _ (m : PlainModule) where
   type_found x _ (by_override is at) = ap (option_and_then (type_of m)) is ∙ ap (option_map (λ (o : PlainOverride). o.ty)) at
 
   named_type : (x : PlainExpression) (t : ℕ) (u : Target) → expression_item x ≡ Some u → type_of m u ≡ Some t → NamesType m x t
-  named_type x t (target.Type handle) is e = by_itself (is ∙ ap (λ (h : ℕ). Some (target.Type h)) (some_is handle t e))
+  named_type x t (target.Type handle) is e = by_itself (is ∙ ap (λ (h : ℕ). Some (target.Type h)) (same_Some handle t e))
   named_type x t (target.Constant handle) is e = let r = map_some (λ (c : PlainConstant). c.ty) (slice_get m.constants handle) t e in subst (NamesType m x) (sym r.2) (by_constant is r.1)
   named_type x t (target.Override handle) is e = let r = map_some (λ (o : PlainOverride). o.ty) (slice_get m.overrides handle) t e in subst (NamesType m x) (sym r.2) (by_override is r.1)
   named_type x t (target.GlobalVariable handle) is e = cc

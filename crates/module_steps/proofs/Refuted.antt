@@ -1,5 +1,6 @@
 -- A type with an error is invalid.
 use Rattle.std.proofs.Common.{◌≡◌, ◌≤◌, ◌⊎◌, inl, inr, ℕ, zero, suc, List, [], ◌∷◌, Some, None, IfSome, Bool, true, false, true≢false, slice_get, option_and_then, refl, sym, ap, subst, ◌∙◌, arith}
+use Rattle.std.proofs.lemmas.Option.{same_Some}
 use Rattle.ir_flags.specs.declared.settings.Capabilities.{Capabilities}
 use Rattle.ir_kinds.specs.declared.bindings.Binding.TheVariants as bound
 use Rattle.ir_kinds.specs.declared.scalars.Scalar.{Scalar}
@@ -61,11 +62,8 @@ struct_refuted c ms span e f ok = member_refuted c ms span f.0 f.1 e f.3 (ok.eac
 
 -- ---- blend sources
 
-some_is : {A : Type 0} (x y : A) → Some x ≡ Some y → x ≡ y
-some_is x y e = cc
-
 located_source : (m : PlainMember) (source : ℕ) → blend_source m.binding ≡ Some source → BlendLocationOK m → (source ≡ 0) ⊎ (source ≡ 1)
-located_source m source is ok = let at = location m.binding source is in elim ((ok at.0 at.1).1) [ inl e ↦ inl (some_is source 0 (sym is ∙ e)) | inr e ↦ inr (some_is source 1 (sym is ∙ e)) ]
+located_source m source is ok = let at = location m.binding source is in elim ((ok at.0 at.1).1) [ inl e ↦ inl (same_Some source 0 (sym is ∙ e)) | inr e ↦ inr (same_Some source 1 (sym is ∙ e)) ]
   where
     location : (b : _) (source : ℕ) → blend_source b ≡ Some source → (l : ℕ) × (binding_location b ≡ Some l)
     location None source e = cc
@@ -104,7 +102,7 @@ varying_refuted k types ms (varying.InvalidBlendSrcIndex location source) f ok =
     let h = ok.located f.1.place f.0 f.1.at location f.1.is in
     elim f.3 [
       | inl wrong ↦ wrong h.0
-      | inr wrong ↦ elim h.1 [ inl e ↦ wrong.0 (some_is source 0 (sym f.2 ∙ e)) | inr e ↦ wrong.1 (some_is source 1 (sym f.2 ∙ e)) ]
+      | inr wrong ↦ elim h.1 [ inl e ↦ wrong.0 (same_Some source 0 (sym f.2 ∙ e)) | inr e ↦ wrong.1 (same_Some source 1 (sym f.2 ∙ e)) ]
     ]
 varying_refuted k types ms (varying.IncompleteBlendSrcUsage present) f ok = elim f.1 [
   | inl h ↦ h.1 ok.second_place (source_there ms ok.second_place 1 ok.second ok.is_second.at ok.is_second.is)

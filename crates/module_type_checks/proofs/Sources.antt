@@ -1,5 +1,6 @@
 -- Blend sources, member by member.
 use Rattle.std.proofs.Common.{◌≡◌, ◌≢◌, ◌<◌, ◌≤◌, ◌+◌, ◌⊎◌, inl, inr, ℕ, zero, suc, List, [], ◌∷◌, Option, Some, None, All, Result, Ok, Err, MatchOption, MatchResult, map, length, slice_get, get_or, option_and_then, refl, sym, ap, subst, ◌∙◌, arith, rules}
+use Rattle.std.proofs.lemmas.Option.{same_Some}
 use Rattle.ir_types.specs.judged.Plain.{PlainMember, member_view}
 use Rattle.ir_types.specs.declared.types.StructMember.{StructMember}
 use Rattle.typing_layout.specs.judged.Blends.{source_at, HasSource, BlendLocationOK, BlendOK}
@@ -109,13 +110,10 @@ located_source None source e = cc
 located_source (Some (bound.BuiltIn built_in)) source e = cc
 located_source (Some (bound.Location location interpolation sampling s per_primitive)) source e = (location, refl)
 
-some_is : (x y : ℕ) → Some x ≡ Some y → x ≡ y
-some_is x y e = cc
-
 one_of_two : (m : PlainMember) (source : ℕ) → BlendLocationOK m → blend_source m.binding ≡ Some source → (source ≡ 0) ⊎ (source ≡ 1)
 one_of_two m source ok is =
     let at = located_source m.binding source is in
-    elim ((ok at.0 at.1).1) [ inl e ↦ inl (some_is source 0 (sym is ∙ e)) | inr e ↦ inr (some_is source 1 (sym is ∙ e)) ]
+    elim ((ok at.0 at.1).1) [ inl e ↦ inl (same_Some source 0 (sym is ∙ e)) | inr e ↦ inr (same_Some source 1 (sym is ∙ e)) ]
 
 -- the member with a blend source
 member_of : (ms : List PlainMember) (k source : ℕ) → source_at ms k ≡ Some source → (m : PlainMember) × (slice_get ms k ≡ Some m) × (blend_source m.binding ≡ Some source)

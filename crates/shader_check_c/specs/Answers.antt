@@ -14,7 +14,7 @@ use Rattle.check_explanation.specs.Explained.{finding_of}
 use Rattle.check_explanation.specs.Listed.{ExplainsBytes, lines_of}
 use Rattle.check_explanation.specs.Objects.{IsObjectText}
 use Rattle.check_explanation.specs.declared.explanation.Explanation.{Explanation}
-use Rattle.check_explanation.specs.declared.explanation.Requested.TheVariants.{Leaves, Report}
+use Rattle.check_explanation.specs.declared.lines.Requested.TheVariants.{Leaves, Report}
 use Rattle.check_explanation.specs.declared.spirv.SpirvVerdict.{SpirvVerdict}
 use Rattle.check_explanation.specs.declared.spirv.SpirvVerdict.TheVariants as spirv
 
@@ -91,11 +91,12 @@ pub record IsGivenListing (document : List ℕ) (status : ℕ) (old new : List �
   pub written : new ≡ front_of text old
   pub whole : needed ≡ length text
 
--- The verdict is that of the finding for some document with all checks.
-pub record IsVerdictOfSome (verdict : SpirvVerdict) : Type 0 where
+-- The text is the object of the finding for some document with all checks, and the verdict is that of it.
+pub record IsObjectOfSome (verdict : SpirvVerdict) (text : List ℕ) : Type 0 where
   pub explanation : Explanation
   pub explained : IsExplainedAs Report explanation
   pub verdict_is : verdict ≡ verdict_of (finding_of explanation)
+  pub object : IsObjectText (finding_of explanation) text
 
 -- The text is the listing of the finding for some document with all checks, and the verdict is that of it.
 pub record IsListingOfSome (verdict : SpirvVerdict) (text : List ℕ) : Type 0 where
@@ -105,10 +106,10 @@ pub record IsListingOfSome (verdict : SpirvVerdict) (text : List ℕ) : Type 0 w
   pub text_is : text ≡ text_of (finding_of explanation) ++ lines_of explanation
 
 -- nothing is stated for a module that was not read
-abbrev pub IsVerdictOfSpirv : SpirvVerdict → Type 0
-IsVerdictOfSpirv spirv.Accepted = IsVerdictOfSome spirv.Accepted
-IsVerdictOfSpirv spirv.Refused = IsVerdictOfSome spirv.Refused
-IsVerdictOfSpirv spirv.Unread = Unit {0}
+abbrev pub IsObjectOfSpirv : SpirvVerdict → (text : List ℕ) → Type 0
+IsObjectOfSpirv spirv.Accepted text = IsObjectOfSome spirv.Accepted text
+IsObjectOfSpirv spirv.Refused text = IsObjectOfSome spirv.Refused text
+IsObjectOfSpirv spirv.Unread text = Unit {0}
 
 abbrev pub IsListingOfSpirv : SpirvVerdict → (text : List ℕ) → Type 0
 IsListingOfSpirv spirv.Accepted text = IsListingOfSome spirv.Accepted text

@@ -4,8 +4,9 @@ use Rattle.judgement.specs.judged.Text.{text_of}
 use Rattle.check_explanation.specs.Answered.{IsExplained}
 use Rattle.check_explanation.specs.Explained.{finding_of}
 use Rattle.check_explanation.specs.Listed.{lines_of}
+use Rattle.check_explanation.specs.Objects.{IsObjectText}
 use Rattle.check_explanation.specs.declared.explanation.Explanation.{Explanation}
-use Rattle.check_explanation.specs.declared.explanation.Requested.TheVariants.{Leaves, Report}
+use Rattle.check_explanation.specs.declared.lines.Requested.TheVariants.{Leaves, Report}
 use Rattle.check_wgsl.specs.Answered.{verdict_of}
 use Rattle.check_wgsl.specs.declared.judged.WgslVerdict.{WgslVerdict}
 use Rattle.check_wgsl.specs.declared.judged.WgslVerdict.TheVariants.{Accepted, Refused, Unread}
@@ -25,11 +26,12 @@ pub record IsGivenOfWgsl (Of : WgslVerdict → List ℕ → Type 0) (status : �
   pub written : new ≡ front_of text old
   pub whole : needed ≡ length text
 
--- The verdict is that of the finding for some document with all checks.
-pub record IsVerdictOfSome (verdict : WgslVerdict) : Type 0 where
+-- The text is the object of the finding for some document with all checks, and the verdict is that of it.
+pub record IsObjectOfSome (verdict : WgslVerdict) (text : List ℕ) : Type 0 where
   pub explanation : Explanation
   pub explained : IsExplained Report explanation
   pub verdict_is : verdict ≡ verdict_of (finding_of explanation)
+  pub object : IsObjectText (finding_of explanation) text
 
 -- The text is the listing of the finding for some document with all checks, and the verdict is that of it.
 pub record IsListingOfSome (verdict : WgslVerdict) (text : List ℕ) : Type 0 where
@@ -39,10 +41,10 @@ pub record IsListingOfSome (verdict : WgslVerdict) (text : List ℕ) : Type 0 wh
   pub text_is : text ≡ text_of (finding_of explanation) ++ lines_of explanation
 
 -- nothing is stated for a text of which no module was read
-abbrev pub IsVerdictOfWgsl : WgslVerdict → Type 0
-IsVerdictOfWgsl Accepted = IsVerdictOfSome Accepted
-IsVerdictOfWgsl Refused = IsVerdictOfSome Refused
-IsVerdictOfWgsl Unread = Unit {0}
+abbrev pub IsObjectOfWgsl : WgslVerdict → (text : List ℕ) → Type 0
+IsObjectOfWgsl Accepted text = IsObjectOfSome Accepted text
+IsObjectOfWgsl Refused text = IsObjectOfSome Refused text
+IsObjectOfWgsl Unread text = Unit {0}
 
 abbrev pub IsListingOfWgsl : WgslVerdict → (text : List ℕ) → Type 0
 IsListingOfWgsl Accepted text = IsListingOfSome Accepted text

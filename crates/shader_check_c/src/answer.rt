@@ -3,10 +3,9 @@
 ghost use Rattle.std.specs.Prelude.{◌≡◌, ◌<◌, ◌≢◌, ◌≤◌, IfSome, string_bytes};
 ghost use Rattle.shader_check.specs.found.Judgements.{Judged};
 ghost use Rattle.check_explanation.specs.Answered.{IsAnswered, IsExplained, verdict_of};
-ghost use Rattle.check_explanation.specs.Explained.{finding_of};
 ghost use Rattle.check_explanation.specs.Objects.{IsObjectText};
-ghost use Rattle.check_explanation.specs.declared.explanation.Requested.TheVariants.{Leaves as leaves};
-ghost use Rattle.shader_check_c.specs.Answers.{IsAnswerOn, IsListing, IsListingOfSpirv, IsVerdictOfSpirv, front_of, status_in, status_of};
+ghost use Rattle.check_explanation.specs.declared.lines.Requested.TheVariants.{Leaves as leaves, Report as report};
+ghost use Rattle.shader_check_c.specs.Answers.{IsAnswerOn, IsListing, IsListingOfSpirv, IsObjectOfSpirv, front_of, status_in, status_of};
 ghost use Rattle.shader_check_c.specs.Answers.{status_of_spirv};
 
 use check_explanation::{
@@ -134,10 +133,11 @@ fn unread_object(alloc: Global, spirv: &[u8], error: SpirvError) -> Option<Spirv
 
 // The JSON object of a module's explanation.
 fn object_of(alloc: Global, traced: Traced) -> Option<SpirvAnswer>
-    ensures { IfSome result (λ answer. answer.verdict ≡ verdict_of (finding_of traced.explanation)) }
+    requires { IsExplained report traced.explanation }
+    ensures { IfSome result (λ answer. IsObjectOfSpirv answer.verdict (string_bytes answer.text)) }
 {
     let verdict = verdict_of(traced.explanation.finding());
-    let object = traced.json(alloc);
+    let object = traced.json(alloc, &[]);
     drop(traced);
     with_verdict(verdict, object)
 }
@@ -155,7 +155,7 @@ fn listing_of(alloc: Global, traced: Traced) -> Option<SpirvAnswer>
 
 /// The explanation of this SPIR-V binary, as an object; nothing if out of memory.
 pub(crate) fn spirv_object_on(alloc: Global, spirv: &[u8]) -> Option<SpirvAnswer>
-    ensures { IfSome result (λ answer. IsVerdictOfSpirv answer.verdict) }
+    ensures { IfSome result (λ answer. IsObjectOfSpirv answer.verdict (string_bytes answer.text)) }
 {
     match explain_spirv(alloc, Requested::Report, spirv) {
         Ok(traced) => object_of(alloc, traced),

@@ -7,9 +7,9 @@ mod wgsl;
 
 ghost use Rattle.std.specs.Prelude.{◌≡◌, ◌≢◌, ◌<◌, ◌≤◌, ◌+◌, ◌*◌};
 ghost use Rattle.shader_check_c.specs.Answers.{IsGiven, IsExplained, IsGivenListing, IsGivenOfSpirv, IsGivenWith, IsListingOfSpirv};
-ghost use Rattle.shader_check_c.specs.Answers.{IsReadOrNot, IsVerdictOfSpirv};
+ghost use Rattle.shader_check_c.specs.Answers.{IsObjectOfSpirv, IsReadOrNot};
 ghost use Rattle.check_wgsl.specs.Answered.{IsAnswered as IsAnsweredOfWgsl};
-ghost use Rattle.shader_check_c.specs.Wgsl.{IsGivenOfWgsl, IsListingOfWgsl, IsReadOrNotOfWgsl, IsVerdictOfWgsl};
+ghost use Rattle.shader_check_c.specs.Wgsl.{IsGivenOfWgsl, IsListingOfWgsl, IsObjectOfWgsl, IsReadOrNotOfWgsl};
 
 use answer::{
     answer_on, explained_on, listed_on, put_front, spirv_answer_on, spirv_document_on,
@@ -144,7 +144,7 @@ pub extern "C" fn shader_check_c_spirv_json(
     needed: &mut usize,
 ) -> u32
     ensures known { result ≤ 3 }
-    ensures given { result ≢ 2 → IsGivenWith (λ v t. IsVerdictOfSpirv v) result text.old text.new needed.new }
+    ensures given { result ≢ 2 → IsGivenWith IsObjectOfSpirv result text.old text.new needed.new }
     ensures refused { result ≡ 2 → text.new ≡ text.old }
     ensures refused_none { result ≡ 2 → needed.new ≡ 0 }
 {
@@ -248,7 +248,7 @@ pub extern "C" fn shader_check_c_wgsl_json(
     needed: &mut usize,
 ) -> u32
     ensures known { result ≤ 3 }
-    ensures given { result ≢ 2 → IsGivenOfWgsl (λ v t. IsVerdictOfWgsl v) result text.old text.new needed.new }
+    ensures given { result ≢ 2 → IsGivenOfWgsl IsObjectOfWgsl result text.old text.new needed.new }
     ensures refused { result ≡ 2 → text.new ≡ text.old }
     ensures refused_none { result ≡ 2 → needed.new ≡ 0 }
 {

@@ -2,15 +2,14 @@
 
 ghost use Rattle.std.specs.Prelude.{◌≡◌, ◌≢◌, ◌≤◌, IfSome, string_bytes};
 ghost use Rattle.check_explanation.specs.Answered.{IsExplained};
-ghost use Rattle.check_explanation.specs.Explained.{finding_of};
-ghost use Rattle.check_explanation.specs.declared.explanation.Requested.TheVariants.{Leaves as leaves};
+ghost use Rattle.check_explanation.specs.declared.lines.Requested.TheVariants.{Leaves as leaves, Report as report};
 ghost use Rattle.check_wgsl.specs.Answered.{IsAnswered, verdict_of};
-ghost use Rattle.shader_check_c.specs.Wgsl.{IsListingOfWgsl, IsVerdictOfWgsl, status_of_wgsl};
+ghost use Rattle.shader_check_c.specs.Wgsl.{IsListingOfWgsl, IsObjectOfWgsl, status_of_wgsl};
 
-use check_diagnostics::{Diagnosed, explain_wgsl, unread_object};
 use check_explanation::Requested;
 use check_wgsl::{
-    Cause, WgslAnswer, WgslError, WgslVerdict, check_wgsl, message_of, wgsl_document,
+    Cause, Diagnosed, WgslAnswer, WgslError, WgslVerdict, check_wgsl, explain_wgsl, message_of,
+    unread_object, wgsl_document,
 };
 use shader_check::Finding;
 use std::alloc::{AllocError, Global};
@@ -67,7 +66,8 @@ fn unread_in_object(alloc: Global, wgsl: &[u8], error: &WgslError) -> Option<Wgs
 
 // The JSON object of a text's explanation.
 fn object_of(alloc: Global, diagnosed: Diagnosed) -> Option<WgslAnswer>
-    ensures { IfSome result (λ answer. answer.verdict ≡ verdict_of (finding_of diagnosed.explanation)) }
+    requires { IsExplained report diagnosed.explanation }
+    ensures { IfSome result (λ answer. IsObjectOfWgsl answer.verdict (string_bytes answer.text)) }
 {
     let verdict = verdict_of(diagnosed.explanation.finding());
     let object = diagnosed.json(alloc);
@@ -88,7 +88,7 @@ fn listing_of(alloc: Global, diagnosed: Diagnosed) -> Option<WgslAnswer>
 
 /// The explanation of this WGSL text, as an object; nothing if out of memory.
 pub(crate) fn wgsl_object_on(alloc: Global, wgsl: &[u8]) -> Option<WgslAnswer>
-    ensures { IfSome result (λ answer. IsVerdictOfWgsl answer.verdict) }
+    ensures { IfSome result (λ answer. IsObjectOfWgsl answer.verdict (string_bytes answer.text)) }
 {
     match explain_wgsl(alloc, Requested::Report, wgsl) {
         Ok(diagnosed) => object_of(alloc, diagnosed),

@@ -3,7 +3,8 @@
 //! (`ir_blocks`), items, the emitter and walks along handles (`ir_items`), and in `specs/` the definitions of their
 //! contracts.
 //!
-//! Nothing is defined here. A crate that uses the whole representation depends on this crate alone.
+//! Nothing is defined here. A crate that uses the whole representation depends on this crate alone, and on `bitflags` for the calls
+//! of sets of flags (`contains`, `union` ..), which are those of `bitflags::Flags`.
 #![tactic(auto)]
 
 pub mod laws;
@@ -105,9 +106,11 @@ pub use ir_kinds::SwitchValue;
 pub use ir_kinds::SwizzleComponent;
 pub use ir_kinds::UnaryOperator;
 pub use ir_kinds::VectorSize;
+pub use ir_sets::drain::UniqueArenaDrain;
 pub use ir_sets::handle_set::ArenaType;
 pub use ir_sets::handle_set::HandleSet;
 pub use ir_sets::handle_vec::HandleVec;
+pub use ir_sets::keyed::KeyedState;
 pub use ir_sets::unique_arena::UniqueArena;
 pub use ir_types::LiteralExt;
 pub use ir_types::refusal::Refusal;

@@ -32,8 +32,8 @@ pub use typing_handles::{
     handles_in_range, operands_precede,
 };
 pub use typing_infos::{
-    CompareTypes, FunctionInfo, TypingRefusal, const_expression_types, process_const_expression,
-    types_of,
+    CompareTypes, FunctionInfo, SampledKeys, TypingRefusal, const_expression_types,
+    process_const_expression, types_of,
 };
 pub use typing_layout::{
     Alignment, ExpressionKind, ExpressionKindTracker, LayoutError, LayoutErrorInner, Layouter,

@@ -1,5 +1,6 @@
 -- Membership in lists.
 use Rattle.std.proofs.Common.{◌≡◌, ◌⊎◌, ℕ, suc, zero, ◌<◌, Some, None, Bool, true, false, List, [], ◌∷◌, ◌++◌, length, refl, ap, sym, subst, inl, inr, ⊎_elim, arith, map, slice_get}
+use Rattle.std.proofs.lemmas.Option.{same_Some}
 use Rattle.typing_rules.specs.judged.Laws.{IsAmong}
 
 pub among-left : {X : Type 0} (xs ys : List X) (x : X) → IsAmong x xs → IsAmong x (xs ++ ys)
@@ -16,12 +17,9 @@ among-cases [] ys x h = inr h
 among-cases (y ∷ xs) ys x (inl e) = inl (inl e)
 among-cases (y ∷ xs) ys x (inr h) = elim (among-cases xs ys x h) [ inl a ↦ inl (inr a) | inr b ↦ inr b ]
 
-some_is : {X : Type 0} {x y : X} → Some x ≡ Some y → x ≡ y
-some_is e = cc (e)
-
 pub among-get : {X : Type 0} (xs : List X) (k : ℕ) (x : X) → slice_get xs k ≡ Some x → IsAmong x xs
 among-get [] k x e = cc (e)
-among-get (y ∷ xs) zero x e = inl (some_is e)
+among-get (y ∷ xs) zero x e = inl (same_Some _ _ e)
 among-get (y ∷ xs) (suc k) x e = inr (among-get xs k x e)
 
 pub get-among : {X : Type 0} (xs : List X) (x : X) → IsAmong x xs → (k : ℕ) × (slice_get xs k ≡ Some x)

@@ -4,6 +4,7 @@ use Rattle.std.specs.Prelude.{◌↔◌, slice_index_or}
 use Rattle.std.specs.Int.{bit_at}
 use Rattle.std.proofs.lemmas.Bool.{cases_eq}
 use Rattle.std.proofs.lemmas.Nat.Bits.{bit_at-pow_other, bit_at-lt}
+use Rattle.std.proofs.lemmas.Option.{same_Some}
 use Rattle.ir_items.specs.judged.Plain.{PlainFunction, PlainModule}
 use Rattle.typing_rules.specs.judged.Laws.{IsAmong}
 use Rattle.spec_expressions.specs.declared.global_use.TheConstants.GlobalUse.{QUERY}
@@ -13,9 +14,6 @@ use Rattle.spec_expressions.specs.judged.CallChains.{Step, Calls, Reaches, UsesD
 use Rattle.spec_expressions.specs.judged.Summaries.{Summary, no_use, HasBit, IsSummary, CallsOne, ComesUp, JoinsUse, IsJoined, CalleesKnown, AreSummaries, CallsBelow, AgreeOnCallees}
 use Rattle.spec_expressions.proofs.Members.{among-get, get-among, get-within}
 use Rattle.spec_expressions.proofs.ChainLaws.{reaches-from_call, reaches-here, reaches-cases, CalleeReaches, use-from_call, pair-from_call, pair-here, pair-cases, CalleePair}
-
-some_is : {X : Type 0} {x y : X} → Some x ≡ Some y → x ≡ y
-some_is e = cc (e)
 
 -- QUERY has exactly one bit
 one_bit : (k : ℕ) → bit_at QUERY.0 k ≡ 1 → k ≡ 2
@@ -64,7 +62,7 @@ find_call summaries g k (runs c args ∷ rest) = at_call summaries g k c args re
       either summaries g k (runs c args) rest (λ callee arguments s e found bit. let q : c ≡ callee = callee_of c callee args arguments e in let n : None ≡ Some s = sym is ∙ (ap (slice_get summaries) q ∙ found) in cc (n)) after
   at_call summaries g k c args rest (Some t) is after = elim (bit_or_not (slice_index_or t.uses g no_use).0 k) [
     | inl b ↦ inl (record { callee = c; arguments = args; summary = t; call = inl refl; found = is; bit = b })
-    | inr n ↦ either summaries g k (runs c args) rest (λ callee arguments s e found bit. let q : c ≡ callee = callee_of c callee args arguments e in let same : t ≡ s = some_is (sym is ∙ (ap (slice_get summaries) q ∙ found)) in n (subst (λ u. HasBit u g k) (sym same) bit)) after
+    | inr n ↦ either summaries g k (runs c args) rest (λ callee arguments s e found bit. let q : c ≡ callee = callee_of c callee args arguments e in let same : t ≡ s = same_Some _ _ (sym is ∙ (ap (slice_get summaries) q ∙ found)) in n (subst (λ u. HasBit u g k) (sym same) bit)) after
   ]
 
 -- ---- between the summaries of callees and their effects
@@ -82,7 +80,7 @@ stepped m f summaries known s c =
     record {
       summary = k.summary;
       calls = record { callee = c.callee; call = call; found = k.kept };
-      is = subst (λ h. IsSummary m h k.summary) (some_is (sym k.found ∙ c.found)) k.is;
+      is = subst (λ h. IsSummary m h k.summary) (same_Some _ _ (sym k.found ∙ c.found)) k.is;
     }
 
 -- the step of a call, and its summary
@@ -100,7 +98,7 @@ called m f summaries known arguments t c =
       at = at.0;
       function = k.function;
       calls = record { callee = c.callee; call = at.1; found = k.found };
-      is = subst (λ u. IsSummary m k.function u) (some_is (sym k.kept ∙ c.found)) k.is;
+      is = subst (λ u. IsSummary m k.function u) (same_Some _ _ (sym k.kept ∙ c.found)) k.is;
     }
 
 module _ (m : PlainModule) (f : PlainFunction) (summaries : List Summary) (known : CalleesKnown m f summaries) where

@@ -1,7 +1,7 @@
 -- Look-ups by the handles of a module.
 use Rattle.std.proofs.Common.{◌≡◌, ◌<◌, ℕ, zero, suc, List, [], ◌∷◌, length, map, Option, Some, None, option_map, slice_get, refl, sym, ap, ◌∙◌, arith, true≢false}
 use Rattle.std.specs.Prelude.{IsSome}
-use Rattle.std.proofs.lemmas.Option.{slice_get-map}
+use Rattle.std.proofs.lemmas.Option.{same_Some, slice_get-map}
 use Rattle.ir_arena.specs.found.Arenas.{value_at, value_of_entry}
 use Rattle.ir_arena.specs.declared.span.Span.{Span}
 use Rattle.ir_types.specs.judged.Plain.{PlainType, inner_view, type_view}
@@ -28,9 +28,6 @@ module _ (entries : List (IrType × Span)) (h : ℕ) where
   inner_missing past = ap (option_map (λ (x : PlainType). x.inner)) (missing type_view entries h past)
 
 -- ---- options
-
-pub some_is : {A : Type 0} {x y : A} → Some x ≡ Some y → x ≡ y
-some_is e = cc (e)
 
 pub none_some : {A : Type 0} (o : Option A) (x : A) → o ≡ None → o ≡ Some x → ⊥
 none_some o x none some = cc

@@ -1,5 +1,6 @@
 -- Wrong forms by call chains are those by summaries of the callees.
 use Rattle.std.proofs.Common.{◌≡◌, ◌⊎◌, inl, inr, ℕ, List, Some, None, sym, ap, subst, ◌∙◌, slice_get}
+use Rattle.std.proofs.lemmas.Option.{same_Some}
 use Rattle.spec_expressions.specs.judged.Pairs.{SamplingPair}
 use Rattle.ir_items.specs.judged.Plain.{PlainFunction, PlainModule}
 use Rattle.typing_rules.specs.judged.Laws.{IsAmong}
@@ -10,16 +11,13 @@ use Rattle.spec_expressions.specs.judged.Summaries.{Summary, CallsOne, CalleesKn
 use Rattle.spec_statements.specs.judged.Analysis.{PassesWrongForm, HasWrongForm}
 use Rattle.spec_statements.specs.found.FunctionLaws.{FormsByCallees}
 
-some_is : {X : Type 0} {x y : X} → Some x ≡ Some y → x ≡ y
-some_is e = cc (e)
-
 module _ (m : PlainModule) (f : PlainFunction) (summaries : List Summary) (known : CalleesKnown m f summaries) (e : ℕ) where
   passes : (arguments : List ℕ) (t : Summary) (q : SamplingPair) → CallsOne f summaries arguments t → IsAmong q t.pairs
       → IsWrongArgument f.expressions arguments q.0 e ⊎ IsWrongArgument f.expressions arguments q.1 e → PassesWrongForm m f e
   passes arguments t q calls among wrong =
       let k = known calls.callee arguments calls.call in
       let at = get-among (effects_of f) (runs calls.callee arguments) calls.call in
-      let same : t ≡ k.summary = some_is (sym calls.found ∙ k.kept) in
+      let same : t ≡ k.summary = same_Some _ _ (sym calls.found ∙ k.kept) in
       record {
         step = record { at = at.0; arguments = arguments; function = k.function };
         pair = q;
@@ -33,7 +31,7 @@ module _ (m : PlainModule) (f : PlainFunction) (summaries : List Summary) (known
       let c = p.calls in
       let call : IsAmong (runs c.callee p.step.arguments) (effects_of f) = among-get (effects_of f) p.step.at (runs c.callee p.step.arguments) c.call in
       let k = known c.callee p.step.arguments call in
-      let same : p.step.function ≡ k.function = some_is (sym c.found ∙ k.found) in (
+      let same : p.step.function ≡ k.function = same_Some _ _ (sym c.found ∙ k.found) in (
         p.step.arguments,
         k.summary,
         p.pair,

@@ -10,10 +10,10 @@ use spirv_constants::Made;
 use spirv_declarations::Knowledge;
 use spirv_expressions::{Builder, Emits, ImageValue, Value, keep, no_type, no_value, refuse};
 use spirv_flow::Flow;
-use spirv_images::RayTypes;
 use spirv_operations::{
     FunctionBuilder, MeshPlace, NO_IMAGE, Pointer, PointerStep, Slot, no_pointer,
 };
+use spirv_rays::RayTypes;
 use spirv_types::{
     MatrixShape, MemberShape, MeshMember, Reading, Shape, Stored, TypeHandle, Types, packed_line,
     span_of, stored_matrix, vector_type,

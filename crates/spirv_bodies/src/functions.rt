@@ -9,9 +9,9 @@ use spirv_declarations::{Knowledge, sampler_name};
 use spirv_expressions::{Builder, Emits, Value, keep};
 use spirv_flow::{FunctionSteps, Use};
 use spirv_functions::assemble;
-use spirv_images::RayTypes;
 use spirv_numbers::{numbers, ops};
 use spirv_operations::{FunctionBuilder, Names, Slot, Special, root};
+use spirv_rays::RayTypes;
 use spirv_tables::Decorated;
 use spirv_types::{
     ImageShape, ImageUse, Shape, TypeHandle, Types, image_class, image_inner, span_of,

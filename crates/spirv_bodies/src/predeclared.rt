@@ -7,7 +7,7 @@ use ir_kinds::{PredeclaredType, ScalarKind};
 use ir_types::{IrType, StructMember, TypeInner};
 use spirv_declarations::Knowledge;
 use spirv_expressions::{Builder, Emits, keep};
-use spirv_images::{Pair, pair_of};
+use spirv_math::{Pair, pair_of};
 use spirv_types::{TypeHandle, Types};
 use std::alloc::{AllocError, Global};
 

@@ -8,7 +8,7 @@ use ir_kinds::{Literal, Scalar, SwitchValue, UnaryOperator};
 use ir_types::Expression;
 use spirv_expressions::{Value, keep, need, refuse};
 use spirv_flow::{BreakIf, Case, CaseBody, Choice, FunctionSteps, Step};
-use spirv_images::selector_of;
+use spirv_math::selector_of;
 use spirv_numbers::ops;
 use spirv_operations::{FunctionBuilder, made_name, phi_local};
 use spirv_words::{Feature, Instruction, Malformed, SpirvError};

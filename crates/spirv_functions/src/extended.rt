@@ -3,7 +3,7 @@
 use ir_flags::Capabilities;
 use spirv_expressions::{Value, need};
 use spirv_flow::is_debug;
-use spirv_images::{cast, math, trinary};
+use spirv_math::{cast, math, trinary};
 use spirv_operations::{FunctionBuilder, split};
 use spirv_words::{Feature, Instruction, starts_text};
 

@@ -4,9 +4,9 @@ use ir_blocks::{RayPipelineFunction, RayQueryFunction, Statement};
 use ir_kinds::ScalarKind;
 use ir_types::Expression;
 use spirv_expressions::{Value, compose, keep, need, no_type, operand, refuse, signed};
-use spirv_images::found;
 use spirv_numbers::{numbers, ops};
 use spirv_operations::FunctionBuilder;
+use spirv_rays::found;
 use spirv_types::{Shape, span_of};
 use spirv_words::{Feature, Instruction};
 

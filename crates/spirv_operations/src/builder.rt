@@ -7,7 +7,7 @@ use ir_kinds::{ImageClass, ImageDimension, PredeclaredType, Scalar, ScalarKind};
 use ir_types::Expression;
 use spirv_expressions::{Builder, Value, no_value};
 use spirv_flow::Flow;
-use spirv_images::RayTypes;
+use spirv_rays::RayTypes;
 use spirv_types::{ImageShape, ImageUse, MeshMember, Reading, Stored, TypeHandle};
 use spirv_words::Instruction;
 

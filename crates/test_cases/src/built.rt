@@ -1,5 +1,5 @@
 // A module built by calls and validated, as by a front end that writes no documents.
-use function_real_lower::RealLower;
+use function_modules::RealLower;
 use ir_arena::handle::Handle;
 use ir_arena::span::Span;
 use ir_flags::{

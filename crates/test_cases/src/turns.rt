@@ -1,6 +1,6 @@
 // One validator for the modules of several documents in turn.
 use document_reader::{Document, DocumentError, read_document};
-use function_real_lower::RealLower;
+use function_modules::RealLower;
 use ir_flags::Settings;
 use ir_items::Module;
 use ir_types::refusal::Refusal;

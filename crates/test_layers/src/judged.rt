@@ -4,10 +4,10 @@ use function_validator::laws::{
     Leaf, accepted_is_laid, buffer_leaves, entry_depth_bound, made_for_accepted,
 };
 use function_validator::{MeshInfo, RealLower, Validator};
-use module_validator::laws::order_gives_expressions;
+use module_validator::laws::{order_gives_conditions, order_gives_expressions};
 use module_validator::{
-    ImmediateSlots, ModuleInfo, ModuleValidator, Settings, TypeFlags, validate_compose,
-    validate_module_handles,
+    ImmediateSlots, ModuleInfo, ModuleValidator, Settings, TypeFlags, check_literal_value,
+    validate_compose, validate_module_handles,
 };
 use shader_ir::{Handle, Literal, Module, Refusal, Scalar, TypeInner, key};
 use shader_typing::{
@@ -71,6 +71,60 @@ pub fn accepts_functions(
             let mut validator = Validator::new(alloc, lower, settings.flags, settings.capabilities);
             let answer = validator.validate_functions(module);
             freeing(freeing(is_accepted(&answer), answer), validator)
+        }
+        Err(Refusal::Fault(_)) => Ok(false),
+        Err(Refusal::Memory(error)) => Err(error),
+    }
+}
+
+/// Whether a function of the module is valid by itself, as one that calls no other, over the layer made of its `ModuleInfo`. The
+/// error is out of memory.
+pub fn accepts_function(
+    alloc: Global,
+    settings: Settings,
+    module: &Module,
+    function: Handle<key::Function>,
+) -> Result<bool, AllocError> {
+    made_for_accepted();
+    order_gives_conditions();
+    let mut items = ModuleValidator::new(alloc, settings.flags, settings.capabilities);
+    match items.validate(module) {
+        Ok(info) => {
+            let lower = RealLower::new(info);
+            let mut validator = Validator::new(alloc, lower, settings.flags, settings.capabilities);
+            match module.functions.try_get(function) {
+                Ok(found) => {
+                    let answer = validator.validate_function(found, module, &[], false);
+                    freeing(freeing(is_accepted(&answer), answer), validator)
+                }
+                Err(_) => freeing(Ok(false), validator),
+            }
+        }
+        Err(Refusal::Fault(_)) => Ok(false),
+        Err(Refusal::Memory(error)) => Err(error),
+    }
+}
+
+/// Whether a variable of the module is valid, over the layer made of its `ModuleInfo`. The error is out of memory.
+pub fn accepts_variable(
+    alloc: Global,
+    settings: Settings,
+    module: &Module,
+    global: Handle<key::GlobalVariable>,
+) -> Result<bool, AllocError> {
+    made_for_accepted();
+    let mut items = ModuleValidator::new(alloc, settings.flags, settings.capabilities);
+    match items.validate(module) {
+        Ok(info) => {
+            let lower = RealLower::new(info);
+            let validator = Validator::new(alloc, lower, settings.flags, settings.capabilities);
+            match module.global_variables.try_get(global) {
+                Ok(variable) => {
+                    let answer = validator.validate_global_var(variable, module);
+                    freeing(freeing(is_accepted(&answer), answer), validator)
+                }
+                Err(_) => freeing(Ok(false), validator),
+            }
         }
         Err(Refusal::Fault(_)) => Ok(false),
         Err(Refusal::Memory(error)) => Err(error),
@@ -205,7 +259,8 @@ pub fn smaller_answers(
 ) -> (bool, bool, bool, u64) {
     let validator = ModuleValidator::new(alloc, settings.flags, settings.capabilities);
     let half = validator.check_width(Scalar::F16).is_ok();
-    let literal = validator.validate_literal(Literal::U32(1)).is_ok();
+    let one = Literal::U32(1);
+    let literal = validator.validate_literal(one).is_ok() && check_literal_value(one).is_ok();
     let mut composed = false;
     for (ty, _) in module.types.iter() {
         composed = composed || validate_compose(ty, module.to_ctx(), &[]).is_ok();

@@ -10,12 +10,13 @@ use anyhow::Result;
 use built::build;
 use function_validator::laws::Leaf;
 use judged::{
-    Kept, accepts, accepts_functions, accepts_items, begins_with_number, depth_of, freeing,
-    is_in_order, is_mesh_output, kept_of, leaves_of, smaller_answers,
+    Kept, accepts, accepts_function, accepts_functions, accepts_items, accepts_variable,
+    begins_with_number, depth_of, freeing, is_in_order, is_mesh_output, kept_of, leaves_of,
+    smaller_answers,
 };
 use module_validator::Settings;
 use shader_ir::{
-    AddressSpace, Capabilities, Module, ShaderStages, StorageAccess, SubgroupOperationSet,
+    AddressSpace, Capabilities, Handle, Module, ShaderStages, StorageAccess, SubgroupOperationSet,
     ValidationFlags,
 };
 use std::alloc::{AllocError, Global};
@@ -29,6 +30,8 @@ struct Said {
     depth: usize,
     smaller: (bool, bool, bool, u64),
     functions: bool,
+    first_function: bool,
+    variable: bool,
     begins_with_number: bool,
     is_mesh_output: bool,
     leaf: Option<(u64, u64, u64)>,
@@ -61,6 +64,8 @@ fn ask(alloc: Global, module: &mut Module, space: AddressSpace) -> Result<Said, 
         depth: depth_of(module),
         smaller: smaller_answers(alloc, settings, module),
         functions: accepts_functions(alloc, settings, module)?,
+        first_function: accepts_function(alloc, settings, module, Handle::at(0))?,
+        variable: accepts_variable(alloc, settings, module, variable)?,
         begins_with_number: begins_with_number(alloc, module),
         is_mesh_output: is_mesh_output(alloc, module, variable),
         leaf: first_of(leaves_of(alloc, settings, module, variable)?),
@@ -83,6 +88,10 @@ fn print(rt: &HostRuntime, space: AddressSpace) -> Result<()> {
     println!(rt;
         "functions {}, begins with a number {}, mesh output {}",
         said.functions, said.begins_with_number, said.is_mesh_output
+    )?;
+    println!(rt;
+        "the first function {}, the variable {}",
+        said.first_function, said.variable
     )?;
     if let Some((offset, length, alignment)) = said.leaf {
         println!(rt; "leaf at {offset}, length {length}, alignment {alignment}")?;

@@ -1,10 +1,13 @@
-//! Explains the documents on standard input, each invalid for a known reason, and prints how often the reported path leads to
-//! it.
+//! Results for the cases on standard input: first documents, each invalid for a known reason, then WGSL texts.
 //!
-//! A line is the path of the fault, a tab, and the document. `try_reasons.py --write` of crates/test_cases makes the lines.
+//! A line of the first part is the path of the fault, a tab, and the document; the program prints how often the reported path
+//! leads to the fault. `try_reasons.py --write` of crates/test_cases makes these lines. Each text of the second part stands after
+//! a line `==== NAME`, for its verdict and report, `==== NAME --explain`, for its diagnostic, or `==== NAME --json`, for the JSON
+//! object of that.
 #![tactic(auto)]
 
 mod measure;
+mod wgsl;
 
 use anyhow::{Result, bail};
 use check_ports::{Source, TakeError};
@@ -14,6 +17,19 @@ use std::str::from_utf8;
 // The maximum number of bytes read.
 const MAX_TAKEN: usize = 16_777_216;
 
+// Prints the results for all documents, and for all texts after them.
+fn answer_all(rt: &HostRuntime, input: &str) -> Result<()> {
+    let (documents, texts) = match input.split_once(wgsl::HEAD) {
+        Some(both) => both,
+        None => (input, ""),
+    };
+    let mut measured = Measured::new();
+    measured.read_all(rt.alloc(), documents)?;
+    println!(rt; "{measured}")?;
+    wgsl::answer_all(rt, texts)?;
+    Ok(())
+}
+
 fn main(rt: HostRuntime) -> Result<()> {
     let mut source = Source::new(rt.reader());
     let bytes = match source.take_all(rt.alloc(), MAX_TAKEN) {
@@ -21,10 +37,7 @@ fn main(rt: HostRuntime) -> Result<()> {
         Err(TakeError::Memory) => bail!("no memory"),
         Err(TakeError::Read) => bail!("standard input cannot be read"),
     };
-    let mut measured = Measured::new();
-    let done = measured.read_all(rt.alloc(), from_utf8(&bytes).unwrap_or(""));
+    let done = answer_all(&rt, from_utf8(&bytes).unwrap_or(""));
     drop(bytes);
-    done?;
-    println!(rt; "{measured}")?;
-    Ok(())
+    done
 }

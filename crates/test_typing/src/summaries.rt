@@ -7,7 +7,7 @@ ghost use Rattle.spec_expressions.specs.judged.FunctionHandles.{HandlesInRange, 
 use ir_flags::ValidationFlags;
 use ir_items::{Function, Module};
 use ir_types::refusal::Refusal;
-use spec_expressions::{ExpressionInfo, GlobalOrArgument, GlobalUse, SamplingPair};
+use spec_expressions::{ExpressionInfo, GlobalOrArgument, GlobalUse, SamplingKey, SamplingPair};
 use std::alloc::{AllocError, Global};
 use test_support::call::{completed, freeing, push};
 use typing_analysis::process_function;
@@ -105,6 +105,16 @@ fn tell_pairs(
     Ok(())
 }
 
+// Prints the pairs of two global variables, by indices, in the order of the set.
+fn tell_set(alloc: Global, told: &mut String, set: &[SamplingKey]) -> Result<(), AllocError> {
+    for key in set {
+        let image = key.image.index();
+        let sampler = key.sampler.index();
+        push(told, format!(in alloc; "{image}-{sampler}."))?;
+    }
+    Ok(())
+}
+
 // Prints the information on a function.
 fn tell_info(
     alloc: Global,
@@ -119,6 +129,8 @@ fn tell_info(
     tell_uses(alloc, told, info.uses())?;
     told.push_str(" ")?;
     tell_pairs(alloc, told, info, count)?;
+    told.push_str(" ")?;
+    tell_set(alloc, told, info.sampling_set.as_slice())?;
     told.push_str(" ")?;
     tell_expressions(alloc, told, info.expressions())?;
     told.push_str("\n")

@@ -1,7 +1,7 @@
 -- The assembled info of each expression satisfies the definitions.
 use Rattle.std.proofs.Common.{◌≡◌, ℕ, zero, suc, ◌+◌, ◌<◌, Option, Some, List, [], ◌∷◌, length, slice_get, refl, sym, ap, ◌∙◌, subst, arith}
 use Rattle.std.specs.Prelude.{slice_index_or}
-use Rattle.std.proofs.lemmas.Option.{slice_get_within, slice_get-get_or}
+use Rattle.std.proofs.lemmas.Option.{same_Some, slice_get-get_or, slice_get_within}
 use Rattle.typing_uniformity.specs.Facts.{AreUniformities}
 use Rattle.spec_expressions.specs.declared.expression_info.ExpressionInfo.{ExpressionInfo}
 use Rattle.spec_expressions.specs.declared.uniformity.Uniformity.{Uniformity}
@@ -16,9 +16,6 @@ use Rattle.typing_analysis.specs.Kept.{unknown, info_at, infos_from}
 use Rattle.typing_infos.specs.Types.{AreTypes}
 use Rattle.typing_forms.specs.declared.resolution.TypeResolution.{TypeResolution}
 
-some_is : {X : Type 0} {a b : X} → Some a ≡ Some b → a ≡ b
-some_is e = cc (e)
-
 -- the element at a place was assembled from the type there
 record PutTogether (uniformities : List Uniformity) (counts : List ℕ) (globals : List (Option ℕ)) (place e : ℕ) (types : List TypeResolution) (i : ExpressionInfo) : Type 0 where
   ty : TypeResolution
@@ -30,7 +27,7 @@ module _ (uniformities : List Uniformity) (counts : List ℕ) (globals : List (O
   put_together place [] e i at = absurd (cc (at))
   put_together place (ty ∷ rest) zero i at =
       let same : place ≡ place + 0 = omega arith in
-      record { ty = ty; there = refl; is = sym (some_is at) ∙ ap (λ p. info_at uniformities counts globals p ty) same }
+      record { ty = ty; there = refl; is = sym (same_Some _ _ at) ∙ ap (λ p. info_at uniformities counts globals p ty) same }
   put_together place (ty ∷ rest) (suc e) i at =
       let p = put_together (place + 1) rest e i at in
       let same : place + 1 + e ≡ place + suc e = omega arith in

@@ -1,10 +1,10 @@
 //! Atomic errors.
 
 use ir_arena::handle::Handle;
-use ir_blocks::AtomicFunction;
 use ir_flags::Capabilities;
 use ir_kinds::AddressSpace;
 use ir_types::key;
+use spec_expressions::AtomicFunction;
 use thiserror::Error;
 
 /// An error of an atomic statement (naga's `AtomicError`).

@@ -2,8 +2,8 @@
 
 use crate::ResolveError;
 use crate::compose::ComposeError;
+use spec_expressions::LiteralError;
 use thiserror::Error;
-use typing_layout::LiteralError;
 
 /// An error of a global expression (naga's `ConstExpressionError`).
 #[derive(Clone, PartialEq, Debug, Drop, Error)]

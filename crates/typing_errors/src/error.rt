@@ -4,11 +4,10 @@ use crate::{
     AtomicError, CallError, ExpressionError, LocalVariableError, SubgroupError, UniformityDisruptor,
 };
 use ir_arena::handle::Handle;
-use ir_blocks::AtomicFunction;
 use ir_flags::Capabilities;
 use ir_kinds::{AddressSpace, SwitchValue};
 use ir_types::{TypeInner, key};
-use spec_expressions::UniformityRequirements;
+use spec_expressions::{AtomicFunction, UniformityRequirements};
 use thiserror::Error;
 
 /// An error of a function (naga's `FunctionError`). The message is for people: the error, the expression at

@@ -6,8 +6,8 @@ use ir_arena::handle::Handle;
 use ir_flags::StorageAccess;
 use ir_kinds::{ImageClass, ImageDimension, StorageFormat};
 use ir_types::key;
+use spec_expressions::LiteralError;
 use thiserror::Error;
-use typing_layout::LiteralError;
 
 /// An error of an expression of a function (naga's `ExpressionError`).
 #[derive(Clone, PartialEq, Debug, Drop, Error)]

@@ -10,11 +10,10 @@ ghost use Rattle.typing_errors.specs.Answers.{form_given, form_answer};
 ghost use Rattle.typing_errors.specs.Operands.{given_form};
 
 use ir_arena::handle::Handle;
-use ir_sets::unique_arena::UniqueArena;
 use ir_types::{Expression, IrType, TypeInner, key};
 use spec_expressions::TypingFault;
 use std::alloc::{AllocError, Global};
-use typing_forms::{Form, TypeResolution, form_of};
+use typing_forms::{Form, TypeResolution, UniqueArena, form_of};
 
 /// A type, or why there is none.
 pub type Typing = Result<TypeResolution, TypingFault>;

@@ -2,7 +2,7 @@
 use Rattle.std.proofs.Common.{◌≡◌, ◌↔◌, ◌<◌, ◌≤◌, ◌+◌, ◌⊎◌, inl, inr, ℕ, zero, suc, List, [], ◌∷◌, ◌++◌, Bool, true, false, true≢false, ◌&&◌, IsTrue, All, map, length, Option, Some, None, unwrap_or, option_map, slice_get, refl, sym, ap, subst, ◌∙◌, arith, rules}
 use Rattle.std.specs.List.{list_all}
 use Rattle.std.proofs.lemmas.List.Folds.{list_all-map}
-use Rattle.std.proofs.lemmas.Option.{slice_get_past, slice_get_within, get_or_from_slice_get}
+use Rattle.std.proofs.lemmas.Option.{get_or_from_slice_get, same_Some, slice_get_past, slice_get_within}
 use Rattle.ir_types.specs.judged.Plain.{PlainInner, struct, plain, PlainMember, PlainType, inner_view, member_view}
 use Rattle.ir_types.specs.declared.types.ArraySize.TheVariants as count
 use Rattle.ir_types.specs.declared.types.StructMember.{StructMember}
@@ -16,9 +16,6 @@ both : (x y : Bool) → IsTrue (x && y) → IsTrue x × IsTrue y
 both true true e = (refl, refl)
 both true false e = let x = e in cc
 both false y e = let x = e in cc
-
-some_is : {A : Type 0} (x y : A) → Some x ≡ Some y → x ≡ y
-some_is x y e = cc
 
 -- ---- a test of all members
 
@@ -59,7 +56,7 @@ module _ (types : List PlainType) where
   from_parts i parts is each =
       composed (λ h. found_or (inner_at types h)) is
       (λ k h at. found_is (inner_at types h) (each k h at).0 (each k h at).1)
-      (λ k h at. subst (IsConstructible types) (some_is _ _ (sym (each k h at).1 ∙ found_is (inner_at types h) (each k h at).0 (each k h at).1)) (each k h at).2)
+      (λ k h at. subst (IsConstructible types) (same_Some _ _ (sym (each k h at).1 ∙ found_is (inner_at types h) (each k h at).0 (each k h at).1)) (each k h at).2)
 
   to_parts : (i : PlainInner) → IsConstructible types i → (is_constructible_alone i ≡ true) ⊎ ((parts : List ℕ) × (parts_of i ≡ Some parts) × ((k h : ℕ) → slice_get parts k ≡ Some h → IsConstructibleAt types h))
   to_parts i (alone e) = inl e
@@ -72,8 +69,8 @@ alone_whole (plain (inner.Array base size stride)) e = let h = e in cc
 alone_whole (plain i) e = search rules
 
 parts_named : (i : PlainInner) (parts : List ℕ) → parts_of i ≡ Some parts → named_types i ≡ parts
-parts_named (struct members span) parts e = some_is _ _ e
-parts_named (plain (inner.Array base (count.Constant n) stride)) parts e = some_is _ _ e
+parts_named (struct members span) parts e = same_Some _ _ e
+parts_named (plain (inner.Array base (count.Constant n) stride)) parts e = same_Some _ _ e
 parts_named (plain i) parts e = search rules
 
 -- ---- the entries of the parts decide
@@ -142,7 +139,7 @@ found_more types known slice after place i b back found at is composed_is pushed
       here_too : IsTrue b ↔ IsConstructibleAt types place
       here_too = (
         (λ t. (i, sym at, decided.0 t)),
-        (λ x. decided.1 (subst (IsConstructible types) (some_is _ _ (sym x.1 ∙ sym at)) x.2)),
+        (λ x. decided.1 (subst (IsConstructible types) (same_Some _ _ (sym x.1 ∙ sym at)) x.2)),
       )
 
       last : (h : ℕ) → h ≡ place → IsTrue (known_at (known ++ b ∷ []) h) ↔ IsConstructibleAt types h

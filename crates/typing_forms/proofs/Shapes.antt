@@ -1,5 +1,6 @@
 -- Types of the same shape, step by step.
 use Rattle.std.proofs.Common.{◌≡◌, ◌<◌, ℕ, List, [], ◌∷◌, length, Option, Some, None, Bool, true, false, All, if◌then◌else◌, IfSome, IfNone, refl, sym, ap, subst, ◌∙◌, rules}
+use Rattle.std.proofs.lemmas.Option.{same_Some}
 use Rattle.ir_kinds.specs.declared.scalars.Scalar.{Scalar}
 use Rattle.ir_types.specs.judged.Plain.{PlainInner, struct, plain, PlainType}
 use Rattle.ir_types.specs.declared.types.TypeInner.TheVariants as inner
@@ -8,9 +9,6 @@ use Rattle.typing_forms.specs.judged.Ranks.{conversion}
 use Rattle.typing_forms.specs.judged.Resolutions.{inner_at}
 use Rattle.typing_forms.specs.found.Conversions.{same_count, scalars_of, bases_of, both_found, both_at, SameShape, alike, elements, SameShapeAt}
 use Rattle.typing_forms.proofs.Walks.{one_below}
-
-some_is : {A : Type 0} (x y : A) → Some x ≡ Some y → x ≡ y
-some_is x y e = cc
 
 -- ---- pairs of types
 
@@ -25,7 +23,7 @@ both_of : {A : Type 0} (f : PlainInner → PlainInner → Option A) (o p : Optio
 both_of f o p i j a b = ap (λ x. both_found f x p) a ∙ ap (both_found f (Some i)) b
 
 picked : {A : Type 0} (x r : A) (b : Bool) → (if b then Some x else None) ≡ Some r → x ≡ r
-picked x r true e = some_is _ _ e
+picked x r true e = same_Some _ _ e
 picked x r false e = let h = e in cc
 
 -- the first base of two arrays is one that the first array refers to
@@ -51,7 +49,7 @@ module _ (types : List PlainType) where
   pub goes_on : (i j : PlainInner) (base other : ℕ) (s t : Scalar) → bases_of i j ≡ Some (base, other) → SameShape types i j s t → SameShapeAt types base other s t
   goes_on i j base other s t e (alike scalars) = absurd (let none = no_scalars i j (base, other) e in let h = scalars in cc)
   goes_on i j base other s t e (elements {k = k} {l = l} {base = b} {other = o} pair left right rest) =
-      let same : (b, o) ≡ (base, other) = some_is _ _ (sym pair ∙ e) in
+      let same : (b, o) ≡ (base, other) = same_Some _ _ (sym pair ∙ e) in
       (k, sym (ap (λ (p : ℕ × ℕ). inner_at types p.0) same) ∙ left, l, sym (ap (λ (p : ℕ × ℕ). inner_at types p.1) same) ∙ right, rest)
 
   pub comes_from : (i j : PlainInner) (base other : ℕ) (s t : Scalar) → bases_of i j ≡ Some (base, other) → SameShapeAt types base other s t → SameShape types i j s t
@@ -62,13 +60,13 @@ module _ (types : List PlainType) where
   ends_in i j s t none (elements pair left right rest) = absurd (let h = pair in let n = none in cc)
 
   one_pair : (i j : PlainInner) (s t u v : Scalar) → SameShape types i j s t → SameShape types i j u v → ◌≡◌ {A = Scalar × Scalar} (s, t) (u, v)
-  one_pair i j s t u v (alike a) (alike b) = some_is _ _ (sym a ∙ b)
+  one_pair i j s t u v (alike a) (alike b) = same_Some _ _ (sym a ∙ b)
   one_pair i j s t u v (alike a) (elements {base = b} {other = o} pair left right rest) = absurd (let none = no_scalars i j (b, o) pair in let h = a in cc)
   one_pair i j s t u v (elements {base = b} {other = o} pair left right rest) (alike a) = absurd (let none = no_scalars i j (b, o) pair in let h = a in cc)
   one_pair i j s t u v (elements {k = k} {l = l} {base = b} {other = o} pair left right rest) (elements {k = m} {l = n} {base = c} {other = d} again there found others) =
-      let same : (c, d) ≡ (b, o) = some_is _ _ (sym again ∙ pair) in
-      let first : m ≡ k = some_is _ _ (sym there ∙ (ap (λ (p : ℕ × ℕ). inner_at types p.0) same ∙ left)) in
-      let second : n ≡ l = some_is _ _ (sym found ∙ (ap (λ (p : ℕ × ℕ). inner_at types p.1) same ∙ right)) in
+      let same : (c, d) ≡ (b, o) = same_Some _ _ (sym again ∙ pair) in
+      let first : m ≡ k = same_Some _ _ (sym there ∙ (ap (λ (p : ℕ × ℕ). inner_at types p.0) same ∙ left)) in
+      let second : n ≡ l = same_Some _ _ (sym found ∙ (ap (λ (p : ℕ × ℕ). inner_at types p.1) same ∙ right)) in
       one_pair k l s t u v rest (subst (λ x. SameShape types x l u v) first (subst (λ x. SameShape types m x u v) second others))
 
   -- ---- a step of the loop
@@ -93,7 +91,7 @@ module _ (types : List PlainType) where
         down : (i j : PlainInner) (s t : Scalar) → inner_at types left ≡ Some i → inner_at types right ≡ Some j → bases_of i j ≡ Some (base, other) → SameShapeAt types left right s t → SameShapeAt types base other s t
         down i j s t ati atj pair at =
             goes_on i j base other s t pair
-            (subst (λ x. SameShape types x j s t) (some_is _ _ (sym at.1 ∙ ati)) (subst (λ x. SameShape types at.0 x s t) (some_is _ _ (sym at.3 ∙ atj)) at.4))
+            (subst (λ x. SameShape types x j s t) (same_Some _ _ (sym at.1 ∙ ati)) (subst (λ x. SameShape types at.0 x s t) (same_Some _ _ (sym at.3 ∙ atj)) at.4))
 
   pub some_differ : (left right from goal : ℕ) (r : Option (Scalar × Scalar)) → SameScalars left right from goal → r ≡ both_at scalars_of types left right
       → IfSome r (λ p. SameShapeAt types from goal p.0 p.1)

@@ -20,6 +20,7 @@ mod type_methods;
 pub use compare::compare_types;
 pub use form::{Form, form_in, form_of, form_of_type, inner_of};
 pub use index::{IndexableLength, IndexableLengthError, ResolveArraySizeError};
+pub use ir_sets::unique_arena::UniqueArena;
 pub use order::types_go_back;
 pub use ranks::{conversion_rank, converted_rank};
 pub use resolution::TypeResolution;

@@ -14,7 +14,7 @@ use Rattle.spec_expressions.specs.judged.Pairs.{SamplingPair, pair_eq}
 use Rattle.typing_infos.proofs.Equal.{pair_same, pair_self}
 use Rattle.typing_infos.specs.Codes.{part_code, code_of, code_cmp, IsIndexOf}
 
-equal_by : (o : Ordering) → is_eq o ≡ true → o ≡ Equal
+pub equal_by : (o : Ordering) → is_eq o ≡ true → o ≡ Equal
 equal_by Less e = absurd (true≢false (sym e))
 equal_by Equal e = refl
 equal_by Greater e = absurd (true≢false (sym e))

@@ -2,6 +2,8 @@ pub mod CodeLemmas
 pub mod Equal
 pub mod IndexLemmas
 pub mod KeyLemmas
+pub mod KeyOrder
 pub mod MarkLemmas
+pub mod Runs
 pub mod TypeLemmas
 pub mod UseBits

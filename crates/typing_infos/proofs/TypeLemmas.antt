@@ -2,6 +2,7 @@
 use Rattle.std.proofs.Common.{◌≡◌, ◌⊎◌, ℕ, zero, suc, ◌+◌, ◌<◌, ◌≤◌, Some, None, Err, List, [], ◌∷◌, ◌++◌, length, map, refl, sym, ap, ◌∙◌, subst, inl, inr, arith, slice_get}
 use Rattle.std.specs.Prelude.{slice_index_or}
 use Rattle.std.proofs.lemmas.Bool.{cases_lt}
+use Rattle.std.proofs.lemmas.Option.{same_Some}
 use Rattle.typing_rules.specs.judged.Laws.{IsAmong}
 use Rattle.ir_arena.specs.judged.Handles.{handles_from}
 use Rattle.ir_arena.specs.declared.span.Span.{Span}
@@ -20,9 +21,6 @@ use Rattle.typing_errors.specs.Answers.{form_given}
 use Rattle.typing_infos.specs.Types.{TypedSoFar, TypedBefore, IsFirstUntyped, OperandsBelow, IsTypedBy}
 use Rattle.typing_infos.specs.declared.refusal.TypingRefusal.{TypingRefusal}
 use Rattle.typing_infos.specs.declared.refusal.TypingRefusal.TheVariants.{Memory, Fault}
-
-some_is : {X : Type 0} {a b : X} → Some a ≡ Some b → a ≡ b
-some_is e = cc (e)
 
 get_known : (types : List TypeResolution) (missing : TypeResolution) (o : ℕ) → o < length types → slice_get types o ≡ Some (slice_index_or types o missing)
 get_known [] missing o lt = absurd (omega (arith, lt))
@@ -145,7 +143,7 @@ length_more [] y = refl
 length_more (z ∷ ys) y = let r = length_more ys y in omega (arith, r)
 
 get_push : {X : Type 0} (ys : List X) (y : X) (i : ℕ) (z : X) → slice_get (ys ++ y ∷ []) i ≡ Some z → (slice_get ys i ≡ Some z) ⊎ ((i ≡ length ys) × (y ≡ z))
-get_push [] y zero z h = inr (refl, some_is h)
+get_push [] y zero z h = inr (refl, same_Some _ _ h)
 get_push [] y (suc i) z h = cc (h)
 get_push (w ∷ ys) y zero z h = inl h
 get_push (w ∷ ys) y (suc i) z h = elim (get_push ys y i z h) [ inl l ↦ inl l | inr r ↦ inr (ap suc r.0, r.1) ]

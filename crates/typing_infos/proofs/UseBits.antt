@@ -7,13 +7,11 @@ use Rattle.std.proofs.lemmas.Bool.{cases_eq, cases_lt}
 use Rattle.std.proofs.lemmas.List.{get_or-set_same, get_or-set_other, get_or_past}
 use Rattle.std.proofs.lemmas.List.Elements.{All-head, All-tail}
 use Rattle.std.proofs.lemmas.Nat.Bits.{bit_at_or, bit_at-lt, bit_at-zero}
+use Rattle.std.proofs.lemmas.Option.{same_Some}
 use Rattle.spec_expressions.specs.declared.global_use.GlobalUse.{GlobalUse}
 use Rattle.spec_expressions.specs.judged.Summaries.{no_use, HasUseBit}
 use Rattle.typing_infos.specs.Infos.{joined_use, marked, with_uses, NotesUse, Dominates}
 use Rattle.ir_flags.specs.Sets.{Has}
-
-some_is : {X : Type 0} {x y : X} → Some x ≡ Some y → x ≡ y
-some_is e = cc (e)
 
 max_one : (a b : ℕ) → a < 2 → b < 2 → max a b ≡ 1 → (a ≡ 1) ⊎ (b ≡ 1)
 max_one a b x y e = ⊎_elim (λ (l : a < 1). inr (omega arith)) (λ (l : 1 ≤ a). inl (omega arith)) (cases_lt a 1)
@@ -59,7 +57,7 @@ one_use uses (Some h) kind g k lt =
     (λ (not : h ≢ g).
     let is = marked_other uses h g kind not in (
       λ e. inl (sym (ap (λ z. bit_at z.0 k) is) ∙ e),
-      λ s. ap (λ z. bit_at z.0 k) is ∙ ⊎_elim (λ l. l) (λ (r : (Some h ≡ Some g) × (bit_at kind k ≡ 1)). absurd (not (some_is r.0))) s,
+      λ s. ap (λ z. bit_at z.0 k) is ∙ ⊎_elim (λ l. l) (λ (r : (Some h ≡ Some g) × (bit_at kind k ≡ 1)). absurd (not (same_Some _ _ r.0))) s,
     ))
     (cases_eq h g)
 
@@ -75,7 +73,7 @@ with_bits_in uses (more ∷ rest) g k lt =
     let after = with_bits_in (marked uses (Some more.0) more.1.0) rest g k (subst (λ n. g < n) (sym (marked_length uses (Some more.0) more.1.0)) lt) in
     let one = one_use uses (Some more.0) more.1.0 g k lt in (
       λ e. elim (after.0 e) [
-        | inl l ↦ elim (one.0 l) [ inl a ↦ inl a | inr b ↦ inr (more, inl refl, some_is b.0, b.1) ]
+        | inl l ↦ elim (one.0 l) [ inl a ↦ inl a | inr b ↦ inr (more, inl refl, same_Some _ _ b.0, b.1) ]
         | inr r ↦ inr (r.0, inr r.1, r.2, r.3)
       ],
       λ s. after.1 (elim s [ inl l ↦ inl (one.1 (inl l)) | inr r ↦ first_or r one.1 ]),

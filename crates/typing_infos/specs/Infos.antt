@@ -1,11 +1,10 @@
 -- The meaning of a function's info.
-use Rattle.std.specs.Prelude.{◌≡◌, ℕ, List, [], ◌∷◌, Some, None, Option, bit_or, slice_set, slice_index_or}
+use Rattle.std.specs.Prelude.{◌≡◌, ◌≢◌, ◌<◌, ◌≤◌, ℕ, List, [], ◌∷◌, Some, None, Option, bit_or, slice_set, slice_index_or}
 use Rattle.std.specs.Int.{bit_at}
 use Rattle.typing_rules.specs.judged.Laws.{IsAmong}
 use Rattle.ir_flags.specs.Sets.{Has}
 use Rattle.spec_expressions.specs.declared.global_use.GlobalUse.{GlobalUse}
 use Rattle.spec_expressions.specs.judged.Summaries.{Summary, no_use}
-pub use Rattle.typing_infos.specs.Keys.{key_of_parts, key_of}
 use Rattle.typing_infos.specs.declared.function_info.FunctionInfo.{FunctionInfo}
 
 -- what its callers read: its summary
@@ -35,3 +34,14 @@ NotesUse noted g k = (u : ℕ × GlobalUse) × IsAmong u noted × (u.0 ≡ g) ×
 -- the one list of uses has, for each global variable, each bit that the other has
 abbrev pub Dominates : List GlobalUse → List GlobalUse → Type 0
 Dominates uses others = (g : ℕ) → Has (slice_index_or uses g no_use).0 (slice_index_or others g no_use).0
+
+-- no global variable of this range has a use
+abbrev pub NoneUsed : List GlobalUse → (from end : ℕ) → Type 0
+NoneUsed uses from end = (g : ℕ) → from ≤ g → g < end → (slice_index_or uses g no_use).0 ≡ 0
+
+-- the first global variable of this range that has a use
+pub record IsFirstUsed (uses : List GlobalUse) (from end g : ℕ) : Type 0 where
+  pub reached : from ≤ g
+  pub within : g < end
+  pub used : (slice_index_or uses g no_use).0 ≢ 0
+  pub before : NoneUsed uses from g

@@ -24,7 +24,7 @@ pub struct FunctionInfo {
     pub available_stages: ShaderStages,
     /// Whether it may discard, itself or in a callee.
     pub may_kill: bool,
-    /// The pairs of two global variables among [`FunctionInfo::pairs`], in the same order.
+    /// The pairs of two global variables among [`FunctionInfo::pairs`], sorted by image and then by sampler, each once.
     pub sampling_set: SampledKeys,
     /// Whether its result has two blend sources: `false`, until [`FunctionInfo::note`] sets it.
     pub dual_source_blending: bool,

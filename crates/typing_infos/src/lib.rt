@@ -23,4 +23,4 @@ pub use pair_set::PairSet;
 pub use refusal::TypingRefusal;
 pub use sampled::{FEW, SampledKeys, SampledPairs};
 pub use types::types_of;
-pub use uses::mark_at;
+pub use uses::{first_used, mark_at};

@@ -1,9 +1,10 @@
 //! The pairs that a function samples, in shared memory.
 
 ghost use Rattle.std.specs.Prelude.{◌≡◌, ◌↔◌, ◌++◌, ◌∷◌, [], IfOk, IfSome, IsTrue, OnErr, OnOk, if◌then◌else◌, length};
-ghost use Rattle.std.specs.List.{flat_map, list_any};
+ghost use Rattle.std.proofs.Props.{props};
+ghost use Rattle.std.specs.List.{list_any};
 ghost use Rattle.spec_expressions.specs.judged.Pairs.{pair_eq};
-ghost use Rattle.typing_infos.specs.Keys.{key_of};
+ghost use Rattle.typing_infos.specs.Keys.{AreKeys};
 ghost use Rattle.typing_infos.specs.Marks.{EachOnce, marks_of};
 
 use crate::keys::keys_of;
@@ -18,7 +19,7 @@ use std::rc::Rc;
 /// Up to this many pairs are a list owned by each function; more are a table that functions share.
 pub const FEW: usize = 8;
 
-// A table of many pairs, each once; the pairs of two global variables, in the same order; for each argument whether a pair
+// A table of many pairs, each once; the pairs of two global variables, sorted; for each argument whether a pair
 // contains it; and a digest of the table.
 #[derive(Drop)]
 struct PairTable {
@@ -27,7 +28,7 @@ struct PairTable {
     marks: Vec<bool>,
     digest: u64,
     ghost once: { EachOnce pairs },
-    ghost keyed: { keys.items ≡ flat_map key_of pairs },
+    ghost keyed: { AreKeys pairs keys.items } by { Prim.hlevel props },
     ghost marked: { marks.items ≡ marks_of pairs },
 }
 
@@ -84,7 +85,7 @@ pub struct SampledPairs {
     items: Pairs,
 }
 
-/// The pairs of two global variables, in the same order, shared in the same way.
+/// The pairs of two global variables, sorted by image and then by sampler, each once; shared in the same way.
 #[derive(Drop)]
 pub struct SampledKeys {
     items: Keys,
@@ -211,15 +212,17 @@ impl Pairs {
     }
 
     fn keys(&self, alloc: Global) -> Result<Keys, AllocError>
-        ensures { IfOk result (λ keys. keys ≡ flat_map key_of self.now) }
+        ensures { IfOk result (λ keys. AreKeys self.now keys) }
     {
         match &self.held {
             StoredPairs::Few(pairs) => {
-                let held = StoredKeys::Few(keys_of(alloc, pairs)?);
+                let keys = keys_of(alloc, pairs)?;
+                let held = StoredKeys::Few(keys);
                 Ok(Keys { held })
             }
             StoredPairs::Many(table) => {
-                let held = StoredKeys::Many(table.clone()?);
+                let shared = table.clone()?;
+                let held = StoredKeys::Many(shared);
                 Ok(Keys { held })
             }
         }
@@ -335,9 +338,9 @@ impl SampledPairs {
         Ok(SampledPairs { items })
     }
 
-    /// The pairs of two global variables; a table is shared. The error is out of memory.
+    /// The pairs of two global variables, sorted, each once; a table is shared. The error is out of memory.
     pub fn keys(&self, alloc: Global) -> Result<SampledKeys, AllocError>
-        ensures { IfOk result (λ keys. keys.items ≡ flat_map key_of self.now.items) }
+        ensures { IfOk result (λ keys. AreKeys self.now.items keys.items) }
     {
         let items = self.items.keys(alloc)?;
         Ok(SampledKeys { items })

@@ -1,8 +1,8 @@
 //! Uses of global variables, one for each in order.
 
-ghost use Rattle.std.specs.Prelude.{◌≡◌, ◌↔◌, IsTrue, Some, slice_index_or};
+ghost use Rattle.std.specs.Prelude.{◌≡◌, ◌≤◌, ◌↔◌, false, IfNone, IfSome, IsTrue, Some, length, slice_index_or};
 ghost use Rattle.ir_flags.specs.Sets.{Has};
-ghost use Rattle.typing_infos.specs.Infos.{joined_use, marked, with_uses, Dominates};
+ghost use Rattle.typing_infos.specs.Infos.{joined_use, marked, with_uses, Dominates, IsFirstUsed, NoneUsed};
 ghost use Rattle.spec_expressions.specs.judged.Summaries.{no_use};
 
 use bitflags::Flags;
@@ -65,4 +65,52 @@ pub(crate) fn dominates(uses: &[GlobalUse], others: &[GlobalUse]) -> bool
         }
     }
     true
+}
+
+/// The number of uses that are looked at together.
+const RUN: usize = 64;
+
+// Whether one of these has a use. The loop is written so that it can be vectorized: each is read, and none is out of bounds.
+fn has_use(uses: &[GlobalUse]) -> bool
+    ensures { result ≡ false → NoneUsed uses.now 0 (length uses.now) }
+{
+    let mut some = false;
+    for index in 0..uses.len() {
+        let used = uses[index].0 != 0;
+        some = some || used;
+    }
+    some
+}
+
+// Where to look on for the first use of a range: nowhere before it is one.
+fn after_empty_runs(uses: &[GlobalUse], from: usize, end: usize) -> usize
+    requires { end ≤ length uses.now }
+    ensures reached { from ≤ result }
+    ensures none { NoneUsed uses.now from result }
+{
+    let mut place = from;
+    while end.saturating_sub(place) >= RUN {
+        if has_use(&uses[place..place + RUN]) {
+            return place;
+        }
+        place += RUN;
+    }
+    place
+}
+
+/// The first global variable of a range that has a use, if one has. Those without one are looked at 64 at a time.
+pub fn first_used(uses: &[GlobalUse], from: usize, end: usize) -> Option<usize>
+    requires { end ≤ length uses.now }
+    ensures none { IfNone result (NoneUsed uses.now from end) }
+    ensures some { IfSome result (IsFirstUsed uses.now from end) }
+{
+    if from < end && uses[from].0 != 0 {
+        return Some(from);
+    }
+    for index in after_empty_runs(uses, from, end)..end {
+        if uses[index].0 != 0 {
+            return Some(index);
+        }
+    }
+    None
 }

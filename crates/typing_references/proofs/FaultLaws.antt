@@ -1,6 +1,7 @@
 -- What the handle errors of a function imply, and what their absence implies.
 use Rattle.std.proofs.Common.{◌≡◌, inl, inr, ℕ, ◌<◌, ◌≤◌, List, map, true, false, ◌&&◌, if◌then◌else◌, Option, Some, None, option_map, option_and_then, nat_lt, nat_le, refl, sym, ap, subst, Contains, arith}
 use Rattle.std.specs.Option.{option_or, MatchOption}
+use Rattle.std.proofs.lemmas.Option.{same_Some}
 use borrow.Author.Tests.{ltb-true, ltb-false, leb-true, leb-false}
 use Rattle.ir_arena.specs.judged.Handles.{handles_from}
 use Rattle.ir_arena.specs.declared.span.Span.{Span}
@@ -27,7 +28,7 @@ use Rattle.typing_references.specs.First.{first_past, first_of, first_in}
 use Rattle.typing_references.specs.Faults.{bounds_of, missing, item_missing, absent, range_out, expression_missing, answer_missing, statement_missing, argument_missing, local_missing, signature_missing, function_missing, operand_forward, callee_forward, function_of, expression_forward, statement_forward, callees_forward, parent_forward, IsMissingFault, IsForwardOperand, IsForwardCallee, IsForwardParent}
 use Rattle.typing_references.specs.declared.fault.HandleFault.{HandleFault}
 use Rattle.typing_references.specs.declared.fault.HandleFault.TheVariants as fault
-use Rattle.typing_references.proofs.FirstLaws.{or_none, or_some, some_is, below_each, below_all, past_one, none_each, one_found, none_in, found_in, none_at, place_found}
+use Rattle.typing_references.proofs.FirstLaws.{or_none, or_some, below_each, below_all, past_one, none_each, one_found, none_in, found_in, none_at, place_found}
 
 -- ---- one reference
 
@@ -40,7 +41,7 @@ missing_none k there place e = elim (nat_lt place there) as (λ b. nat_lt place 
 pub missing_some : (k : ItemKind) (there place : ℕ) (h : HandleFault) → missing k there place ≡ Some h → (h ≡ fault.Missing k place) × (there ≤ place)
 missing_some k there place h e = elim (nat_lt place there) as (λ b. nat_lt place there ≡ b → (if b then None else Some (fault.Missing k place)) ≡ Some h → (h ≡ fault.Missing k place) × (there ≤ place)) [
   | true ↦ λ lt g. cc
-  | false ↦ λ lt g. (sym (some_is _ h g), ltb-false place there lt)
+  | false ↦ λ lt g. (sym (same_Some _ h g), ltb-false place there lt)
 ] refl e
 
 not_below : (place there : ℕ) → there ≤ place → ¬ (place < there)
@@ -50,7 +51,7 @@ not_below place there le lt = omega (arith, le, lt)
 module _ {A B : Type 0} (look : A → Option B) where
   pub then_none : (o : Option A) → option_and_then look o ≡ None → (x : A) → o ≡ Some x → look x ≡ None
   then_none None e x is = cc
-  then_none (Some y) e x is = subst (λ z. look z ≡ None) (some_is y x is) e
+  then_none (Some y) e x is = subst (λ z. look z ≡ None) (same_Some y x is) e
 
   pub then_some : (o : Option A) (found : B) → option_and_then look o ≡ Some found → (x : A) × (o ≡ Some x) × (look x ≡ Some found)
   then_some None found e = cc
@@ -62,7 +63,7 @@ map_none f (Some x) e = cc
 
 pub map_some : {A B : Type 0} (f : A → B) (o : Option A) (y : B) → option_map f o ≡ Some y → (x : A) × (o ≡ Some x) × (y ≡ f x)
 map_some f None y e = cc
-map_some f (Some x) y e = (x, refl, sym (some_is _ y e))
+map_some f (Some x) y e = (x, refl, sym (same_Some _ y e))
 
 -- either there is none, or it is this
 matched : {A P : Type 0} (Q : A → Type 0) (o : Option A) → (o ≡ None → P) → ((x : A) → o ≡ Some x → Q x) → MatchOption o P Q
@@ -128,9 +129,9 @@ module _ (m : PlainModule) (f : PlainFunction) where
   range_absent r h e = elim (nat_le r.first r.end) as (λ a. nat_le r.first r.end ≡ a → (if a && nat_le r.end (bounds_of m f).expressions then None else Some (fault.Range r.first r.end)) ≡ Some h → (h ≡ fault.Range r.first r.end) × ¬ IsThere m f (range r)) [
     | true ↦ λ first g. elim (nat_le r.end (bounds_of m f).expressions) as (λ b. nat_le r.end (bounds_of m f).expressions ≡ b → (if b then None else Some (fault.Range r.first r.end)) ≡ Some h → (h ≡ fault.Range r.first r.end) × ¬ IsThere m f (range r)) [
       | true ↦ λ end i. cc
-      | false ↦ λ end i. (sym (some_is _ h i), λ there. let out = leb-false r.end _ end in omega (arith, out, there.1))
+      | false ↦ λ end i. (sym (same_Some _ h i), λ there. let out = leb-false r.end _ end in omega (arith, out, there.1))
     ] refl g
-    | false ↦ λ first g. (sym (some_is _ h g), λ there. let out = leb-false r.first r.end first in omega (arith, out, there.0))
+    | false ↦ λ first g. (sym (same_Some _ h g), λ there. let out = leb-false r.first r.end first in omega (arith, out, there.0))
   ] refl e
 
   -- ---- if no fault is found, all items exist
@@ -264,7 +265,7 @@ parent_before n parent e = elim (nat_lt parent n) as (λ b. nat_lt parent n ≡ 
 parent_after : (n parent : ℕ) (h : HandleFault) → parent_look n parent ≡ Some h → (h ≡ fault.Forward kind.DiagnosticFilter n parent) × ¬ (parent < n)
 parent_after n parent h e = elim (nat_lt parent n) as (λ b. nat_lt parent n ≡ b → (if b then None else Some (fault.Forward kind.DiagnosticFilter n parent)) ≡ Some h → (h ≡ fault.Forward kind.DiagnosticFilter n parent) × ¬ (parent < n)) [
   | true ↦ λ lt g. cc
-  | false ↦ λ lt g. (sym (some_is _ h g), not_below parent n (ltb-false parent n lt))
+  | false ↦ λ lt g. (sym (same_Some _ h g), not_below parent n (ltb-false parent n lt))
 ] refl e
 
 pub parents_told : (entries : List (DiagnosticFilterNode × Span))
@@ -301,7 +302,7 @@ module _ (caller : ℕ) (f : PlainFunction) where
   callee_after : (c : ℕ) (h : HandleFault) → callee_forward caller c ≡ Some h → (h ≡ fault.Forward kind.Function caller c) × ¬ (c < caller)
   callee_after c h e = elim (nat_lt c caller) as (λ b. nat_lt c caller ≡ b → (if b then None else Some (fault.Forward kind.Function caller c)) ≡ Some h → (h ≡ fault.Forward kind.Function caller c) × ¬ (c < caller)) [
     | true ↦ λ lt g. cc
-    | false ↦ λ lt g. (sym (some_is _ h g), not_below c caller (ltb-false c caller lt))
+    | false ↦ λ lt g. (sym (same_Some _ h g), not_below c caller (ltb-false c caller lt))
   ] refl e
 
   callee_fault : (site : Site) (c : ℕ) (h : HandleFault) → Names f site (item (target.Function c)) → callee_forward caller c ≡ Some h → IsForwardCallee caller f h

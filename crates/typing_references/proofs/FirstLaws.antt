@@ -2,7 +2,7 @@
 use Rattle.std.proofs.Common.{◌≡◌, ◌⊎◌, inl, inr, ℕ, zero, suc, ◌+◌, ◌<◌, ◌≤◌, List, [], ◌∷◌, map, true, false, ◌&&◌, if◌then◌else◌, Option, Some, None, nat_lt, refl, subst, slice_get, All, Contains, arith}
 use Rattle.std.proofs.lemmas.List.Elements.{All-contains}
 use Rattle.std.proofs.lemmas.List.Sums.{AllPass-from_list_all}
-use Rattle.std.proofs.lemmas.Option.{slice_get_within, get_or_from_slice_get}
+use Rattle.std.proofs.lemmas.Option.{get_or_from_slice_get, same_Some, slice_get_within}
 use Rattle.std.specs.List.{list_all}
 use Rattle.std.specs.Option.{option_or}
 use borrow.Author.Tests.{ltb-true, ltb-false}
@@ -23,9 +23,6 @@ module _ {F : Type 0} where
   or_some None b x e = inr e
   or_some (Some y) b x e = inl e
 
-pub some_is : {A : Type 0} (x y : A) → Some x ≡ Some y → x ≡ y
-some_is x y e = cc
-
 -- ---- handles that don't come before a bound
 
 past_none : (end : ℕ) (hs : List ℕ) → first_past end hs ≡ None → list_all (λ h. nat_lt h end) hs ≡ true
@@ -45,7 +42,7 @@ past_at : (end : ℕ) (hs : List ℕ) (h : ℕ) → first_past end hs ≡ Some h
 past_at end [] h e = cc
 past_at end (x ∷ xs) h e = elim (nat_lt x end) as (λ b. nat_lt x end ≡ b → (if b then first_past end xs else Some x) ≡ Some h → (i : ℕ) × (slice_get (x ∷ xs) i ≡ Some h) × (end ≤ h)) [
   | true ↦ λ lt g. let r = past_at end xs h g in (suc r.0, r.1, r.2)
-  | false ↦ λ lt g. (0, g, subst (λ y. end ≤ y) (some_is x h g) (ltb-false x end lt))
+  | false ↦ λ lt g. (0, g, subst (λ y. end ≤ y) (same_Some x h g) (ltb-false x end lt))
 ] refl e
 
 -- the first of them is one of them, and doesn't come before the bound
@@ -59,7 +56,7 @@ past_one end hs h e =
 module _ {A F : Type 0} (look : A → Option F) where
   pub none_each : (xs : List A) → first_of look xs ≡ None → (i : ℕ) (x : A) → slice_get xs i ≡ Some x → look x ≡ None
   none_each [] e i x h = cc
-  none_each (y ∷ ys) e zero x h = subst (λ z. look z ≡ None) (some_is y x h) (or_none _ _ e).0
+  none_each (y ∷ ys) e zero x h = subst (λ z. look z ≡ None) (same_Some y x h) (or_none _ _ e).0
   none_each (y ∷ ys) e (suc i) x h = none_each ys (or_none _ _ e).1 i x h
 
   pub one_found : (xs : List A) (found : F) → first_of look xs ≡ Some found → (i : ℕ) × (x : A) × (slice_get xs i ≡ Some x) × (look x ≡ Some found)
@@ -76,7 +73,7 @@ module _ {T A F : Type 0} (view : T → A) (look : ℕ → A → Option F) where
 
   none_from : (n : ℕ) (entries : List (T × Span)) → in_entries n entries ≡ None → (i : ℕ) (x : A) → slice_get (map view (values_of entries)) i ≡ Some x → look (n + i) x ≡ None
   none_from n [] e i x h = cc
-  none_from n (y ∷ ys) e zero x h = subst (λ k. look k x ≡ None) (omega arith) (subst (λ z. look n z ≡ None) (some_is (view y.0) x h) (or_none _ _ e).0)
+  none_from n (y ∷ ys) e zero x h = subst (λ k. look k x ≡ None) (omega arith) (subst (λ z. look n z ≡ None) (same_Some (view y.0) x h) (or_none _ _ e).0)
   none_from n (y ∷ ys) e (suc i) x h = subst (λ k. look k x ≡ None) (omega arith) (none_from (n + 1) ys (or_none _ _ e).1 i x h)
 
   found_from : (n : ℕ) (entries : List (T × Span)) (found : F) → in_entries n entries ≡ Some found

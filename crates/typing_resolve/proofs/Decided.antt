@@ -1,6 +1,7 @@
 -- From what is known of the operands to what is known of the result.
 use Rattle.std.proofs.Common.{◌≡◌, ◌∙◌, ℕ, zero, suc, List, [], ◌∷◌, Option, Some, None, option_map, Result, Ok, Err, slice_get, inl, inr, sym, ap, subst}
 use Rattle.std.specs.Borrow.{Bor}
+use Rattle.std.proofs.lemmas.Option.{same_Some}
 use Rattle.ir_types.specs.judged.Plain.{PlainType}
 use Rattle.ir_types.specs.judged.ExpressionPlain.{PlainExpression}
 use Rattle.typing_forms.specs.declared.form.Form.{Form}
@@ -16,12 +17,9 @@ use Rattle.typing_errors.specs.Operands.{given_form}
 use Rattle.typing_errors.specs.declared.resolve_error.ResolveRefusal.{ResolveRefusal}
 use Rattle.typing_errors.specs.declared.resolve_error.ResolveRefusal.TheVariants.{Memory, Fault}
 
-some_is : {A : Type 0} {x y : A} → Some x ≡ Some y → x ≡ y
-some_is e = cc (e)
-
 among : (xs : List ℕ) (k o : ℕ) → slice_get xs k ≡ Some o → IsAmong o xs
 among [] k o e = cc (e)
-among (x ∷ xs) zero o e = inl (some_is e)
+among (x ∷ xs) zero o e = inl (same_Some _ _ e)
 among (x ∷ xs) (suc k) o e = inr (among xs k o e)
 
 -- an operand is one of those that are read
@@ -49,14 +47,14 @@ tells : (context : Context) (xs : List PlainExpression) (place : ℕ) (x : Plain
     → option_map (λ f. Err f) f ≡ Some (rule_at context x forms) → ReportsFault context xs place f
 tells context xs place x forms None stands operands t = cc (t)
 tells context xs place x forms (Some f) stands operands t =
-    let faulty : IsFaulty context xs place f = record { expression = x; past = forms; stands = stands; operands = operands; refused = sym (some_is t) } in
+    let faulty : IsFaulty context xs place f = record { expression = x; past = forms; stands = stands; operands = operands; refused = sym (same_Some _ _ t) } in
     record { faulty = faulty; none = faulty_has_none context xs place f faulty }
 
 -- a result that agrees with the rule for the operands' types is one for the expression
 pub decided : (context : Context) (xs : List PlainExpression) (place : ℕ) (x : PlainExpression) (forms : ℕ → Form) (result : Result TypeResolution ResolveRefusal)
     → slice_get xs place ≡ Some x → ((o : ℕ) → IsAmong o (typing_operands x) → HasTypeAmong context xs o (forms o))
     → told context.types (Some (rule_at context x forms)) result ≡ Some (rule_at context x forms) → IsAnswer context xs place result
-decided context xs place x forms (Ok r) stands operands t = has x forms stands operands (sym (some_is t))
+decided context xs place x forms (Ok r) stands operands t = has x forms stands operands (sym (same_Some _ _ t))
 decided context xs place x forms (Err (Fault e)) stands operands t = tells context xs place x forms (fault_of e) stands operands t
 decided context xs place x forms (Err (Memory e)) stands operands t = tt
 

@@ -2,6 +2,7 @@
 use Rattle.std.proofs.Common.{◌≡◌, ◌⊎◌, ℕ, Option, Some, None, Bool, true, false, true≢false, ◌||◌, List, [], ◌∷◌, ◌++◌, refl, sym, ap, ◌∙◌, subst, inl, inr}
 use Rattle.std.specs.Prelude.{◌↔◌, if◌then◌else◌}
 use Rattle.std.specs.List.{list_any}
+use Rattle.std.proofs.lemmas.Option.{same_Some}
 use Rattle.indexmap.specs.IndexSet.{insert_key}
 use Rattle.typing_rules.specs.judged.Laws.{IsAmong}
 use Rattle.ir_types.specs.judged.ExpressionPlain.{PlainExpression}
@@ -14,9 +15,6 @@ use Rattle.spec_expressions.specs.found.Arguments.{argument_means}
 use Rattle.spec_expressions.specs.judged.Summaries.{ComesUp, IsWrongArgument}
 use Rattle.spec_expressions.proofs.Members.{among-left, among-right, among-cases}
 use Rattle.typing_summaries.specs.Tallies.{Paired, with_wrong, first_wrong, part_wrong, pair_one, passed_for, pass_up, pass_all_up}
-
-pub some_is : {X : Type 0} {x y : X} → Some x ≡ Some y → x ≡ y
-some_is e = cc (e)
 
 pub none_some : {X : Type 0} {A : Type 0} {x : X} → None ≡ Some x → A
 none_some e = absurd (cc (e))
@@ -53,7 +51,7 @@ pub paired_one : (wi ws : Option ℕ) (a b : Option GlobalOrArgument) (t : Paire
 paired_one wi ws (Some a) (Some b) t p =
     let i = inserted t.pairs (a, b) p in (
       λ h. elim (i.0 h) [ inl l ↦ inl l | inr e ↦ inr (ap (λ z. Some z.0) e, ap (λ z. Some z.1) e) ],
-      λ s. i.1 (elim s [ inl l ↦ inl l | inr m ↦ inr (let u = some_is m.0 in let v = some_is m.1 in λ i. (u i, v i)) ]),
+      λ s. i.1 (elim s [ inl l ↦ inl l | inr m ↦ inr (let u = same_Some _ _ m.0 in let v = same_Some _ _ m.1 in λ i. (u i, v i)) ]),
     )
 paired_one wi ws (Some a) None t p = (λ h. inl h, λ s. elim s [ inl l ↦ l | inr m ↦ none_some m.1 ])
 paired_one wi ws None b t p =

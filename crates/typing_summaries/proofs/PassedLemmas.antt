@@ -4,7 +4,7 @@ use Rattle.std.specs.Prelude.{if◌then◌else◌}
 use Rattle.std.specs.Cmp.Lexicographic.{pointwise}
 use Rattle.std.specs.List.{list_any}
 use Rattle.std.specs.Option.{option_eq}
-use Rattle.std.proofs.lemmas.Option.{slice_get-map, slice_get-get_or, slice_get_past}
+use Rattle.std.proofs.lemmas.Option.{same_Some, slice_get-get_or, slice_get-map, slice_get_past}
 use Rattle.indexmap.specs.IndexSet.{insert_key}
 use Rattle.typing_rules.specs.judged.Laws.{IsAmong}
 use Rattle.ir_types.specs.judged.ExpressionPlain.{PlainExpression}
@@ -23,7 +23,7 @@ use Rattle.typing_summaries.specs.Parts.{parts_of, AllStand}
 use Rattle.typing_summaries.specs.Tallies.{Known, Paired, with_wrong, first_wrong, part_wrong, pair_one, passed_for, pass_up, pass_all_up}
 use Rattle.typing_summaries.specs.declared.joined.Passed.{Passed}
 use Rattle.spec_expressions.specs.contracts.sampling.GlobalOrArgumentPartialEq as each
-use Rattle.typing_summaries.proofs.PairLemmas.{some_is, none_some}
+use Rattle.typing_summaries.proofs.PairLemmas.{none_some}
 use Rattle.typing_summaries.proofs.PartLemmas.{same_means, part_means}
 
 abbrev HasPair : SamplingPair → List SamplingPair → Type 0
@@ -182,7 +182,7 @@ at_place (q ∷ joined) (suc i) p lt is = inr (at_place joined i p (omega (arith
 -- a callee's info has only its own pairs
 one_kept : (k : Known) (callee other : ℕ) (pairs more : List SamplingPair) → IsKept k callee pairs → IsKept k other more → other ≡ callee → more ≡ pairs
 one_kept k callee other pairs more kept held same =
-    let s : held.summary ≡ kept.summary = some_is (sym held.found ∙ (ap (slice_get k.summaries) same ∙ kept.found)) in
+    let s : held.summary ≡ kept.summary = same_Some _ _ (sym held.found ∙ (ap (slice_get k.summaries) same ∙ kept.found)) in
     sym held.same ∙ (ap (λ z. z.pairs) s ∙ kept.same)
 
 -- what was merged is in any larger list

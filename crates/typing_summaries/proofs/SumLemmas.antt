@@ -4,6 +4,7 @@ use Rattle.std.specs.Prelude.{◌↔◌, ◌==◌, if◌then◌else◌, slice_in
 use Rattle.std.specs.Int.{bit_at}
 use Rattle.std.proofs.lemmas.Bool.{cases_eq, ne_eqb}
 use Rattle.std.proofs.lemmas.List.{get_or-set_same, get_or-set_other}
+use Rattle.std.proofs.lemmas.Option.{same_Some}
 use Rattle.typing_rules.specs.judged.Laws.{IsAmong}
 use Rattle.spec_expressions.specs.judged.Pairs.{SamplingPair}
 use Rattle.spec_expressions.specs.judged.Effects.{Effect, takes, samples, runs, discards, places_of}
@@ -15,9 +16,6 @@ use Rattle.typing_summaries.proofs.Effects.{do_one, do_all}
 use Rattle.typing_infos.proofs.UseBits.{one_use, marked_length}
 use Rattle.typing_summaries.proofs.UseLemmas.{merge_bits, merge_length}
 use Rattle.typing_summaries.proofs.PairLemmas.{Means, paired_one, SomeComesUp, passed_pairs, IsSome, WrongPair, pair_here, pair_stays, pair_comes, SomeWrong, passed_here, passed_stays, passed_comes}
-
-some_is : {X : Type 0} {x y : X} → Some x ≡ Some y → x ≡ y
-some_is e = cc (e)
 
 -- one of the effects contributes it
 abbrev pub Given : (Effect → Type 0) → List Effect → Type 0
@@ -78,7 +76,7 @@ joined_use_of k g b arguments None t lt = (λ h. inl h, λ s. elim s [ inl a ↦
 joined_use_of k g b arguments (Some s) t lt =
     let m = merge_bits t.counted.uses s.uses g b lt in (
       λ h. elim (m.0 h) [ inl a ↦ inl a | inr c ↦ inr (s, refl, c) ],
-      λ h. m.1 (elim h [ inl a ↦ inl a | inr c ↦ inr (subst (λ z. HasBit z g b) (sym (some_is c.1)) c.2) ]),
+      λ h. m.1 (elim h [ inl a ↦ inl a | inr c ↦ inr (subst (λ z. HasBit z g b) (sym (same_Some _ _ c.1)) c.2) ]),
     )
 
 use_one : (k : Known) (g b : ℕ) (x : Effect) (t : Tallied) → Longer g t → HasIt g b (do_one k x t) ↔ (HasIt g b t ⊎ GivesUse k g b x)
@@ -113,7 +111,7 @@ joined_pair_of k p arguments None t = (λ h. inl h, λ s. elim s [ inl a ↦ a |
 joined_pair_of k p arguments (Some s) t =
     let m = passed_pairs k.expressions arguments s.pairs t.paired p in (
       λ h. elim (m.0 h) [ inl a ↦ inl a | inr c ↦ inr (s, refl, c) ],
-      λ h. m.1 (elim h [ inl a ↦ inl a | inr c ↦ inr (subst (λ z. SomeComesUp k.expressions arguments z.pairs p) (sym (some_is c.1)) c.2) ]),
+      λ h. m.1 (elim h [ inl a ↦ inl a | inr c ↦ inr (subst (λ z. SomeComesUp k.expressions arguments z.pairs p) (sym (same_Some _ _ c.1)) c.2) ]),
     )
 
 pair_step : (k : Known) (p : SamplingPair) (x : Effect) (t : Tallied) → Anything t → HasPairIn p (do_one k x t) ↔ (HasPairIn p t ⊎ GivesPair k p x)
@@ -149,7 +147,7 @@ joined_kill_of : (k : Known) (arguments : List ℕ) (o : Option Summary) (t : Ta
 joined_kill_of k arguments None t = (λ h. inl h, λ s. elim s [ inl a ↦ a | inr n ↦ absurd (let q = n.1 in cc (q)) ])
 joined_kill_of k arguments (Some s) t = (
   λ h. elim (or_true t.may_kill s.may_kill h) [ inl a ↦ inl a | inr b ↦ inr (s, refl, b) ],
-  λ h. true_or t.may_kill s.may_kill (elim h [ inl a ↦ inl a | inr c ↦ inr (subst (λ z. z.may_kill ≡ true) (sym (some_is c.1)) c.2) ]),
+  λ h. true_or t.may_kill s.may_kill (elim h [ inl a ↦ inl a | inr c ↦ inr (subst (λ z. z.may_kill ≡ true) (sym (same_Some _ _ c.1)) c.2) ]),
 )
 
 kill_step : (k : Known) (x : Effect) (t : Tallied) → Anything t → MayKillIn (do_one k x t) ↔ (MayKillIn t ⊎ GivesKill k x)
@@ -203,7 +201,7 @@ stays_after k (x ∷ rest) t h = stays_after k rest (do_one k x t) (stays_one k 
 joined_comes : (k : Known) (arguments : List ℕ) (o : Option Summary) (t : Tallied) (e : ℕ) (s : Summary) → o ≡ Some s → SomeWrong k.expressions arguments s.pairs e → IsSome (join_summary k arguments o t).paired.wrong
 joined_comes k arguments None t e s is w = absurd (cc (is))
 joined_comes k arguments (Some u) t e s is w =
-    let v : SomeWrong k.expressions arguments u.pairs e = subst (λ z. SomeWrong k.expressions arguments z.pairs e) (sym (some_is is)) w in
+    let v : SomeWrong k.expressions arguments u.pairs e = subst (λ z. SomeWrong k.expressions arguments z.pairs e) (sym (same_Some _ _ is)) w in
     passed_comes k.expressions arguments u.pairs t.paired e v.0 v.1 v.2
 
 comes_one : (k : Known) (e : ℕ) (x : Effect) (t : Tallied) → GivesWrong k e x → IsSome (do_one k x t).paired.wrong

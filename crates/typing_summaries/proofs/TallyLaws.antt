@@ -4,6 +4,7 @@ use Rattle.std.specs.Prelude.{◌↔◌, ◌==◌, slice_index_or}
 use Rattle.std.specs.Int.{bit_at}
 use Rattle.std.proofs.lemmas.Bool.{cases_eq, eqb-true, ne_eqb, eq-eqb}
 use Rattle.std.proofs.lemmas.List.{get_or-replicate, length-replicate}
+use Rattle.std.proofs.lemmas.Option.{same_Some}
 use Rattle.typing_rules.specs.judged.Laws.{IsAmong}
 use Rattle.ir_types.specs.judged.ExpressionPlain.{PlainExpression, plain}
 use Rattle.ir_types.specs.declared.expressions.Expression.TheVariants as x
@@ -22,9 +23,6 @@ use Rattle.typing_infos.proofs.UseBits.{zero_has_none, marked_length, one_use, m
 use Rattle.typing_summaries.proofs.UseLemmas.{some_bit}
 use Rattle.typing_summaries.proofs.PairLemmas.{IsSome, SomeComesUp, SomeWrong, WrongPair}
 use Rattle.typing_summaries.proofs.SumLemmas.{Given, uses_length, GivesUse, uses_after, longer_after, GivesPair, pairs_after, GivesKill, kills_after, GivesWrong, wrong_after, wrong_comes, counts_after, counts_length}
-
-some_is : {X : Type 0} {x y : X} → Some x ≡ Some y → x ≡ y
-some_is e = cc (e)
 
 -- ---- global variables referred to
 
@@ -54,7 +52,7 @@ used_stays uses h g true is used =
     marked_other uses h g QUERY.0 (λ same. used (subst (λ z. IsUnused z uses) same (eqb-true (slice_index_or uses h no_use).0 0 is)))
 
 name_none : (xs : List PlainExpression) (y : PlainExpression) (g : ℕ) → (y ≡ plain (x.GlobalVariable g) → ⊥) → NamedIn g (y ∷ xs) → NamedIn g xs
-name_none xs y g not (zero, e) = absurd (not (some_is e))
+name_none xs y g not (zero, e) = absurd (not (same_Some _ _ e))
 name_none xs y g not (suc i, e) = (i, e)
 
 later_name : (xs : List PlainExpression) (y : PlainExpression) (g : ℕ) → NamedIn g xs → NamedIn g (y ∷ xs)
@@ -64,7 +62,7 @@ queried_to : (b : Bool) (uses : List GlobalUse) (h g k : ℕ) → g < length use
 queried_to false uses h g k lt is e = inl e
 queried_to true uses h g k lt is e = elim ((one_use uses (Some h) QUERY.0 g k lt).0 e) [
   | inl l ↦ inl l
-  | inr r ↦ (let same : h ≡ g = some_is r.0 in inr (r.1, same, subst (λ z. IsUnused z uses) same (eqb-true (slice_index_or uses h no_use).0 0 is)))
+  | inr r ↦ (let same : h ≡ g = same_Some _ _ r.0 in inr (r.1, same, subst (λ z. IsUnused z uses) same (eqb-true (slice_index_or uses h no_use).0 0 is)))
 ]
 
 queried_stays : (b : Bool) (uses : List GlobalUse) (h g k : ℕ) → g < length uses → HasUseBit uses g k → HasUseBit (queried b uses h) g k
@@ -198,8 +196,8 @@ module _ (f : PlainFunction) (globals : List (Option ℕ)) (summaries : List Sum
   wrong_form : (e : ℕ) → Given (GivesWrong known_of e) (effects_of f) → IsFormFault f summaries e
   wrong_form e (takes o, among, n) = elim n [ ]
   wrong_form e (samples at i s, among, w) = elim w [
-    | inl a ↦ inl (i, s, subst (λ z. IsAmong (samples z i s) (effects_of f)) (some_is a.0) among, inl a.1)
-    | inr b ↦ inl (i, s, subst (λ z. IsAmong (samples z i s) (effects_of f)) (some_is b.0) among, inr b.1)
+    | inl a ↦ inl (i, s, subst (λ z. IsAmong (samples z i s) (effects_of f)) (same_Some _ _ a.0) among, inl a.1)
+    | inr b ↦ inl (i, s, subst (λ z. IsAmong (samples z i s) (effects_of f)) (same_Some _ _ b.0) among, inr b.1)
   ]
   wrong_form e (runs callee arguments, among, (s, found, w)) = inr (arguments, s, w.0, record { callee = callee; call = among; found = found }, w.1, w.2)
   wrong_form e (discards, among, n) = elim n [ ]

@@ -5,15 +5,13 @@ use Rattle.std.specs.Int.{bit_at}
 use Rattle.std.proofs.lemmas.Bool.{cases_eq, cases_lt, ne_eqb}
 use Rattle.std.proofs.lemmas.List.{get_or-set_same, get_or-set_other}
 use Rattle.std.proofs.lemmas.Nat.Bits.{bit_at_or, bit_at-lt, bit_at-zero, bit_at_lowest, bit_at-suc}
+use Rattle.std.proofs.lemmas.Option.{same_Some}
 use Rattle.spec_expressions.specs.declared.global_use.GlobalUse.{GlobalUse}
 use Rattle.spec_expressions.specs.judged.Summaries.{HasUseBit}
 use Rattle.typing_infos.specs.Infos.{marked}
 use Rattle.typing_infos.proofs.UseBits.{or_bits, zero_has_none, marked_length, one_use}
 use Rattle.typing_summaries.specs.Tallies.{merged_from, merged}
 use Rattle.typing_summaries.proofs.Effects.{do_one, do_all}
-
-some_is : {X : Type 0} {x y : X} → Some x ≡ Some y → x ≡ y
-some_is e = cc (e)
 
 -- an integer is 0 or has a bit set
 some_bit_by : (fuel n : ℕ) → n ≤ fuel → (n ≡ 0) ⊎ ((j : ℕ) × (bit_at n j ≡ 1))
@@ -50,7 +48,7 @@ merged_bits i uses (other ∷ others) g k lt =
     let rest = merged_bits (i + 1) (marked uses (Some i) other.0) others g k longer in
     let one = one_use uses (Some i) other.0 g k lt in (
       λ e. elim (rest.0 e) [
-        | inl l ↦ elim (one.0 l) [ inl a ↦ inl a | inr b ↦ inr (zero, (let q : i ≡ g = some_is b.0 in omega (arith, q)), b.1) ]
+        | inl l ↦ elim (one.0 l) [ inl a ↦ inl a | inr b ↦ inr (zero, (let q : i ≡ g = same_Some _ _ b.0 in omega (arith, q)), b.1) ]
         | inr r ↦ inr (suc r.0, (let q = r.1 in omega (arith, q)), r.2)
       ],
       λ s. rest.1 (elim s [

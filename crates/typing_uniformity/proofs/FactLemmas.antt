@@ -2,6 +2,7 @@
 use Rattle.std.proofs.Common.{◌≡◌, ◌⊎◌, ℕ, zero, suc, ◌+◌, ◌<◌, ◌≤◌, Option, Some, None, Bool, true, false, true≢false, IsTrue, List, [], ◌∷◌, ◌++◌, length, map, refl, sym, ap, ◌∙◌, subst, inl, inr, arith, slice_get}
 use Rattle.std.specs.Prelude.{◌↔◌}
 use Rattle.std.proofs.lemmas.Bool.{cases_lt}
+use Rattle.std.proofs.lemmas.Option.{same_Some}
 use Rattle.typing_rules.specs.judged.Laws.{IsAmong}
 use Rattle.ir_arena.specs.judged.Handles.{handles_from}
 use Rattle.ir_arena.specs.declared.span.Span.{Span}
@@ -14,9 +15,6 @@ use Rattle.spec_expressions.specs.judged.OperandUses.{Operand, operand, expressi
 use Rattle.spec_expressions.specs.declared.operand.Usage.TheVariants.{Base}
 use Rattle.spec_expressions.specs.judged.Values.{inner_of, known_at, is_source, ComesFrom, itself, through, StartsAt, is_global, accessed, accessed_index, AreStarts, UsesPrecede, IsExact}
 use Rattle.typing_uniformity.specs.Facts.{or_known, find_all, source_if, source_of, start_of, sources_of, starts_of, AreSources}
-
-some_is : {X : Type 0} {x y : X} → Some x ≡ Some y → x ≡ y
-some_is e = cc (e)
 
 none_some : {X : Type 0} {A : Type 0} {x : X} → None ≡ Some x → A
 none_some e = absurd (cc (e))
@@ -119,7 +117,7 @@ SourcesKnown m f known = (e : ℕ) → e < length known → IsExact (known_at kn
 module _ (m : PlainModule) (f : PlainFunction) (precede : UsesPrecede f.expressions) (known : List (Option ℕ)) (sources : SourcesKnown m f known) (expression : PlainExpression) (at : slice_get f.expressions (length known) ≡ Some expression) where
   exact_if : (b : Bool) → is_source m f expression ≡ b → IsExact (source_if b (length known) (find_all known (expression_uses expression) None)) (ComesFrom m f (length known))
   exact_if true is = record {
-    found = λ s e. subst (ComesFrom m f (length known)) (some_is e) (itself expression at is);
+    found = λ s e. subst (ComesFrom m f (length known)) (same_Some _ _ e) (itself expression at is);
     none = λ e. none_some (sym e);
   }
   exact_if false is = record {
@@ -128,9 +126,9 @@ module _ (m : PlainModule) (f : PlainFunction) (precede : UsesPrecede f.expressi
       | inr (o, among, have) ↦ through expression o at among ((sources o.handle (precede (length known) expression o at among)).found s have)
     ];
     none = λ e s c. elim (comes_cases m f (length known) s c) [
-      | inl own ↦ true≢false (sym own.source ∙ (ap (is_source m f) (some_is (sym own.stands ∙ at)) ∙ is))
+      | inl own ↦ true≢false (sym own.source ∙ (ap (is_source m f) (same_Some _ _ (sym own.stands ∙ at)) ∙ is))
       | inr t ↦
-          (let same : t.expression ≡ expression = some_is (sym t.stands ∙ at) in
+          (let same : t.expression ≡ expression = same_Some _ _ (sym t.stands ∙ at) in
           let among : IsAmong t.operand (expression_uses expression) = subst (λ z. IsAmong t.operand (expression_uses z)) same t.among in
           (sources t.operand.handle (precede (length known) expression t.operand at among)).none ((find_none known (expression_uses expression) None e).1 t.operand among) s t.comes)
     ];
@@ -186,8 +184,8 @@ starts_cases xs e g (accessed_index base index at starts) = inr (inr (base, inde
 
 no_start : (xs : List PlainExpression) (e g : ℕ) (y : PlainExpression) → slice_get xs e ≡ Some y → (y ≡ plain (x.GlobalVariable g) → ⊥) → ((base index : ℕ) → y ≡ plain (x.Access base index) → ⊥) → ((base index : ℕ) → y ≡ plain (x.AccessIndex base index) → ⊥) → StartsAt xs e g → ⊥
 no_start xs e g y at a b c starts = elim (starts_cases xs e g starts) [
-  | inl h ↦ a (some_is (sym at ∙ h))
-  | inr h ↦ elim h [ inl (base, index, is, s) ↦ b base index (some_is (sym at ∙ is)) | inr (base, index, is, s) ↦ c base index (some_is (sym at ∙ is)) ]
+  | inl h ↦ a (same_Some _ _ (sym at ∙ h))
+  | inr h ↦ elim h [ inl (base, index, is, s) ↦ b base index (same_Some _ _ (sym at ∙ is)) | inr (base, index, is, s) ↦ c base index (same_Some _ _ (sym at ∙ is)) ]
 ]
 
 base_of : (b i c j : ℕ) → plain (x.Access b i) ≡ plain (x.Access c j) → b ≡ c
@@ -201,20 +199,20 @@ global_of g h e = cc (e)
 
 one_start : (xs : List PlainExpression) (known : List (Option ℕ)) (precede : UsesPrecede xs) (starts : StartsKnown xs known) (y : PlainExpression) (g : ℕ) → slice_get xs (length known) ≡ Some y → (start_of known y ≡ Some g) ↔ StartsAt xs (length known) g
 one_start xs known precede starts (plain (x.GlobalVariable h)) g at = (
-  λ e. is_global (at ∙ ap (λ z. Some (plain (x.GlobalVariable z))) (some_is e)),
+  λ e. is_global (at ∙ ap (λ z. Some (plain (x.GlobalVariable z))) (same_Some _ _ e)),
   λ s. elim (starts_cases xs (length known) g s) [
-    | inl is ↦ ap (λ z. Some z) (global_of h g (some_is (sym at ∙ is)))
-    | inr r ↦ elim r [ inl (base, index, is, t) ↦ absurd (let q = some_is (sym at ∙ is) in cc (q)) | inr (base, index, is, t) ↦ absurd (let q = some_is (sym at ∙ is) in cc (q)) ]
+    | inl is ↦ ap (λ z. Some z) (global_of h g (same_Some _ _ (sym at ∙ is)))
+    | inr r ↦ elim r [ inl (base, index, is, t) ↦ absurd (let q = same_Some _ _ (sym at ∙ is) in cc (q)) | inr (base, index, is, t) ↦ absurd (let q = same_Some _ _ (sym at ∙ is) in cc (q)) ]
   ],
 )
 one_start xs known precede starts (plain (x.Access b i)) g at =
     let below : b < length known = precede (length known) (plain (x.Access b i)) (operand Base b) at (inl refl) in (
       λ e. accessed b i at ((starts b g below).0 e),
       λ s. elim (starts_cases xs (length known) g s) [
-        | inl is ↦ absurd (let q = some_is (sym at ∙ is) in cc (q))
+        | inl is ↦ absurd (let q = same_Some _ _ (sym at ∙ is) in cc (q))
         | inr r ↦ elim r [
-          | inl (base, index, is, t) ↦ (starts b g below).1 (subst (λ z. StartsAt xs z g) (sym (base_of b i base index (some_is (sym at ∙ is)))) t)
-          | inr (base, index, is, t) ↦ absurd (let q = some_is (sym at ∙ is) in cc (q))
+          | inl (base, index, is, t) ↦ (starts b g below).1 (subst (λ z. StartsAt xs z g) (sym (base_of b i base index (same_Some _ _ (sym at ∙ is)))) t)
+          | inr (base, index, is, t) ↦ absurd (let q = same_Some _ _ (sym at ∙ is) in cc (q))
         ]
       ],
     )
@@ -222,10 +220,10 @@ one_start xs known precede starts (plain (x.AccessIndex b i)) g at =
     let below : b < length known = precede (length known) (plain (x.AccessIndex b i)) (operand Base b) at (inl refl) in (
       λ e. accessed_index b i at ((starts b g below).0 e),
       λ s. elim (starts_cases xs (length known) g s) [
-        | inl is ↦ absurd (let q = some_is (sym at ∙ is) in cc (q))
+        | inl is ↦ absurd (let q = same_Some _ _ (sym at ∙ is) in cc (q))
         | inr r ↦ elim r [
-          | inl (base, index, is, t) ↦ absurd (let q = some_is (sym at ∙ is) in cc (q))
-          | inr (base, index, is, t) ↦ (starts b g below).1 (subst (λ z. StartsAt xs z g) (sym (base_of_index b i base index (some_is (sym at ∙ is)))) t)
+          | inl (base, index, is, t) ↦ absurd (let q = same_Some _ _ (sym at ∙ is) in cc (q))
+          | inr (base, index, is, t) ↦ (starts b g below).1 (subst (λ z. StartsAt xs z g) (sym (base_of_index b i base index (same_Some _ _ (sym at ∙ is)))) t)
         ]
       ],
     )

@@ -1,6 +1,6 @@
 -- The uniformities assembled for each expression satisfy the definitions.
 use Rattle.std.proofs.Common.{◌≡◌, ℕ, zero, suc, ◌+◌, List, [], ◌∷◌, length, map, Option, Some, None, option_map, slice_get, refl, sym, ap, ◌∙◌, subst, arith}
-use Rattle.std.proofs.lemmas.Option.{slice_get-map, slice_get_within}
+use Rattle.std.proofs.lemmas.Option.{same_Some, slice_get-map, slice_get_within}
 use Rattle.ir_arena.specs.judged.Handles.{handles_from}
 use Rattle.ir_arena.specs.declared.span.Span.{Span}
 use Rattle.ir_types.specs.judged.ExpressionPlain.{PlainExpression, expression_view}
@@ -12,9 +12,6 @@ use Rattle.spec_expressions.specs.judged.Values.{ComesFrom, IsExact}
 use Rattle.typing_uniformity.specs.Facts.{AreSources, IsUniformity, AreUniformities}
 use Rattle.spec_expressions.specs.judged.Faults.{requirement_in}
 use Rattle.typing_uniformity.specs.Reported.{Reported, told, reported_of, all_reported}
-
-some_is : {X : Type 0} {a b : X} → Some a ≡ Some b → a ≡ b
-some_is e = cc (e)
 
 told_at : (sources : List (Option ℕ)) (n : ℕ) (entries : List (Expression × Span)) (i : ℕ)
     → slice_get (all_reported sources (handles_from n entries)) i ≡ option_map (reported_of sources (n + i)) (slice_get (map expression_view (values_of entries)) i)
@@ -36,7 +33,7 @@ module _ (m : PlainModule) (f : PlainFunction) (sources : List (Option ℕ)) (ar
   told_is : (e : ℕ) (u : Uniformity) (o : Option PlainExpression) → slice_get f.expressions e ≡ o → Some (told u) ≡ option_map (reported_of sources e) o → IsUniformity m f e u
   told_is e u None there is = absurd (cc (is))
   told_is e u (Some x) there is =
-      let same : told u ≡ reported_of sources e x = some_is is in
+      let same : told u ≡ reported_of sources e x = same_Some _ _ is in
       record {
         source = subst (λ s. IsExact s (ComesFrom m f e)) (sym (ap (λ (t : Reported). t.source) same)) (are.each e (slice_get_within f.expressions e x there));
         requirements = ap (λ (t : Reported). t.requirement) same ∙ sym (ap requirement_in there);

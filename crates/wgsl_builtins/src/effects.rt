@@ -1,4 +1,4 @@
-// Built-in functions for atomics, workgroup memory, subgroups and ray queries, by name.
+// Built-in functions for atomics, workgroup memory, subgroups, ray queries and cooperative matrices, by name.
 
 use crate::rays::{RayFunction, ray_function_of};
 use ir_kinds::{CollectiveOperation, Direction, SubgroupOperation};
@@ -42,7 +42,7 @@ pub enum GatherWord {
     QuadBroadcast,
 }
 
-/// A built-in function for atomics, workgroup memory, subgroups or ray queries.
+/// A built-in function for atomics, workgroup memory, subgroups, ray queries or cooperative matrices.
 #[derive(Clone, Copy, PartialEq, Eq)]
 pub enum EffectWord {
     /// `atomicLoad`.
@@ -67,6 +67,10 @@ pub enum EffectWord {
     QuadSwap(Direction),
     /// A ray query function.
     Ray(RayFunction),
+    /// `coopStore`, or `coopStoreT` of rows.
+    CooperativeStore(bool),
+    /// `coopMultiplyAdd`.
+    CooperativeMultiplyAdd,
 }
 
 impl EffectWord {
@@ -76,14 +80,15 @@ impl EffectWord {
             EffectWord::AtomicLoad
             | EffectWord::AtomicStore
             | EffectWord::Atomic(_)
-            | EffectWord::CompareExchange => true,
+            | EffectWord::CompareExchange
+            | EffectWord::CooperativeStore(_) => true,
             EffectWord::Ray(function) => !function.has_value(),
             _ => false,
         }
     }
 }
 
-static EFFECTS: [(&str, EffectWord); 36] = [
+static EFFECTS: [(&str, EffectWord); 39] = [
     ("atomicLoad", EffectWord::AtomicLoad),
     ("atomicStore", EffectWord::AtomicStore),
     ("atomicAdd", EffectWord::Atomic(AtomicWord::Add)),
@@ -177,6 +182,9 @@ static EFFECTS: [(&str, EffectWord); 36] = [
         "quadSwapDiagonal",
         EffectWord::QuadSwap(Direction::Diagonal),
     ),
+    ("coopStore", EffectWord::CooperativeStore(false)),
+    ("coopStoreT", EffectWord::CooperativeStore(true)),
+    ("coopMultiplyAdd", EffectWord::CooperativeMultiplyAdd),
 ];
 
 /// The built-in function of this group with this name.

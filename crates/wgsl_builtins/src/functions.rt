@@ -25,10 +25,10 @@ pub enum FunctionWord {
     Barrier(Barrier),
     /// A texture built-in.
     Texture(TextureWord),
-    /// A function for atomics, workgroup memory, subgroups or ray queries.
+    /// `coopLoad`, or `coopLoadT` of rows.
+    CooperativeLoad(bool),
+    /// A function for atomics, workgroup memory, subgroups, ray queries or cooperative matrices.
     Effect(EffectWord),
-    /// An unsupported built-in function.
-    Other,
 }
 
 static MATH: [(&str, MathFunction); 77] = [
@@ -111,7 +111,7 @@ static MATH: [(&str, MathFunction); 77] = [
     ("unpack4xU8", MathFunction::Unpack4xU8),
 ];
 
-static FUNCTIONS: [(&str, FunctionWord); 23] = [
+static FUNCTIONS: [(&str, FunctionWord); 20] = [
     ("all", FunctionWord::Relational(RelationalFunction::All)),
     ("any", FunctionWord::Relational(RelationalFunction::Any)),
     ("select", FunctionWord::Select),
@@ -157,11 +157,8 @@ static FUNCTIONS: [(&str, FunctionWord); 23] = [
     ("workgroupBarrier", FunctionWord::Barrier(Barrier(2))),
     ("subgroupBarrier", FunctionWord::Barrier(Barrier(4))),
     ("textureBarrier", FunctionWord::Barrier(Barrier(8))),
-    ("coopLoad", FunctionWord::Other),
-    ("coopLoadT", FunctionWord::Other),
-    ("coopStore", FunctionWord::Other),
-    ("coopStoreT", FunctionWord::Other),
-    ("coopMultiplyAdd", FunctionWord::Other),
+    ("coopLoad", FunctionWord::CooperativeLoad(false)),
+    ("coopLoadT", FunctionWord::CooperativeLoad(true)),
 ];
 
 /// The built-in function with this name.

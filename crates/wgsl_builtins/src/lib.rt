@@ -13,4 +13,4 @@ pub use functions::{FunctionWord, function_of};
 pub use rays::{RayFunction, RayWord, ray_constant_of, ray_function_of};
 pub use spaces::{access_of, space_of};
 pub use textures::{QueryWord, SampleWord, TexelWord, TextureKind, TextureWord, format_of};
-pub use types::{TypeWord, type_of};
+pub use types::{TypeWord, role_of, type_of};

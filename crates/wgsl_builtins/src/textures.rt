@@ -16,14 +16,17 @@ pub enum TextureKind {
     MultisampledDepth,
     /// A storage texture.
     Storage,
+    /// An external texture.
+    External,
 }
 
 impl TextureKind {
-    /// The image class of a depth texture, which takes no template arguments; `None` for other kinds.
-    pub fn depth_class(self) -> Option<ImageClass> {
+    /// The image class of a texture that takes no template arguments: a depth texture or an external one. `None` for other kinds.
+    pub fn plain_class(self) -> Option<ImageClass> {
         match self {
             TextureKind::Depth => Some(ImageClass::Depth { multi: false }),
             TextureKind::MultisampledDepth => Some(ImageClass::Depth { multi: true }),
+            TextureKind::External => Some(ImageClass::External),
             TextureKind::Sampled | TextureKind::Multisampled | TextureKind::Storage => None,
         }
     }

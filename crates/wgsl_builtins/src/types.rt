@@ -2,7 +2,7 @@
 
 use crate::rays::RayWord;
 use crate::textures::TextureKind;
-use ir_kinds::{ImageDimension, Scalar, VectorSize};
+use ir_kinds::{CooperativeRole, CooperativeSize, ImageDimension, Scalar, VectorSize};
 use wgsl_words::find;
 
 /// A predeclared type or type generator.
@@ -32,10 +32,20 @@ pub enum TypeWord {
     BindingArray,
     /// A ray query type.
     Ray(RayWord),
-    /// A cooperative matrix.
-    Cooperative,
-    /// An unsupported type.
-    Other,
+    /// A cooperative matrix with this many columns and rows.
+    Cooperative(CooperativeSize),
+}
+
+impl TypeWord {
+    /// The maximum number of template arguments.
+    pub fn most_arguments(self) -> usize {
+        match self {
+            TypeWord::Array | TypeWord::BindingArray | TypeWord::Cooperative(_) => 2,
+            TypeWord::Texture(_, _, TextureKind::Storage) => 2,
+            TypeWord::Pointer => 3,
+            _ => 1,
+        }
+    }
 }
 
 static TYPES: [(&str, TypeWord); 81] = [
@@ -223,7 +233,10 @@ static TYPES: [(&str, TypeWord); 81] = [
         "texture_storage_3d",
         TypeWord::Texture(ImageDimension::D3, false, TextureKind::Storage),
     ),
-    ("texture_external", TypeWord::Other),
+    (
+        "texture_external",
+        TypeWord::Texture(ImageDimension::D2, false, TextureKind::External),
+    ),
     (
         "acceleration_structure",
         TypeWord::Ray(RayWord::AccelerationStructure),
@@ -232,11 +245,25 @@ static TYPES: [(&str, TypeWord); 81] = [
     ("RayDesc", TypeWord::Ray(RayWord::Descriptor)),
     ("RayIntersection", TypeWord::Ray(RayWord::Intersection)),
     ("binding_array", TypeWord::BindingArray),
-    ("coop_mat8x8", TypeWord::Cooperative),
-    ("coop_mat16x16", TypeWord::Cooperative),
+    ("coop_mat8x8", TypeWord::Cooperative(CooperativeSize::Eight)),
+    (
+        "coop_mat16x16",
+        TypeWord::Cooperative(CooperativeSize::Sixteen),
+    ),
 ];
 
 /// The predeclared type or type generator with this name.
 pub fn type_of(word: &[u8]) -> Option<TypeWord> {
     find(&TYPES, word)
+}
+
+static ROLES: [(&str, CooperativeRole); 3] = [
+    ("A", CooperativeRole::A),
+    ("B", CooperativeRole::B),
+    ("C", CooperativeRole::C),
+];
+
+/// The role of a cooperative matrix with this name.
+pub fn role_of(word: &[u8]) -> Option<CooperativeRole> {
+    find(&ROLES, word)
 }

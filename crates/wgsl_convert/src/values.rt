@@ -28,6 +28,8 @@ pub enum Value {
     Maker(TypeWord),
     /// `bitcast` to a type.
     Bitcast(Shape),
+    /// `coopLoad`, or `coopLoadT` of rows, of a type.
+    CooperativeLoad(Shape, bool),
     /// An undeclared identifier.
     Word(u32),
     /// A function of the module.

@@ -1,9 +1,9 @@
 // Arguments of built-in functions.
 
 use ir_kinds::{AddressSpace, Scalar};
-use wgsl_expressions::{Lowering, Operand, Value};
+use wgsl_expressions::{Lowering, Operand, Value, handle_of};
 use wgsl_text::Extent;
-use wgsl_types::{Builder, RowKind, Shape};
+use wgsl_types::{Builder, ExpressionHandle, RowKind, Shape};
 
 // The memory view that a pointer argument points to.
 #[derive(Clone, Copy)]
@@ -19,6 +19,15 @@ pub(crate) struct Pointee {
 // The argument at this index; a placeholder if there are fewer arguments.
 pub(crate) fn argument(arguments: &[Operand], place: usize) -> Operand {
     arguments.get(place).copied().unwrap_or(Operand::NOTHING)
+}
+
+// The expression of an argument.
+pub(crate) fn handle<B: Builder>(
+    lowering: &mut Lowering<B>,
+    arguments: &[Operand],
+    place: usize,
+) -> ExpressionHandle {
+    handle_of(lowering.value(argument(arguments, place)).0)
 }
 
 // Whether a call has this many arguments. It is an error if not.

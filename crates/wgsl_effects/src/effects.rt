@@ -1,14 +1,14 @@
 // Dispatch of the built-in functions of this crate.
 
 use crate::rays::ray;
-use crate::{atomics, subgroups};
+use crate::{atomics, cooperative, subgroups};
 use wgsl_builtins::EffectWord;
 use wgsl_expressions::{Lowering, Operand};
 use wgsl_text::Extent;
 use wgsl_types::Builder;
 
-/// Lowers a call of a built-in function for atomics, workgroup memory, subgroups or ray queries. The arguments were loaded; the
-/// call is a statement, or its result is used.
+/// Lowers a call of a built-in function for atomics, workgroup memory, subgroups, ray queries or cooperative matrices. The
+/// arguments were loaded; the call is a statement, or its result is used.
 pub fn lower_effect<B: Builder>(
     lowering: &mut Lowering<B>,
     word: EffectWord,
@@ -34,5 +34,11 @@ pub fn lower_effect<B: Builder>(
             subgroups::quad_swap(lowering, direction, arguments, extent)
         }
         EffectWord::Ray(function) => ray(lowering, function, arguments, extent),
+        EffectWord::CooperativeStore(row_major) => {
+            cooperative::store(lowering, row_major, arguments, extent)
+        }
+        EffectWord::CooperativeMultiplyAdd => {
+            cooperative::multiply_add(lowering, arguments, extent)
+        }
     }
 }

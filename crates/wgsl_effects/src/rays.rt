@@ -1,6 +1,6 @@
 // Ray query functions.
 
-use crate::arguments::{argument, check_count, pointed};
+use crate::arguments::{argument, check_count, handle, pointed};
 use ir_blocks::{RayPipelineFunction, RayQueryFunction, Statement};
 use ir_kinds::Scalar;
 use ir_types::Expression;
@@ -39,15 +39,6 @@ fn count_of(function: RayFunction) -> usize {
         RayFunction::GenerateIntersection => 2,
         _ => 1,
     }
-}
-
-// The expression of an argument.
-fn handle<B: Builder>(
-    lowering: &mut Lowering<B>,
-    arguments: &[Operand],
-    place: usize,
-) -> ExpressionHandle {
-    handle_of(lowering.value(argument(arguments, place)).0)
 }
 
 // A ray query statement without a result.

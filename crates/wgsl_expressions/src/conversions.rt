@@ -58,7 +58,12 @@ impl<B: Builder> Lowering<B> {
                 self.wrong("function does not return any value", extent);
                 Operand::NOTHING
             }
-            Value::Type(_) | Value::Maker(_) | Value::Function(_) | Value::BuiltIn(_) => {
+            Value::Type(_)
+            | Value::Maker(_)
+            | Value::Function(_)
+            | Value::BuiltIn(_)
+            | Value::Bitcast(_)
+            | Value::CooperativeLoad(..) => {
                 self.wrong("unexpected expression", extent);
                 Operand::NOTHING
             }

@@ -7,31 +7,7 @@ use ir_types::Expression;
 use wgsl_constants::{Known, Lanes, combine, negate};
 use wgsl_convert::{ColumnStep, of_matrices};
 use wgsl_text::Extent;
-use wgsl_types::{Builder, Shape, result_of, splats};
-
-// The common scalar of two operands: the scalar of both, or the one that an abstract operand converts to.
-fn common(left: Scalar, right: Scalar) -> Option<Scalar> {
-    if left == right {
-        return Some(left);
-    }
-    match (left.kind, right.kind) {
-        (ScalarKind::AbstractInt, ScalarKind::Bool) | (ScalarKind::Bool, ScalarKind::AbstractInt) =>
-            None,
-        (ScalarKind::AbstractInt, _) => Some(right),
-        (_, ScalarKind::AbstractInt) => Some(left),
-        (ScalarKind::AbstractFloat, ScalarKind::Float) => Some(right),
-        (ScalarKind::Float, ScalarKind::AbstractFloat) => Some(left),
-        _ => None,
-    }
-}
-
-// Whether the operator is a shift.
-fn is_shift(operator: BinaryOperator) -> bool {
-    matches!(
-        operator,
-        BinaryOperator::ShiftLeft | BinaryOperator::ShiftRight
-    )
-}
+use wgsl_types::{Builder, Shape, common, is_shift, result_of, splats};
 
 impl<B: Builder> Lowering<B> {
     // Evaluates a unary operator on a constant.

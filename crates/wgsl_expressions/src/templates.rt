@@ -5,9 +5,14 @@ use crate::values::{Operand, Value, handle_of};
 use ir_arena::handle::Handle;
 use ir_flags::{Capabilities, StorageAccess};
 use ir_items::Override;
-use ir_kinds::{AddressSpace, ImageClass, Literal, Scalar, ScalarKind, StorageFormat, VectorSize};
+use ir_kinds::{
+    AddressSpace, CooperativeRole, CooperativeSize, ImageClass, Literal, Scalar, ScalarKind,
+    StorageFormat, VectorSize,
+};
 use ir_types::ArraySize;
-use wgsl_builtins::{FunctionWord, RayWord, TextureKind, TypeWord, access_of, format_of, space_of};
+use wgsl_builtins::{
+    FunctionWord, RayWord, TextureKind, TypeWord, access_of, format_of, role_of, space_of,
+};
 use wgsl_text::{Extent, WgslError};
 use wgsl_types::{Builder, Shape};
 
@@ -48,24 +53,19 @@ impl<B: Builder> Lowering<B> {
                 Shape::Matrix(columns, rows, scalar)
             }
             Value::Maker(TypeWord::Sampler(comparison)) => Shape::Sampler(comparison),
-            Value::Maker(TypeWord::Texture(dim, arrayed, kind)) => match kind.depth_class() {
+            Value::Maker(TypeWord::Texture(dim, arrayed, kind)) => match kind.plain_class() {
                 Some(class) => Shape::Image(dim, arrayed, class),
-                None => {
-                    self.fail(WgslError::of_name("", extent, kind.wanted()));
-                    Shape::None
-                }
+                None => self.wanting(kind.wanted(), extent),
             },
             Value::Maker(TypeWord::Ray(word)) => self.ray_word(word, false, extent),
-            Value::Maker(TypeWord::Other) => {
-                self.unsupported_name("the type ", extent);
-                Shape::None
+            Value::Maker(TypeWord::Cooperative(_)) => {
+                self.check_cooperative(extent);
+                self.wanting(
+                    " needs a template argument specified: `T`, a scalar type",
+                    extent,
+                )
             }
-            Value::Maker(TypeWord::Cooperative) => self.cooperative(extent),
-            Value::Maker(_) => {
-                let error = WgslError::of_name("", extent, " needs a template argument specified");
-                self.fail(error);
-                Shape::None
-            }
+            Value::Maker(_) => self.wanting(" needs a template argument specified", extent),
             Value::Word(name) => {
                 self.undefined(name, extent);
                 Shape::None
@@ -77,14 +77,50 @@ impl<B: Builder> Lowering<B> {
         }
     }
 
-    // Reports that a cooperative matrix type is not enabled or not supported.
-    fn cooperative(&mut self, extent: Extent) -> Shape {
+    // Checks that the extension for cooperative matrices is enabled.
+    fn check_cooperative(&mut self, extent: Extent) {
         if self.tree.enabled.0 & Capabilities::COOPERATIVE_MATRIX.0 == 0 {
             let text = "the `wgpu_cooperative_matrix` enable extension is not enabled";
             self.wrong(text, extent);
         }
-        self.unsupported_name("the type ", extent);
+    }
+
+    // A cooperative matrix type.
+    fn cooperative(&mut self, size: CooperativeSize, of: &[Operand], extent: Extent) -> Shape {
+        self.check_cooperative(extent);
+        let (Some(scalar), Some(role)) = (of.first(), of.get(1)) else {
+            let text = " needs a template argument specified: `Role`, a cooperative matrix role";
+            return self.wanting(text, extent);
+        };
+        match self.type_of(scalar) {
+            Shape::Scalar(scalar) => Shape::Cooperative(size, scalar, self.role(role)),
+            _ => {
+                self.wrong("cooperative scalar type is not supported", scalar.extent);
+                Shape::None
+            }
+        }
+    }
+
+    // Reports that a type generator needs a template argument.
+    fn wanting(&mut self, text: &'static str, extent: Extent) -> Shape {
+        self.fail(WgslError::of_name("", extent, text));
         Shape::None
+    }
+
+    // The role of a cooperative matrix that an operand denotes.
+    fn role(&mut self, operand: &Operand) -> CooperativeRole {
+        let role = match operand.value {
+            Value::Word(name) => role_of(self.tree.tokens.word(name)),
+            _ => None,
+        };
+        match role {
+            Some(role) => role,
+            None => {
+                let text = "unknown cooperative matrix role: ";
+                self.fail(WgslError::of_name(text, operand.extent, ""));
+                CooperativeRole::C
+            }
+        }
     }
 
     // The scalar of an operand that must denote a scalar type.
@@ -256,23 +292,12 @@ impl<B: Builder> Lowering<B> {
         self.table.pointer(&mut self.builder, to, space, extent)
     }
 
-    // The maximum number of template arguments of a type generator.
-    fn most(maker: TypeWord) -> usize {
-        match maker {
-            TypeWord::Array | TypeWord::BindingArray => 2,
-            TypeWord::Pointer => 3,
-            TypeWord::Texture(_, _, TextureKind::Storage) => 2,
-            TypeWord::Other | TypeWord::Cooperative => usize::MAX,
-            _ => 1,
-        }
-    }
-
     // The type that a type generator produces from template arguments.
     fn made(&mut self, maker: TypeWord, arguments: &[Operand], extent: Extent) -> Shape {
         let Some(first) = arguments.first() else {
             return Shape::None;
         };
-        if let Some(more) = arguments.get(Self::most(maker)) {
+        if let Some(more) = arguments.get(maker.most_arguments()) {
             self.wrong("unused expressions for template", more.extent);
         }
         match maker {
@@ -286,11 +311,7 @@ impl<B: Builder> Lowering<B> {
                 let class = self.image_class(kind, arguments, extent);
                 Shape::Image(dim, arrayed, class)
             }
-            TypeWord::Other => {
-                self.unsupported_name("the type ", extent);
-                Shape::None
-            }
-            TypeWord::Cooperative => self.cooperative(extent),
+            TypeWord::Cooperative(size) => self.cooperative(size, arguments, extent),
             TypeWord::Ray(word) => self.ray_template(word, first, extent),
             TypeWord::Scalar(_)
             | TypeWord::VectorOf(..)
@@ -381,6 +402,32 @@ impl<B: Builder> Lowering<B> {
         Shape::Matrix(columns, rows, scalar)
     }
 
+    // A built-in function with template arguments: a type.
+    fn function_template(
+        &mut self,
+        word: FunctionWord,
+        arguments: &[Operand],
+        extent: Extent,
+    ) -> Value {
+        let Some(first) = arguments.first() else {
+            return Value::Nothing;
+        };
+        let value = match word {
+            FunctionWord::Bitcast => Value::Bitcast(self.type_of(first)),
+            FunctionWord::CooperativeLoad(row_major) => {
+                Value::CooperativeLoad(self.type_of(first), row_major)
+            }
+            _ => {
+                self.wrong("unexpected template", extent);
+                Value::Nothing
+            }
+        };
+        if let Some(more) = arguments.get(1) {
+            self.wrong("unused expressions for template", more.extent);
+        }
+        value
+    }
+
     /// Lowers an identifier with this many template arguments.
     pub fn template(&mut self, count: u32, token: u32) {
         let arguments = self.take(count);
@@ -388,10 +435,7 @@ impl<B: Builder> Lowering<B> {
         let extent = base.extent.until(self.extent(token));
         let value = match base.value {
             Value::Maker(maker) => Value::Type(self.made(maker, &arguments, base.extent)),
-            Value::BuiltIn(FunctionWord::Bitcast) => match arguments.first() {
-                Some(to) => Value::Bitcast(self.type_of(to)),
-                None => Value::Nothing,
-            },
+            Value::BuiltIn(word) => self.function_template(word, &arguments, base.extent),
             Value::Word(name) => {
                 self.undefined(name, base.extent);
                 Value::Nothing

@@ -9,7 +9,7 @@ use ir_flags::{Barrier, Capabilities};
 use ir_kinds::{Scalar, ScalarKind};
 use ir_types::Expression;
 use wgsl_builtins::FunctionWord;
-use wgsl_effects::lower_effect;
+use wgsl_effects::{cooperative_load, lower_effect};
 use wgsl_expressions::{FunctionEntry, Lowering, Operand, Value, handle_of};
 use wgsl_images::lower_texture;
 use wgsl_text::{Extent, Failure, WgslError};
@@ -155,8 +155,9 @@ fn built_in<B: Builder>(
             }
         }
         FunctionWord::Effect(word) => lower_effect(lowering, word, arguments, is_statement, extent),
-        FunctionWord::Bitcast | FunctionWord::Other => {
-            lowering.unsupported_name("the function ", extent);
+        FunctionWord::Bitcast | FunctionWord::CooperativeLoad(_) => {
+            let text = " needs a template argument specified: `T`, a type";
+            lowering.fail(WgslError::of_name("", extent, text));
             Operand::NOTHING
         }
     }
@@ -263,6 +264,9 @@ pub fn lower_call<B: Builder>(
             built_in(lowering, word, &arguments, is_statement, callee.extent)
         }
         Value::Bitcast(to) => bitcast(lowering, to, &arguments, extent),
+        Value::CooperativeLoad(of, row_major) => {
+            cooperative_load(lowering, of, row_major, &arguments, callee.extent)
+        }
         Value::Word(name) => {
             lowering.undefined(name, callee.extent);
             Operand::NOTHING

@@ -1,7 +1,7 @@
 // The capabilities that types require.
 
 use ir_flags::Capabilities;
-use ir_kinds::ImageDimension;
+use ir_kinds::{ImageClass, ImageDimension};
 use ir_types::TypeInner;
 
 // The capabilities of binding arrays, which one extension enables together.
@@ -15,6 +15,10 @@ pub(crate) fn required_by(inner: &TypeInner) -> Capabilities {
             arrayed: true,
             ..
         } => Capabilities::CUBE_ARRAY_TEXTURES,
+        TypeInner::Image {
+            class: ImageClass::External,
+            ..
+        } => Capabilities::TEXTURE_EXTERNAL,
         TypeInner::BindingArray { .. } => BINDING_ARRAYS,
         _ => Capabilities(0),
     }

@@ -96,7 +96,7 @@ fn may_be_left(value: Value) -> bool {
         Value::Function(entry) => !entry.must_use,
         Value::BuiltIn(FunctionWord::Texture(word)) => !word.has_value(),
         Value::BuiltIn(FunctionWord::Effect(word)) => word.may_be_dropped(),
-        Value::BuiltIn(word) => matches!(word, FunctionWord::Barrier(_) | FunctionWord::Other),
+        Value::BuiltIn(word) => matches!(word, FunctionWord::Barrier(_)),
         Value::Word(_) => true,
         _ => false,
     }

@@ -1,6 +1,14 @@
 // Memory layout of types (section "Alignment and Size" of the WGSL specification).
 
-use ir_kinds::{Scalar, VectorSize};
+use ir_kinds::{CooperativeSize, Scalar, VectorSize};
+
+/// The number of columns, and of rows, of a cooperative matrix.
+pub fn side_of(size: CooperativeSize) -> u32 {
+    match size {
+        CooperativeSize::Eight => 8,
+        CooperativeSize::Sixteen => 16,
+    }
+}
 
 /// The memory layout of a type, in bytes.
 #[derive(Clone, Copy)]
@@ -45,6 +53,16 @@ impl Layout {
         let alignment = Layout::of_vector(rows, scalar).alignment;
         Layout {
             size: alignment.saturating_mul(u64::from(u8::from(columns))),
+            alignment,
+        }
+    }
+
+    /// The layout of a cooperative matrix.
+    pub fn of_cooperative(size: CooperativeSize, scalar: Scalar) -> Layout {
+        let side = u64::from(side_of(size));
+        let alignment = Layout::of_scalar(scalar).size;
+        Layout {
+            size: alignment.saturating_mul(side).saturating_mul(side),
             alignment,
         }
     }

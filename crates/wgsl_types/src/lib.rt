@@ -10,7 +10,7 @@ mod table;
 pub use builder::{
     Builder, ExpressionHandle, RayStruct, TypeHandle, no_expression, no_type, span_of,
 };
-pub use layout::Layout;
-pub use operators::{is_comparison, result_of, splats};
+pub use layout::{Layout, side_of};
+pub use operators::{common, is_comparison, is_shift, result_of, splats};
 pub use shapes::{Shape, vector_size};
 pub use table::{Row, RowKind, TypeMember, TypeTable};

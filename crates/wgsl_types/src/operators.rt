@@ -1,7 +1,31 @@
 // Result types of operators.
 
 use crate::shapes::Shape;
-use ir_kinds::{BinaryOperator, Scalar, VectorSize};
+use ir_kinds::{BinaryOperator, Scalar, ScalarKind, VectorSize};
+
+/// The common scalar of two operands: the scalar of both, or the one that an abstract operand converts to.
+pub fn common(left: Scalar, right: Scalar) -> Option<Scalar> {
+    if left == right {
+        return Some(left);
+    }
+    match (left.kind, right.kind) {
+        (ScalarKind::AbstractInt, ScalarKind::Bool) | (ScalarKind::Bool, ScalarKind::AbstractInt) =>
+            None,
+        (ScalarKind::AbstractInt, _) => Some(right),
+        (_, ScalarKind::AbstractInt) => Some(left),
+        (ScalarKind::AbstractFloat, ScalarKind::Float) => Some(right),
+        (ScalarKind::Float, ScalarKind::AbstractFloat) => Some(left),
+        _ => None,
+    }
+}
+
+/// Whether the operator is a shift.
+pub fn is_shift(operator: BinaryOperator) -> bool {
+    matches!(
+        operator,
+        BinaryOperator::ShiftLeft | BinaryOperator::ShiftRight
+    )
+}
 
 /// Whether the operator is a comparison.
 pub fn is_comparison(operator: BinaryOperator) -> bool {

@@ -1,6 +1,6 @@
 // Types without their memory layout.
 
-use ir_kinds::{ImageClass, ImageDimension, Scalar, VectorSize};
+use ir_kinds::{CooperativeRole, CooperativeSize, ImageClass, ImageDimension, Scalar, VectorSize};
 
 /// A type.
 #[derive(Clone, Copy, PartialEq, Eq)]
@@ -23,6 +23,8 @@ pub enum Shape {
     AccelerationStructure(bool),
     /// A ray query, and whether it returns vertex positions.
     RayQuery(bool),
+    /// A cooperative matrix: its number of columns and of rows, its scalar and its role.
+    Cooperative(CooperativeSize, Scalar, CooperativeRole),
     /// An array, a struct or a pointer, by its index in the table.
     Row(u32),
 }

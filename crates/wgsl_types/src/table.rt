@@ -111,6 +111,7 @@ impl TypeTable {
             Shape::Scalar(scalar) | Shape::Atomic(scalar) => Layout::of_scalar(scalar),
             Shape::Vector(size, scalar) => Layout::of_vector(size, scalar),
             Shape::Matrix(columns, rows, scalar) => Layout::of_matrix(columns, rows, scalar),
+            Shape::Cooperative(size, scalar, _) => Layout::of_cooperative(size, scalar),
             Shape::Row(_) => match self.row(shape) {
                 Some(row) => row.layout,
                 None => Layout::NONE,
@@ -144,6 +145,12 @@ impl TypeTable {
                 TypeInner::AccelerationStructure { vertex_return }
             }
             Shape::RayQuery(vertex_return) => TypeInner::RayQuery { vertex_return },
+            Shape::Cooperative(size, scalar, role) => TypeInner::CooperativeMatrix {
+                columns: size,
+                rows: size,
+                scalar,
+                role,
+            },
             Shape::None | Shape::Row(_) => {
                 return match self.row(shape) {
                     Some(row) => row.handle,

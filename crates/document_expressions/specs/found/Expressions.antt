@@ -2,6 +2,7 @@
 use Rattle.std.specs.Prelude.{◌≡◌, ◌≤◌, ℕ, true, List, [], ◌∷◌, Option, Some, None, map, length, option_map, ◌==◌, nat_eq, if◌then◌else◌, codes, refl}
 use Rattle.std.proofs.Common.{inl, inr, ap, sym, subst, ◌∙◌}
 use Rattle.std.specs.Str.{bytes_eq}
+use Rattle.std.proofs.lemmas.Option.{same_Some}
 use borrow.Author.Tests.{eqb-true}
 use Rattle.serde_json.specs.Data.{Data, null, boolean, number, string, array, object, Items, depth, items_depth}
 use Rattle.serde_json.specs.Find.{as_str}
@@ -19,7 +20,7 @@ use Rattle.document_words.specs.Lookup.{lookup}
 use Rattle.document_words.specs.Tables.{letters, cooperative_roles, unary_operators, binary_operators, derivative_axes, derivative_controls, relational_functions, math_functions, scalar_kinds}
 use Rattle.document_forms.specs.found.Exact.{deepest, IsExact, FormOf, RowOf}
 use Rattle.document_forms.specs.found.Decide.{◌>>=◌, of_kind, tagged_of}
-use Rattle.document_forms.specs.found.Inverse.{bind_some, map_some, chosen, guarded, some_is, is_word, as_str_some}
+use Rattle.document_forms.specs.found.Inverse.{bind_some, map_some, chosen, guarded, is_word, as_str_some}
 use Rattle.document_forms.specs.found.KindLaws.{AreSound, kind_sound, kind_complete, tagged_complete}
 use Rattle.document_forms.specs.found.Forms.{a_u8, a_u16, a_u64, a_i16, a_i32, a_i64, a_handle, a_u32, a_size, a_side, a_bool, a_word, maybe, a_list, ends, row_by_kind, by_kind}
 use Rattle.document_forms.specs.found.Rows.{row1, row2, row3, row5, row6, row9}
@@ -214,12 +215,12 @@ pattern_of d = as_str d >>= pattern_in
 letter_some : (n : ℕ) (c : SwizzleComponent) → letter_in n ≡ Some c → n ≡ letter_code c
 letter_some n c e =
     elim (chosen (nat_eq n 120) _ _ _ e) [
-      | inl a ↦ eqb-true n 120 a.0 ∙ ap letter_code (some_is X c a.1)
+      | inl a ↦ eqb-true n 120 a.0 ∙ ap letter_code (same_Some X c a.1)
       | inr a ↦ elim (chosen (nat_eq n 121) _ _ _ a.1) [
-        | inl b ↦ eqb-true n 121 b.0 ∙ ap letter_code (some_is Y c b.1)
+        | inl b ↦ eqb-true n 121 b.0 ∙ ap letter_code (same_Some Y c b.1)
         | inr b ↦ elim (chosen (nat_eq n 122) _ _ _ b.1) [
-          | inl z ↦ eqb-true n 122 z.0 ∙ ap letter_code (some_is Z c z.1)
-          | inr z ↦ let g = guarded (nat_eq n 119) (Some W) c z.1 in eqb-true n 119 g.0 ∙ ap letter_code (some_is W c g.1)
+          | inl z ↦ eqb-true n 122 z.0 ∙ ap letter_code (same_Some Z c z.1)
+          | inr z ↦ let g = guarded (nat_eq n 119) (Some W) c z.1 in eqb-true n 119 g.0 ∙ ap letter_code (same_Some W c g.1)
         ]
       ]
     ]
@@ -257,7 +258,7 @@ coded_exact = record { sound = found; complete = there }
         let c = bind_some _ (next_letter b.0.1) cs b.2 in
         let z = bind_some _ (last_letter c.0.1) cs c.2 in
         let w_is = next_some w.0 a.0 a.1 ∙ ap (λ ns. letter_code a.0.0 ∷ ns) (next_some a.0.1 b.0 b.1 ∙ ap (λ ns. letter_code b.0.0 ∷ ns) (next_some b.0.1 c.0 c.1 ∙ ap (λ ns. letter_code c.0.0 ∷ ns) (last_some c.0.1 z.0 z.1))) in
-        subst (λ x. CodedPattern x d) (some_is _ cs z.2) (as_str_some d w.0 w.1 ∙ ap string w_is, refl)
+        subst (λ x. CodedPattern x d) (same_Some _ cs z.2) (as_str_some d w.0 w.1 ∙ ap string w_is, refl)
 
     there : (d : Data) (cs : List SwizzleComponent) → CodedPattern cs d → depth d ≤ deepest → pattern_of d ≡ Some cs
     there d [] h le = absurd (let x = h.1 in cc)
@@ -283,12 +284,12 @@ one_code l n e =
 code_of : (l : ℕ) (c : SwizzleComponent) → lookup (l ∷ []) letters ≡ Some c → l ≡ letter_code c
 code_of l c e =
     elim (chosen (bytes_eq (l ∷ []) (codes "x")) _ _ _ e) [
-      | inl a ↦ one_code l 120 a.0 ∙ ap letter_code (some_is X c a.1)
+      | inl a ↦ one_code l 120 a.0 ∙ ap letter_code (same_Some X c a.1)
       | inr a ↦ elim (chosen (bytes_eq (l ∷ []) (codes "y")) _ _ _ a.1) [
-        | inl b ↦ one_code l 121 b.0 ∙ ap letter_code (some_is Y c b.1)
+        | inl b ↦ one_code l 121 b.0 ∙ ap letter_code (same_Some Y c b.1)
         | inr b ↦ elim (chosen (bytes_eq (l ∷ []) (codes "z")) _ _ _ b.1) [
-          | inl z ↦ one_code l 122 z.0 ∙ ap letter_code (some_is Z c z.1)
-          | inr z ↦ let g = guarded (bytes_eq (l ∷ []) (codes "w")) (Some W) c z.1 in one_code l 119 g.0 ∙ ap letter_code (some_is W c g.1)
+          | inl z ↦ one_code l 122 z.0 ∙ ap letter_code (same_Some Z c z.1)
+          | inr z ↦ let g = guarded (bytes_eq (l ∷ []) (codes "w")) (Some W) c z.1 in one_code l 119 g.0 ∙ ap letter_code (same_Some W c g.1)
         ]
       ]
     ]

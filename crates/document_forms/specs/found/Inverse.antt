@@ -2,6 +2,7 @@
 use Rattle.std.proofs.Common.{◌≡◌, ◌⊎◌, inl, inr, ℕ, List, Option, Some, None, option_map, option_and_then, Bool, true, false, ◌&&◌, cond, refl, ap, subst, ◌∙◌}
 use Rattle.std.specs.Str.{bytes_eq}
 use Rattle.std.proofs.lemmas.Slice.Eq.{bytes_eq-Decides}
+use Rattle.std.proofs.lemmas.Option.{same_Some}
 use Rattle.serde_json.specs.Data.{Num, unsigned, negative, float, Data, null, boolean, number, string, array, object, Items, no_items, item}
 use Rattle.serde_json.specs.Find.{as_array, as_str, as_number, as_u64, as_bool}
 use Rattle.document_forms.specs.found.Decide.{whole_of, first, is_null}
@@ -25,9 +26,6 @@ guarded false o y e = cc
 pub both_true : (a b : Bool) → (a && b) ≡ true → (a ≡ true) × (b ≡ true)
 both_true true b e = (refl, e)
 both_true false b e = cc
-
-pub some_is : {A : Type 0} (x y : A) → Some x ≡ Some y → x ≡ y
-some_is x y e = cc
 
 pub is_word : (w v : List ℕ) → bytes_eq w v ≡ true → w ≡ v
 is_word w v e = (bytes_eq-Decides w v).0 e
@@ -76,7 +74,7 @@ whole_some d n e =
 
 pub first_some : (ds : Items) (t : Data × Items) → first ds ≡ Some t → ds ≡ item t.0 t.1
 first_some no_items t e = cc
-first_some (item d ds) t e = let x = some_is (d, ds) t e in subst (λ u. item d ds ≡ item u.0 u.1) x refl
+first_some (item d ds) t e = let x = same_Some (d, ds) t e in subst (λ u. item d ds ≡ item u.0 u.1) x refl
 
 pub is_null_true : (d : Data) → is_null d ≡ true → d ≡ null
 is_null_true null e = refl

@@ -3,13 +3,14 @@ use Rattle.std.specs.Prelude.{◌≡◌, ◌≤◌, ℕ, List, [], ◌∷◌, Op
 use Rattle.std.proofs.Common.{inl, inr, arith, sym, ap, subst, ◌∙◌}
 use Rattle.std.specs.List.{AllByRecursion}
 use Rattle.std.specs.Str.{bytes_eq}
+use Rattle.std.proofs.lemmas.Option.{same_Some}
 use Rattle.serde_json.specs.Data.{Data, null, boolean, number, string, array, object, Items, no_items, item, depth, items_depth}
 use Rattle.serde_json.specs.Find.{as_array, as_str}
 use Rattle.document_words.specs.Lookup.{lookup}
 use Rattle.document_forms.specs.found.Exact.{deepest, IsExact, IsExactRow, RowOf}
 use Rattle.document_forms.specs.judged.Form.{AText, AnArray, ◌▸◌}
 use Rattle.document_forms.specs.found.Decide.{word_in, first, tag_of, of_kind, tag_in, tagged_of}
-use Rattle.document_forms.specs.found.Inverse.{bind_some, map_some, chosen, some_is, is_word, as_str_some, as_array_some, first_some}
+use Rattle.document_forms.specs.found.Inverse.{bind_some, map_some, chosen, is_word, as_str_some, as_array_some, first_some}
 
 -- an array of this tag and the elements of its kind
 abbrev pub Tagged : List ℕ → (Items → Type 0) → Data → Type 0
@@ -48,7 +49,7 @@ module _ {A K : Type 0} (table : List (List ℕ × K)) (f : K → Items → Opti
   kinds_sound R (t ∷ ts) right w k e ds x found =
       elim (chosen (bytes_eq w t.0) _ _ _ e) [
         | inl here ↦
-            let k_is : t.1 ≡ k = some_is _ _ here.1 in
+            let k_is : t.1 ≡ k = same_Some _ _ here.1 in
             subst (λ v. R x (item (string v) ds)) (sym (is_word w t.0 here.0)) (right.0 ds x (subst (λ j. f j ds ≡ Some x) (sym k_is) found))
         | inr there ↦ kinds_sound R ts right.1 w k there.1 ds x found
       ]
@@ -58,7 +59,7 @@ module _ {A K : Type 0} (table : List (List ℕ × K)) (f : K → Items → Opti
       let one = bind_some _ (first ds) t tag in
       let k = bind_some _ (word_in table one.0.0) t one.2 in
       let w = bind_some _ (as_str one.0.0) k.0 k.1 in
-      let t_is : (k.0, one.0.1) ≡ t = some_is _ _ k.2 in
+      let t_is : (k.0, one.0.1) ≡ t = same_Some _ _ k.2 in
       let last : f k.0 one.0.1 ≡ Some x = subst (λ u. f u.0 u.1 ≡ Some x) (sym t_is) e in
       let d_is : one.0.0 ≡ string w.0 = as_str_some one.0.0 w.0 w.1 in
       let ds_is : ds ≡ item one.0.0 one.0.1 = first_some ds one.0 one.1 in
@@ -85,6 +86,6 @@ pub lookup_keeps : {A : Type 0} (P : A → Type 0) (table : List (List ℕ × A)
 lookup_keeps P [] all w x e = cc
 lookup_keeps P (t ∷ ts) all w x e =
     elim (chosen (bytes_eq w t.0) _ _ _ e) [
-      | inl here ↦ subst P (some_is t.1 x here.1) all.0
+      | inl here ↦ subst P (same_Some t.1 x here.1) all.0
       | inr there ↦ lookup_keeps P ts all.1 w x there.1
     ]

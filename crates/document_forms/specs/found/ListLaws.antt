@@ -1,12 +1,13 @@
 -- Decoding agrees with the encoding relation: lists and sets of words.
 use Rattle.std.proofs.Common.{◌≡◌, ◌≤◌, ℕ, List, [], ◌∷◌, Option, Some, refl, sym, ap, subst, ◌∙◌, arith}
 use Rattle.std.specs.Prelude.{fold}
+use Rattle.std.proofs.lemmas.Option.{same_Some}
 use Rattle.serde_json.specs.Data.{Data, null, boolean, number, string, array, object, Items, no_items, item, depth, items_depth}
 use Rattle.serde_json.specs.Find.{as_array}
 use Rattle.document_forms.specs.found.Exact.{deepest, IsExact}
 use Rattle.document_forms.specs.judged.Form.{AWord, EachOf, AList, ASet}
 use Rattle.document_forms.specs.found.Decide.{word_in, each, all_of, joins, set_of}
-use Rattle.document_forms.specs.found.Inverse.{bind_some, some_is, as_array_some}
+use Rattle.document_forms.specs.found.Inverse.{bind_some, as_array_some}
 use Rattle.document_forms.specs.found.PartLaws.{word_exact}
 
 pub list_exact : {A : Type 0} (f : Data → Option A) (P : A → Data → Type 0) → IsExact f P → IsExact (all_of f) (AList P)
@@ -18,7 +19,7 @@ list_exact {A} f P exact = record { sound = found; complete = there }
     each_found (item d ds) ys e =
         let a = bind_some _ (f d) ys e in
         let b = bind_some _ (each f ds) ys a.2 in
-        let ys_is : (a.0 ∷ b.0) ≡ ys = some_is _ _ b.2 in
+        let ys_is : (a.0 ∷ b.0) ≡ ys = same_Some _ _ b.2 in
         subst (λ zs. EachOf P zs (item d ds)) ys_is (exact.sound d a.0 a.1, each_found ds b.0 b.1)
 
     found : (d : Data) (xs : List A) → all_of f d ≡ Some xs → AList P xs d
@@ -42,7 +43,7 @@ list_exact {A} f P exact = record { sound = found; complete = there }
 
 module _ {A : Type 0} (table : List (List ℕ × A)) (union : A → A → A) where
   joins_sound : (x : A) (ds : Items) (z : A) → joins table union x ds ≡ Some z → (words : List A) × EachOf (AWord table) words ds × (fold union x words ≡ z)
-  joins_sound x no_items z e = ([], tt, some_is x z e)
+  joins_sound x no_items z e = ([], tt, same_Some x z e)
   joins_sound x (item d ds) z e =
       let a = bind_some _ (word_in table d) z e in
       let r = joins_sound (union x a.0) ds z a.2 in

@@ -1,5 +1,6 @@
 -- Decoding agrees with the encoding relation: numbers, words and options.
 use Rattle.std.proofs.Common.{◌≡◌, ◌⊎◌, inl, inr, ◌≤◌, ◌<◌, ℕ, ℤ, pos, negsuc, List, Option, Some, None, option_map, option_and_then, ◌&&◌, nat_le, nat_eq, int_lt, int_le, refl, sym, ap, subst, ◌∙◌, arith}
+use Rattle.std.proofs.lemmas.Option.{same_Some}
 use borrow.Author.Tests.{ltb-true, leb-true, le-leb, eqb-true}
 use Rattle.serde_json.specs.Data.{Num, unsigned, negative, float, Data, null, boolean, number, string, array, object, depth}
 use Rattle.serde_json.specs.Find.{as_str, as_bool, as_number, as_u64, as_i64, of_integer}
@@ -10,7 +11,7 @@ use Rattle.ir_kinds.specs.declared.scalars.CooperativeSize.TheVariants.{Eight, S
 use Rattle.document_forms.specs.found.Exact.{deepest, IsExact}
 use Rattle.document_forms.specs.judged.Form.{ANumber, ASigned, ABool, AText, AWord, AVectorSize, ACooperativeSize, Maybe}
 use Rattle.document_forms.specs.found.Decide.{whole_of, number_of, small, below_zero, or_else, signed_of, size_of, side_of, word_in, is_null, optional}
-use Rattle.document_forms.specs.found.Inverse.{bind_some, map_some, chosen, guarded, both_true, some_is, as_str_some, as_bool_some, as_number_some, whole_some, is_null_true}
+use Rattle.document_forms.specs.found.Inverse.{bind_some, map_some, chosen, guarded, both_true, as_str_some, as_bool_some, as_number_some, whole_some, is_null_true}
 
 -- ---- numbers
 
@@ -21,7 +22,7 @@ number_exact high = record { sound = found; complete = there }
     found d n e =
         let a = bind_some _ (whole_of d) n e in
         let g = guarded (nat_le a.0 high) (Some a.0) n a.2 in
-        let n_is : a.0 ≡ n = some_is a.0 n g.1 in
+        let n_is : a.0 ≡ n = same_Some a.0 n g.1 in
         subst (λ m. ANumber high m d) n_is (whole_some d a.0 a.1, leb-true a.0 high g.0)
 
     there : (d : Data) (n : ℕ) → ANumber high n d → depth d ≤ deepest → number_of high d ≡ Some n
@@ -35,7 +36,7 @@ either_some (Some x) f rest z e = inl (x, refl, e)
 small_some : (high n : ℕ) (z : ℤ) → small high n ≡ Some z → (pos n ≡ z) × (n ≤ high)
 small_some high n z e =
     let g = guarded (nat_le n high) (Some (pos n)) z e in
-    (some_is _ _ g.1, leb-true n high g.0)
+    (same_Some _ _ g.1, leb-true n high g.0)
 
 -- from `-(high + 1)` to `high`
 abbrev pub Fits : ℕ → ℤ → Type 0
@@ -55,7 +56,7 @@ below_some high (negative (pos n)) z e f =
     absurd (omega arith)
 below_some high (negative (negsuc n)) z e f =
     let g = guarded (int_le (negsuc high) (negsuc n)) (Some (negsuc n)) z e in
-    let z_is = some_is (negsuc n) z g.1 in
+    let z_is = same_Some (negsuc n) z g.1 in
     subst (λ x. (negative (negsuc n) ≡ of_integer x) × Fits high x) z_is (refl, leb-true n high g.0)
 below_some high (float x) z e f = cc
 
@@ -89,12 +90,12 @@ size_exact = record { sound = found; complete = there }
         let a = bind_some _ (whole_of d) s e in
         let d_is = whole_some d a.0 a.1 in
         elim (chosen (nat_eq a.0 2) _ _ _ a.2) [
-          | inl b ↦ subst (λ x. AVectorSize x d) (some_is Bi s b.1) (d_is ∙ ap (λ n. number (unsigned n)) (eqb-true a.0 2 b.0))
+          | inl b ↦ subst (λ x. AVectorSize x d) (same_Some Bi s b.1) (d_is ∙ ap (λ n. number (unsigned n)) (eqb-true a.0 2 b.0))
           | inr b ↦ elim (chosen (nat_eq a.0 3) _ _ _ b.1) [
-            | inl c ↦ subst (λ x. AVectorSize x d) (some_is Tri s c.1) (d_is ∙ ap (λ n. number (unsigned n)) (eqb-true a.0 3 c.0))
+            | inl c ↦ subst (λ x. AVectorSize x d) (same_Some Tri s c.1) (d_is ∙ ap (λ n. number (unsigned n)) (eqb-true a.0 3 c.0))
             | inr c ↦
                 let g = guarded (nat_eq a.0 4) (Some Quad) s c.1 in
-                subst (λ x. AVectorSize x d) (some_is Quad s g.1) (d_is ∙ ap (λ n. number (unsigned n)) (eqb-true a.0 4 g.0))
+                subst (λ x. AVectorSize x d) (same_Some Quad s g.1) (d_is ∙ ap (λ n. number (unsigned n)) (eqb-true a.0 4 g.0))
           ]
         ]
 
@@ -111,10 +112,10 @@ side_exact = record { sound = found; complete = there }
         let a = bind_some _ (whole_of d) s e in
         let d_is = whole_some d a.0 a.1 in
         elim (chosen (nat_eq a.0 8) _ _ _ a.2) [
-          | inl b ↦ subst (λ x. ACooperativeSize x d) (some_is Eight s b.1) (d_is ∙ ap (λ n. number (unsigned n)) (eqb-true a.0 8 b.0))
+          | inl b ↦ subst (λ x. ACooperativeSize x d) (same_Some Eight s b.1) (d_is ∙ ap (λ n. number (unsigned n)) (eqb-true a.0 8 b.0))
           | inr b ↦
               let g = guarded (nat_eq a.0 16) (Some Sixteen) s b.1 in
-              subst (λ x. ACooperativeSize x d) (some_is Sixteen s g.1) (d_is ∙ ap (λ n. number (unsigned n)) (eqb-true a.0 16 g.0))
+              subst (λ x. ACooperativeSize x d) (same_Some Sixteen s g.1) (d_is ∙ ap (λ n. number (unsigned n)) (eqb-true a.0 16 g.0))
         ]
 
     there : (d : Data) (s : CooperativeSize) → ACooperativeSize s d → depth d ≤ deepest → side_of d ≡ Some s

@@ -1,11 +1,12 @@
 -- Decoding agrees with the encoding relation: rows and mapped forms.
 use Rattle.std.proofs.Common.{◌≡◌, ◌≤◌, Option, Some, option_map, refl, sym, ap, subst, ◌∙◌, arith}
+use Rattle.std.proofs.lemmas.Option.{same_Some}
 use Rattle.serde_json.specs.Data.{Data, null, boolean, number, string, array, object, Items, no_items, item, depth, items_depth}
 use Rattle.serde_json.specs.Find.{as_array}
 use Rattle.document_forms.specs.found.Exact.{deepest, IsExact, IsExactRow}
 use Rattle.document_forms.specs.judged.Form.{AnArray, Ends, ◌▸◌}
 use Rattle.document_forms.specs.found.Decide.{end, behind, array_of}
-use Rattle.document_forms.specs.found.Inverse.{bind_some, map_some, some_is, as_array_some}
+use Rattle.document_forms.specs.found.Inverse.{bind_some, map_some, as_array_some}
 
 pub end_exact : IsExactRow end (λ x. Ends)
 end_exact = record { sound = found; complete = there }
@@ -27,7 +28,7 @@ behind_exact {A} {B} f P fx g Q gx = record { sound = found; complete = there }
     found (item d ds) t e =
         let a = bind_some _ (f d) t e in
         let b = bind_some _ (g ds) t a.2 in
-        subst (λ u. (P u.0 ▸ Q u.1) (item d ds)) (some_is (a.0, b.0) t b.2) (fx.sound d a.0 a.1, gx.sound ds b.0 b.1)
+        subst (λ u. (P u.0 ▸ Q u.1) (item d ds)) (same_Some (a.0, b.0) t b.2) (fx.sound d a.0 a.1, gx.sound ds b.0 b.1)
 
     there : (ds : Items) (t : A × B) → (P t.0 ▸ Q t.1) ds → items_depth ds ≤ deepest → behind f g ds ≡ Some t
     there no_items t h le = absurd h

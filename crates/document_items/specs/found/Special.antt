@@ -7,6 +7,7 @@ use Rattle.std.specs.Map.{keys_of, lookup}
 use Rattle.std.proofs.lemmas.List.{append-nil, append_assoc}
 use Rattle.std.proofs.lemmas.Map.Keys.{IsDistinct-push}
 use Rattle.std.proofs.lemmas.Map.Made.{is_some-lookup, AllPairs-from_IsDistinct, IsDistinct-from_AllPairs}
+use Rattle.std.proofs.lemmas.Option.{same_Some}
 use Rattle.serde_json.specs.Data.{Data, array, Items, no_items, item, depth}
 use Rattle.serde_json.specs.Find.{as_array}
 use Rattle.ir_kinds.specs.declared.predeclared.PredeclaredType.{PredeclaredType}
@@ -18,7 +19,7 @@ use Rattle.document_words.specs.Tables.{scalars}
 use Rattle.document_forms.specs.found.Exact.{deepest, IsExact, FormOf}
 use Rattle.document_forms.specs.judged.Form.{AList}
 use Rattle.document_forms.specs.found.Decide.{◌>>=◌, each, all_of, tagged_of}
-use Rattle.document_forms.specs.found.Inverse.{bind_some, chosen, some_is}
+use Rattle.document_forms.specs.found.Inverse.{bind_some, chosen}
 use Rattle.document_forms.specs.found.ListLaws.{list_exact}
 use Rattle.document_forms.specs.found.KindLaws.{AreSound, kind_sound, tagged_complete}
 use Rattle.document_forms.specs.found.Forms.{a_handle, a_size, a_word, maybe, an_array, made, by_kind}
@@ -108,7 +109,7 @@ each_more d ds x xs e f = rw e (rw f refl)
 
 found_with : (es : Pairs) (ds : Items) (ys : Pairs) → AreDistinct es → pairs_with es ds ≡ Some ys
     → (xs : Pairs) × (each pair_of ds ≡ Some xs) × (es ++ xs ≡ ys) × AreDistinct ys
-found_with es no_items ys d e = ([], refl, append-nil es ∙ some_is es ys e, subst AreDistinct (some_is es ys e) d)
+found_with es no_items ys d e = ([], refl, append-nil es ∙ same_Some es ys e, subst AreDistinct (same_Some es ys e) d)
 found_with es (item x ds) ys d e =
     let a = bind_some _ (pair_of x) ys e in
     elim (chosen (has_key a.0.0 es) _ _ _ a.2) [
@@ -131,11 +132,11 @@ apart (f ∷ fs) e xs d =
     ap (λ b. is_some (cond b (Some f.1) (lookup (same.ghosts.eq e.0) fs))) other ∙ apart fs e xs d.1
 
 there_with : (es : Pairs) (ds : Items) (xs : Pairs) → each pair_of ds ≡ Some xs → AreDistinct (es ++ xs) → pairs_with es ds ≡ Some (es ++ xs)
-there_with es no_items xs e d = ap Some (sym (append-nil es)) ∙ ap (λ l. Some (es ++ l)) (some_is [] xs e)
+there_with es no_items xs e d = ap Some (sym (append-nil es)) ∙ ap (λ l. Some (es ++ l)) (same_Some [] xs e)
 there_with es (item x ds) xs e d =
     let a = bind_some _ (pair_of x) xs e in
     let b = bind_some _ (each pair_of ds) xs a.2 in
-    let xs_is : (a.0 ∷ b.0) ≡ xs = some_is _ _ b.2 in
+    let xs_is : (a.0 ∷ b.0) ≡ xs = same_Some _ _ b.2 in
     let d2 : AreDistinct (es ++ a.0 ∷ b.0) = subst (λ l. AreDistinct (es ++ l)) (sym xs_is) d in
     let more : pairs_with (es ++ a.0 ∷ []) ds ≡ Some ((es ++ a.0 ∷ []) ++ b.0) = there_with (es ++ a.0 ∷ []) ds b.0 b.1 (subst AreDistinct (sym (append_assoc es (a.0 ∷ []) b.0)) d2) in
     rw a.1 (rw (apart es a.0 b.0 d2) (more ∙ ap Some (append_assoc es (a.0 ∷ []) b.0) ∙ ap (λ l. Some (es ++ l)) xs_is))

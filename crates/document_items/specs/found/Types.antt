@@ -4,6 +4,7 @@ use Rattle.std.proofs.Common.{inl, inr, sym, ap, subst, ◌∙◌, true≢false,
 use borrow.Author.Tests.{leb-true, le-leb}
 use Rattle.std.specs.List.{AllByRecursion}
 use Rattle.std.specs.Str.{bytes_eq}
+use Rattle.std.proofs.lemmas.Option.{same_Some}
 use Rattle.serde_json.specs.Data.{Data, null, boolean, number, string, array, object, Items, no_items, item, depth, items_depth}
 use Rattle.serde_json.specs.Find.{as_str}
 use Rattle.ir_kinds.specs.declared.bindings.BuiltIn.{BuiltIn}
@@ -26,7 +27,7 @@ use Rattle.document_words.specs.Tables.{scalars, scalar_kinds, cooperative_roles
 use Rattle.document_forms.specs.found.Exact.{deepest, IsExact, IsExactRow, FormOf, RowOf}
 use Rattle.document_forms.specs.judged.Form.{AU32, AText, ABool, AWord, ASet, Ends, ◌▸◌}
 use Rattle.document_forms.specs.found.Decide.{◌>>=◌, or_else, word_in, first, end, tagged_of}
-use Rattle.document_forms.specs.found.Inverse.{bind_some, map_some, chosen, guarded, some_is, is_word, as_str_some, first_some}
+use Rattle.document_forms.specs.found.Inverse.{bind_some, map_some, chosen, guarded, is_word, as_str_some, first_some}
 use Rattle.document_forms.specs.found.PartLaws.{either_some, word_exact}
 use Rattle.document_forms.specs.found.RowLaws.{end_exact}
 use Rattle.document_forms.specs.found.KindLaws.{Tagged, AreSound, kind_sound, tagged_complete, lookup_keeps}
@@ -62,7 +63,7 @@ positive_exact = record { sound = found; complete = there }
     found d n e =
         let a = bind_some _ (a_u32.find d) n e in
         let g = guarded (nat_le 1 a.0) (Some a.0) n a.2 in
-        subst (λ m. APositive m d) (some_is a.0 n g.1) (a_u32.exact.sound d a.0 a.1, leb-true 1 a.0 g.0)
+        subst (λ m. APositive m d) (same_Some a.0 n g.1) (a_u32.exact.sound d a.0 a.1, leb-true 1 a.0 g.0)
 
     there : (d : Data) (n : ℕ) → APositive n d → depth d ≤ deepest → positive_of d ≡ Some n
     there d n h le = rw (a_u32.exact.complete d n h.0 le) (rw (le-leb 1 n h.1) refl)

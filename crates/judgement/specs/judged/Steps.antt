@@ -6,8 +6,7 @@ use Rattle.ir_flags.specs.declared.settings.TheConstants.ValidationFlags.{BLOCKS
 use Rattle.ir_flags.specs.declared.settings.Settings.{Settings}
 use Rattle.ir_items.specs.judged.Plain.{PlainModule}
 use Rattle.ir_items.specs.judged.Returned.{IsReturned}
-use Rattle.spec_interface.specs.judged.Modules.{EntryAtOK, EntriesOK}
-use Rattle.spec_statements.specs.judged.ModuleFunctions.{FunctionAtOK, FunctionsOK}
+use Rattle.spec_interface.specs.judged.Modules.{EntryAtOK, EntriesOK, FunctionAtOK, FunctionsOK}
 use Rattle.spec_interface.specs.judged.Globals.{GlobalOK, GlobalsOK}
 use Rattle.spec_expressions.specs.judged.ModuleHandles.{HandlesOK}
 use Rattle.judgement.specs.judged.ModuleSteps as step

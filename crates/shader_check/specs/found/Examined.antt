@@ -4,8 +4,9 @@ use Rattle.ir_flags.specs.declared.settings.Settings.{Settings}
 use Rattle.document_reader.specs.judged.Plain.{PlainDocument}
 use Rattle.typing_errors.specs.declared.const_expressions.ConstExpressionError.{ConstExpressionError}
 use Rattle.typing_errors.specs.declared.const_expressions.ConstExpressionError.TheVariants as constant
-use Rattle.function_modules.specs.Validated.{IsValidated, IsValidationFault}
-use Rattle.function_errors.specs.declared.error.ValidationError.{ValidationError}
+use Rattle.function_modules.specs.Validated.{IsValidated}
+pub use Rattle.function_modules.specs.Validated.{IsValidationFault}
+pub use Rattle.function_errors.specs.declared.error.ValidationError.{ValidationError}
 use Rattle.function_errors.specs.declared.error.ValidationError.TheVariants as error
 use Rattle.ir_types.specs.found.Faults.{error_of}
 use Rattle.ir_types.specs.declared.refusal.Refusal.{Refusal}

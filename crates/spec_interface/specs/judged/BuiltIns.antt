@@ -29,7 +29,7 @@ RowOccursAt Output stage r = Has r.outputs.0 (stage_set stage).0
 RowOccursAt VertexOutput stage r = Has r.outputs.0 (stage_set stage).0
 RowOccursAt PrimitiveOutput stage r = Has r.outputs.0 (stage_set stage).0 ⊎ IsTrue r.primitive
 
--- cases that need no capability at a stage, though the row names one
+-- cases that need no capability at a stage, though the row names one: shaders of hits have a primitive's index in any case
 abbrev pub IsFree : ShaderStage → Exception → Type 0
 IsFree stage e = elim e [ exception.FreeAtHits ↦ Has HITS.0 (stage_set stage).0 | _ ↦ ⊥ ]
 

@@ -26,7 +26,8 @@ use Rattle.typing_forms.specs.declared.form.Form.TheVariants as form
 
 -- ---- per-primitive values
 
--- primitive outputs of a mesh shader are per-primitive, and fragment inputs may be; nothing else is
+-- primitive outputs of a mesh shader are per-primitive, and fragment inputs may be, because only a pipeline with its mesh or
+-- vertex shader says whether they are; nothing else is
 abbrev pub PerPrimitiveOK : Direction → ShaderStage → (per_primitive : Bool) → Type 0
 PerPrimitiveOK Input stage per_primitive = IsTrue per_primitive → stage ≡ Fragment
 PerPrimitiveOK Output stage per_primitive = per_primitive ≡ false
@@ -39,7 +40,7 @@ PerPrimitiveOK PrimitiveOutput stage per_primitive = per_primitive ≡ true
 abbrev pub three : (base : ℕ) → ArraySize → Option ℕ
 three base n = elim n [ size.Constant count ↦ if count == 3 then Some base else None | _ ↦ None ]
 
--- the effective type: with `PerVertex` interpolation the element type
+-- the effective type: with `PerVertex` interpolation the element type, because each vertex gives one element
 abbrev pub varying_type : List PlainType → Option Interpolation → (type : ℕ) → Option ℕ
 varying_type types None type = Some type
 varying_type types (Some Perspective) type = Some type
@@ -60,7 +61,8 @@ is_flat_sampling Sample = false
 is_flat_sampling First = true
 is_flat_sampling Either = true
 
--- which samplings are allowed with which interpolation; `PerVertex` has none
+-- which samplings are allowed with which interpolation: `Flat` may have one, though it says nothing, because SPIR-V and GLSL
+-- tolerate it; `PerVertex` has none
 abbrev pub sampling_fits : Interpolation → Sampling → Bool
 sampling_fits Perspective s = not (is_flat_sampling s)
 sampling_fits Linear s = not (is_flat_sampling s)
@@ -74,7 +76,8 @@ NeedsInterpolation Output stage per_primitive = (stage ≡ Vertex) ⊎ (stage �
 NeedsInterpolation VertexOutput stage per_primitive = (stage ≡ Vertex) ⊎ (stage ≡ Mesh)
 NeedsInterpolation PrimitiveOutput stage per_primitive = (stage ≡ Vertex) ⊎ (stage ≡ Mesh)
 
--- floats have any interpolation, and integers are flat
+-- floats have any interpolation, which front ends put in where none is written; integers must be declared flat, because they
+-- have no default
 abbrev pub InterpolationOK : ScalarKind → Option Interpolation → Type 0
 InterpolationOK kind.Sint i = i ≡ Some Flat
 InterpolationOK kind.Uint i = i ≡ Some Flat

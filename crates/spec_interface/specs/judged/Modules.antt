@@ -9,6 +9,7 @@ use Rattle.spec_interface.specs.judged.Entries.{EntryOK}
 use Rattle.spec_interface.specs.judged.EarlierPayloads.{IsPayloadBeforeEntry}
 use Rattle.spec_interface.specs.judged.EntryNames.{IsConflict}
 use Rattle.spec_statements.specs.judged.ModuleFunctions.{reading_over}
+pub use Rattle.spec_statements.specs.judged.ModuleFunctions.{FunctionAtOK, FunctionsOK}
 use Rattle.spec_statements.specs.judged.ExpressionStages.{all_stages}
 use Rattle.spec_statements.specs.judged.Functions.{AllowsStage}
 

@@ -25,7 +25,8 @@ use Rattle.typing_forms.specs.judged.Resolutions.{inner_at}
 abbrev pub array_base : Option PlainInner → Option ℕ
 array_base o = elim o [ Some (plain (inner.BindingArray base n)) ↦ Some base | _ ↦ None ]
 
--- the effective type: the element type of a binding array, and otherwise the type itself
+-- the effective type: the element type of a binding array, because it stands for resources that are bound one by one, and
+-- otherwise the type itself
 abbrev pub effective_type : List PlainType → (type : ℕ) → ℕ
 effective_type types type = unwrap_or (array_base (inner_at types type)) type
 
@@ -72,7 +73,8 @@ abbrev pub space_capability : AddressSpace → Option PlainInner → Option Capa
 space_capability s i = elim s [ Handle ↦ handle_capability i | space ↦ (space_row space).needs ]
 
 -- The rules of the effective type's inner type and tree. No global variable is in Function. Buffers have the
--- required layout, if struct layouts are checked; none is write-only. The size of a task payload is not zero.
+-- required layout, if struct layouts are checked; none is write-only. The size of a task payload is not zero, because HLSL has no
+-- empty payloads.
 abbrev pub LiesIn : ValidationFlags → AddressSpace → Option PlainInner → Tree → Type 0
 LiesIn flags Function i t = ⊥
 LiesIn flags (Storage access) i t = (Has flags.0 STRUCT_LAYOUTS.0 → FitsStorageBuffer t) × (access ≢ STORE)

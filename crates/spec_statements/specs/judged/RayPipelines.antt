@@ -12,7 +12,8 @@ use Rattle.spec_statements.specs.judged.RayQueries.{structure_of, IsRayDescripto
 abbrev pub IsPayloadSpace : AddressSpace → Type 0
 IsPayloadSpace s = elim s [ space.RayPayload ↦ Unit {0} | space.IncomingRayPayload ↦ Unit {0} | _ ↦ ⊥ ]
 
--- The acceleration structure, the ray descriptor, and the payload.
+-- The acceleration structure, the ray descriptor, and the payload: a global variable itself, because SPIR-V takes no other
+-- pointer there.
 pub record TraceOK (c : BlockContext) (acceleration_structure descriptor payload : ℕ) : Type 0 where
   pub structure : IsSome (structure_of (form_at c acceleration_structure))
   pub described : IsRayDescriptor c (form_at c descriptor)

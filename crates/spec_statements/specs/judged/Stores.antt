@@ -63,7 +63,8 @@ IsStorable (form.RayQuery vertex_return) = Unit {0}
 IsStorable (form.BindingArray base size) = Unit {0}
 IsStorable form.Nothing = Unit {0}
 
--- the value has the type that a load would have: the scalar of an atomic, and otherwise the base type
+-- the value has the type that a load would have: the scalar of an atomic, because the IR stores scalars to atomics, and otherwise
+-- the base type
 abbrev pub FitsAt : List PlainType → (pointer value : Form) → Type 0
 FitsAt types (form.Pointer base space) value = value ≡ loaded types base (inner_at types base)
 FitsAt types (form.ValuePointer n s space) value = value ≡ loaded_value n s

@@ -71,7 +71,8 @@ IsSubgroupNumber kind.Uint = Unit {0}
 IsSubgroupNumber kind.Float = Unit {0}
 IsSubgroupNumber _ = ⊥
 
--- `All` and `Any` take scalar bools; bit operations take integers of at least 32 bits
+-- `All` and `Any` take scalar bools; bit operations take integers of at least 32 bits, because `WaveActiveBitAnd`, `Or` and
+-- `Xor` of HLSL take none of 16
 abbrev pub TakesShape : SubgroupOperation → Shape → Scalar → Type 0
 TakesShape op.All shape s = IsScalarShape shape × IsBool s.kind
 TakesShape op.Any shape s = IsScalarShape shape × IsBool s.kind

@@ -16,7 +16,7 @@ use Rattle.spec_statements.specs.judged.Stores.{pointer_space}
 abbrev pub loaded_type : PlainExpression → Option ℕ
 loaded_type e = elim e [ plain (x.WorkGroupUniformLoadResult type) ↦ Some type | _ ↦ None ]
 
--- a pointer to the result type, or to an atomic of it
+-- a pointer to the result type, or to an atomic of it, because WGSL's `workgroupUniformLoad` of an atomic gives its value
 abbrev pub LeadsTo : List PlainType → (pointer : Form) → (type : ℕ) → Type 0
 LeadsTo types pointer type =
     (pointer ≡ pointer_to types type WorkGroup) ⊎ IsSomeAnd (changed_scalar types pointer) (λ s. form_of_type types type ≡ form.Scalar s)

@@ -12,7 +12,8 @@ abbrev pub top_level : PlainBlock → List ℕ
 top_level stop = []
 top_level (next s rest) = introduced s ++ top_level rest
 
--- the expressions in scope at the start of a nested block: in a continuing block also what the loop's body introduced
+-- the expressions in scope at the start of a nested block: in a continuing block also what the loop's body introduced, because a
+-- continuing block runs after the body and inherits its scope
 abbrev pub entering : List ℕ → PlainStatement → Part → List ℕ
 entering outer s inner = outer
 entering outer s accepting = outer

@@ -1,5 +1,5 @@
 use Rattle.std.proofs.Common.{◌∙◌}
-use Rattle.module_globals.proofs.SizeLemmas.{size_found, size_missing}
+use Rattle.function_entry_checks.proofs.VariableLemmas.{size_found, size_missing}
 use Rattle.ir_items.specs.found.View.{module_view}
 use Rattle.ir_types.specs.judged.Plain.{inner_view}
 use Rattle.function_entry_checks.proofs.variables.bytes_of.Goals as goal

@@ -1,7 +1,7 @@
 use Rattle.std.proofs.Common.{sym, subst}
 use Rattle.function_modules.proofs.Assembled.{made_of}
-use Rattle.function_real_lower.specs.Made.{IsMadeOf}
-use Rattle.function_real_lower.specs.Severities.{AreKnown}
+use Rattle.function_modules.specs.Made.{IsMadeOf}
+use Rattle.function_modules.specs.Severities.{AreKnown}
 use Rattle.typing_uniformity.proofs.Nearest.{nothing_known}
 use Rattle.function_modules.proofs.laws.made_for_accepted.Goals as goal
 

@@ -8,7 +8,7 @@ use Rattle.typing_infos.specs.declared.info.ModuleInfo.{ModuleInfo}
 use Rattle.typing_handles.proofs.Ordered.{order_gives_conditions}
 use Rattle.module_steps.specs.Faults.{IsModuleFault}
 use Rattle.module_steps.specs.Refusals.{IsVariableFault}
-use Rattle.function_real_lower.specs.Made.{IsMadeOf}
+use Rattle.function_modules.specs.Made.{IsMadeOf}
 use Rattle.function_modules.proofs.whole.judge.Goals as goal
 
 pub over-requires : goal.over-requires

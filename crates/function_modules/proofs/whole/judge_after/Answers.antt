@@ -13,7 +13,7 @@ use Rattle.function_modules.specs.Validated.{AreEntriesKept, AreNoted, IsEntryFa
 use Rattle.function_errors.specs.declared.error.ValidationError.TheVariants as error
 use Rattle.ir_items.specs.found.View.{module_view}
 use Rattle.typing_infos.specs.declared.info.ModuleInfo.{ModuleInfo}
-use Rattle.function_real_lower.specs.Readings.{reading_of, faults_of}
+use Rattle.function_modules.specs.Readings.{reading_of, faults_of}
 use Rattle.spec_expressions.specs.judged.Summaries.{AreSummaries}
 use Rattle.function_modules.proofs.whole.judge_after.Goals as goal
 

@@ -1,0 +1,5 @@
+use Rattle.check_json.specs.Written.{AddsItems}
+use Rattle.check_json.proofs.reported.add_listing.Given as goal
+
+abbrev pub invariant-loop-place : goal.invariant-loop-place
+invariant-loop-place l = AddsItems l.fn.w l.w

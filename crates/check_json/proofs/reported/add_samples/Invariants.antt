@@ -1,0 +1,5 @@
+use Rattle.check_json.specs.Written.{AddsItems}
+use Rattle.check_json.proofs.reported.add_samples.Given as goal
+
+abbrev pub invariant-loop-row : goal.invariant-loop-row
+invariant-loop-row l = AddsItems l.fn.w l.w

@@ -1,4 +1,0 @@
-pub mod Readings
-pub mod Made
-pub mod Laws
-pub mod Severities
