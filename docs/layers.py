@@ -66,7 +66,7 @@ def cited(crate):
         for file in (CRATES / crate / folder).glob("**/*"):
             if file.suffix in (".rt", ".antt"):
                 text = file.read_text()
-                for form in (r"\bRattle\.(\w+)", r"\b(\w+)::", r"^(?:pub )?use (\w+)"):
+                for form in (r"\bRattle\.(\w+)", r"(?<![\w:])(\w+)::", r"^(?:pub )?use (\w+)"):
                     found |= set(re.findall(form, text, re.M))
     return found
 

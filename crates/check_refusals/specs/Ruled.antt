@@ -4,12 +4,12 @@ use Rattle.typing_errors.specs.declared.error.FunctionError.{FunctionError}
 use Rattle.typing_errors.specs.declared.error.FunctionError.TheVariants as f
 use Rattle.typing_errors.specs.declared.expressions.ExpressionError.TheVariants as expression
 use Rattle.typing_errors.specs.declared.const_expressions.ConstExpressionError.TheVariants as value
-use Rattle.module_steps.specs.declared.error.ModuleError.TheVariants as step
+use Rattle.check_sentences.specs.ModuleSteps.step as step
 use Rattle.module_constants.specs.declared.expressions.InvalidGlobalExpression.{InvalidGlobalExpression}
 use Rattle.function_entry_checks.specs.declared.error.EntryPointError.{EntryPointError}
 use Rattle.function_entry_checks.specs.declared.error.EntryPointError.TheVariants as entry
-use Rattle.function_errors.specs.declared.error.ValidationError.{ValidationError}
-use Rattle.function_errors.specs.declared.error.ValidationError.TheVariants as refused
+use Rattle.check_sentences.specs.FunctionErrors.{ValidationError}
+use Rattle.check_sentences.specs.FunctionErrors.refused as refused
 use Rattle.check_causes.specs.Causes.{BrokenBy}
 use Rattle.check_causes.specs.declared.expression.Cause.{Cause}
 use Rattle.spec_statements.specs.judged.Scene.{Scene}

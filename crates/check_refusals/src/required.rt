@@ -9,16 +9,16 @@ ghost use Rattle.typing_layout.specs.judged.Constness.{AreKinds};
 
 use crate::types::refused_function;
 use check_causes::{Cause, broken_at};
+use check_sentences::function_errors::ValidationError;
+use check_sentences::module_steps::ModuleError;
 use check_sentences::{Scene, Sentence};
 use function_entry_checks::EntryPointError;
-use function_errors::ValidationError;
 use ir_arena::arena::Arena;
 use ir_arena::handle::Handle;
 use ir_flags::Capabilities;
 use ir_items::Module;
 use ir_types::{Expression, key};
 use module_context::CheckContext;
-use module_steps::ModuleError;
 use std::alloc::{AllocError, Global};
 use typing_errors::{ConstExpressionError, ExpressionError, FunctionError};
 use typing_forms::Form;

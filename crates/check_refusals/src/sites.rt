@@ -1,11 +1,11 @@
 // The location of an error.
 
 use check_reasons::{BodyPlace, Brought, Site, Target, names_of};
+use check_sentences::function_errors::ValidationError;
+use check_sentences::module_steps::ModuleError;
 use function_entry_checks::EntryPointError;
-use function_errors::ValidationError;
 use ir_places::Trail;
 use module_handles::InvalidHandleError;
-use module_steps::ModuleError;
 use std::alloc::{AllocError, Global};
 use typing_errors::FunctionError;
 

@@ -2,7 +2,7 @@
 
 use check_reasons::OperandType;
 use check_sentences::TypeText;
-use function_errors::ValidationError;
+use check_sentences::function_errors::ValidationError;
 use ir_arena::arena::Arena;
 use ir_arena::handle::Handle;
 use ir_items::{Function, Module};

@@ -2,8 +2,8 @@
 use Rattle.std.specs.Prelude.{◌≡◌, ℕ, List, [], ◌∷◌, ◌++◌, Option, Some, None, option_to_list}
 use Rattle.typing_errors.specs.declared.error.FunctionError.{FunctionError}
 use Rattle.typing_errors.specs.declared.error.FunctionError.TheVariants as f
-use Rattle.module_steps.specs.declared.error.ModuleError.{ModuleError}
-use Rattle.module_steps.specs.declared.error.ModuleError.TheVariants as step
+use Rattle.function_errors.specs.ModuleSteps.{ModuleError}
+use Rattle.function_errors.specs.ModuleSteps.step as step
 use Rattle.module_globals.specs.declared.error.GlobalVariableError.{GlobalVariableError}
 use Rattle.module_globals.specs.declared.error.GlobalVariableError.TheVariants as variable
 use Rattle.function_entry_checks.specs.declared.error.EntryPointError.{EntryPointError}

@@ -11,5 +11,7 @@ mod sentence;
 
 pub use check_cause_texts::TypeText;
 pub use check_function_texts::Scene;
+pub use function_errors;
+pub use function_errors::module_steps;
 pub use parts::{Steps, part_path};
 pub use sentence::Sentence;

@@ -5,6 +5,7 @@ ghost use Rattle.check_sentences.specs.Parts.{IsInner, IsPartPath, member_steps,
 
 use crate::members::{type_member, varying_member};
 use function_entry_checks::EntryPointError;
+use function_errors::module_steps::{InvalidGlobalVariable, ModuleError};
 use function_errors::{InvalidEntryPoint, InvalidFunction, ValidationError};
 use function_varying_checks::VaryingError;
 use ir_arena::handle::Handle;
@@ -12,7 +13,6 @@ use ir_items::{EntryPoint, Function, Module};
 use ir_sets::unique_arena::UniqueArena;
 use ir_types::{IrType, key};
 use module_globals::GlobalVariableError;
-use module_steps::{InvalidGlobalVariable, ModuleError};
 use std::alloc::{AllocError, Global};
 use typing_errors::FunctionError;
 use typing_layout::Disalignment;

@@ -4,8 +4,8 @@ use crate::entries::write_entry;
 use crate::items::{write_constant, write_layout, write_override, write_type, write_variable};
 use check_function_texts::{Scene, write_function, write_global_expression};
 use function_errors::ValidationError;
+use function_errors::module_steps::ModuleError;
 use ir_items::Module;
-use module_steps::ModuleError;
 use std::fmt::{self, Display};
 
 /// The requirement text for an invalid module, as one sentence without a full stop: empty for errors of handles.

@@ -16,6 +16,7 @@ mod reading;
 mod statements;
 
 pub use document::VersionForm;
+pub use document_forms::{Place, Wanted};
 pub use error::DocumentError;
 pub use functions::{ArgumentForm, EntryForm, FunctionForm, LocalForm, ResultForm};
 pub use model::{Document, build_module};

@@ -22,7 +22,7 @@ use ir_flags::Capabilities;
 use ir_kinds::{AddressSpace, Scalar};
 use ir_types::{Expression, TypeInner, key};
 use module_context::are_same;
-use module_expression_checks::exchanged_value;
+use module_expressions::module_expression_checks::exchanged_value;
 use typing_errors::{AtomicError, FunctionError};
 use typing_forms::Form;
 

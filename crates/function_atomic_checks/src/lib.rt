@@ -8,5 +8,6 @@ mod storage_images;
 mod uniform_loads;
 
 pub use atomics::check_atomic;
+pub use module_expressions::module_expression_checks;
 pub use storage_images::{check_image_atomic, check_image_store};
 pub use uniform_loads::check_uniform_load;

@@ -1,3 +1,4 @@
+pub mod ModuleSteps
 pub mod Labels
 pub mod Spans
 pub mod Subjects

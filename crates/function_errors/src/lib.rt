@@ -9,6 +9,7 @@ mod subjects;
 
 pub use error::{InvalidEntryPoint, InvalidFunction, Named, ValidationError};
 pub use labels::{Item, Label, with_label};
+pub use module_steps;
 pub use modules::{entry_label, function_label, module_label, subject_label, variable_label};
 pub use spans::with_spans;
 pub use subjects::{Subject, subject_of};

@@ -19,13 +19,9 @@ use Rattle.ir_items.specs.judged.Plain.{PlainModule}
 use Rattle.typing_handles.proofs.Ordered.{order_gives_conditions}
 use Rattle.typing_infos.specs.declared.info.ModuleInfo.{ModuleInfo}
 use Rattle.module_context.specs.AcceptedTypes.{AreAccepted}
-use Rattle.module_steps.specs.Faults as items
-use Rattle.module_steps.specs.Faults.{IsModuleFault}
-use Rattle.module_steps.specs.Refusals as variables
-use Rattle.module_steps.specs.Refusals.{IsVariableFault}
-use Rattle.module_steps.specs.Reported.{IsInfoOf}
-use Rattle.module_steps.specs.declared.error.ModuleError.{ModuleError}
-use Rattle.module_steps.specs.declared.globals.InvalidGlobalVariable.{InvalidGlobalVariable}
+use Rattle.function_errors.specs.ModuleSteps.items as items
+use Rattle.function_errors.specs.ModuleSteps.{IsModuleFault, IsVariableFault, IsInfoOf, ModuleError, InvalidGlobalVariable}
+use Rattle.function_errors.specs.ModuleSteps.variables as variables
 use Rattle.function_modules.specs.Made.{IsMadeOf}
 use Rattle.function_modules.specs.Readings.{reading_of, faults_of}
 use Rattle.spec_expressions.specs.judged.Summaries.{Summary}

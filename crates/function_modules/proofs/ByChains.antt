@@ -5,7 +5,7 @@ use Rattle.typing_errors.specs.declared.expressions.ExpressionError.TheVariants.
 use Rattle.typing_errors.specs.declared.error.FunctionError.{FunctionError}
 use Rattle.typing_errors.specs.declared.error.FunctionError.TheVariants.{Expression, NonUniformControlFlow}
 use Rattle.typing_errors.specs.declared.disruptor.UniformityDisruptor.TheVariants.{Discard}
-use Rattle.function_interface.specs.Question.{question}
+use Rattle.function_whole.specs.FunctionInterface.{question}
 use Rattle.function_modules.specs.Judged.{IsAcceptedAt, IsRefusedAt}
 use Rattle.ir_flags.specs.declared.settings.ValidationFlags.{ValidationFlags}
 use Rattle.ir_flags.specs.declared.stages.ShaderStages.{ShaderStages}

@@ -4,8 +4,7 @@ use Rattle.std.proofs.lemmas.Bool.{cases_eq}
 use Rattle.std.proofs.lemmas.Option.{same_Some, slice_get_within}
 use Rattle.typing_errors.specs.declared.error.FunctionError.{FunctionError}
 use Rattle.function_whole.specs.Faults.{IsFunctionFaultAt}
-use Rattle.function_interface.specs.Analysis.{Faults, IsRefusedFor, IsRefusedAt as IsAnalysisRefusedAt}
-use Rattle.function_interface.specs.Question.{Question, question}
+use Rattle.function_whole.specs.FunctionInterface.{Faults, IsRefusedFor, IsRefusedAt as IsAnalysisRefusedAt, Question, question}
 use Rattle.function_modules.specs.Judged.{Preceding, IsAcceptedAt, IsRefusedAt, IsNotedAt, AreNoted, AreJudged, AreJudgedWith, AreOwn, IsFirstRefused, IsReportedAt, IsRefusal}
 use Rattle.function_errors.specs.declared.error.InvalidFunction.{InvalidFunction}
 use Rattle.ir_types.specs.found.Faults.{error_of}

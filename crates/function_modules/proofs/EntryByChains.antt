@@ -2,7 +2,7 @@
 use Rattle.std.proofs.Common.{◌≡◌, ℕ, true, Bool, List, length, Option, Some, sym, subst, ◌∙◌, slice_get}
 use Rattle.std.proofs.lemmas.Option.{same_Some, slice_get_within}
 use Rattle.function_entry_checks.specs.declared.error.EntryPointError.{EntryPointError}
-use Rattle.function_interface.specs.Question.{question}
+use Rattle.function_whole.specs.FunctionInterface.{question}
 use Rattle.function_whole.specs.Validated.{IsEntryNoted}
 use Rattle.function_modules.proofs.ByChains.{ok_by_chains, ok_by_summaries}
 use Rattle.function_modules.proofs.EntryHeld.{one_entry_held}

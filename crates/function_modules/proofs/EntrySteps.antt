@@ -7,8 +7,7 @@ use Rattle.function_entry_checks.specs.Faults.{IsRefusedFor}
 use Rattle.function_entry_checks.specs.declared.error.EntryPointError.{EntryPointError}
 use Rattle.function_whole.specs.EntryFaults.{IsEntryPointFaultAt, IsRefusedAs, IsRefusedAt as IsEntryPointRefusedAt}
 use Rattle.function_whole.specs.Validated.{IsEntryNoted, IsEntrySummary, IsEntryValidated}
-use Rattle.function_interface.specs.Analysis.{Faults}
-use Rattle.function_interface.specs.Question.{Question, question}
+use Rattle.function_whole.specs.FunctionInterface.{Faults, Question, question}
 use Rattle.function_modules.proofs.Chained.{one_more_at, one_longer, below_or_here}
 use Rattle.function_modules.proofs.EntryHeld.{entry_held_next}
 use Rattle.function_modules.specs.JudgedEntries.{reading_at, Note, IsEntryAcceptedAt, IsEntryRefusedAt, conflicting, unaccepted, AreEntryNotes, AreEntrySummaries, AreEntriesJudged, IsFirstEntryRefused, IsEntryReportedAt, IsConflictReported, IsEntryRefusal}

@@ -7,8 +7,7 @@ use Rattle.typing_infos.specs.Infos.{summary_of}
 use Rattle.typing_infos.specs.Keys.{AreKeys}
 use Rattle.typing_infos.specs.declared.function_info.FunctionInfo.{FunctionInfo}
 use Rattle.typing_errors.specs.declared.error.FunctionError.{FunctionError}
-use Rattle.function_interface.specs.Analysis.{IsKept, IsRefusedFor}
-use Rattle.function_interface.specs.Question.{question}
+use Rattle.function_whole.specs.FunctionInterface.{IsKept, IsRefusedFor, question}
 use Rattle.ir_types.specs.declared.refusal.Refusal.{Refusal}
 use Rattle.ir_types.specs.declared.refusal.Refusal.TheVariants as refusal
 use Rattle.ir_flags.specs.declared.settings.ValidationFlags.{ValidationFlags}

@@ -1,7 +1,7 @@
 -- What is noted of functions that were judged one after the other is which stages may run them, each with its callees.
 use Rattle.std.proofs.Common.{◌≡◌, ◌↔◌, ℕ, ◌<◌, List, length, Some, refl, sym, ap, subst, ◌∙◌, slice_get, unwrap_or}
 use Rattle.std.proofs.lemmas.Option.{same_Some}
-use Rattle.function_interface.specs.Question.{question}
+use Rattle.function_whole.specs.FunctionInterface.{question}
 use Rattle.function_modules.specs.Judged.{IsNotedAt, AreNoted}
 use Rattle.ir_blocks.specs.judged.Places.{Place, OccursAt}
 use Rattle.ir_blocks.specs.judged.Plain.{PlainStatement, emit, block, if_, switch, loop, break, continue, return, kill, operation, call, PlainOperation, control_barrier}

@@ -2,8 +2,7 @@
 use Rattle.std.specs.Prelude.{◌≡◌, ◌<◌, ◌↔◌, ℕ, Bool, false, [], List, length, Option, Some, slice_get}
 use Rattle.typing_errors.specs.declared.error.FunctionError.{FunctionError}
 use Rattle.function_whole.specs.Faults.{IsFunctionFaultAt}
-use Rattle.function_interface.specs.Analysis.{Faults}
-use Rattle.function_interface.specs.Question.{Question, question}
+use Rattle.function_whole.specs.FunctionInterface.{Faults, Question, question}
 use Rattle.function_errors.specs.declared.error.InvalidFunction.{InvalidFunction}
 use Rattle.ir_types.specs.found.Faults.{error_of, spans_of}
 use Rattle.ir_types.specs.declared.refusal.Refusal.{Refusal}

@@ -2,8 +2,7 @@
 use Rattle.std.specs.Prelude.{◌≡◌, ◌<◌, ℕ, [], Bool, List, length, Option, Some, slice_get}
 use Rattle.function_entry_checks.specs.declared.error.EntryPointError.{EntryPointError}
 use Rattle.function_entry_checks.specs.declared.error.EntryPointError.TheVariants.{Conflict}
-use Rattle.function_interface.specs.Analysis.{Faults}
-use Rattle.function_interface.specs.Question.{Question, question}
+use Rattle.function_whole.specs.FunctionInterface.{Faults, Question, question}
 use Rattle.function_modules.specs.Judged.{AreOwn}
 use Rattle.function_whole.specs.EntryFaults.{IsEntryPointFaultAt}
 use Rattle.function_whole.specs.Validated.{IsEntryNoted, IsEntrySummary}

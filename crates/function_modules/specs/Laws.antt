@@ -3,7 +3,7 @@ use Rattle.std.proofs.Common.{◌≡◌, ◌<◌, ℕ, List, Some, length, slice
 use Rattle.typing_errors.specs.declared.expressions.ExpressionError.{ExpressionError}
 use Rattle.module_expressions.proofs.Refuted.{expression_refuted}
 use Rattle.module_expressions.specs.Faults.{IsExpressionFault}
-use Rattle.function_interface.specs.Question.{Question}
+use Rattle.function_whole.specs.FunctionInterface.{Question}
 use Rattle.ir_items.specs.judged.GlobalPlain.{PlainGlobal}
 use Rattle.ir_items.specs.judged.Plain.{PlainModule}
 use Rattle.ir_types.specs.judged.ExpressionPlain.{PlainExpression}

@@ -1,3 +1,5 @@
+pub mod ModuleSteps
+pub mod FunctionErrors
 pub mod Readings
 pub mod Made
 pub mod Laws
@@ -8,3 +10,4 @@ pub mod JudgedEntries
 pub mod Chains
 pub mod Validated
 pub mod MadeFor
+pub mod EntryCalls

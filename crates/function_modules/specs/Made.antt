@@ -2,7 +2,7 @@
 use Rattle.std.specs.Prelude.{List, map}
 use Rattle.spec_expressions.specs.declared.expression_info.ExpressionInfo.{ExpressionInfo}
 use Rattle.typing_infos.specs.declared.function_info.FunctionInfo.{FunctionInfo}
-use Rattle.function_interface.specs.Reported.{AreReported}
+use Rattle.function_whole.specs.FunctionInterface.{AreReported}
 use Rattle.ir_items.specs.judged.Plain.{PlainModule}
 use Rattle.typing_infos.specs.declared.info.ModuleInfo.{ModuleInfo}
 use Rattle.spec_expressions.specs.judged.Context.{outside}

@@ -4,7 +4,7 @@ use Rattle.ir_flags.specs.declared.settings.Settings.{Settings}
 use Rattle.ir_items.specs.judged.Plain.{PlainModule}
 use Rattle.judgement.specs.judged.ModuleSteps.{ModuleOK}
 use Rattle.typing_infos.specs.declared.info.ModuleInfo.{ModuleInfo}
-use Rattle.module_steps.specs.Reported.{IsInfoOf}
+use Rattle.function_errors.specs.ModuleSteps.{IsInfoOf}
 use Rattle.function_modules.specs.Made.{IsMadeOf}
 use Rattle.function_modules.specs.Severities.{AreKnown}
 use Rattle.function_modules.specs.declared.real.RealLower.{RealLower}

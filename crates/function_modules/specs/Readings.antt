@@ -2,8 +2,7 @@
 use Rattle.std.specs.Prelude.{ℕ}
 use Rattle.typing_errors.specs.declared.error.FunctionError.{FunctionError}
 use Rattle.module_expressions.specs.Faults.{IsExpressionFault}
-use Rattle.function_interface.specs.Analysis.{Faults}
-use Rattle.function_interface.specs.Question.{Question}
+use Rattle.function_whole.specs.FunctionInterface.{Faults, Question}
 use Rattle.spec_statements.specs.judged.Expressions.{ExpressionOK}
 use Rattle.spec_statements.specs.judged.Scene.{scene_of}
 use Rattle.spec_statements.specs.judged.ExpressionStages.{IsRunBy}

@@ -17,8 +17,7 @@ use Rattle.ir_flags.specs.declared.settings.Settings.{Settings}
 use Rattle.ir_items.specs.judged.Plain.{PlainModule}
 use Rattle.typing_infos.specs.declared.info.ModuleInfo.{ModuleInfo}
 use Rattle.module_context.specs.AcceptedTypes.{AreAccepted}
-use Rattle.module_steps.specs.Faults.{IsModuleFault}
-use Rattle.module_steps.specs.Refusals.{IsVariableFault}
+use Rattle.function_errors.specs.ModuleSteps.{IsModuleFault, IsVariableFault}
 use Rattle.function_modules.specs.Readings.{reading_of, faults_of}
 use Rattle.spec_expressions.specs.judged.Summaries.{Summary, AreSummaries}
 use Rattle.spec_interface.specs.judged.Modules.{EntryAtOK}

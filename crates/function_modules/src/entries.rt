@@ -1,7 +1,7 @@
 //! All entry points of a module, in order.
 
 ghost use Rattle.std.specs.Prelude.{◌≡◌, ◌<◌, ◌+◌, ◌++◌, ◌∷◌, [], MatchResult, OnOk, Some, length, map, slice_get};
-ghost use Rattle.function_entries.specs.Interfaces.{AreInterfacesKnown};
+ghost use Rattle.function_whole.specs.FunctionEntries.{AreInterfacesKnown};
 ghost use Rattle.function_whole.specs.EntryNames.{AreNamesBelow};
 ghost use Rattle.function_modules.specs.JudgedEntries.{AreEntriesJudgedWith, EntryKeeps, IsConflictReported, IsEntryRefusal, IsEntryReportedAt, note_of};
 ghost use Rattle.ir_items.specs.judged.Plain.{PlainEntry};
@@ -14,10 +14,10 @@ ghost use Rattle.function_statement_checks.specs.Descriptors.{AreDescriptors};
 
 use crate::functions::Judged;
 use crate::validator::Validator;
-use function_entries::KnownInterfaces;
 use function_entry_checks::EntryPointError;
 use function_errors::InvalidEntryPoint;
-use function_interface::Lower;
+use function_whole::function_entries::KnownInterfaces;
+use function_whole::function_interface::Lower;
 use function_whole::{SeenNames, Validated, validate_entry_point_with};
 use ir_arena::handle::Handle;
 use ir_items::{EntryPoint, Module};

@@ -8,7 +8,7 @@ ghost use Rattle.function_statement_checks.specs.Descriptors.{AreDescriptors};
 
 use crate::validator::Validator;
 use function_errors::InvalidFunction;
-use function_interface::Lower;
+use function_whole::function_interface::Lower;
 use function_whole::{Validated, validate_function_with};
 use ir_arena::handle::Handle;
 use ir_items::Module;

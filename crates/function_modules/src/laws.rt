@@ -2,16 +2,23 @@
 
 ghost use Rattle.std.specs.Prelude.{◌≡◌, length};
 ghost use Rattle.ir_items.specs.found.View.{module_view};
+ghost use Rattle.function_modules.specs.EntryCalls.{EntriesAreReady};
 ghost use Rattle.function_modules.specs.MadeFor.{MadeForAccepted};
 ghost use Rattle.judgement_laws.specs.judged.Sound.{BoundsDepth};
 
 use ir_items::Module;
 
-/// If [`module_steps::ModuleValidator::validate`] or [`module_steps::ModuleValidator::validate_resolved_overrides`] accepts a
+/// If [`function_errors::module_steps::ModuleValidator::validate`] or [`function_errors::module_steps::ModuleValidator::validate_resolved_overrides`] accepts a
 /// module, the layer that [`crate::RealLower::new`] makes of its `ModuleInfo` was made for that module, as the
 /// calls of [`crate::Validator`] require.
 pub fn made_for_accepted()
     ensures { MadeForAccepted }
+{}
+
+/// In a module with valid handles, each entry point is as [`crate::Validator::validate_entry_point`] requires, if the `infos` are
+/// those of [`crate::Validator::validate_functions`].
+pub fn entries_are_ready()
+    ensures { EntriesAreReady }
 {}
 
 /// A bound on the call depth of a run, where the entry point's own body has depth 0: the number of the module's functions.

@@ -11,9 +11,12 @@ mod whole;
 
 // Names of the crates beneath, for the crates above
 pub use function_entry_checks::EntryPointError;
-pub use function_errors::{InvalidEntryPoint, InvalidFunction, Named, ValidationError};
-pub use function_interface::Lower;
+pub use function_errors;
+pub use function_errors::module_steps::{InvalidGlobalVariable, ModuleError};
+pub use function_errors::{
+    InvalidEntryPoint, InvalidFunction, Named, ValidationError, module_steps,
+};
+pub use function_whole::function_interface::Lower;
 pub use function_whole::{Validated, validate_entry_point, validate_function, validate_global_var};
-pub use module_steps::{InvalidGlobalVariable, ModuleError};
 pub use real::RealLower;
 pub use validator::Validator;

@@ -5,8 +5,8 @@ ghost use Rattle.ir_items.specs.found.View.{module_view};
 ghost use Rattle.ir_items.specs.found.Filters.{ParentsPrecede};
 ghost use Rattle.function_modules.specs.Severities.{AreKnown, severities_in};
 
-use function_interface::{Lower, NotedStages};
 use function_statement_checks::BlockContext;
+use function_whole::function_interface::{Lower, NotedStages};
 use ir_arena::handle::Handle;
 use ir_flags::{ShaderStages, ValidationFlags};
 use ir_items::{Function, Module};

@@ -6,9 +6,7 @@ ghost use Rattle.function_modules.specs.Validated.{IsFaultAfter, IsKeptWith, IsR
 ghost use Rattle.function_errors.specs.declared.error.ValidationError.TheVariants as error;
 ghost use Rattle.ir_items.specs.found.View.{module_view};
 ghost use Rattle.module_context.specs.AcceptedTypes.{AreAccepted};
-ghost use Rattle.module_steps.specs.Faults.{IsModuleFault};
-ghost use Rattle.module_steps.specs.Refusals.{IsVariableFault};
-ghost use Rattle.module_steps.specs.Reported.{IsInfoOf};
+ghost use Rattle.function_errors.specs.ModuleSteps.{IsModuleFault, IsVariableFault, IsInfoOf};
 ghost use Rattle.ir_items.specs.found.Filters.{ParentsPrecede};
 ghost use Rattle.function_modules.specs.Made.{IsMadeOf};
 ghost use Rattle.function_modules.specs.Severities.{AreKnown};
@@ -22,12 +20,14 @@ use crate::entries::judge_entries;
 use crate::functions::judge_all;
 use crate::real::RealLower;
 use crate::validator::Validator;
+use function_errors::module_steps::{
+    InvalidGlobalVariable, ModuleError, ModuleValidator, validate_globals,
+};
 use function_errors::{InvalidEntryPoint, InvalidFunction, ValidationError, with_spans};
 use function_statement_checks::descriptors_of;
 use ir_items::Module;
 use ir_types::refusal::Refusal;
 use ir_types::with_span::WithSpan;
-use module_steps::{InvalidGlobalVariable, ModuleError, ModuleValidator, validate_globals};
 use std::alloc::{AllocError, Global};
 use typing_infos::ModuleInfo;
 

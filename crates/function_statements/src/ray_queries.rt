@@ -10,12 +10,12 @@ ghost use Rattle.spec_statements.specs.judged.RayQueries.{local_of, local_type_a
 ghost use Rattle.typing_forms.specs.judged.Resolutions.{inner_at};
 
 use crate::rays::{is_ray_descriptor, structure_of};
+use function_atomic_checks::module_expression_checks::{is_alone, query_of};
 use function_statement_checks::StatementContext;
 use ir_arena::handle::Handle;
 use ir_blocks::RayQueryFunction;
 use ir_types::{Expression, key};
 use module_context::{is_floating, shaped_of};
-use module_expression_checks::{is_alone, query_of};
 use typing_errors::FunctionError;
 use typing_forms::Form;
 

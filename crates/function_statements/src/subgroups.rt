@@ -11,6 +11,7 @@ ghost use Rattle.spec_statements.specs.judged.BlockContext.{form_at};
 ghost use Rattle.spec_statements.specs.judged.Subgroups.{collective_needs, gather_needs, HasOperation, answered_type, AnswersAs, BallotOK, IsSubgroupNumber, TakesShape, IsScanned, GoesOver, CollectiveOK, IndexIsKnown, GatherOK};
 
 use bitflags::Flags;
+use function_atomic_checks::module_expression_checks::{is_alone, is_of_value};
 use function_statement_checks::StatementContext;
 use ir_arena::handle::Handle;
 use ir_blocks::GatherMode;
@@ -18,7 +19,6 @@ use ir_flags::{Capabilities, SubgroupOperationSet};
 use ir_kinds::{CollectiveOperation, Scalar, ScalarKind, SubgroupOperation};
 use ir_types::{Expression, key};
 use module_context::{are_same, is_integer, is_truth, shaped_of};
-use module_expression_checks::{is_alone, is_of_value};
 use spec_statements::Shape;
 use typing_errors::{FunctionError, SubgroupError};
 use typing_forms::Form;

@@ -1,3 +1,5 @@
+pub mod FunctionInterface
+pub mod FunctionEntries
 pub mod Faults
 pub mod Judged
 pub mod EntryFaults

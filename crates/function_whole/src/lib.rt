@@ -18,5 +18,7 @@ mod validate;
 
 pub use entry::{validate_entry_point, validate_entry_point_with};
 pub use entry_names::SeenNames;
+pub use function_entries;
+pub use function_interface;
 pub use globals::validate_global_var;
 pub use validate::{Validated, validate_function, validate_function_with};

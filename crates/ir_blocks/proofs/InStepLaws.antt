@@ -1,6 +1,6 @@
 -- The spans of a block are in step with it at every depth.
 use Rattle.std.proofs.Common.{◌≡◌, ℕ, zero, suc, List, [], ◌∷◌, Option, Some, refl, sym, subst, map, length}
-use Rattle.ir_arena.specs.declared.span.Span.{Span}
+use Rattle.ir_types.specs.IrArena.{Span}
 use Rattle.ir_blocks.specs.judged.Plain.{PlainStatement, PlainBlock, stop}
 use Rattle.ir_blocks.specs.judged.Shapes.{shape_of, Part, inner, accepting, rejecting, case_at, loop_body, loop_continuing, case_body, part_of}
 use Rattle.ir_blocks.specs.judged.Places.{Place, here, later, inside, condition, OccursAt}

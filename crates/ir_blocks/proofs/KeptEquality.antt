@@ -3,9 +3,7 @@ use Rattle.std.proofs.Common.{◌≡◌, ℕ, zero, suc, ◌≤◌, ◌==◌, �
 use Rattle.std.specs.Prelude.{Decides}
 use Rattle.std.specs.Cmp.Lexicographic.{pointwise_decides}
 use Rattle.std.proofs.lemmas.Bool.{and_parts, and_from, eqb-true, eq-eqb}
-use Rattle.ir_arena.specs.declared.span.Span.{Span}
-use Rattle.ir_arena.specs.found.Spans.{undefined_span, span_from, is_defined_span}
-use Rattle.ir_arena.specs.found.Equality.{same_span}
+use Rattle.ir_types.specs.IrArena.{Span, undefined_span, span_from, is_defined_span, same_span}
 use Rattle.ir_blocks.specs.found.Padded.{first_kept, padded, before_defined, up_to_defined, same_kept, KeptEquality}
 use Rattle.ir_blocks.specs.found.Spans.{tail_of}
 use Rattle.ir_blocks.proofs.PaddedLemmas.{undefined_is}

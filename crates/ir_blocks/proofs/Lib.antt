@@ -1,3 +1,5 @@
+pub mod IrArena
+pub mod IrTypes
 pub mod Behind
 pub mod TerminatorLemmas
 pub mod TailLaws

@@ -1,6 +1,6 @@
 -- A body has only one completion with returns.
 use Rattle.std.proofs.Common.{◌≡◌, inl, inr, ℕ, zero, suc, Bool, true, false, true≢false, None, refl, sym, ap, subst, ◌∙◌}
-use Rattle.ir_kinds.specs.declared.values.SwitchValue.{SwitchValue}
+use Rattle.ir_types.specs.IrKinds.{SwitchValue}
 use Rattle.ir_blocks.specs.judged.Plain.{PlainStatement, emit, block, if_, switch, loop, break, continue, return, kill, operation, call, PlainBlock, stop, next, PlainCases, no_case, case}
 use Rattle.ir_blocks.specs.judged.Shapes.{shape_of, Part, inner, accepting, rejecting, case_at, loop_body, loop_continuing, case_body, part_of}
 use Rattle.ir_blocks.specs.judged.Places.{Place, here, later, inside, OccursAt}

@@ -3,8 +3,7 @@ use Rattle.std.proofs.Common.{◌≡◌, ℕ, zero, suc, ◌+◌, ◌-◌, ◌<�
 use Rattle.std.specs.List.{remove_range, splice}
 use Rattle.std.proofs.lemmas.Bool.{and_parts, eqb-true}
 use Rattle.std.proofs.lemmas.List.{length-append, length-take, length-drop, append_assoc, nil_from_length}
-use Rattle.ir_arena.specs.declared.span.Span.{Span}
-use Rattle.ir_arena.specs.found.Spans.{undefined_span, span_from, is_defined_span}
+use Rattle.ir_types.specs.IrArena.{Span, undefined_span, span_from, is_defined_span}
 use Rattle.ir_blocks.specs.found.Padded.{first_kept, padded, before_defined, up_to_defined}
 use Rattle.ir_blocks.specs.found.Spans.{tail_of}
 use Rattle.ir_blocks.proofs.RoomLemmas.{take_next, same_at}

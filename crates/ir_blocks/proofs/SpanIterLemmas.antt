@@ -5,7 +5,7 @@ use Rattle.std.proofs.lemmas.List.{nil_from_length}
 use Rattle.std.specs.Iterator.{YieldsFirstBy}
 use Rattle.std.specs.Slice.Iter.{iter_mut_rest}
 use Rattle.std.specs.List.{zip}
-use Rattle.ir_arena.specs.declared.span.Span.{Span}
+use Rattle.ir_types.specs.IrArena.{Span}
 use Rattle.ir_blocks.specs.found.SpanIters.{pairs_to_come, with_span_to_change}
 use Rattle.ir_blocks.specs.declared.span_iter.SpanIterMut.{SpanIterMut}
 use Rattle.ir_blocks.specs.declared.statements.Statement.{Statement}

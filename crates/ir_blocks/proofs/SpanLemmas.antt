@@ -1,8 +1,7 @@
 -- The spans of the completed body, as the code computes them.
 use Rattle.std.proofs.Common.{◌≡◌, List, [], ◌∷◌, ◌++◌, map, take, length, Bool, true, false, refl, sym, ap, ◌∙◌, rules}
 use Rattle.std.proofs.lemmas.List.{map-append, length-map, append-nil, append_assoc}
-use Rattle.ir_arena.specs.declared.span.Span.{Span}
-use Rattle.ir_arena.specs.found.Spans.{undefined_span}
+use Rattle.ir_types.specs.IrArena.{Span, undefined_span}
 use Rattle.ir_blocks.specs.judged.Shapes.{shape_of}
 use Rattle.ir_blocks.specs.found.Spans.{BlockSpans, spans, InnerSpans, in_next, StatementSpans, no_block, tail_of}
 use Rattle.ir_blocks.specs.found.Padded.{padded}

@@ -1,2 +1,4 @@
+pub mod IrArena
+pub mod IrTypes
 pub mod judged
 pub mod found

@@ -2,7 +2,7 @@
 ghost use Rattle.std.specs.Prelude.{◌≡◌, ◌≤◌, ◌==◌, ◌++◌, ◌∷◌, [], length, map, replicate, IsOk, IfOk, IfSome, OnOk, OnErr, option_to_list};
 ghost use Rattle.std.specs.List.{remove_range, splice, zip};
 ghost use Rattle.std.specs.Range.Bound.{start_index, end_index};
-ghost use Rattle.ir_arena.specs.found.Spans.{undefined_span};
+ghost use Rattle.ir_types.specs.IrArena.{undefined_span};
 ghost use Rattle.std.specs.Borrow.{sem};
 ghost use Rattle.ir_blocks.specs.found.Lends.{LendsStatements};
 ghost use Rattle.ir_blocks.specs.found.Room.{HasOwnRoom};
@@ -13,14 +13,14 @@ use crate::kept::KeptSpans;
 use crate::runs::{cut, move_after, put_in};
 use crate::span_iter::{SpanIntoIter, SpanIter, SpanIterMut};
 use crate::statements::{Block, Statement};
-use ir_arena::span::Span;
+use ir_types::ir_arena::span::Span;
 use std::alloc::{AllocError, Global};
 use std::ops::RangeBounds;
 use std::slice;
 
 impl From<Vec<Statement>> for Block {
     ghost use Rattle.std.specs.Prelude.{◌≡◌, length, replicate};
-    ghost use Rattle.ir_arena.specs.found.Spans.{undefined_span};
+    ghost use Rattle.ir_types.specs.IrArena.{undefined_span};
     ghost use Rattle.ir_blocks.specs.found.View.{statements_of, spans_of};
 
     ghost from_gives = { λ body block. (statements_of block ≡ body.items) × (spans_of block ≡ replicate (length body.items) undefined_span) };

@@ -1,11 +1,11 @@
 // The spans of a block's statements, which are stored only up to the last defined span.
 ghost use Rattle.std.specs.Prelude.{◌≡◌, ◌≤◌, ◌+◌, ◌-◌, ◌++◌, ◌∷◌, [], length, take, IsOk, IfOk, OnOk, OnErr};
 ghost use Rattle.std.specs.List.{remove_range, splice};
-ghost use Rattle.ir_arena.specs.found.Spans.{undefined_span};
+ghost use Rattle.ir_types.specs.IrArena.{undefined_span};
 ghost use Rattle.ir_blocks.specs.found.Padded.{padded, up_to_defined};
 
 use crate::runs::{cut, put_in};
-use ir_arena::span::Span;
+use ir_types::ir_arena::span::Span;
 use std::alloc::{AllocError, Global};
 use std::marker::Model;
 
@@ -19,7 +19,7 @@ pub(crate) struct KeptSpans {
 
 impl Model for KeptSpans {
     ghost use Rattle.std.specs.Prelude.{List};
-    ghost use Rattle.ir_arena.specs.declared.span.Span.{Span};
+    ghost use Rattle.ir_types.specs.IrArena.{Span};
     ghost use Rattle.ir_blocks.specs.found.Padded.{listed_spans};
 
     ghost Value = { List Span };

@@ -24,7 +24,7 @@ pub fn kept_equality()
 {}
 
 /// Each statement of the original body keeps its span at its place, each added return has
-/// [`ir_arena::span::Span::UNDEFINED`], and the spans are in step with the completed body at every depth. The law requires
+/// [`ir_types::ir_arena::span::Span::UNDEFINED`], and the spans are in step with the completed body at every depth. The law requires
 /// spans that are in step with the original body, as those of a block always are.
 pub fn spans_completed_by_tails()
     ensures { SpansCompletedByTails }

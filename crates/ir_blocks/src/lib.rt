@@ -12,9 +12,10 @@ mod span_iter;
 mod statements;
 mod terminator;
 
+pub use ir_types;
 pub use ir_types::{
     ArraySize, CooperativeData, Expression, ImageQuery, IrType, SampleLevel, StructMember,
-    TypeInner, key,
+    TypeInner, ir_arena, key,
 };
 pub use operations::{AtomicFunction, GatherMode, RayPipelineFunction, RayQueryFunction};
 pub use returns::{ensure_block_returns, put_returns, reserve_returns};

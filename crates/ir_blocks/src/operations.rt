@@ -1,6 +1,6 @@
 // The functions of some statements: atomic operations, ray queries, subgroup gathers.
-use ir_arena::handle::Handle;
-use ir_kinds::Direction;
+use ir_types::ir_arena::handle::Handle;
+use ir_types::ir_kinds::Direction;
 use ir_types::key;
 
 /// The function of an atomic operation (naga's `AtomicFunction`).

@@ -2,7 +2,7 @@
 ghost use Rattle.std.specs.Prelude.{◌≡◌, ◌++◌, ◌∷◌, [], None, map, IsOk, OnOk, OnErr};
 ghost use Rattle.ir_blocks.specs.judged.Plain.{return};
 ghost use Rattle.ir_blocks.specs.found.Spans.{no_block};
-ghost use Rattle.ir_arena.specs.found.Spans.{undefined_span};
+ghost use Rattle.ir_types.specs.IrArena.{undefined_span};
 ghost use Rattle.ir_blocks.specs.found.Room.{HasOwnRoom, HasRoom, HasRoomWithin, HasRoomInCase, HasRoomInCases};
 ghost use Rattle.ir_blocks.specs.judged.Tails.{IsCompleted, completed, finished, finished_cases, finished_case};
 ghost use Rattle.ir_blocks.specs.found.TailSpans.{SpansCompleted, completed_spans, finished_spans, finished_case_spans, finished_case_body};
@@ -11,7 +11,7 @@ ghost use Rattle.ir_blocks.specs.found.View.{statement_view, block_view, case_vi
 use crate::plain_operation;
 use crate::statements::{Block, Statement, SwitchCase};
 use crate::terminator::goes_on;
-use ir_arena::span::Span;
+use ir_types::ir_arena::span::Span;
 use std::alloc::{AllocError, Global};
 
 /// Adds a return without value at each end of the body that control falls off: in the body and each of

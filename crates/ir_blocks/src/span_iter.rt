@@ -6,7 +6,7 @@ ghost use Rattle.ir_blocks.specs.found.Spans.{tail_of};
 ghost use Rattle.ir_blocks.specs.found.SpanIters.{pairs_to_come};
 
 use crate::statements::Statement;
-use ir_arena::span::Span;
+use ir_types::ir_arena::span::Span;
 use std::marker::Model;
 use std::{slice, vec};
 
@@ -25,7 +25,7 @@ impl<'a> Model for SpanIter<'a> {
     ghost use Rattle.std.specs.Prelude.{List, length};
     ghost use Rattle.std.specs.List.{zip};
     ghost use Rattle.ir_blocks.specs.found.Padded.{padded};
-    ghost use Rattle.ir_arena.specs.declared.span.Span.{Span};
+    ghost use Rattle.ir_types.specs.IrArena.{Span};
     ghost use Rattle.ir_blocks.specs.declared.statements.Statement.{Statement};
     ghost use Rattle.ir_blocks.specs.contracts.statements.Statement as e;
     ghost use Rattle.std.specs.Coded.{codes};
@@ -125,7 +125,6 @@ impl Model for SpanIntoIter {
     ghost use Rattle.std.specs.List.{zip};
     ghost use Rattle.ir_blocks.specs.found.Padded.{padded};
     ghost use Rattle.std.specs.Vec.Iter.{into_iter_items};
-    ghost use Rattle.ir_arena.specs.declared.span.Span.{Span};
     ghost use Rattle.ir_blocks.specs.declared.statements.Statement.{Statement};
     ghost use Rattle.ir_blocks.specs.contracts.statements.Statement as e;
     ghost use Rattle.std.specs.Coded.{codes};

@@ -5,10 +5,10 @@ ghost use Rattle.ir_blocks.specs.found.Spans.{no_block};
 
 use crate::kept::KeptSpans;
 use crate::operations::{AtomicFunction, GatherMode, RayPipelineFunction, RayQueryFunction};
-use ir_arena::handle::Handle;
-use ir_arena::range::Range;
 use ir_flags::Barrier;
-use ir_kinds::{CollectiveOperation, SubgroupOperation, SwitchValue};
+use ir_types::ir_arena::handle::Handle;
+use ir_types::ir_arena::range::Range;
+use ir_types::ir_kinds::{CollectiveOperation, SubgroupOperation, SwitchValue};
 use ir_types::{CooperativeData, key};
 use std::alloc::{AllocError, Global};
 

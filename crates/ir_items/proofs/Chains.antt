@@ -1,6 +1,6 @@
 -- A chain of bases has one end; and a step along a chain.
 use Rattle.std.proofs.Common.{◌≡◌, ℕ, List, sym, ap, subst, ◌∙◌}
-use Rattle.ir_types.specs.judged.ExpressionPlain.{PlainExpression}
+use Rattle.ir_blocks.specs.IrTypes.{PlainExpression}
 use Rattle.ir_items.specs.judged.Bases.{StartsAt, itself, through, global_of, OneOrigin}
 
 pub one_start : (expressions : List PlainExpression) (handle : ℕ) (s t : PlainExpression) → StartsAt expressions handle s → StartsAt expressions handle t → s ≡ t

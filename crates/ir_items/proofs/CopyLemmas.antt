@@ -1,16 +1,15 @@
 -- Functions and modules are copied part by part.
 use Rattle.std.proofs.Common.{◌≡◌, List, [], ◌∷◌, map, option_map, string_bytes, refl, sym, ap, ◌∙◌}
-use Rattle.ir_types.specs.judged.ExpressionPlain.{expression_view}
-use Rattle.ir_types.specs.judged.Plain.{type_view}
+use Rattle.ir_blocks.specs.IrTypes.{expression_view, type_view}
 use Rattle.ir_blocks.specs.found.View.{block_view, block_spans}
 use Rattle.ir_items.specs.found.GlobalView.{values_of, special_view, constant_view, override_view, global_view, node_view}
 use Rattle.ir_items.specs.found.View.{argument_view, local_view, function_view, entry_view}
-use Rattle.ir_arena.specs.found.Copies.{entry_of}
+use Rattle.ir_blocks.specs.IrArena.{entry_of}
 use Rattle.ir_items.specs.found.Copies.{SpannedFunction, spanned_function, SpannedEntry, spanned_entry, spanned_module}
 use Rattle.ir_items.specs.declared.entries.EntryPoint.{EntryPoint}
 use Rattle.ir_items.specs.declared.module.Module.{Module}
 use Rattle.ir_items.specs.declared.functions.Function.{Function}
-use Rattle.ir_arena.proofs.CopyLemmas.{same_values}
+use Rattle.ir_blocks.proofs.IrArena.{same_values}
 
 -- a function is copied part by part
 pub same_function : (f g : Function) → option_map string_bytes f.name ≡ option_map string_bytes g.name → map argument_view f.arguments.items ≡ map argument_view g.arguments.items → f.result ≡ g.result

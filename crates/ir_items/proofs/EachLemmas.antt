@@ -6,10 +6,7 @@ use Rattle.std.proofs.Math.ListN.{set}
 use Rattle.std.proofs.lemmas.List.{take_all}
 use Rattle.std.proofs.lemmas.List.Elements.{All-push}
 use Rattle.std.proofs.lemmas.Option.{slice_get-get_or, same_Some}
-use Rattle.ir_arena.specs.found.Spans.{undefined_span}
-use Rattle.ir_arena.specs.found.Arenas.{value_of_entry, span_of_entry, value_at, span_at, with_value}
-use Rattle.ir_arena.specs.declared.span.Span.{Span}
-use Rattle.ir_arena.specs.found.Copies.{entry_of}
+use Rattle.ir_blocks.specs.IrArena.{undefined_span, value_of_entry, span_of_entry, value_at, span_at, with_value, Span, entry_of}
 use Rattle.ir_blocks.proofs.RoomLemmas.{Unvisited, take_set, same_looks, unvisited_more, done_more}
 
 module _ {A : Type 0} (P : A → Type 0) where

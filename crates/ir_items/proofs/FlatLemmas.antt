@@ -6,9 +6,8 @@ use Rattle.std.specs.Prelude.{unwrap_or, MatchOption}
 use Rattle.std.proofs.lemmas.Grind.{reverse_onto}
 use Rattle.std.proofs.lemmas.List.{reverse-append, reverse-reverse, length-append, length-map, append-nil, take-append-le, take_all}
 use Rattle.std.proofs.lemmas.List.Elements.{All-nil, All-head, All-tail, All-append, All-push, All-weaker}
-use Rattle.ir_arena.specs.declared.span.Span.{Span}
-use Rattle.ir_types.specs.declared.expressions.Expression.{Expression}
-use Rattle.ir_types.specs.judged.ExpressionPlain.{PlainExpression, expression_view}
+use Rattle.ir_blocks.specs.IrArena.{Span}
+use Rattle.ir_blocks.specs.IrTypes.{Expression, PlainExpression, expression_view}
 use Rattle.ir_items.specs.found.GlobalView.{values_of}
 use Rattle.ir_items.specs.judged.Bases.{expressions_of}
 use Rattle.ir_items.specs.found.Flat.{parts_of, PartsPrecede, AreLeaves, none, leaf, taken_apart, OneFlattening}

@@ -1,8 +1,7 @@
 -- Items at a place of an arena.
 use Rattle.std.proofs.Common.{◌≡◌, ℕ, zero, suc, ◌<◌, List, [], ◌∷◌, Some, length, slice_get, map, option_map, refl, sym, ap, ◌∙◌, arith}
 use Rattle.std.proofs.lemmas.Option.{slice_get-map}
-use Rattle.ir_arena.specs.declared.span.Span.{Span}
-use Rattle.ir_arena.specs.found.Arenas.{value_at}
+use Rattle.ir_blocks.specs.IrArena.{Span, value_at}
 use Rattle.ir_items.specs.found.GlobalView.{values_of}
 
 -- there is an item at each place within a list

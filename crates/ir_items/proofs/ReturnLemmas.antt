@@ -2,8 +2,7 @@
 use Rattle.std.proofs.Common.{◌≡◌, List, [], ◌∷◌, Result, Ok, Err, OnErr, map, refl, sym, ap, ◌∙◌}
 use Rattle.std.specs.Prelude.{Vec}
 use Rattle.std.specs.declared.alloc.Global.{Global}
-use Rattle.ir_arena.specs.declared.span.Span.{Span}
-use Rattle.ir_arena.specs.found.Copies.{entry_of}
+use Rattle.ir_blocks.specs.IrArena.{Span, entry_of}
 use Rattle.ir_items.specs.found.GlobalView.{values_of}
 use Rattle.ir_items.specs.found.Copies.{SpannedFunction, SpannedEntry, spanned_function, spanned_entry, spanned_module}
 use Rattle.ir_items.specs.judged.Returned.{returned_function, returned_entry, returned_function_spans, returned_entry_spans, returned_module_spans}

@@ -6,7 +6,7 @@ use Rattle.ir_blocks.proofs.InStepLaws.{always_in_step}
 use Rattle.ir_blocks.proofs.SpanLaws.{spans_completed}
 use Rattle.ir_blocks.proofs.TailLaws.{is_completed}
 use Rattle.ir_blocks.specs.found.View.{block_view, block_spans}
-use Rattle.ir_arena.specs.found.Copies.{entry_of}
+use Rattle.ir_blocks.specs.IrArena.{entry_of}
 use Rattle.ir_items.specs.found.Copies.{SpannedModule, spanned_function, spanned_entry, spanned_module}
 use Rattle.ir_items.specs.judged.Plain.{PlainFunction, PlainEntry, PlainModule}
 use Rattle.ir_items.specs.judged.Returned.{IsReturnedFunction, IsReturnedEntry, IsReturned, KeepsFunctionSpans, KeepsEntrySpans, KeepsSpansAt, KeepsModuleSpans, returned_function, returned_entry, returned_module, returned_function_spans, returned_entry_spans, returned_module_spans}

@@ -7,9 +7,7 @@ use Rattle.std.proofs.lemmas.List.Kept.{AllPairs-cons}
 use Rattle.std.proofs.Common.{length, map, ap, subst, Some, None}
 use Rattle.std.specs.Prelude.{slice_range}
 use Rattle.std.specs.List.{cons_option}
-use Rattle.ir_arena.specs.declared.span.Span.{Span}
-use Rattle.ir_arena.specs.found.Arenas.{span_of_entry}
-use Rattle.ir_arena.specs.found.Spans.{total_span}
+use Rattle.ir_blocks.specs.IrArena.{Span, span_of_entry, total_span}
 use Rattle.ir_blocks.specs.judged.Plain.{emit}
 use Rattle.ir_items.specs.found.Emitted as given
 use Rattle.ir_items.specs.found.Emitted.{Holds, Partition}

@@ -1,10 +1,10 @@
 //! The global variable that a pointer expression points into.
 ghost use Rattle.std.specs.Prelude.{◌≡◌, ◌<◌, List, length};
-ghost use Rattle.ir_types.specs.judged.ExpressionPlain.{PlainExpression, expression_view};
+ghost use Rattle.ir_blocks.specs.IrTypes.{PlainExpression, expression_view};
 ghost use Rattle.ir_items.specs.judged.Bases.{expressions_of, base_of, global_of, BasesPrecede, HasOrigin};
 
 use crate::{Expression, Function, key};
-use ir_arena::handle::Handle;
+use ir_blocks::ir_arena::handle::Handle;
 
 /// The method of functions that follows the base expressions of accesses.
 pub trait FunctionExt {

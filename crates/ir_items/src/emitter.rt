@@ -1,13 +1,12 @@
 // The range of recently appended expressions (naga's `proc::emitter`).
 ghost use Rattle.std.specs.Prelude.{◌≡◌, ◌≤◌, IsTrue, None, Some, is_some, option_map, unwrap_or, length, map, slice_range};
-ghost use Rattle.ir_arena.specs.found.Arenas.{span_of_entry};
-ghost use Rattle.ir_arena.specs.found.Spans.{total_span};
+ghost use Rattle.ir_blocks.specs.IrArena.{span_of_entry, total_span};
 ghost use Rattle.ir_blocks.specs.found.View.{statement_view};
 ghost use Rattle.ir_items.specs.found.Emitted.{emitted};
 
-use ir_arena::arena::Arena;
-use ir_arena::range::Range;
-use ir_arena::span::Span;
+use ir_blocks::ir_arena::arena::Arena;
+use ir_blocks::ir_arena::range::Range;
+use ir_blocks::ir_arena::span::Span;
 use ir_blocks::{Expression, Statement, key};
 use std::marker::Model;
 

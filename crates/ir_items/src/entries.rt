@@ -3,10 +3,10 @@ ghost use Rattle.std.specs.Prelude.{◌≡◌, IfOk};
 ghost use Rattle.ir_items.specs.found.Copies.{spanned_entry};
 
 use crate::functions::Function;
-use ir_arena::copied::Copied;
-use ir_arena::handle::Handle;
+use ir_blocks::ir_arena::copied::Copied;
+use ir_blocks::ir_arena::handle::Handle;
+use ir_blocks::ir_types::key;
 use ir_kinds::{EarlyDepthTest, MeshOutputTopology, ShaderStage};
-use ir_types::key;
 use std::alloc::{AllocError, Global};
 
 /// The outputs of a mesh shader (naga's `MeshStageInfo`).

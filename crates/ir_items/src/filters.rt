@@ -2,10 +2,10 @@
 ghost use Rattle.std.specs.Prelude.{◌≡◌, IfOk};
 ghost use Rattle.ir_items.specs.found.GlobalView.{rule_view, node_view};
 
-use ir_arena::copied::Copied;
-use ir_arena::handle::Handle;
+use ir_blocks::ir_arena::copied::Copied;
+use ir_blocks::ir_arena::handle::Handle;
+use ir_blocks::ir_types::key;
 use ir_kinds::{Severity, StandardFilterableTriggeringRule};
-use ir_types::key;
 use std::alloc::{AllocError, Global};
 
 /// A rule whose diagnostics a filter configures (naga's `FilterableTriggeringRule`).

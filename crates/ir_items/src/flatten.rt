@@ -1,14 +1,13 @@
 //! The flattened components of a vector composition.
 ghost use Rattle.std.specs.Prelude.{◌≡◌, ◌<◌, ◌∷◌, [], ℕ, List, ◌++◌, length, reverse, replicate, take, IfOk, OnOk, MatchOption};
 ghost use Rattle.std.specs.List.{All};
-ghost use Rattle.ir_types.specs.judged.Plain.{inner_view};
-ghost use Rattle.ir_types.specs.judged.ExpressionPlain.{expression_view};
+ghost use Rattle.ir_blocks.specs.IrTypes.{inner_view, expression_view};
 ghost use Rattle.ir_items.specs.judged.Bases.{expressions_of};
 ghost use Rattle.ir_items.specs.found.Flat.{types_of, size_at, vector_size, parts_of, PartsPrecede, AreLeaves, IsFlattened};
 
 use crate::{Expression, IrType, TypeInner, key};
-use ir_arena::arena::Arena;
-use ir_arena::handle::Handle;
+use ir_blocks::ir_arena::arena::Arena;
+use ir_blocks::ir_arena::handle::Handle;
 use ir_sets::unique_arena::UniqueArena;
 use std::alloc::{AllocError, Global};
 use std::marker::Model;

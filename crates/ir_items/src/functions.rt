@@ -5,12 +5,12 @@ ghost use Rattle.ir_blocks.specs.found.View.{block_spans};
 ghost use Rattle.ir_items.specs.found.View.{local_view, argument_view, function_view, empty_function};
 ghost use Rattle.ir_blocks.specs.found.Spans.{no_spans};
 
-use ir_arena::arena::Arena;
-use ir_arena::copied::{Copied, copy_list};
-use ir_arena::handle::Handle;
 use ir_blocks::Block;
+use ir_blocks::ir_arena::arena::Arena;
+use ir_blocks::ir_arena::copied::{Copied, copy_list};
+use ir_blocks::ir_arena::handle::Handle;
+use ir_blocks::ir_types::{Expression, clone_name, key};
 use ir_kinds::Binding;
-use ir_types::{Expression, clone_name, key};
 use std::alloc::{AllocError, Global};
 
 /// A local variable of a function (naga's `LocalVariable`).

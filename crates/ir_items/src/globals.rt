@@ -2,11 +2,11 @@
 ghost use Rattle.std.specs.Prelude.{◌≡◌, IfOk};
 ghost use Rattle.ir_items.specs.found.GlobalView.{constant_view, override_view, global_view};
 
-use ir_arena::copied::Copied;
-use ir_arena::handle::Handle;
+use ir_blocks::ir_arena::copied::Copied;
+use ir_blocks::ir_arena::handle::Handle;
+use ir_blocks::ir_types::{clone_name, key};
 use ir_flags::MemoryDecorations;
 use ir_kinds::{AddressSpace, ResourceBinding};
-use ir_types::{clone_name, key};
 use std::alloc::{AllocError, Global};
 
 /// A constant (naga's `Constant`).

@@ -29,13 +29,14 @@ pub use filters::{DiagnosticFilter, DiagnosticFilterNode, FilterableTriggeringRu
 pub use flatten::{FlattenCompose, flatten_compose};
 pub use functions::{Function, FunctionArgument, FunctionResult, LocalVariable};
 pub use globals::{Constant, GlobalVariable, Override};
+pub use ir_blocks;
+pub use ir_blocks::ir_types::{
+    ArraySize, CooperativeData, Expression, ImageQuery, IrType, SampleLevel, StructMember,
+    TypeInner, key,
+};
 pub use ir_blocks::{
     AtomicFunction, Block, GatherMode, RayPipelineFunction, RayQueryFunction, SpanIntoIter,
     SpanIter, SpanIterMut, Statement, SwitchCase, ensure_block_returns,
-};
-pub use ir_types::{
-    ArraySize, CooperativeData, Expression, ImageQuery, IrType, SampleLevel, StructMember,
-    TypeInner, key,
 };
 pub use module::{GlobalCtx, Module};
 pub use severity::DiagnosticFilterNodeExt;

@@ -8,10 +8,10 @@ use crate::entries::EntryPoint;
 use crate::functions::Function;
 use crate::module_lists::{CodeLists, GlobalLists, TypeLists};
 use crate::{Constant, DiagnosticFilterNode, GlobalVariable, Override, SpecialTypes};
-use ir_arena::arena::Arena;
-use ir_arena::handle::Handle;
+use ir_blocks::ir_arena::arena::Arena;
+use ir_blocks::ir_arena::handle::Handle;
+use ir_blocks::ir_types::{Expression, IrType, key};
 use ir_sets::unique_arena::UniqueArena;
-use ir_types::{Expression, IrType, key};
 use std::alloc::{AllocError, Global};
 
 /// A shader module (naga's `Module`).

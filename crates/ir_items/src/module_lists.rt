@@ -1,8 +1,7 @@
 // The arenas and lists of a module in three parts, each of which is copied separately.
 ghost use Rattle.std.specs.Prelude.{◌≡◌, IfOk, map};
-ghost use Rattle.ir_types.specs.judged.ExpressionPlain.{expression_view};
-ghost use Rattle.ir_types.specs.judged.Plain.{type_view};
-ghost use Rattle.ir_arena.specs.found.Copies.{entry_of};
+ghost use Rattle.ir_blocks.specs.IrTypes.{expression_view, type_view};
+ghost use Rattle.ir_blocks.specs.IrArena.{entry_of};
 ghost use Rattle.ir_items.specs.found.GlobalView.{special_view, constant_view, override_view, global_view, node_view};
 ghost use Rattle.ir_items.specs.found.Copies.{spanned_function, spanned_entry};
 
@@ -10,10 +9,10 @@ use crate::entries::EntryPoint;
 use crate::functions::Function;
 use crate::module::Module;
 use crate::{Constant, DiagnosticFilterNode, GlobalVariable, Override, SpecialTypes};
-use ir_arena::arena::Arena;
-use ir_arena::copied::copy_list;
+use ir_blocks::ir_arena::arena::Arena;
+use ir_blocks::ir_arena::copied::copy_list;
+use ir_blocks::ir_types::{Expression, IrType, key};
 use ir_sets::unique_arena::UniqueArena;
-use ir_types::{Expression, IrType, key};
 use std::alloc::{AllocError, Global};
 
 // The types, and the special types.

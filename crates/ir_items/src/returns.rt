@@ -1,6 +1,6 @@
 // Missing returns in the bodies of a module.
 ghost use Rattle.std.specs.Prelude.{◌≡◌, map, OnOk, OnErr};
-ghost use Rattle.ir_arena.specs.found.Copies.{entry_of};
+ghost use Rattle.ir_blocks.specs.IrArena.{entry_of};
 ghost use Rattle.ir_items.specs.found.Copies.{spanned_function, spanned_entry, spanned_module};
 ghost use Rattle.ir_items.specs.judged.Returned.{IsReturned, KeepsModuleSpans, returned_module, returned_module_spans, returned_function_spans, returned_entry_spans, FunctionHasRoom, EntryHasRoom, FunctionsHaveRoom, EntriesHaveRoom};
 ghost use Rattle.ir_items.specs.found.View.{module_view};
@@ -8,10 +8,10 @@ ghost use Rattle.ir_items.specs.found.View.{module_view};
 use crate::entries::EntryPoint;
 use crate::functions::Function;
 use crate::module::Module;
-use ir_arena::arena::Arena;
-use ir_arena::handle::Handle;
+use ir_blocks::ir_arena::arena::Arena;
+use ir_blocks::ir_arena::handle::Handle;
+use ir_blocks::ir_types::key;
 use ir_blocks::{put_returns, reserve_returns};
-use ir_types::key;
 use std::alloc::{AllocError, Global};
 
 impl Module {

@@ -6,8 +6,8 @@ ghost use Rattle.ir_items.specs.found.GlobalView.{node_view, values_of};
 ghost use Rattle.ir_items.specs.found.Filters.{nodes_of, ParentsPrecede, HasSeverity};
 
 use crate::{DiagnosticFilterNode, FilterableTriggeringRule, key};
-use ir_arena::arena::Arena;
-use ir_arena::handle::Handle;
+use ir_blocks::ir_arena::arena::Arena;
+use ir_blocks::ir_arena::handle::Handle;
 use ir_kinds::{Severity, StandardFilterableTriggeringRule};
 
 /// The method of filter nodes that follows their parents.

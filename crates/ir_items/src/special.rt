@@ -3,9 +3,9 @@ ghost use Rattle.std.specs.Prelude.{◌≡◌, IfOk};
 ghost use Rattle.ir_items.specs.found.GlobalView.{special_view, no_special};
 
 use indexmap::IndexMap;
-use ir_arena::handle::Handle;
+use ir_blocks::ir_arena::handle::Handle;
+use ir_blocks::ir_types::key;
 use ir_kinds::PredeclaredType;
-use ir_types::key;
 use std::alloc::{AllocError, Global};
 
 /// The types that some expressions require, if the module has them (naga's `SpecialTypes`).

@@ -1,2 +1,3 @@
+pub mod IrFlags
 pub mod judged
 pub mod found

@@ -1,3 +1,4 @@
+pub mod IrArena
 pub mod BuiltIns
 pub mod Choices
 pub mod Same

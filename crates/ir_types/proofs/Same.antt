@@ -14,8 +14,8 @@ use Rattle.ir_kinds.specs.contracts.images.ImageClass as class
 use Rattle.ir_kinds.specs.contracts.images.ImageClassPartialEq.TheImpl as of_class
 use Rattle.ir_kinds.specs.declared.images.StorageFormat.{StorageFormat}
 use Rattle.ir_kinds.specs.contracts.images.StorageFormatPartialEq.TheImpl as format
-use Rattle.ir_flags.specs.declared.memory.StorageAccess.{StorageAccess}
-use Rattle.ir_flags.specs.contracts.memory.StorageAccessPartialEq.TheImpl as access
+use Rattle.ir_kinds.specs.IrFlags.{StorageAccess}
+use Rattle.ir_kinds.specs.IrFlags.access as access
 use Rattle.ir_kinds.specs.contracts.bindings.BuiltInPartialEq.TheImpl as built_in
 use Rattle.ir_kinds.specs.declared.bindings.Binding.{Binding}
 use Rattle.ir_kinds.specs.contracts.bindings.Binding as binding

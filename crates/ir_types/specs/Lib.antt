@@ -1,2 +1,4 @@
+pub mod IrKinds
+pub mod IrArena
 pub mod judged
 pub mod found

@@ -16,5 +16,7 @@ mod types;
 pub mod with_span;
 
 pub use expressions::{CooperativeData, Expression, ImageQuery, SampleLevel};
+pub use ir_arena;
+pub use ir_kinds;
 pub use literals::LiteralExt;
 pub use types::{ArraySize, IrType, StructMember, TypeInner, clone_name};

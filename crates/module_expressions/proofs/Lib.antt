@@ -1,1 +1,2 @@
+pub mod ModuleExpressionChecks
 pub mod Refuted

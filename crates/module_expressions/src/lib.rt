@@ -14,4 +14,5 @@ mod stages;
 pub use expression::validate_expression;
 pub use image_loads::{check_image_load, check_image_query, is_texel};
 pub use image_samples::check_image_sample;
+pub use module_expression_checks;
 pub use stages::expression_stages;

@@ -12,8 +12,7 @@ use Rattle.module_type_checks.specs.Known.{types_in, IsKnown}
 use Rattle.module_type_checks.specs.declared.context.TypeContext.{TypeContext}
 use Rattle.typing_layout.specs.found.Faults.{IsInnerFault}
 use Rattle.typing_layout.specs.declared.type_error.TypeError.{TypeError}
-use Rattle.typing_forms.specs.judged.Order.{named_types}
-use Rattle.typing_forms.specs.judged.Resolutions.{inner_at}
+use Rattle.typing_layout.specs.TypingForms.{named_types, inner_at}
 
 all_members : (b : ℕ) (ms : List StructMember) → All (λ named. named < b) (map (λ m. m.ty) (map member_view ms)) → All (λ m. m.ty < b) ms
 all_members b [] h k d lt = absurd (omega arith)

@@ -13,10 +13,9 @@ use Rattle.module_type_checks.specs.Known.{types_in, tree_in, IsKnown, AreFacts}
 use Rattle.module_type_checks.specs.declared.context.TypeContext.{TypeContext}
 use Rattle.module_type_checks.specs.declared.facts.Facts.{Facts}
 use Rattle.typing_layout.specs.declared.info.TypeInfo.{TypeInfo}
-use Rattle.typing_forms.specs.judged.Resolutions.{inner_at}
+use Rattle.typing_layout.specs.TypingForms.{inner_at, rounded_up}
 use Rattle.typing_layout.specs.found.Held.{IsLayoutOf}
 use Rattle.typing_layout.specs.declared.layout.TypeLayout.{TypeLayout}
-use Rattle.typing_forms.specs.judged.Sizes.{rounded_up}
 
 pub tree_of : (c : TypeContext) (handle : ℕ) (i : PlainInner) → IsKnown c → Some i ≡ inner_at (types_in c) handle → tree_in c handle ≡ tree_by (tree_in c) i
 tree_of c handle i known at = tree_by_trees (types_in c) known.back handle i (sym at)

@@ -17,7 +17,7 @@ use Rattle.module_type_checks.specs.declared.context.TypeContext.{TypeContext}
 use Rattle.typing_layout.specs.declared.type_error.VaryingError.{VaryingError}
 use Rattle.typing_layout.specs.declared.type_error.VaryingError.TheVariants as varying
 use Rattle.ir_types.specs.judged.Plain.{PlainType}
-use Rattle.typing_forms.specs.judged.Resolutions.{inner_at}
+use Rattle.typing_layout.specs.TypingForms.{inner_at}
 use Rattle.module_type_checks.proofs.Places.{plain_at, many_plain}
 
 -- the blend source of the member at an index

@@ -8,7 +8,7 @@ use Rattle.module_type_checks.specs.declared.context.TypeContext.{TypeContext}
 use Rattle.typing_layout.specs.found.BlendFaults.{IsTwice, IsAbsent}
 use Rattle.typing_layout.specs.declared.type_error.VaryingError.{VaryingError}
 use Rattle.typing_layout.specs.declared.type_error.VaryingError.TheVariants as varying
-use Rattle.typing_forms.specs.judged.Resolutions.{inner_at}
+use Rattle.typing_layout.specs.TypingForms.{inner_at}
 
 abbrev pub IsLocationFault : PlainMember → VaryingError → Type 0
 IsLocationFault m (varying.InvalidBlendSrcIndex location source) =

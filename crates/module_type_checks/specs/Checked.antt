@@ -12,7 +12,7 @@ use Rattle.typing_layout.specs.found.BlendFaults.{IsBlendFault}
 use Rattle.typing_layout.specs.found.Faults.{IsInnerFault}
 use Rattle.typing_layout.specs.found.MemberFaults.{IsStructFault}
 use Rattle.typing_layout.specs.declared.type_error.TypeError.{TypeError}
-use Rattle.typing_forms.specs.judged.Resolutions.{inner_at}
+use Rattle.typing_layout.specs.TypingForms.{inner_at}
 
 abbrev pub IsInnerOK : TypeContext → PlainInner → Type 0
 IsInnerOK c i = ShapeOK c.capabilities c.overrides_resolved (tree_by (tree_in c) i) × BlendsOK c.capabilities (types_in c) (Some i)

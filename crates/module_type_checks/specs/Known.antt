@@ -10,10 +10,8 @@ use Rattle.module_type_checks.specs.declared.context.TypeContext.{TypeContext}
 use Rattle.module_type_checks.specs.declared.facts.Facts.{Facts}
 use Rattle.typing_layout.specs.found.Infos.{HasInfo}
 use Rattle.typing_layout.specs.declared.info.TypeInfo.{TypeInfo}
-use Rattle.typing_forms.specs.judged.Order.{TypesGoBack}
-use Rattle.typing_forms.specs.judged.Resolutions.{types_view}
+use Rattle.typing_layout.specs.TypingForms.{TypesGoBack, types_view, rounded_up}
 use Rattle.typing_layout.specs.found.Held.{AreLayouts}
-use Rattle.typing_forms.specs.judged.Sizes.{rounded_up}
 
 abbrev pub types_in : TypeContext → List PlainType
 types_in c = types_view c.types.now

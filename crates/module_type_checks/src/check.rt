@@ -6,7 +6,7 @@ ghost use Rattle.typing_layout.specs.judged.Rules.{TypeOK};
 ghost use Rattle.module_type_checks.specs.Checked.{IsInnerOK, AreMembersOK, AreMembersRefused, IsTypeFault};
 ghost use Rattle.module_type_checks.specs.Known.{IsKnown, types_in};
 ghost use Rattle.typing_layout.specs.found.Faults.{IsInnerFault};
-ghost use Rattle.typing_forms.specs.judged.Order.{named_types};
+ghost use Rattle.typing_layout.specs.TypingForms.{named_types};
 
 use crate::blends::check_blend;
 use crate::images::{check_image, check_query, check_structure};

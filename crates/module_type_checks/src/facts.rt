@@ -8,8 +8,7 @@ ghost use Rattle.typing_layout.specs.judged.Layout.{alignment};
 ghost use Rattle.typing_layout.specs.judged.Tree.{Tree};
 ghost use Rattle.typing_layout.specs.judged.View.{tree_by};
 ghost use Rattle.module_type_checks.specs.Known.{AreFacts, IsKnown, tree_in};
-ghost use Rattle.typing_forms.specs.judged.Resolutions.{types_view, inner_at};
-ghost use Rattle.typing_forms.specs.judged.Sizes.{rounded_up};
+ghost use Rattle.typing_layout.specs.TypingForms.{types_view, inner_at, rounded_up};
 
 use crate::context::TypeContext;
 use ir_arena::handle::Handle;

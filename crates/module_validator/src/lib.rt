@@ -7,7 +7,8 @@
 //! The `VaryingError` here is only the part that concerns types: invalid blend sources. The full error, for the varyings of
 //! entry points, is the one of the same name in `function_validator`.
 //!
-//! This crate defines nothing. To validate modules up to their overrides, depend on this crate, and on `shader_ir` for modules.
+//! It defines laws of contexts, and nothing else. To validate modules up to their overrides, depend on this crate, and on
+//! `shader_ir` for modules.
 #![tactic(auto)]
 
 pub mod laws;
@@ -15,7 +16,7 @@ pub mod laws;
 pub use ir_flags::Settings;
 pub use module_constants::{
     ConstantError, GlobalContext, InvalidConstant, InvalidGlobalExpression, OverrideError,
-    validate_compose,
+    forms_given, validate_compose,
 };
 pub use module_context::CheckContext;
 pub use module_globals::{GlobalVariableError, ImmediateSlots};

@@ -7,16 +7,15 @@ use Rattle.ir_items.specs.judged.Plain.{PlainModule}
 use Rattle.judgement.specs.declared.finding.Finding.{Finding}
 use Rattle.judgement.specs.declared.finding.Finding.TheVariants.{RefusedHandles, Refused}
 use Rattle.typing_infos.specs.declared.info.ModuleInfo.{ModuleInfo}
-use Rattle.module_steps.specs.Faults.{IsExpressionRefused, IsModuleFault}
-use Rattle.module_steps.specs.declared.error.ModuleError.{ModuleError}
-use Rattle.module_steps.specs.declared.error.ModuleError.TheVariants as error
+use Rattle.function_modules.specs.ModuleSteps.{IsExpressionRefused, IsModuleFault, ModuleError}
+use Rattle.function_modules.specs.ModuleSteps.error as error
 use Rattle.shader_check.proofs.Failing.{Family, up_to_overrides, at_variables, at_functions, at_entries, IsFailing, in_order, none_failing, failing_once}
 use Rattle.shader_check.proofs.Once.{step_back}
 use Rattle.shader_check.specs.found.Examined.{refused_by}
 use Rattle.shader_check.specs.found.Fresh.{AreAlike, AnswersAreAlike}
 use Rattle.function_modules.specs.Validated.{IsValidated, IsValidationFault}
-use Rattle.function_errors.specs.declared.error.ValidationError.{ValidationError}
-use Rattle.function_errors.specs.declared.error.ValidationError.TheVariants as validation
+use Rattle.function_modules.specs.FunctionErrors.{ValidationError}
+use Rattle.function_modules.specs.FunctionErrors.error as validation
 use Rattle.spec_expressions.specs.judged.ModuleHandles.{HandlesOK}
 use Rattle.judgement.specs.judged.ModuleSteps as step
 use Rattle.judgement.specs.judged.ModuleSteps.{ModuleStep, IsFirstFailing}

@@ -11,11 +11,10 @@ use Rattle.ir_items.specs.declared.module.Module.{Module}
 use Rattle.judgement.specs.judged.Steps.{IsFinding, IsPrepared}
 use Rattle.judgement.specs.declared.finding.Finding.{Finding}
 use Rattle.judgement.specs.declared.finding.Finding.TheVariants.{Accepted, RefusedDocument, RefusedHandles, Refused}
-use Rattle.module_steps.specs.declared.error.ModuleError.{ModuleError}
-use Rattle.module_steps.specs.declared.error.ModuleError.TheVariants as module_error
-use Rattle.function_errors.specs.declared.error.ValidationError.{ValidationError}
-use Rattle.function_errors.specs.declared.error.ValidationError.TheVariants as error
-use Rattle.function_errors.specs.Spans.{IsRefusedAt}
+use Rattle.function_modules.specs.ModuleSteps.{ModuleError}
+use Rattle.function_modules.specs.ModuleSteps.error as module_error
+use Rattle.function_modules.specs.FunctionErrors.{ValidationError, IsRefusedAt}
+use Rattle.function_modules.specs.FunctionErrors.error as error
 use Rattle.shader_check.proofs.Kept.{reported}
 use Rattle.shader_check.proofs.ModuleLaws.{found_of}
 use Rattle.shader_check.specs.found.Examined.{finding_in, refused_early, refused_by, IsExamined, IsExaminedDocument, IsKeptIn, IsRefusedSo}

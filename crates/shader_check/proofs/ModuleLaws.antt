@@ -6,12 +6,11 @@ use Rattle.typing_errors.specs.declared.const_expressions.ConstExpressionError.T
 use Rattle.ir_items.specs.judged.Plain.{PlainModule}
 use Rattle.judgement.specs.judged.Steps.{IsFinding}
 use Rattle.judgement.specs.declared.finding.Finding.TheVariants.{Refused}
-use Rattle.module_steps.specs.Faults.{IsExpressionRefused, IsModuleFault}
-use Rattle.module_steps.specs.declared.error.ModuleError.{ModuleError}
-use Rattle.module_steps.specs.declared.error.ModuleError.TheVariants as error
+use Rattle.function_modules.specs.ModuleSteps.{IsExpressionRefused, IsModuleFault, ModuleError}
+use Rattle.function_modules.specs.ModuleSteps.error as error
 use Rattle.function_modules.specs.Validated.{IsValidationFault}
-use Rattle.function_errors.specs.declared.error.ValidationError.{ValidationError}
-use Rattle.function_errors.specs.declared.error.ValidationError.TheVariants as validation
+use Rattle.function_modules.specs.FunctionErrors.{ValidationError}
+use Rattle.function_modules.specs.FunctionErrors.error as validation
 use Rattle.shader_check.specs.found.Examined.{step_of, refused_early, refused_by, finding_in, IsExamined}
 use Rattle.shader_check.specs.declared.examined.Examined.{Examined}
 use Rattle.shader_check.specs.declared.examined.Examined.TheVariants as examined

@@ -2,9 +2,9 @@
 ghost use Rattle.std.specs.Prelude.{◌≡◌};
 ghost use Rattle.shader_check.specs.found.Examined.{step_of, refused_early, refused_by, finding_in};
 
-use function_errors::ValidationError;
+use function_modules::function_errors::ValidationError;
+use function_modules::module_steps::ModuleError;
 use judgement::{Finding, Step};
-use module_steps::ModuleError;
 use typing_errors::ConstExpressionError;
 use typing_infos::ModuleInfo;
 

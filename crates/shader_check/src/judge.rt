@@ -13,7 +13,7 @@ use crate::examined::Examined;
 use crate::reported::Judgement;
 use bitflags::Flags;
 use document_reader::{Document, DocumentError, take_document};
-use function_errors::ValidationError;
+use function_modules::function_errors::ValidationError;
 use function_modules::{RealLower, Validator};
 use ir_flags::{Settings, ValidationFlags};
 use ir_items::Module;

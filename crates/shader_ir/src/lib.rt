@@ -109,6 +109,7 @@ pub use ir_kinds::VectorSize;
 pub use ir_sets::drain::UniqueArenaDrain;
 pub use ir_sets::handle_set::ArenaType;
 pub use ir_sets::handle_set::HandleSet;
+pub use ir_sets::handle_set::Iter as HandleSetIter;
 pub use ir_sets::handle_vec::HandleVec;
 pub use ir_sets::keyed::KeyedState;
 pub use ir_sets::unique_arena::UniqueArena;

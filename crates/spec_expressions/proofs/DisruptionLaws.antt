@@ -1,9 +1,7 @@
 -- The computed disruption agrees with the definition.
 use Rattle.std.proofs.Common.{◌≡◌, ℕ, zero, suc, Bool, true, false, ◌||◌, IsTrue, Option, Some, None, ⊎_elim, inl, inr, ◌⊎◌, refl, sym, subst}
 use Rattle.std.proofs.lemmas.Bool.{or_cases, or_left, or_right}
-use Rattle.ir_blocks.specs.judged.Plain.{PlainStatement, emit, block, if_, switch, loop, break, continue, return, kill, operation, call, PlainBlock, stop, next, PlainCases, no_case, case}
-use Rattle.ir_blocks.specs.judged.Shapes.{Part, inner, accepting, rejecting, case_at, loop_body, loop_continuing, shape_of, case_body, part_of}
-use Rattle.ir_blocks.specs.judged.Places.{Place, here, later, inside, condition, IsTop, top_here, top_later, Before, earlier, both_later, both_inside, body_before_continuing, body_before_condition, continuing_before_condition, statement, OccursAt}
+use Rattle.ir_items.specs.IrBlocks.{PlainStatement, emit, block, if_, switch, loop, break, continue, return, kill, operation, call, PlainBlock, stop, next, PlainCases, no_case, case, Part, inner, accepting, rejecting, case_at, loop_body, loop_continuing, shape_of, case_body, part_of, Place, here, later, inside, condition, IsTop, top_here, top_later, Before, earlier, both_later, both_inside, body_before_continuing, body_before_condition, continuing_before_condition, statement, OccursAt}
 use Rattle.spec_expressions.specs.judged.Positions.{Holds, itself, in_part, holds_later, holds_inside, Around, around, around_later, around_inside}
 use Rattle.spec_expressions.specs.judged.Disruption.{chosen_by, is_end, Disrupted, already, chosen, after, ends_in, ends_at, ends_in_cases, enter, at_condition, disrupted_at}
 use Rattle.spec_expressions.proofs.EverywhereLaws.{none_in_stop}

@@ -2,9 +2,7 @@
 use Rattle.std.proofs.Common.{◌≡◌, ◌⊎◌, inl, inr, ℕ, zero, suc, Bool, true, false, ◌||◌, IsTrue, Option, Some, None, refl, sym, ap, ◌∙◌, subst, ⊎_elim}
 use Rattle.ir_flags.specs.declared.settings.ValidationFlags.{ValidationFlags}
 use Rattle.ir_kinds.specs.declared.diagnostics.Severity.{Severity}
-use Rattle.ir_blocks.specs.judged.Plain.{PlainOperation, control_barrier, memory_barrier, store, image_store, atomic, image_atomic, uniform_load, ray_query, ballot, collective, gather, cooperative_store, ray_pipeline, PlainStatement, emit, block, if_, switch, loop, break, continue, return, kill, operation, call, PlainBlock, stop, next, PlainCases, no_case, case}
-use Rattle.ir_blocks.specs.judged.Shapes.{Part, inner, accepting, rejecting, case_at, loop_body, loop_continuing, shape_of, case_body, part_of}
-use Rattle.ir_blocks.specs.judged.Places.{Place, here, later, inside, condition, statement, OccursAt}
+use Rattle.ir_items.specs.IrBlocks.{PlainOperation, control_barrier, memory_barrier, store, image_store, atomic, image_atomic, uniform_load, ray_query, ballot, collective, gather, cooperative_store, ray_pipeline, PlainStatement, emit, block, if_, switch, loop, break, continue, return, kill, operation, call, PlainBlock, stop, next, PlainCases, no_case, case, Part, inner, accepting, rejecting, case_at, loop_body, loop_continuing, shape_of, case_body, part_of, Place, here, later, inside, condition, statement, OccursAt}
 use Rattle.spec_expressions.specs.judged.Kinds.{operation_row}
 use Rattle.spec_expressions.specs.judged.Disruption.{ends_in, ends_at, enter, disrupted_at}
 use Rattle.spec_expressions.specs.judged.Uniformity.{Required, WaitRequires, Requires, DisruptedRequirement, UniformityFault}

@@ -1,3 +1,4 @@
+pub mod TypingLayout
 pub mod Capable
 pub mod ChainLaws
 pub mod DisruptionLaws

@@ -1,10 +1,7 @@
 -- At most one type, and none if there is a fault: both by one lemma, that a rule depends on its operands only.
 use Rattle.std.proofs.Common.{◌≡◌, ◌∙◌, sym, refl, ap, subst, ℕ, List, [], ◌∷◌, Ok, inl, inr, zero, suc}
-use Rattle.ir_types.specs.judged.ExpressionPlain.{PlainExpression}
-use Rattle.typing_forms.specs.declared.form.Form.{Form}
-use Rattle.typing_forms.specs.judged.Forms.{form_of}
-use Rattle.typing_forms.specs.judged.Resolutions.{PlainResolution}
-use Rattle.typing_forms.specs.found.Equivalence.{AreEquivalent}
+use Rattle.typing_layout.specs.IrTypes.{PlainExpression}
+use Rattle.typing_layout.specs.TypingForms.{Form, form_of, PlainResolution, AreEquivalent}
 use Rattle.typing_rules.specs.judged.Laws.{IsAmong}
 use Rattle.spec_expressions.specs.judged.Context.{Context}
 use Rattle.spec_expressions.specs.found.Laws.{IsFaulty}

@@ -1,2 +1,6 @@
+pub mod IrItems
+pub mod TypingLayout
+pub mod TypingRules
+pub mod TypingForms
 pub mod found
 pub mod judged

@@ -3,11 +3,11 @@
 ghost use Rattle.std.specs.Prelude.{◌≡◌, ℕ, List, Option, None, Some, IfOk, IfErr};
 ghost use Rattle.ir_kinds.specs.declared.predeclared.PredeclaredType.{PredeclaredType};
 ghost use Rattle.ir_items.specs.found.GlobalView.{special_view};
-ghost use Rattle.typing_forms.specs.judged.Resolutions.{PlainResolution, resolution_view};
+ghost use Rattle.typing_layout.specs.TypingForms.{PlainResolution, resolution_view};
 
 use ir_items::SpecialTypes;
 use thiserror::Error;
-use typing_forms::TypeResolution;
+use typing_layout::typing_forms::TypeResolution;
 use typing_rules::Conclusion;
 
 /// The module lacks the special type of a function's result (naga's `MissingSpecialType`).

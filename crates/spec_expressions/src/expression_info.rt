@@ -2,8 +2,8 @@
 
 use crate::uniformity::Uniformity;
 use ir_arena::handle::Handle;
-use ir_types::key;
-use typing_forms::TypeResolution;
+use typing_layout::ir_types::key;
+use typing_layout::typing_forms::TypeResolution;
 
 /// The info of an expression of a function (naga's `ExpressionInfo`).
 #[derive(Debug, Drop)]

@@ -1,7 +1,7 @@
 //! Type errors of expressions.
 
 use ir_arena::handle::Handle;
-use ir_types::key;
+use typing_layout::ir_types::key;
 
 /// Why an expression has no type, as plain data without a message.
 #[derive(Clone, Copy, Debug)]

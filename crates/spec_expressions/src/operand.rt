@@ -1,7 +1,7 @@
 //! Operands: how they are used, and when they must be in scope.
 
 use ir_arena::handle::Handle;
-use ir_types::key;
+use typing_layout::ir_types::key;
 
 /// How an operand uses the global variable that it refers to.
 #[derive(Clone, Copy, Debug)]

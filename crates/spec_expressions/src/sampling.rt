@@ -1,7 +1,7 @@
 //! Sampled pairs of images and samplers.
 
 use ir_arena::handle::Handle;
-use ir_types::key;
+use typing_layout::ir_types::key;
 
 /// What an image or sampler operand denotes in a function: a global variable of the module, or an argument, for which each
 /// call passes one (naga's `GlobalOrArgument`).

@@ -1,7 +1,7 @@
 //! What handles and ranges refer to.
 
 use ir_arena::handle::Handle;
-use ir_types::key;
+use typing_layout::ir_types::key;
 
 /// The item that a handle refers to, other than an expression of the list that contains it.
 #[derive(Clone, Copy, Debug)]

@@ -3,8 +3,8 @@
 use bitflags::{Flag, Flags, bitflag_items};
 use ir_arena::handle::Handle;
 use ir_flags::write_set;
-use ir_types::key;
 use std::fmt;
+use typing_layout::ir_types::key;
 
 /// Why uniform control flow is required (naga's `UniformityRequirements`). A contract sees the
 /// bits, as `set.0`.

@@ -12,10 +12,9 @@ use Rattle.ir_flags.specs.Sets.{Has}
 use Rattle.ir_flags.specs.declared.stages.ShaderStages.{ShaderStages}
 use Rattle.ir_flags.specs.declared.settings.Settings.{Settings}
 use Rattle.ir_items.specs.judged.Plain.{PlainFunction, PlainModule}
-use Rattle.spec_expressions.proofs.Members.{get-within}
+use Rattle.spec_statements.proofs.SpecExpressions.{get-within}
 use Rattle.spec_interface.specs.judged.Modules.{AreStages}
-use Rattle.spec_expressions.specs.judged.FunctionHandles.{CalleesPrecede}
-use Rattle.spec_expressions.specs.judged.References.{computed, done, expression_names, statement_calls}
+use Rattle.spec_statements.specs.SpecExpressions.{CalleesPrecede, computed, done, expression_names, statement_calls}
 use Rattle.spec_statements.specs.judged.ExpressionStages.{all_stages, callee_stages, stages_of}
 use Rattle.spec_statements.specs.judged.Functions.{AllowsStage}
 use Rattle.spec_statements.specs.judged.ModuleFunctions.{reading_over}

@@ -4,7 +4,7 @@ ghost use Rattle.std.specs.Prelude.{◌≡◌, ◌<◌, ◌↔◌, IsTrue, Match
 ghost use Rattle.ir_items.specs.found.View.{module_view};
 ghost use Rattle.ir_kinds.specs.declared.spaces.AddressSpace.TheVariants.{Immediate, TaskPayload, WorkGroup};
 ghost use Rattle.ir_types.specs.judged.Plain.{inner_view, member_view};
-ghost use Rattle.spec_expressions.specs.judged.Summaries.{no_use};
+ghost use Rattle.spec_statements.specs.SpecExpressions.{no_use};
 ghost use Rattle.spec_interface.specs.judged.Members.{members_at, members_in};
 ghost use Rattle.spec_interface.specs.judged.Payloads.{binding_at, space_at};
 ghost use Rattle.typing_forms.specs.judged.Resolutions.{inner_at};
@@ -13,7 +13,7 @@ use ir_arena::handle::Handle;
 use ir_items::Module;
 use ir_kinds::{AddressSpace, ResourceBinding};
 use ir_types::{StructMember, TypeInner, key};
-use spec_expressions::GlobalUse;
+use spec_statements::spec_expressions::GlobalUse;
 
 /// The inner type at a handle, if there is one.
 pub fn inner_at(module: &Module, ty: Handle<key::IrType>) -> Option<&TypeInner>

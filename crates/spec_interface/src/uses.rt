@@ -15,7 +15,7 @@ use ir_flags::StorageAccess;
 use ir_items::Module;
 use ir_kinds::{AddressSpace, ImageClass, ShaderStage};
 use ir_types::{TypeInner, key};
-use spec_expressions::GlobalUse;
+use spec_statements::spec_expressions::GlobalUse;
 
 const READ: GlobalUse = GlobalUse(GlobalUse::READ.0 | GlobalUse::QUERY.0);
 

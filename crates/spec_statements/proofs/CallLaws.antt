@@ -5,8 +5,8 @@ use Rattle.ir_blocks.specs.judged.Plain.{PlainStatement, emit, block, if_, switc
 use Rattle.ir_blocks.specs.judged.Shapes.{Part, inner, accepting, rejecting, case_at, loop_body, loop_continuing, shape_of, part_of, case_body}
 use Rattle.ir_types.specs.judged.ExpressionPlain.{PlainExpression, plain}
 use Rattle.ir_types.specs.declared.expressions.Expression.TheVariants.{ImageSample}
-use Rattle.ir_items.specs.judged.Plain.{PlainFunction}
-use Rattle.typing_rules.specs.judged.Laws.{IsAmong}
+use Rattle.spec_expressions.specs.IrItems.{PlainFunction}
+use Rattle.spec_expressions.specs.TypingRules.{IsAmong}
 use Rattle.spec_expressions.proofs.Members.{among-cases}
 use Rattle.spec_expressions.specs.judged.Effects.{takes, runs, sampling_at, expression_effects, expressions_effects, leaving_effects, statement_effects, effects_in, effects_inside, effects_in_cases, effects_of}
 use Rattle.spec_expressions.specs.judged.OperandUses.{Operand, expression_uses, statement_uses}

@@ -2,8 +2,8 @@
 use Rattle.std.proofs.Common.{◌≡◌, ◌⊎◌, inl, inr, ℕ, List, Some, None, sym, ap, subst, ◌∙◌, slice_get}
 use Rattle.std.proofs.lemmas.Option.{same_Some}
 use Rattle.spec_expressions.specs.judged.Pairs.{SamplingPair}
-use Rattle.ir_items.specs.judged.Plain.{PlainFunction, PlainModule}
-use Rattle.typing_rules.specs.judged.Laws.{IsAmong}
+use Rattle.spec_expressions.specs.IrItems.{PlainFunction, PlainModule}
+use Rattle.spec_expressions.specs.TypingRules.{IsAmong}
 use Rattle.spec_expressions.proofs.Members.{among-get, get-among}
 use Rattle.spec_expressions.specs.judged.CallChains.{HasPair}
 use Rattle.spec_expressions.specs.judged.Effects.{runs, effects_of}

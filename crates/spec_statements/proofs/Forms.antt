@@ -1,6 +1,6 @@
 -- The list of forms of the types of expressions is unique.
 use Rattle.std.proofs.Common.{◌≡◌, ℕ, suc, List, [], ◌∷◌, Some, length, slice_get, refl, sym, ◌∙◌, arith}
-use Rattle.typing_forms.specs.declared.form.Form.{Form}
+use Rattle.spec_expressions.specs.TypingForms.{Form}
 use Rattle.spec_statements.specs.found.Laws.{OneList}
 use Rattle.spec_expressions.proofs.TypingLaws.{one_type}
 

@@ -5,7 +5,7 @@ use Rattle.std.specs.Prelude.{bit_and}
 use Rattle.ir_flags.specs.Sets.{Has}
 use Rattle.ir_flags.specs.declared.settings.ValidationFlags.{ValidationFlags}
 use Rattle.ir_flags.specs.declared.settings.TheConstants.ValidationFlags.{BLOCKS}
-use Rattle.ir_items.specs.judged.Plain.{PlainFunction, PlainModule}
+use Rattle.spec_expressions.specs.IrItems.{PlainFunction, PlainModule}
 use Rattle.spec_statements.specs.judged.EarlierPayloads.{HasPayloadBefore, IsPayloadBefore}
 use Rattle.spec_statements.specs.found.FunctionLaws.{OnePayload}
 use Rattle.spec_statements.specs.judged.Payloads.{HasPayload, PayloadsOK, IsPayloadAfter}

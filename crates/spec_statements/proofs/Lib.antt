@@ -1,3 +1,4 @@
+pub mod SpecExpressions
 pub mod ScopeLaws
 pub mod StrictLaws
 pub mod AnswerLaws

@@ -1,2 +1,3 @@
+pub mod SpecExpressions
 pub mod judged
 pub mod found

@@ -18,3 +18,4 @@ mod shapes;
 pub mod worked;
 
 pub use shapes::{ImageType, Sampling, Shape, Shaped};
+pub use spec_expressions;

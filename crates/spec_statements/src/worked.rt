@@ -37,7 +37,7 @@ ghost use Rattle.ir_kinds.specs.declared.scalars.SwizzleComponent.TheVariants.{X
 ghost use Rattle.spec_statements.specs.judged.Operators.{BinaryOK, UnaryOK};
 ghost use Rattle.spec_statements.specs.judged.Selections.{RelationalOK, SelectOK};
 ghost use Rattle.spec_statements.specs.judged.ExpressionStages.{all_stages, sample_stages, stages_of};
-ghost use Rattle.typing_forms.specs.declared.form.Form.TheVariants as form;
+ghost use Rattle.spec_expressions.specs.TypingForms.form as form;
 ghost use Rattle.ir_flags.specs.declared.stages.TheConstants.ShaderStages.{FRAGMENT, COMPUTE};
 
 /// Unary operations.

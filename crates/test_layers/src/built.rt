@@ -78,8 +78,8 @@ fn declare(
         .append(variable(ty, space), Span::UNDEFINED)
 }
 
-/// Appends the parts of the shader to a module: a global expression, a `u32` variable in this address space, a function that
-/// does nothing, and an entry point that stores into the variable and calls the function. Returns the variable.
+/// Appends the parts of the shader to a module: a global expression, a `u32` variable in this address space, a function with one
+/// expression and no statement, and an entry point that stores into the variable and calls the function. Returns the variable.
 pub fn build(
     alloc: Global,
     module: &mut Module,
@@ -88,9 +88,10 @@ pub fn build(
     let one = Expression::Literal(Literal::U32(1));
     module.global_expressions.append(one, Span::UNDEFINED)?;
     let target = declare(module, space)?;
-    let callee = module
-        .functions
-        .append(Function::new(alloc), Span::UNDEFINED)?;
+    let mut function = Function::new(alloc);
+    let two = Expression::Literal(Literal::U32(2));
+    function.expressions.append(two, Span::UNDEFINED)?;
+    let callee = module.functions.append(function, Span::UNDEFINED)?;
     module.entry_points.push(entry(alloc)?)?;
     if let Some(entry) = module.entry_points.last_mut() {
         store_one(&mut entry.function, target)?;

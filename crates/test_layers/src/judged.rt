@@ -22,8 +22,8 @@ pub fn freeing<A, T: Drop>(answer: A, value: T) -> A {
     answer
 }
 
-// Whether the result is no error. The error is out of memory.
-fn is_accepted<T, E>(answer: &Result<T, Refusal<E>>) -> Result<bool, AllocError> {
+/// Whether the result is no error. The error is out of memory.
+pub fn is_accepted<T, E>(answer: &Result<T, Refusal<E>>) -> Result<bool, AllocError> {
     match answer {
         Ok(_) => Ok(true),
         Err(Refusal::Fault(_)) => Ok(false),
@@ -156,11 +156,19 @@ pub fn leaves_of(
     }
 }
 
+/// Whether a type of an expression is `u32`.
+pub fn is_number_type(resolution: &TypeResolution) -> bool {
+    match resolution {
+        TypeResolution::Value(TypeInner::Scalar(scalar)) => *scalar == Scalar::U32,
+        _ => false,
+    }
+}
+
 // Whether the type of an expression is `u32`.
 fn is_number<E>(answer: &Result<TypeResolution, E>) -> bool {
     match answer {
-        Ok(TypeResolution::Value(TypeInner::Scalar(scalar))) => *scalar == Scalar::U32,
-        _ => false,
+        Ok(resolution) => is_number_type(resolution),
+        Err(_) => false,
     }
 }
 
@@ -199,6 +207,8 @@ pub struct Kept {
     pub expressions: usize,
     /// How many of its functions use each global variable in each way in which the first one does.
     pub dominating: usize,
+    /// The number of expressions of the function of its first entry point, if there is one.
+    pub of_entry: Option<usize>,
 }
 
 /// The information on a module, if it is valid. The error is out of memory.
@@ -211,7 +221,13 @@ pub fn kept_of(
     let mut validator = Validator::new(alloc, lower, settings.flags, settings.capabilities);
     let answer = validator.validate(module);
     let kept = match &answer {
-        Ok(info) => Ok(Some(counted(info, module))),
+        Ok(info) => {
+            let mut kept = counted(info, module);
+            if module.entry_points.len() > 0 {
+                kept.of_entry = Some(info.get_entry_point(0).expression_count());
+            }
+            Ok(Some(kept))
+        }
         Err(Refusal::Fault(_)) => Ok(None),
         Err(Refusal::Memory(_)) => Err(AllocError),
     };
@@ -224,6 +240,7 @@ fn counted(info: &ModuleInfo, module: &Module) -> Kept {
         shareable: 0,
         expressions: 0,
         dominating: 0,
+        of_entry: None,
     };
     for (handle, _) in module.types.iter() {
         if handle.index() < info.types().len()

@@ -5,6 +5,7 @@
 
 mod built;
 mod judged;
+mod single;
 
 use anyhow::Result;
 use built::build;
@@ -19,6 +20,7 @@ use shader_ir::{
     AddressSpace, Capabilities, Handle, Module, ShaderStages, StorageAccess, SubgroupOperationSet,
     ValidationFlags,
 };
+use single::{accepts_entry, accepts_type, accepts_value, analysed, computes, is_global_number};
 use std::alloc::{AllocError, Global};
 
 // The results of the layers for a module.
@@ -32,6 +34,12 @@ struct Said {
     functions: bool,
     first_function: bool,
     variable: bool,
+    entry: bool,
+    ty: bool,
+    value: (bool, bool),
+    analysed: Option<usize>,
+    computes: bool,
+    global_number: bool,
     begins_with_number: bool,
     is_mesh_output: bool,
     leaf: Option<(u64, u64, u64)>,
@@ -66,6 +74,12 @@ fn ask(alloc: Global, module: &mut Module, space: AddressSpace) -> Result<Said, 
         functions: accepts_functions(alloc, settings, module)?,
         first_function: accepts_function(alloc, settings, module, Handle::at(0))?,
         variable: accepts_variable(alloc, settings, module, variable)?,
+        entry: accepts_entry(alloc, settings, module, 0)?,
+        ty: accepts_type(alloc, settings, module, Handle::at(0))?,
+        value: accepts_value(alloc, settings, module, Handle::at(0))?,
+        analysed: analysed(alloc, settings, module, Handle::at(0))?,
+        computes: computes(alloc, settings, module, Handle::at(0), Handle::at(0))?,
+        global_number: is_global_number(alloc, settings, module, Handle::at(0))?,
         begins_with_number: begins_with_number(alloc, module),
         is_mesh_output: is_mesh_output(alloc, module, variable),
         leaf: first_of(leaves_of(alloc, settings, module, variable)?),
@@ -90,9 +104,17 @@ fn print(rt: &HostRuntime, space: AddressSpace) -> Result<()> {
         said.functions, said.begins_with_number, said.is_mesh_output
     )?;
     println!(rt;
-        "the first function {}, the variable {}",
-        said.first_function, said.variable
+        "the first function {}, the variable {}, the entry point {}, the first type {}",
+        said.first_function, said.variable, said.entry, said.ty
     )?;
+    let (is_constant, is_expression) = said.value;
+    println!(rt;
+        "the first value {is_constant} and {is_expression}, a number {}, computed {}",
+        said.global_number, said.computes
+    )?;
+    if let Some(count) = said.analysed {
+        println!(rt; "expressions of the first function {count}")?;
+    }
     if let Some((offset, length, alignment)) = said.leaf {
         println!(rt; "leaf at {offset}, length {length}, alignment {alignment}")?;
     }
@@ -101,6 +123,9 @@ fn print(rt: &HostRuntime, space: AddressSpace) -> Result<()> {
             "shareable types {}, expressions of functions {}, functions with the uses of the first {}",
             kept.shareable, kept.expressions, kept.dominating
         )?;
+        if let Some(count) = kept.of_entry {
+            println!(rt; "expressions of the first entry point {count}")?;
+        }
     }
     Ok(())
 }

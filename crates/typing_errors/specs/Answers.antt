@@ -5,10 +5,7 @@ use Rattle.ir_types.specs.judged.ExpressionPlain.{PlainExpression}
 use Rattle.spec_expressions.specs.judged.Context.{Context}
 use Rattle.spec_expressions.specs.found.Laws.{IsFaulty}
 use Rattle.spec_expressions.specs.judged.Typing.{HasTypeAmong}
-use Rattle.typing_forms.specs.declared.form.Form.{Form}
-use Rattle.typing_forms.specs.declared.resolution.TypeResolution.{TypeResolution}
-use Rattle.typing_forms.specs.judged.Forms.{form_of}
-use Rattle.typing_forms.specs.judged.Resolutions.{resolution_view}
+use Rattle.spec_expressions.specs.TypingForms.{Form, TypeResolution, form_of, resolution_view}
 use Rattle.spec_expressions.specs.declared.faults.TypingFault.{TypingFault}
 use Rattle.spec_expressions.specs.declared.faults.TypingFault.TheVariants as fault
 use Rattle.typing_errors.specs.declared.resolve_error.ResolveError.{ResolveError}

@@ -2,9 +2,8 @@
 use Rattle.std.specs.Prelude.{List, Option, Some, None, Result}
 use Rattle.std.specs.Borrow.{Bor}
 use Rattle.ir_types.specs.judged.Plain.{PlainType}
-use Rattle.typing_forms.specs.declared.form.Form.{Form}
-use Rattle.typing_forms.specs.declared.form.Form.TheVariants as form
-use Rattle.typing_forms.specs.declared.resolution.TypeResolution.{TypeResolution}
+use Rattle.spec_expressions.specs.TypingForms.{Form, TypeResolution}
+use Rattle.spec_expressions.specs.TypingForms.form as form
 use Rattle.ir_types.specs.judged.ExpressionPlain.{PlainExpression}
 use Rattle.spec_expressions.specs.judged.Context.{Context}
 use Rattle.spec_expressions.specs.judged.Typing.{expression_rule}

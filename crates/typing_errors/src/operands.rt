@@ -5,15 +5,15 @@ ghost use Rattle.ir_types.specs.judged.ExpressionPlain.{expression_view};
 ghost use Rattle.ir_types.specs.judged.Plain.{PlainType};
 ghost use Rattle.spec_expressions.specs.judged.Maths.{math_operands};
 ghost use Rattle.spec_expressions.specs.judged.Typing.{typing_operands};
-ghost use Rattle.typing_forms.specs.judged.Resolutions.{types_view};
+ghost use Rattle.spec_expressions.specs.TypingForms.{types_view};
 ghost use Rattle.typing_errors.specs.Answers.{form_given, form_answer};
 ghost use Rattle.typing_errors.specs.Operands.{given_form};
 
 use ir_arena::handle::Handle;
 use ir_types::{Expression, IrType, TypeInner, key};
 use spec_expressions::TypingFault;
+use spec_expressions::typing_forms::{Form, TypeResolution, UniqueArena, form_of};
 use std::alloc::{AllocError, Global};
-use typing_forms::{Form, TypeResolution, UniqueArena, form_of};
 
 /// A type, or why there is none.
 pub type Typing = Result<TypeResolution, TypingFault>;

@@ -1,7 +1,6 @@
 -- The type at a handle of an arena.
 use Rattle.std.proofs.Common.{◌≡◌, ℕ, zero, suc, ◌<◌, List, [], ◌∷◌, length, Some, None, option_map, refl, sym, ap, ◌∙◌, arith}
-use Rattle.ir_arena.specs.found.Arenas.{value_at}
-use Rattle.ir_arena.specs.declared.span.Span.{Span}
+use Rattle.ir_types.specs.IrArena.{value_at, Span}
 use Rattle.ir_types.specs.judged.Plain.{inner_view}
 use Rattle.ir_types.specs.declared.types.IrType.{IrType}
 use Rattle.typing_forms.specs.judged.Resolutions.{types_view, inner_at}

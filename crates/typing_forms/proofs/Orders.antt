@@ -1,10 +1,9 @@
 -- A type refers to the types of its members.
 use Rattle.std.proofs.Common.{◌≡◌, ◌↔◌, ◌<◌, ◌≤◌, ◌+◌, ◌⊎◌, inl, inr, rules, ℕ, zero, suc, List, [], ◌∷◌, map, length, arith, Bool, IsTrue, All, Some, sym, subst}
 use Rattle.std.proofs.lemmas.List.Elements.{All-map}
-use Rattle.ir_arena.specs.declared.span.Span.{Span}
+use Rattle.ir_types.specs.IrArena.{Span, value_at}
 use Rattle.ir_types.specs.declared.types.IrType.{IrType}
 use Rattle.typing_forms.proofs.Lookups.{inner_found}
-use Rattle.ir_arena.specs.found.Arenas.{value_at}
 use Rattle.ir_types.specs.judged.Plain.{PlainInner, PlainMember, PlainType, member_view, inner_view}
 use Rattle.typing_forms.specs.judged.Resolutions.{types_view, inner_at}
 use Rattle.ir_types.specs.declared.types.StructMember.{StructMember}

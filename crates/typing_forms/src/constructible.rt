@@ -8,8 +8,8 @@ ghost use Rattle.typing_forms.specs.judged.Resolutions.{types_view};
 ghost use Rattle.typing_forms.specs.found.Constructible.{IsConstructible, AreFound, known_at, composed_of};
 
 use crate::order::type_at;
-use ir_arena::handle::Handle;
 use ir_sets::unique_arena::UniqueArena;
+use ir_types::ir_arena::handle::Handle;
 use ir_types::{ArraySize, IrType, StructMember, TypeInner, key};
 use std::alloc::{AllocError, Global};
 

@@ -21,6 +21,8 @@ pub use compare::compare_types;
 pub use form::{Form, form_in, form_of, form_of_type, inner_of};
 pub use index::{IndexableLength, IndexableLengthError, ResolveArraySizeError};
 pub use ir_sets::unique_arena::UniqueArena;
+pub use ir_types;
+pub use ir_types::ir_arena;
 pub use order::types_go_back;
 pub use ranks::{conversion_rank, converted_rank};
 pub use resolution::TypeResolution;

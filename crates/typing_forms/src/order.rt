@@ -5,8 +5,8 @@ ghost use Rattle.ir_types.specs.judged.Plain.{inner_view};
 ghost use Rattle.typing_forms.specs.judged.Order.{named_types, TypesGoBack};
 ghost use Rattle.typing_forms.specs.judged.Resolutions.{types_view, inner_at};
 
-use ir_arena::handle::Handle;
 use ir_sets::unique_arena::UniqueArena;
+use ir_types::ir_arena::handle::Handle;
 use ir_types::{IrType, StructMember, TypeInner, key};
 
 // Whether the type of each member has an index below `bound`.

@@ -4,8 +4,8 @@ ghost use Rattle.std.specs.Prelude.{◌≡◌, ◌↔◌, IsTrue, Some, length, 
 ghost use Rattle.ir_types.specs.judged.Plain.{inner_view};
 ghost use Rattle.typing_forms.specs.judged.Resolutions.{types_view, resolution_view, handle_of, resolved, IsAmong};
 
-use ir_arena::handle::Handle;
 use ir_sets::unique_arena::UniqueArena;
+use ir_types::ir_arena::handle::Handle;
 use ir_types::{IrType, TypeInner, key};
 use std::alloc::{AllocError, Global};
 

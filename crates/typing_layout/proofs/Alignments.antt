@@ -2,10 +2,8 @@
 use Rattle.std.proofs.Common.{◌≡◌, ◌<◌, ◌≤◌, ◌+◌, ℕ, zero, suc, List, [], ◌∷◌, All, map, max, drop, length, get_or, refl, sym, ap, subst, ◌∙◌, arith, add-one}
 use Rattle.std.proofs.lemmas.Option.{slice_get-get_or}
 use Rattle.std.proofs.Math.Seq.{drop-cons}
-use Rattle.ir_types.specs.judged.Plain.{member_view, inner_view}
-use Rattle.ir_types.specs.declared.types.StructMember.{StructMember}
-use Rattle.ir_types.specs.declared.types.TypeInner.{TypeInner}
-use Rattle.ir_types.specs.declared.types.TypeInner.TheVariants as inner
+use Rattle.typing_forms.specs.IrTypes.{member_view, inner_view, StructMember, TypeInner}
+use Rattle.typing_forms.specs.IrTypes.inner as inner
 use Rattle.typing_forms.specs.judged.Order.{named_types}
 use Rattle.typing_layout.specs.judged.Layout.{alignment, greatest_alignment}
 use Rattle.typing_layout.specs.judged.Tree.{Tree, Members, no_members, member}

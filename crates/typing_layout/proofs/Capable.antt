@@ -6,7 +6,7 @@ use Rattle.ir_flags.specs.declared.settings.Capabilities.{Capabilities}
 use Rattle.ir_kinds.specs.declared.scalars.ScalarKind.{ScalarKind}
 use Rattle.ir_kinds.specs.declared.scalars.ScalarKind.TheVariants.{Sint, Uint, Float, AbstractInt, AbstractFloat}
 use Rattle.ir_kinds.specs.declared.scalars.ScalarKind.TheVariants as kind
-use Rattle.ir_types.specs.judged.Plain.{PlainInner, PlainType, struct as written_struct, plain}
+use Rattle.typing_forms.specs.IrTypes.{PlainInner, PlainType, struct as written_struct, plain}
 use Rattle.typing_layout.specs.judged.Tree.{Tree, scalar, vector, matrix, cooperative_matrix, atomic, pointer, value_pointer, array, struct, image, sampler, acceleration_structure, ray_query, binding_array}
 use Rattle.typing_layout.specs.judged.Blends.{BlendOK, BlendsOK}
 use Rattle.typing_layout.specs.judged.Images.{VertexReturnOK}

@@ -4,10 +4,8 @@ use Rattle.std.proofs.Math.Bridge.{le_prop}
 use Rattle.std.proofs.Math.Seq.{take-length}
 use Rattle.std.proofs.lemmas.List.{take-append-le}
 use Rattle.std.proofs.lemmas.Option.{slice_get_within}
-use Rattle.ir_arena.specs.found.Arenas.{value_at}
-use Rattle.ir_arena.specs.declared.span.Span.{Span}
-use Rattle.ir_types.specs.judged.Plain.{PlainInner, PlainType, inner_view}
-use Rattle.ir_types.specs.declared.types.IrType.{IrType}
+use Rattle.typing_forms.specs.IrArena.{value_at, Span}
+use Rattle.typing_forms.specs.IrTypes.{PlainInner, PlainType, inner_view, IrType}
 use Rattle.typing_forms.specs.judged.Order.{named_types, TypesGoBack}
 use Rattle.typing_forms.specs.judged.Resolutions.{types_view, inner_at}
 use Rattle.typing_forms.proofs.Lookups.{inner_found}

@@ -1,10 +1,8 @@
 -- Kinds of expressions.
 use Rattle.std.proofs.Common.{◌≡◌, ◌<◌, ◌+◌, ◌++◌, ℕ, zero, suc, List, [], ◌∷◌, Some, All, map, length, slice_get, get_or, refl, sym, ap, subst, ◌∙◌, inl, inr, arith, length-append}
 use Rattle.std.proofs.lemmas.Option.{slice_get_within, get_or_from_slice_get}
-use Rattle.ir_arena.specs.found.Arenas.{value_at, value_of_entry}
-use Rattle.ir_arena.specs.declared.span.Span.{Span}
-use Rattle.ir_types.specs.judged.ExpressionPlain.{PlainExpression, expression_view}
-use Rattle.ir_types.specs.declared.expressions.Expression.{Expression}
+use Rattle.typing_forms.specs.IrArena.{value_at, value_of_entry, Span}
+use Rattle.typing_forms.specs.IrTypes.{PlainExpression, expression_view, Expression}
 use Rattle.typing_layout.specs.declared.constness.ExpressionKind.{ExpressionKind}
 use Rattle.typing_layout.specs.declared.constness.ExpressionKind.TheVariants.{Const, Override, Runtime}
 use Rattle.typing_layout.specs.judged.Constness.{later, latest, Origin, own, latest_of, origin_of, IsOfKind, by_itself, by_operands, AreKinds, OriginsPrecede, operands_from, OneKind}

@@ -1,3 +1,4 @@
+pub mod TypingForms
 pub mod Alignments
 pub mod Capable
 pub mod Held

@@ -2,12 +2,10 @@
 use Rattle.std.proofs.Common.{◌≡◌, ◌<◌, ◌≤◌, ◌+◌, ◌++◌, ◌↔◌, ◌⊎◌, inl, inr, ℕ, zero, suc, List, [], ◌∷◌, Some, All, IsTrue, Bool, map, option_to_list, length, slice_get, sym, subst, arith, rules}
 use Rattle.std.proofs.lemmas.List.Elements.{All-append}
 use Rattle.std.proofs.lemmas.Option.{slice_get_within}
-use Rattle.ir_arena.specs.found.Arenas.{value_of_entry}
-use Rattle.ir_arena.specs.declared.span.Span.{Span}
-use Rattle.ir_types.specs.judged.ExpressionPlain.{PlainExpression, expression_view}
-use Rattle.ir_types.specs.declared.expressions.Expression.{Expression}
+use Rattle.typing_forms.specs.IrArena.{value_of_entry, Span}
+use Rattle.typing_forms.specs.IrTypes.{PlainExpression, expression_view, Expression}
 use Rattle.typing_layout.specs.judged.Constness.{OriginsPrecede, origin_of, operands_from}
-use Rattle.ir_types.specs.declared.expressions.Expression.TheVariants as expression
+use Rattle.typing_forms.specs.IrTypes.expression as expression
 use Rattle.typing_layout.proofs.Latest.{all_right, many_expressions}
 
 -- each expression before an index has its kind from earlier ones

@@ -4,8 +4,8 @@ use Rattle.std.specs.Int.{◌∣◌}
 use Rattle.std.proofs.lemmas.Bool.{cases_lt}
 use Rattle.std.proofs.lemmas.Nat.Gcd.{mod-eq-zero_of_dvd}
 use Rattle.std.proofs.Math.Nat.{dvd-mul_left, mul-le-mul_left}
-use Rattle.ir_types.specs.judged.Plain.{struct, plain}
-use Rattle.ir_types.specs.declared.types.TypeInner.TheVariants as inner
+use Rattle.typing_forms.specs.IrTypes.{struct, plain}
+use Rattle.typing_forms.specs.IrTypes.inner as inner
 use Rattle.typing_forms.specs.judged.Sizes.{rounded_up}
 use Rattle.typing_layout.specs.judged.Layout.{IsLeastMultiple, RoundedIsLeast, SizeOfTree}
 

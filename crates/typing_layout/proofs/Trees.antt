@@ -1,7 +1,7 @@
 -- The tree of a type consists of the trees of the types that it refers to, and appending types keeps it.
 use Rattle.std.proofs.Common.{◌≡◌, ◌<◌, ℕ, zero, suc, List, [], ◌∷◌, ◌++◌, Option, Some, None, map, option_map, length, slice_get, All, refl, ap, ◌∙◌, arith}
-use Rattle.ir_types.specs.judged.Plain.{PlainMember, PlainInner, struct, plain, PlainType}
-use Rattle.ir_types.specs.declared.types.TypeInner.TheVariants as inner
+use Rattle.typing_forms.specs.IrTypes.{PlainMember, PlainInner, struct, plain, PlainType}
+use Rattle.typing_forms.specs.IrTypes.inner as inner
 use Rattle.typing_forms.specs.judged.Order.{named_types, TypesGoBack}
 use Rattle.typing_forms.specs.judged.Resolutions.{inner_at}
 use Rattle.typing_layout.specs.judged.Tree.{Tree, member, pointer, array, binding_array, struct as struct_tree}

@@ -1,2 +1,4 @@
+pub mod IrTypes
+pub mod TypingForms
 pub mod found
 pub mod judged

@@ -1,9 +1,9 @@
 //! Layout errors.
 
-use ir_arena::handle::Handle;
-use ir_types::key;
 use thiserror::Error;
 use typing_forms::MAX_TYPE_SIZE;
+use typing_forms::ir_arena::handle::Handle;
+use typing_forms::ir_types::key;
 
 /// What is wrong with a type that has no layout (naga's `LayoutErrorInner`, without the errors of types that refer to later
 /// ones: a layouter requires that there are none).

@@ -5,7 +5,7 @@
 ghost use Rattle.std.specs.Prelude.{◌≡◌, None, false};
 ghost use Rattle.ir_kinds.specs.judged.Scalars.{boolean, floating, unsigned};
 ghost use Rattle.ir_kinds.specs.declared.scalars.VectorSize.TheVariants.{Tri, Quad};
-ghost use Rattle.ir_types.specs.declared.types.ArraySize.TheVariants.{Constant, Pending, Dynamic};
+ghost use Rattle.typing_forms.specs.IrTypes.{Constant, Pending, Dynamic};
 ghost use Rattle.typing_layout.specs.judged.Buffers.{uniform_alignment};
 ghost use Rattle.typing_layout.specs.judged.Flags.{HasFlag, Constructible, Data, HostShareable, IoShareable, Sized};
 ghost use Rattle.typing_layout.specs.judged.Immediates.{FitsImmediates};

@@ -2,8 +2,8 @@
 
 use crate::type_error::{Disalignment, ImmediateError};
 use crate::{Alignment, TypeFlags};
-use ir_arena::handle::Handle;
-use ir_types::key;
+use typing_forms::ir_arena::handle::Handle;
+use typing_forms::ir_types::key;
 
 /// The alignment of a type within a buffer; or why the host can't share it, and the inner type at fault (naga's
 /// `LayoutCompatibility`).

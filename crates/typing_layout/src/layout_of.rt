@@ -6,7 +6,7 @@
 
 ghost use Rattle.std.specs.Prelude.{◌≡◌, ◌<◌, ◌≤◌, ◌*◌, ℕ, length, map, max, All, MatchOption, MatchResult};
 ghost use Rattle.std.specs.Int.{IsPowerOfTwo};
-ghost use Rattle.ir_types.specs.judged.Plain.{inner_view, member_view};
+ghost use Rattle.typing_forms.specs.IrTypes.{inner_view, member_view};
 ghost use Rattle.typing_forms.specs.judged.Order.{named_types};
 ghost use Rattle.typing_forms.specs.judged.Sizes.{vector_alignment};
 ghost use Rattle.typing_layout.specs.judged.Layout.{alignment, greatest_alignment};
@@ -19,8 +19,8 @@ use crate::alignment::Alignment;
 use crate::error::LayoutErrorInner;
 use crate::layout::TypeLayout;
 use ir_kinds::{Scalar, VectorSize};
-use ir_types::{StructMember, TypeInner};
 use typing_forms::TypeInnerExt;
+use typing_forms::ir_types::{StructMember, TypeInner};
 
 // The alignment of a scalar, if its width is a valid alignment.
 fn scalar_alignment(scalar: Scalar) -> Option<Alignment>

@@ -8,14 +8,14 @@ ghost use Rattle.typing_layout.specs.found.Held.{AreLayouts, IsRefusal};
 use crate::error::LayoutError;
 use crate::layout::TypeLayout;
 use crate::layout_of::layout_of;
-use ir_arena::handle::Handle;
-use ir_types::refusal::Refusal;
-use ir_types::with_span::WithSpan;
-use ir_types::{IrType, key};
 use std::alloc::Global;
 use std::marker::Model;
 use std::ops::Index;
 use typing_forms::UniqueArena;
+use typing_forms::ir_arena::handle::Handle;
+use typing_forms::ir_types::refusal::Refusal;
+use typing_forms::ir_types::with_span::WithSpan;
+use typing_forms::ir_types::{IrType, key};
 
 /// The layouts of the types of a module, or of the first of them, by handle (naga's `Layouter`). In a contract it is
 /// the list of the layouts.

@@ -36,3 +36,5 @@ pub use type_error::{
     Disalignment, ImmediateError, LiteralError, TypeError, VaryingError, WidthError,
 };
 pub use type_flags::TypeFlags;
+pub use typing_forms;
+pub use typing_forms::ir_types;

@@ -1,13 +1,13 @@
 //! Whether the operands that determine an expression's kind come before it.
 
 ghost use Rattle.std.specs.Prelude.{◌≡◌, ◌<◌, ◌↔◌, ◌++◌, ◌∷◌, [], IsTrue, map, option_to_list, All};
-ghost use Rattle.ir_arena.specs.found.Arenas.{value_of_entry};
-ghost use Rattle.ir_types.specs.judged.ExpressionPlain.{expression_view};
+ghost use Rattle.typing_forms.specs.IrArena.{value_of_entry};
+ghost use Rattle.typing_forms.specs.IrTypes.{expression_view};
 ghost use Rattle.typing_layout.specs.judged.Constness.{OriginsPrecede, origin_of, operands_from};
 
-use ir_arena::arena::Arena;
-use ir_arena::handle::Handle;
-use ir_types::{Expression, key};
+use typing_forms::ir_arena::arena::Arena;
+use typing_forms::ir_arena::handle::Handle;
+use typing_forms::ir_types::{Expression, key};
 
 // Whether each of these expressions comes before a place.
 fn are_below(operands: &[Handle<key::Expression>], place: usize) -> bool

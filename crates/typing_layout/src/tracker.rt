@@ -1,18 +1,18 @@
 //! The constness of the expressions of an arena.
 
 ghost use Rattle.std.specs.Prelude.{◌≡◌, ◌<◌, ◌↔◌, ◌⊎◌, ◌++◌, ◌∷◌, [], ℕ, Some, IsTrue, IfOk, length, map, option_to_list, slice_get, All};
-ghost use Rattle.ir_arena.specs.found.Arenas.{value_of_entry};
-ghost use Rattle.ir_types.specs.judged.ExpressionPlain.{expression_view};
+ghost use Rattle.typing_forms.specs.IrArena.{value_of_entry};
+ghost use Rattle.typing_forms.specs.IrTypes.{expression_view};
 ghost use Rattle.typing_layout.specs.judged.Constness.{AreKinds, OriginsPrecede, later, latest, origin_of, operands_from};
 ghost use Rattle.typing_layout.specs.declared.constness.ExpressionKind.TheVariants.{Const, Override};
 ghost use Rattle.typing_layout.specs.found.Kinds.{known_kind, kind_by};
 
 use crate::constness::ExpressionKind;
-use ir_arena::arena::Arena;
-use ir_arena::handle::Handle;
-use ir_types::{Expression, key};
 use std::alloc::{AllocError, Global};
 use std::marker::Model;
+use typing_forms::ir_arena::arena::Arena;
+use typing_forms::ir_arena::handle::Handle;
+use typing_forms::ir_types::{Expression, key};
 
 /// The constness of each expression of an arena, by its handle (naga's `ExpressionKindTracker`). In a contract it is the list of
 /// the kinds.

@@ -7,7 +7,7 @@ ghost use Rattle.ir_kinds.specs.judged.Scalars.{boolean, floating, unsigned};
 ghost use Rattle.ir_kinds.specs.declared.scalars.VectorSize.TheVariants.{Bi, Tri, Quad};
 ghost use Rattle.ir_kinds.specs.declared.scalars.CooperativeSize.TheVariants.{Eight, Sixteen};
 ghost use Rattle.ir_kinds.specs.declared.scalars.CooperativeRole.TheVariants.{A as Left};
-ghost use Rattle.ir_types.specs.declared.types.ArraySize.TheVariants.{Constant, Pending, Dynamic};
+ghost use Rattle.typing_forms.specs.IrTypes.{Constant, Pending, Dynamic};
 ghost use Rattle.typing_layout.specs.judged.Layout.{size, alignment};
 ghost use Rattle.typing_layout.specs.judged.Tree.{scalar, vector, matrix, cooperative_matrix, array, struct, sampler, binding_array, no_members, member};
 

@@ -1,11 +1,11 @@
 //! Type errors, and why a type is not host-shareable.
 
 use crate::Alignment;
-use ir_arena::handle::Handle;
 use ir_flags::Capabilities;
 use ir_kinds::{AddressSpace, Bytes, ImageClass, ImageDimension, Scalar, ScalarKind};
-use ir_types::key;
 use thiserror::Error;
+use typing_forms::ir_arena::handle::Handle;
+use typing_forms::ir_types::key;
 
 /// Why a scalar kind and width are invalid (naga's `WidthError`).
 #[derive(Clone, Copy, PartialEq, Debug, Error)]

@@ -1,7 +1,7 @@
 //! Sets of constructors: scalar, vectors and matrices by size.
 
 ghost use Rattle.std.specs.Prelude.{◌≡◌, ◌==◌, [], ◌∷◌, length};
-ghost use Rattle.ir_types.specs.judged.Plain.{inner_view};
+ghost use Rattle.typing_forms.specs.IrTypes.{inner_view};
 ghost use Rattle.typing_rules.specs.judged.Types.{value_type_of};
 ghost use Rattle.typing_rules.specs.found.Bits.{chosen};
 ghost use Rattle.typing_rules.specs.found.Members.{sizes_in, single_sizes, size_of};
@@ -10,7 +10,7 @@ use crate::one_bits::Members;
 use crate::{ConstructorSize, ValueType};
 use bitflags::{Flag, Flags, bitflag_items};
 use ir_kinds::VectorSize;
-use ir_types::TypeInner;
+use typing_forms::ir_types::TypeInner;
 
 /// A set of constructors (naga's `ConstructorSet`). A contract sees its bits, as `set.0`.
 #[derive(Clone, Copy, PartialEq, Eq, Debug)]

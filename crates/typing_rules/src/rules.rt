@@ -1,13 +1,13 @@
 //! Rules of math functions.
 
 ghost use Rattle.std.specs.Prelude.{◌≡◌, length, slice_get};
-ghost use Rattle.ir_types.specs.judged.Plain.{plain, inner_view};
+ghost use Rattle.typing_forms.specs.IrTypes.{plain, inner_view};
 ghost use Rattle.typing_rules.specs.judged.Types.{constructor_place, inner_of, value_type_of, argument_list};
 ghost use Rattle.typing_rules.specs.judged.Ranks.{type_rank, rank_at, accepts_inner, is_abstract_kind, is_concrete};
 
 use ir_kinds::{PredeclaredType, Scalar, ScalarKind, VectorSize};
-use ir_types::TypeInner;
 use typing_forms::conversion_rank;
+use typing_forms::ir_types::TypeInner;
 
 /// The shape of a value, without its scalar (naga's `ConstructorSize`).
 #[derive(Clone, Copy, PartialEq, Eq, Debug)]

@@ -4,7 +4,7 @@ use crate::builder::ModuleBuilder;
 use ir_flags::Capabilities;
 use ir_kinds::{EarlyDepthTest, Literal, ResourceBinding, Scalar, ShaderStage};
 use wgsl_expressions::{Declared, Lowering, Operand, Value};
-use wgsl_functions::lower_steps;
+use wgsl_statements::wgsl_functions::lower_steps;
 use wgsl_text::{Extent, WgslError};
 use wgsl_tree::{Attribute, Part, StepKind};
 use wgsl_types::Shape;

@@ -5,7 +5,7 @@ use crate::builder::ModuleBuilder;
 use crate::interface::bound;
 use ir_types::{ArraySize, StructMember};
 use wgsl_expressions::{Declared, Lowering};
-use wgsl_functions::lower_steps;
+use wgsl_statements::wgsl_functions::lower_steps;
 use wgsl_text::Failure;
 use wgsl_tree::{Item, Member, Part};
 use wgsl_types::{Layout, RowKind, Shape, TypeMember};

@@ -7,7 +7,7 @@ use ir_items::{Constant, GlobalVariable, Override};
 use ir_kinds::{AddressSpace, Literal};
 use wgsl_constants::Known;
 use wgsl_expressions::{Declared, Lowering, Operand, Value, handle_of};
-use wgsl_functions::lower_steps;
+use wgsl_statements::wgsl_functions::lower_steps;
 use wgsl_text::{Extent, WgslError};
 use wgsl_tree::{Item, Part};
 use wgsl_types::Shape;

@@ -9,3 +9,4 @@ mod steps;
 mod switches;
 
 pub use steps::lower_body;
+pub use wgsl_functions;

@@ -3,9 +3,7 @@ use Rattle.std.specs.Prelude.{◌≡◌, ◌≤◌, ℕ, zero, suc, Bool, IsTrue
 use Rattle.std.specs.declared.alloc.Global.{Global}
 use Rattle.std.specs.Cmp.{IsPartialEquivalence, IsEquivalence, on_per, on_equiv, and_equiv, nat_eq_equiv, partial_equiv_from_equiv}
 use Rattle.std.specs.Cmp.Lexicographic.{pointwise, lists_per}
-use Rattle.ir_arena.specs.declared.span.Span.{Span}
-use Rattle.ir_arena.specs.found.Equality.{same_span}
-use Rattle.ir_arena.specs.found.Spans.{undefined_span, is_defined_span}
+use Rattle.ir_types.specs.IrArena.{Span, same_span, undefined_span, is_defined_span}
 use Rattle.ir_blocks.specs.found.Spans.{tail_of}
 
 -- the spans in an optional list

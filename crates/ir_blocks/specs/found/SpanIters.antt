@@ -3,7 +3,7 @@ use Rattle.std.specs.Prelude.{List}
 use Rattle.std.specs.Borrow.{Bor, MutBor}
 use Rattle.std.specs.List.{zip}
 use Rattle.std.specs.Slice.Iter.{iter_mut_rest}
-use Rattle.ir_arena.specs.declared.span.Span.{Span}
+use Rattle.ir_types.specs.IrArena.{Span}
 use Rattle.ir_blocks.specs.declared.statements.Statement.{Statement}
 use Rattle.ir_blocks.specs.declared.span_iter.SpanIterMut.{SpanIterMut}
 

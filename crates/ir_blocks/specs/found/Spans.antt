@@ -1,6 +1,6 @@
 -- The spans in a body: those of a block's statements, and those of nested blocks.
 use Rattle.std.specs.Prelude.{◌≡◌, ℕ, zero, suc, List, [], ◌∷◌, Option, Some, None}
-use Rattle.ir_arena.specs.declared.span.Span.{Span}
+use Rattle.ir_types.specs.IrArena.{Span}
 use Rattle.ir_blocks.specs.judged.Plain.{PlainStatement, PlainBlock}
 use Rattle.ir_blocks.specs.judged.Shapes.{Part, inner, accepting, rejecting, case_at, loop_body, loop_continuing}
 use Rattle.ir_blocks.specs.judged.Places.{Place, here, later, inside, condition, OccursAt}

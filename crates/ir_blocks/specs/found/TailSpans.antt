@@ -1,7 +1,6 @@
 -- The spans of a body completed with returns.
 use Rattle.std.specs.Prelude.{◌≡◌, Bool, true, false, if◌then◌else◌, List, [], ◌∷◌, ◌++◌, take, Some}
-use Rattle.ir_arena.specs.declared.span.Span.{Span}
-use Rattle.ir_arena.specs.found.Spans.{undefined_span}
+use Rattle.ir_types.specs.IrArena.{Span, undefined_span}
 use Rattle.ir_blocks.specs.judged.Plain.{PlainStatement, block, if_, switch, PlainBlock, stop, next, PlainCases, no_case, case}
 use Rattle.ir_blocks.specs.judged.Shapes.{shape_of, inner, accepting, rejecting}
 use Rattle.ir_blocks.specs.judged.Places.{Place, OccursAt}

@@ -1,7 +1,7 @@
 -- The plain data and the spans of blocks.
 use Rattle.std.specs.Prelude.{◌≡◌, ℕ, Bool, List, [], ◌∷◌, map, length, vec_capacity}
-use Rattle.ir_arena.specs.declared.span.Span.{Span}
-use Rattle.ir_kinds.specs.declared.values.SwitchValue.{SwitchValue}
+use Rattle.ir_types.specs.IrArena.{Span}
+use Rattle.ir_types.specs.IrKinds.{SwitchValue}
 use Rattle.ir_blocks.specs.judged.Plain.{control_barrier, memory_barrier, store, image_store, atomic, image_atomic, uniform_load, ray_query, ballot, collective, gather, cooperative_store, ray_pipeline, PlainStatement, emit, block, if_, switch, loop, break, continue, return, kill, operation, call, PlainBlock, stop, next, PlainCases, no_case, case}
 use Rattle.ir_blocks.specs.found.Spans.{BlockSpans, spans, InnerSpans, no_statement, in_next, StatementSpans, no_block, in_block, in_sides, in_cases, in_loop, CaseSpans, no_more, in_case, InStep}
 use Rattle.ir_blocks.specs.found.Padded.{padded}

@@ -1,9 +1,7 @@
 -- Statements as plain data, without their memory and spans.
 use Rattle.std.specs.Prelude.{ℕ, Bool, List, Option}
 use Rattle.ir_flags.specs.declared.memory.Barrier.{Barrier}
-use Rattle.ir_kinds.specs.declared.subgroups.SubgroupOperation.{SubgroupOperation}
-use Rattle.ir_kinds.specs.declared.subgroups.CollectiveOperation.{CollectiveOperation}
-use Rattle.ir_kinds.specs.declared.values.SwitchValue.{SwitchValue}
+use Rattle.ir_types.specs.IrKinds.{SubgroupOperation, CollectiveOperation, SwitchValue}
 use Rattle.ir_types.specs.declared.expressions.CooperativeData.{CooperativeData}
 use Rattle.ir_blocks.specs.declared.operations.AtomicFunction.{AtomicFunction}
 use Rattle.ir_blocks.specs.declared.operations.GatherMode.{GatherMode}

@@ -1,12 +1,10 @@
 -- Views of items with the nested spans.
 use Rattle.std.specs.Prelude.{List, map}
-use Rattle.ir_arena.specs.declared.span.Span.{Span}
-use Rattle.ir_types.specs.judged.Plain.{PlainType, type_view}
-use Rattle.ir_types.specs.judged.ExpressionPlain.{PlainExpression, expression_view}
+use Rattle.ir_blocks.specs.IrArena.{Span, entry_of}
+use Rattle.ir_blocks.specs.IrTypes.{PlainType, type_view, PlainExpression, expression_view}
 use Rattle.ir_items.specs.judged.GlobalPlain.{PlainConstant, PlainOverride, PlainGlobal, PlainFilterNode}
 use Rattle.ir_items.specs.judged.Plain.{PlainLocal, PlainFunction, PlainEntry, PlainModule}
 use Rattle.ir_blocks.specs.found.Spans.{BlockSpans}
-use Rattle.ir_arena.specs.found.Copies.{entry_of}
 use Rattle.ir_blocks.specs.found.View.{block_spans}
 use Rattle.ir_items.specs.found.GlobalView.{constant_view, override_view, global_view, node_view}
 use Rattle.ir_items.specs.found.View.{local_view, function_view, entry_view, module_view}

@@ -1,10 +1,8 @@
 -- The `Emit` statements that an emitter returns.
 use Rattle.std.specs.Prelude.{◌↔◌, ◌⊎◌, ℕ, ◌<◌, ◌≤◌, List, [], ◌∷◌, length, map, slice_range, if◌then◌else◌, ◌==◌, Option, Some, None}
 use Rattle.std.specs.List.{All, AllPairs, cons_option}
-use Rattle.ir_arena.specs.declared.span.Span.{Span}
-use Rattle.ir_arena.specs.found.Arenas.{span_of_entry}
-use Rattle.ir_arena.specs.found.Spans.{total_span}
-use Rattle.ir_types.specs.declared.expressions.Expression.{Expression}
+use Rattle.ir_blocks.specs.IrArena.{Span, span_of_entry, total_span}
+use Rattle.ir_blocks.specs.IrTypes.{Expression}
 use Rattle.ir_blocks.specs.judged.Plain.{PlainStatement, emit}
 
 -- the `Emit` statement and the span of the expressions appended since there were `start`, if any

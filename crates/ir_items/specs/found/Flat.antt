@@ -2,13 +2,9 @@
 use Rattle.std.specs.Prelude.{◌≡◌, ℕ, ◌<◌, List, [], ◌∷◌, ◌++◌, map, take, replicate, Option, Some, None, slice_get, MatchOption}
 use Rattle.std.specs.List.{All}
 use Rattle.std.specs.Option.{option_and_then}
-use Rattle.ir_arena.specs.declared.span.Span.{Span}
+use Rattle.ir_blocks.specs.IrArena.{Span}
 use Rattle.ir_kinds.specs.judged.Scalars.{component_count}
-use Rattle.ir_types.specs.declared.types.IrType.{IrType}
-use Rattle.ir_types.specs.declared.types.TypeInner.TheVariants.{Vector}
-use Rattle.ir_types.specs.judged.Plain.{PlainType, PlainInner, plain as other, type_view}
-use Rattle.ir_types.specs.declared.expressions.Expression.TheVariants.{Splat}
-use Rattle.ir_types.specs.judged.ExpressionPlain.{PlainExpression, compose, plain}
+use Rattle.ir_blocks.specs.IrTypes.{IrType, Vector, PlainType, PlainInner, plain as other, type_view, Splat, PlainExpression, compose, plain_expression as plain}
 use Rattle.ir_items.specs.found.GlobalView.{values_of}
 
 -- the types of an arena

@@ -1,6 +1,6 @@
 -- The plain data of a module's items other than functions.
 use Rattle.std.specs.Prelude.{List, [], None, option_map, string_bytes, map}
-use Rattle.ir_arena.specs.declared.span.Span.{Span}
+use Rattle.ir_blocks.specs.IrArena.{Span}
 use Rattle.ir_items.specs.judged.GlobalPlain.{PlainConstant, PlainOverride, PlainGlobal, PlainRule, standard, unknown, user, PlainFilterNode, PlainSpecialTypes}
 use Rattle.ir_items.specs.declared.globals.Constant.{Constant}
 use Rattle.ir_items.specs.declared.globals.Override.{Override}

@@ -1,7 +1,6 @@
 -- The plain data of functions, entry points and the module.
 use Rattle.std.specs.Prelude.{[], None, option_map, string_bytes, map}
-use Rattle.ir_types.specs.judged.Plain.{type_view}
-use Rattle.ir_types.specs.judged.ExpressionPlain.{expression_view}
+use Rattle.ir_blocks.specs.IrTypes.{type_view, expression_view}
 use Rattle.ir_blocks.specs.judged.Plain.{stop}
 use Rattle.ir_items.specs.judged.Plain.{PlainArgument, PlainLocal, PlainFunction, PlainEntry, PlainModule}
 use Rattle.ir_items.specs.declared.functions.LocalVariable.{LocalVariable}

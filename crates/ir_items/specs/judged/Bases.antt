@@ -1,9 +1,7 @@
 -- The expression at the end of a chain of access bases.
 use Rattle.std.specs.Prelude.{◌≡◌, ℕ, ◌<◌, List, map, Option, Some, None, slice_get}
-use Rattle.ir_arena.specs.declared.span.Span.{Span}
-use Rattle.ir_types.specs.declared.expressions.Expression.{Expression}
-use Rattle.ir_types.specs.declared.expressions.Expression.TheVariants.{Access, AccessIndex, GlobalVariable}
-use Rattle.ir_types.specs.judged.ExpressionPlain.{PlainExpression, plain, expression_view}
+use Rattle.ir_blocks.specs.IrArena.{Span}
+use Rattle.ir_blocks.specs.IrTypes.{Expression, Access, AccessIndex, GlobalVariable, PlainExpression, plain_expression as plain, expression_view}
 use Rattle.ir_items.specs.found.GlobalView.{values_of}
 
 -- the expressions of an arena

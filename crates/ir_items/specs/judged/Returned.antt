@@ -1,11 +1,10 @@
 -- A module whose bodies are completed with returns.
 use Rattle.std.specs.Prelude.{◌≡◌, List, map}
 use Rattle.std.specs.List.{All, AllZip}
-use Rattle.ir_arena.specs.declared.span.Span.{Span}
+use Rattle.ir_blocks.specs.IrArena.{Span, entry_of}
 use Rattle.ir_blocks.specs.judged.Tails.{IsCompleted, completed}
 use Rattle.ir_blocks.specs.found.TailSpans.{SpansCompleted, completed_spans}
 use Rattle.ir_blocks.specs.found.Room.{HasRoom}
-use Rattle.ir_arena.specs.found.Copies.{entry_of}
 use Rattle.ir_items.specs.judged.Plain.{PlainFunction, PlainEntry, PlainModule}
 use Rattle.ir_items.specs.found.Copies.{SpannedFunction, SpannedEntry, SpannedModule}
 use Rattle.ir_items.specs.declared.functions.Function.{Function}

@@ -6,8 +6,8 @@ use Rattle.typing_errors.specs.declared.const_expressions.ConstExpressionError.{
 use Rattle.typing_errors.specs.declared.const_expressions.ConstExpressionError.TheVariants as constant
 use Rattle.function_modules.specs.Validated.{IsValidated}
 pub use Rattle.function_modules.specs.Validated.{IsValidationFault}
-pub use Rattle.function_errors.specs.declared.error.ValidationError.{ValidationError}
-use Rattle.function_errors.specs.declared.error.ValidationError.TheVariants as error
+pub use Rattle.function_modules.specs.FunctionErrors.{ValidationError}
+use Rattle.function_modules.specs.FunctionErrors.error as error
 use Rattle.ir_types.specs.found.Faults.{error_of}
 use Rattle.ir_types.specs.declared.refusal.Refusal.{Refusal}
 use Rattle.ir_types.specs.declared.refusal.Refusal.TheVariants as refusal
@@ -21,8 +21,8 @@ use Rattle.judgement.specs.declared.finding.Finding.TheVariants.{Accepted, Refus
 use Rattle.judgement.specs.declared.finding.Step.{Step}
 use Rattle.judgement.specs.declared.finding.Step.TheVariants.{Layout, «Type», Typing, Expression, Constant, Override, Global, Function, Entry}
 use Rattle.judgement_report.specs.Reported.{IsReported}
-use Rattle.module_steps.specs.declared.error.ModuleError.{ModuleError}
-use Rattle.module_steps.specs.declared.error.ModuleError.TheVariants as module_error
+use Rattle.function_modules.specs.ModuleSteps.{ModuleError}
+use Rattle.function_modules.specs.ModuleSteps.error as module_error
 use Rattle.shader_check.specs.declared.examined.Examined.{Examined}
 use Rattle.shader_check.specs.declared.examined.Examined.TheVariants as examined
 

@@ -5,7 +5,7 @@ use Rattle.ir_items.specs.judged.Plain.{PlainModule}
 use Rattle.typing_infos.specs.declared.info.ModuleInfo.{ModuleInfo}
 use Rattle.shader_check.specs.found.Examined.{refused_by}
 use Rattle.function_modules.specs.Validated.{IsValidated, IsValidationFault}
-use Rattle.function_errors.specs.declared.error.ValidationError.{ValidationError}
+use Rattle.function_modules.specs.FunctionErrors.{ValidationError}
 
 -- no module is valid and invalid, and all its errors are at one step and one item
 pub record AreAlike (resolved : Bool) (s : Settings) (m : PlainModule) : Type 0 where

@@ -1,7 +1,6 @@
 -- A test of statements at every place of a body.
 use Rattle.std.specs.Prelude.{◌≡◌, Bool, true, ◌&&◌}
-use Rattle.ir_blocks.specs.judged.Plain.{PlainStatement, emit, block, if_, switch, loop, break, continue, return, kill, operation, call, PlainBlock, stop, next, PlainCases, no_case, case}
-use Rattle.ir_blocks.specs.judged.Places.{Place, OccursAt}
+use Rattle.ir_items.specs.IrBlocks.{PlainStatement, emit, block, if_, switch, loop, break, continue, return, kill, operation, call, PlainBlock, stop, next, PlainCases, no_case, case, Place, OccursAt}
 
 -- each statement of the body passes, at its place
 abbrev pub PassesAtPlaces : (PlainStatement → Bool) → PlainBlock → Type 0

@@ -1,7 +1,7 @@
 -- Requirements in non-uniform control flow, computed step by step.
 use Rattle.std.specs.Prelude.{◌≡◌, ℕ, Bool, true, false, ◌||◌, Option, Some, None}
 use Rattle.ir_kinds.specs.declared.diagnostics.Severity.{Severity}
-use Rattle.ir_blocks.specs.judged.Plain.{PlainOperation, control_barrier, memory_barrier, store, image_store, atomic, image_atomic, uniform_load, ray_query, ballot, collective, gather, cooperative_store, ray_pipeline, PlainStatement, emit, block, if_, switch, loop, break, continue, return, kill, operation, call, PlainBlock, stop, next, PlainCases, no_case, case}
+use Rattle.ir_items.specs.IrBlocks.{PlainOperation, control_barrier, memory_barrier, store, image_store, atomic, image_atomic, uniform_load, ray_query, ballot, collective, gather, cooperative_store, ray_pipeline, PlainStatement, emit, block, if_, switch, loop, break, continue, return, kill, operation, call, PlainBlock, stop, next, PlainCases, no_case, case}
 use Rattle.spec_expressions.specs.declared.uniformity.TheConstants.UniformityRequirements.{WORK_GROUP_BARRIER}
 use Rattle.spec_expressions.specs.judged.Disruption.{ends_in, ends_at}
 use Rattle.spec_expressions.specs.judged.Uniformity.{Required, EmitRequires}

@@ -2,12 +2,10 @@
 use Rattle.std.specs.Prelude.{ℕ, List, Option, Some, None, Result, Ok, Err, true, false, option_map, ok_or, slice_get, nat_lt, if◌then◌else◌}
 use Rattle.ir_kinds.specs.declared.spaces.AddressSpace.{AddressSpace}
 use Rattle.ir_kinds.specs.judged.Scalars.{component_count}
-use Rattle.ir_types.specs.judged.Plain.{PlainInner, struct, plain, PlainMember, PlainType}
-use Rattle.ir_types.specs.declared.types.TypeInner.TheVariants as inner
-use Rattle.typing_forms.specs.declared.form.Form.{Form}
-use Rattle.typing_forms.specs.declared.form.Form.TheVariants as form
-use Rattle.typing_forms.specs.judged.Forms.{pointing, form_of_type}
-use Rattle.typing_forms.specs.judged.Resolutions.{inner_at}
+use Rattle.typing_layout.specs.IrTypes.{PlainInner, struct, plain, PlainMember, PlainType}
+use Rattle.typing_layout.specs.IrTypes.inner as inner
+use Rattle.typing_layout.specs.TypingForms.{Form, pointing, form_of_type, inner_at}
+use Rattle.typing_layout.specs.TypingForms.form as form
 use Rattle.spec_expressions.specs.declared.faults.TypingFault.{TypingFault}
 use Rattle.spec_expressions.specs.declared.faults.TypingFault.TheVariants.{OutOfBoundsIndex, InvalidAccess}
 

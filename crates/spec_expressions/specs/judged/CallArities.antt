@@ -1,7 +1,6 @@
 -- When the calls of a function pass as many arguments as their callees have.
 use Rattle.std.specs.Prelude.{◌≡◌, ℕ, List, length, Option, Some, slice_get}
-use Rattle.ir_blocks.specs.judged.Places.{Place, OccursAt}
-use Rattle.ir_blocks.specs.judged.Plain.{call}
+use Rattle.ir_items.specs.IrBlocks.{Place, OccursAt, call}
 use Rattle.ir_items.specs.judged.Plain.{PlainFunction, PlainModule}
 
 -- each callee exists and has as many arguments as are passed

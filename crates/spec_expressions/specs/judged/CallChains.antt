@@ -1,8 +1,7 @@
 -- Call chains, what expressions denote through them, and a function's effects over all of them.
 use Rattle.std.specs.Prelude.{◌≡◌, ◌⊎◌, ℕ, List, [], ◌∷◌, Option, Some, None, slice_get, ⊤, option_and_then}
 use Rattle.std.specs.Int.{bit_at}
-use Rattle.ir_types.specs.judged.ExpressionPlain.{PlainExpression, plain}
-use Rattle.ir_types.specs.declared.expressions.Expression.TheVariants.{GlobalVariable, FunctionArgument, Access, AccessIndex}
+use Rattle.typing_layout.specs.IrTypes.{PlainExpression, plain_expression as plain, GlobalVariable, FunctionArgument, Access, AccessIndex}
 use Rattle.ir_items.specs.judged.Plain.{PlainFunction, PlainModule}
 use Rattle.typing_rules.specs.judged.Laws.{IsAmong}
 use Rattle.spec_expressions.specs.declared.global_use.TheConstants.GlobalUse.{QUERY}

@@ -1,19 +1,15 @@
 -- Compositions: which components make a value.
 use Rattle.std.specs.Prelude.{◌≡◌, ℕ, List, Some, length, map, slice_get, sum}
-use Rattle.ir_types.specs.judged.ExpressionPlain.{PlainExpression}
+use Rattle.typing_layout.specs.IrTypes.{PlainExpression, PlainInner, PlainMember, PlainType, struct, plain}
 use Rattle.ir_kinds.specs.judged.Scalars.{component_count}
 use Rattle.ir_kinds.specs.declared.scalars.Scalar.{Scalar}
-use Rattle.ir_types.specs.judged.Plain.{PlainInner, PlainMember, PlainType, struct, plain}
-use Rattle.ir_types.specs.declared.types.ArraySize.TheVariants as count
-use Rattle.ir_types.specs.declared.types.TypeInner.TheVariants as inner
+use Rattle.typing_layout.specs.IrTypes.count as count
+use Rattle.typing_layout.specs.IrTypes.inner as inner
 use Rattle.typing_rules.specs.judged.Laws.{IsAmong}
 use Rattle.spec_expressions.specs.judged.Context.{Context}
 use Rattle.spec_expressions.specs.judged.Typing.{HasTypeAmong}
-use Rattle.typing_forms.specs.judged.Forms.{form_of_type}
-use Rattle.typing_forms.specs.judged.Resolutions.{inner_at}
-use Rattle.typing_forms.specs.declared.form.Form.{Form}
-use Rattle.typing_forms.specs.declared.form.Form.TheVariants as form
-use Rattle.typing_forms.specs.judged.Parts.{components_of}
+use Rattle.typing_layout.specs.TypingForms.{form_of_type, inner_at, Form, components_of}
+use Rattle.typing_layout.specs.TypingForms.form as form
 
 -- ---- vectors
 

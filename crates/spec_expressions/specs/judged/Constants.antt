@@ -5,7 +5,7 @@ use Rattle.ir_items.specs.judged.Plain.{PlainModule}
 use Rattle.spec_expressions.specs.judged.Typing.{HasGlobalType}
 use Rattle.typing_layout.specs.judged.Flags.{HasFlag, Constructible}
 use Rattle.typing_layout.specs.judged.View.{type_tree}
-use Rattle.typing_forms.specs.judged.Forms.{form_of_type}
+use Rattle.typing_layout.specs.TypingForms.{form_of_type}
 use Rattle.typing_layout.specs.judged.Constness.{IsOfKind}
 use Rattle.typing_layout.specs.declared.constness.ExpressionKind.TheVariants.{Const}
 

@@ -1,14 +1,11 @@
 -- What expressions may refer to: the items of a module, and a function's arguments and variables.
 use Rattle.std.specs.Prelude.{◌<◌, ℕ, List, [], Option, Some, None, length}
-use Rattle.ir_types.specs.judged.Plain.{PlainType}
-use Rattle.ir_types.specs.judged.ExpressionPlain.{PlainExpression, compose, plain}
-use Rattle.ir_types.specs.declared.expressions.Expression.{Expression}
-use Rattle.ir_types.specs.declared.expressions.Expression.TheVariants as x
+use Rattle.typing_layout.specs.IrTypes.{PlainType, PlainExpression, compose, plain_expression as plain, Expression}
+use Rattle.typing_layout.specs.IrTypes.x as x
 use Rattle.ir_items.specs.judged.GlobalPlain.{PlainConstant, PlainOverride, PlainGlobal, PlainSpecialTypes}
 use Rattle.ir_items.specs.judged.Plain.{PlainArgument, PlainLocal, PlainFunction, PlainModule}
-use Rattle.typing_forms.specs.declared.form.Form.{Form}
-use Rattle.typing_forms.specs.declared.form.Form.TheVariants as form
-use Rattle.typing_forms.specs.judged.Forms.{form_of_type}
+use Rattle.typing_layout.specs.TypingForms.{Form, form_of_type}
+use Rattle.typing_layout.specs.TypingForms.form as form
 
 pub record Context : Type 0 where
   pub types : List PlainType

@@ -3,11 +3,9 @@ use Rattle.std.specs.Prelude.{ℕ, List, Option, Some, None, Result, option_map,
 use Rattle.ir_kinds.specs.declared.scalars.CooperativeRole.{CooperativeRole}
 use Rattle.ir_kinds.specs.declared.scalars.CooperativeSize.{CooperativeSize}
 use Rattle.ir_kinds.specs.declared.scalars.Scalar.{Scalar}
-use Rattle.ir_types.specs.judged.Plain.{PlainType}
-use Rattle.typing_forms.specs.declared.form.Form.{Form}
-use Rattle.typing_forms.specs.declared.form.Form.TheVariants as form
-use Rattle.typing_forms.specs.judged.Resolutions.{inner_at}
-use Rattle.typing_forms.specs.judged.Parts.{scalar_of}
+use Rattle.typing_layout.specs.IrTypes.{PlainType}
+use Rattle.typing_layout.specs.TypingForms.{Form, inner_at, scalar_of}
+use Rattle.typing_layout.specs.TypingForms.form as form
 use Rattle.spec_expressions.specs.declared.faults.TypingFault.{TypingFault}
 use Rattle.spec_expressions.specs.declared.faults.TypingFault.TheVariants.{InvalidPointer}
 

@@ -1,8 +1,6 @@
 -- Non-uniform control flow.
 use Rattle.std.specs.Prelude.{◌≡◌, ℕ, Bool, false, ◌||◌, IsTrue, Option, Some, is_some}
-use Rattle.ir_blocks.specs.judged.Plain.{PlainStatement, emit, block, if_, switch, loop, break, continue, return, kill, operation, call, PlainBlock, stop, next, PlainCases, no_case, case}
-use Rattle.ir_blocks.specs.judged.Shapes.{Part, loop_continuing, shape_of, part_of}
-use Rattle.ir_blocks.specs.judged.Places.{Place, here, later, inside, condition, Before, OccursAt}
+use Rattle.ir_items.specs.IrBlocks.{PlainStatement, emit, block, if_, switch, loop, break, continue, return, kill, operation, call, PlainBlock, stop, next, PlainCases, no_case, case, Part, loop_continuing, shape_of, part_of, Place, here, later, inside, condition, Before, OccursAt}
 use Rattle.spec_expressions.specs.judged.Kinds.{statement_row}
 use Rattle.spec_expressions.specs.judged.Positions.{Holds, Around}
 

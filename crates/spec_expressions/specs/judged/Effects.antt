@@ -1,9 +1,7 @@
 -- The effects of a function that its summary records, in program order.
 use Rattle.std.specs.Prelude.{ℕ, ◌+◌, List, ◌∷◌, ◌++◌, map, ◌==◌, if◌then◌else◌, option_to_list, [], Option, Some}
-use Rattle.ir_types.specs.judged.ExpressionPlain.{PlainExpression, plain}
-use Rattle.ir_types.specs.declared.expressions.Expression.TheVariants.{ImageSample}
-use Rattle.ir_blocks.specs.judged.Shapes.{Exit, kills}
-use Rattle.ir_blocks.specs.judged.Plain.{PlainStatement, emit, block, if_, switch, loop, break, continue, return, kill, operation, call, PlainBlock, stop, next, PlainCases, no_case, case}
+use Rattle.typing_layout.specs.IrTypes.{PlainExpression, plain_expression as plain, ImageSample}
+use Rattle.ir_items.specs.IrBlocks.{Exit, kills, PlainStatement, emit, block, if_, switch, loop, break, continue, return, kill, operation, call, PlainBlock, stop, next, PlainCases, no_case, case}
 use Rattle.ir_items.specs.judged.Plain.{PlainFunction}
 use Rattle.spec_expressions.specs.judged.Kinds.{statement_row}
 use Rattle.spec_expressions.specs.judged.OperandUses.{Operand, expression_uses, statement_uses}

@@ -1,6 +1,6 @@
 -- What expressions refer to.
 use Rattle.std.specs.Prelude.{ℕ, List, Option}
-use Rattle.ir_types.specs.judged.ExpressionPlain.{PlainExpression}
+use Rattle.typing_layout.specs.IrTypes.{PlainExpression}
 use Rattle.spec_expressions.specs.judged.Kinds.{row_of_expression, expression_slots}
 use Rattle.spec_expressions.specs.judged.Operands.{handles_of}
 use Rattle.spec_expressions.specs.declared.target.Target.{Target}

@@ -3,7 +3,7 @@ use Rattle.std.specs.Prelude.{ℕ, List, Option, Some, None, slice_get}
 use Rattle.ir_flags.specs.declared.settings.ValidationFlags.{ValidationFlags}
 use Rattle.ir_kinds.specs.declared.diagnostics.Severity.{Severity}
 use Rattle.ir_kinds.specs.declared.diagnostics.StandardFilterableTriggeringRule.TheVariants.{DerivativeUniformity}
-use Rattle.ir_types.specs.judged.ExpressionPlain.{PlainExpression}
+use Rattle.typing_layout.specs.IrTypes.{PlainExpression}
 use Rattle.ir_items.specs.judged.Plain.{PlainFunction, PlainModule}
 use Rattle.spec_expressions.specs.judged.Values.{NonUniform as Varies, requirements_of}
 use Rattle.spec_expressions.specs.judged.Severity.{HasSeverity}

@@ -1,6 +1,6 @@
 -- When the handles of a function are valid. That filters come after their parents is `ParentsPrecede` of `ir_items`.
 use Rattle.std.specs.Prelude.{◌≡◌, ℕ, ◌<◌, List, Some, All, slice_get}
-use Rattle.ir_types.specs.judged.ExpressionPlain.{PlainExpression}
+use Rattle.typing_layout.specs.IrTypes.{PlainExpression}
 use Rattle.ir_items.specs.judged.Plain.{PlainFunction, PlainModule}
 use Rattle.spec_expressions.specs.judged.ExpressionNames.{expression_operands}
 use Rattle.spec_expressions.specs.judged.References.{Site, Named, item, Names, IsThere}

@@ -4,8 +4,8 @@ use Rattle.ir_kinds.specs.declared.predeclared.PredeclaredType.{PredeclaredType}
 use Rattle.ir_kinds.specs.declared.predeclared.PredeclaredType.TheVariants.{AtomicCompareExchangeWeakResult, ModfResult, FrexpResult}
 use Rattle.ir_kinds.specs.declared.scalars.VectorSize.{VectorSize}
 use Rattle.ir_kinds.specs.judged.Scalars.{same_scalar, component_count}
-use Rattle.ir_types.specs.judged.Plain.{plain}
-use Rattle.typing_forms.specs.judged.Resolutions.{PlainResolution, by_handle, by_value}
+use Rattle.typing_layout.specs.IrTypes.{plain}
+use Rattle.typing_layout.specs.TypingForms.{PlainResolution, by_handle, by_value}
 use Rattle.typing_rules.specs.declared.rules.Conclusion.{Conclusion}
 use Rattle.typing_rules.specs.declared.rules.Conclusion.TheVariants.{Value, Predeclared}
 use Rattle.typing_rules.specs.judged.Types.{inner_of}

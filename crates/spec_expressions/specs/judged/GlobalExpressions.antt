@@ -1,7 +1,7 @@
 -- Which global expressions are valid under given capabilities, if each has a type.
 use Rattle.std.specs.Prelude.{◌≡◌, ◌≢◌, ℕ, List, Some, Bool, false, slice_get}
-use Rattle.ir_types.specs.judged.ExpressionPlain.{PlainExpression, compose, plain}
-use Rattle.ir_types.specs.declared.expressions.Expression.TheVariants as x
+use Rattle.typing_layout.specs.IrTypes.{PlainExpression, compose, plain_expression as plain}
+use Rattle.typing_layout.specs.IrTypes.x as x
 use Rattle.ir_flags.specs.declared.settings.Capabilities.{Capabilities}
 use Rattle.ir_items.specs.judged.Plain.{PlainModule}
 use Rattle.ir_kinds.specs.declared.values.Literal.{Literal}

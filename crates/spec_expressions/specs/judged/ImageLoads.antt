@@ -7,10 +7,9 @@ use Rattle.ir_kinds.specs.declared.images.ImageDimension.TheVariants.{D1, D2, D3
 use Rattle.ir_kinds.specs.declared.scalars.VectorSize.TheVariants.{Bi, Tri}
 use Rattle.ir_kinds.specs.judged.Images.{format_scalar}
 use Rattle.ir_kinds.specs.judged.Scalars.{unsigned, floating}
-use Rattle.ir_types.specs.declared.expressions.ImageQuery.{ImageQuery}
-use Rattle.ir_types.specs.declared.expressions.ImageQuery.TheVariants.{Size, NumLevels, NumLayers, NumSamples}
-use Rattle.typing_forms.specs.declared.form.Form.{Form}
-use Rattle.typing_forms.specs.declared.form.Form.TheVariants as form
+use Rattle.typing_layout.specs.IrTypes.{ImageQuery, Size, NumLevels, NumLayers, NumSamples}
+use Rattle.typing_layout.specs.TypingForms.{Form}
+use Rattle.typing_layout.specs.TypingForms.form as form
 use Rattle.spec_expressions.specs.judged.ImageSamples.{texel_scalar, texel}
 use Rattle.spec_expressions.specs.declared.faults.TypingFault.{TypingFault}
 use Rattle.spec_expressions.specs.declared.faults.TypingFault.TheVariants.{InvalidImage}

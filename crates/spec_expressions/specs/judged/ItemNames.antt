@@ -5,11 +5,9 @@ use Rattle.ir_items.specs.judged.GlobalPlain.{PlainSpecialTypes}
 use Rattle.ir_items.specs.judged.Plain.{PlainEntry}
 use Rattle.ir_items.specs.declared.entries.MeshStageInfo.{MeshStageInfo}
 use Rattle.ir_kinds.specs.declared.predeclared.PredeclaredType.{PredeclaredType}
-use Rattle.ir_types.specs.judged.Plain.{PlainInner}
-use Rattle.ir_types.specs.declared.types.ArraySize.{ArraySize}
-use Rattle.ir_types.specs.declared.types.ArraySize.TheVariants.{Constant, Pending, Dynamic}
+use Rattle.typing_layout.specs.IrTypes.{PlainInner, ArraySize, Constant, Pending, Dynamic}
 use Rattle.spec_expressions.specs.judged.Operands.{given}
-use Rattle.typing_forms.specs.judged.Order.{declared_size}
+use Rattle.typing_layout.specs.TypingForms.{declared_size}
 
 -- the override that is the array size
 abbrev pub pending_in : ArraySize → Option ℕ

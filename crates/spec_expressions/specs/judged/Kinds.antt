@@ -3,14 +3,10 @@
 use Rattle.std.specs.Prelude.{ℕ, Bool, true, false, List, ◌∷◌, Option, Some, None, []}
 use Rattle.ir_flags.specs.declared.stages.ShaderStages.{ShaderStages}
 use Rattle.ir_flags.specs.declared.stages.TheConstants.ShaderStages.{FRAGMENT, COMPUTE, COMPUTE_LIKE}
-use Rattle.ir_types.specs.judged.ExpressionPlain.{PlainExpression, compose, plain, implicit_derivatives}
-use Rattle.ir_types.specs.declared.expressions.Expression.{Expression}
-use Rattle.ir_types.specs.declared.expressions.Expression.TheVariants as x
-use Rattle.ir_types.specs.declared.expressions.SampleLevel.{SampleLevel}
-use Rattle.ir_blocks.specs.judged.Plain.{PlainOperation, control_barrier, memory_barrier, store, image_store, atomic, image_atomic, uniform_load, ray_query, ballot, collective, gather, cooperative_store, ray_pipeline, PlainStatement, emit, block, if_, switch, loop, break, continue, return, kill, operation, call}
-use Rattle.ir_blocks.specs.judged.Shapes.{Exit, returns, kills}
-use Rattle.ir_blocks.specs.declared.operations.RayQueryFunction.{RayQueryFunction}
-use Rattle.ir_blocks.specs.declared.operations.RayQueryFunction.TheVariants as ray
+use Rattle.typing_layout.specs.IrTypes.{PlainExpression, compose, plain_expression as plain, implicit_derivatives, Expression, SampleLevel}
+use Rattle.typing_layout.specs.IrTypes.x as x
+use Rattle.ir_items.specs.IrBlocks.{PlainOperation, control_barrier, memory_barrier, store, image_store, atomic, image_atomic, uniform_load, ray_query, ballot, collective, gather, cooperative_store, ray_pipeline, PlainStatement, emit, block, if_, switch, loop, break, continue, return, kill, operation, call, Exit, returns, kills, RayQueryFunction}
+use Rattle.ir_items.specs.IrBlocks.ray as ray
 use Rattle.spec_expressions.specs.declared.operand.Scoping.TheVariants.{Always, Strictly, Apart}
 use Rattle.spec_expressions.specs.declared.operand.Slot.{Slot}
 use Rattle.spec_expressions.specs.declared.operand.Usage.TheVariants.{Base, Write, ReadWrite, Query, Atomic}

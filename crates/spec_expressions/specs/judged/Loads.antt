@@ -4,13 +4,11 @@ use Rattle.ir_kinds.specs.declared.spaces.AddressSpace.{AddressSpace}
 use Rattle.ir_kinds.specs.declared.spaces.AddressSpace.TheVariants as space
 use Rattle.ir_kinds.specs.declared.scalars.Scalar.{Scalar}
 use Rattle.ir_kinds.specs.declared.scalars.VectorSize.{VectorSize}
-use Rattle.ir_types.specs.judged.Plain.{PlainInner, plain, PlainType}
-use Rattle.ir_types.specs.declared.types.TypeInner.TheVariants as inner
+use Rattle.typing_layout.specs.IrTypes.{PlainInner, plain, PlainType}
+use Rattle.typing_layout.specs.IrTypes.inner as inner
 use Rattle.ir_items.specs.judged.GlobalPlain.{PlainGlobal}
-use Rattle.typing_forms.specs.declared.form.Form.{Form}
-use Rattle.typing_forms.specs.declared.form.Form.TheVariants as form
-use Rattle.typing_forms.specs.judged.Forms.{form_of_type}
-use Rattle.typing_forms.specs.judged.Resolutions.{inner_at}
+use Rattle.typing_layout.specs.TypingForms.{Form, form_of_type, inner_at}
+use Rattle.typing_layout.specs.TypingForms.form as form
 use Rattle.spec_expressions.specs.judged.Access.{pointer_to}
 use Rattle.spec_expressions.specs.judged.Context.{Context}
 use Rattle.spec_expressions.specs.declared.faults.TypingFault.{TypingFault}

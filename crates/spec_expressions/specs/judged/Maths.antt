@@ -2,9 +2,8 @@
 use Rattle.std.specs.Prelude.{ℕ, suc, ◌==◌, List, [], ◌∷◌, Option, Some, None, Result, Err, option_map, ok_or, filter, length, slice_get, if◌then◌else◌}
 use Rattle.ir_kinds.specs.judged.Maths.{argument_count}
 use Rattle.ir_kinds.specs.declared.maths.MathFunction.{MathFunction}
-use Rattle.typing_forms.specs.declared.form.Form.{Form}
-use Rattle.typing_forms.specs.declared.form.Form.TheVariants as form
-use Rattle.typing_forms.specs.judged.Forms.{form_of}
+use Rattle.typing_layout.specs.TypingForms.{Form, form_of}
+use Rattle.typing_layout.specs.TypingForms.form as form
 use Rattle.typing_rules.specs.declared.rules.ConstructorSize.TheVariants as size
 use Rattle.typing_rules.specs.declared.rules.Rule.{Rule}
 use Rattle.typing_rules.specs.declared.rules.ValueType.{ValueType}

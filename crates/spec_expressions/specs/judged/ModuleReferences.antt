@@ -1,16 +1,15 @@
 -- The references of a module: which part of it refers to what, and when it exists. The references inside a function are
 -- defined with those of functions.
 use Rattle.std.specs.Prelude.{◌≡◌, ℕ, ◌<◌, length, Some, Contains, slice_get}
-use Rattle.ir_types.specs.judged.ExpressionPlain.{PlainExpression}
+use Rattle.typing_layout.specs.IrTypes.{PlainExpression, PlainType}
 use Rattle.ir_items.specs.judged.GlobalPlain.{PlainConstant, PlainOverride, PlainGlobal, PlainFilterNode}
 use Rattle.ir_items.specs.judged.Plain.{PlainEntry, PlainModule}
-use Rattle.ir_types.specs.judged.Plain.{PlainType}
 use Rattle.spec_expressions.specs.judged.ExpressionNames.{expression_operands, expression_item}
 use Rattle.spec_expressions.specs.judged.ItemNames.{pending_of, special_types, mesh_types, mesh_expressions, entry_variables}
 use Rattle.spec_expressions.specs.judged.References.{Named, item, operand, range}
 use Rattle.spec_expressions.specs.declared.target.Target.{Target}
 use Rattle.spec_expressions.specs.declared.target.Target.TheVariants as target
-use Rattle.typing_forms.specs.judged.Order.{named_types}
+use Rattle.typing_layout.specs.TypingForms.{named_types}
 
 -- A part of a module that may have references, functions excluded: an item of one of its arenas, its special types, or the
 -- leaf of its filters. An entry point is taken without its function.

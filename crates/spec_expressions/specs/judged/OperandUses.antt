@@ -1,7 +1,7 @@
 -- The operands of expressions and statements, each with its use of a global variable.
 use Rattle.std.specs.Prelude.{ℕ, List, map, filter_map, option_map, bit_or}
-use Rattle.ir_types.specs.judged.ExpressionPlain.{PlainExpression}
-use Rattle.ir_blocks.specs.judged.Plain.{PlainStatement}
+use Rattle.typing_layout.specs.IrTypes.{PlainExpression}
+use Rattle.ir_items.specs.IrBlocks.{PlainStatement}
 use Rattle.spec_expressions.specs.judged.Operands.{Operands, these, each_of}
 use Rattle.spec_expressions.specs.judged.Kinds.{expression_slots, statement_slots}
 use Rattle.spec_expressions.specs.declared.operand.Slot.{Slot}

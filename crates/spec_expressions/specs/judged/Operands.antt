@@ -1,20 +1,14 @@
 -- Operands: how they are used and when they must be in scope, and functions of the operands of a kind. The rows of
 -- kinds are in `Kinds.antt`.
 use Rattle.std.specs.Prelude.{ℕ, Bool, true, false, if◌then◌else◌, List, ◌∷◌, map, filter, filter_map, Option, Some, None, []}
-use Rattle.ir_types.specs.declared.expressions.ImageQuery.{ImageQuery}
-use Rattle.ir_types.specs.declared.expressions.ImageQuery.TheVariants.{Size, NumLevels, NumLayers, NumSamples}
-use Rattle.ir_types.specs.declared.expressions.SampleLevel.{SampleLevel}
-use Rattle.ir_types.specs.declared.expressions.SampleLevel.TheVariants.{Auto, Zero, Exact, Bias, Gradient}
+use Rattle.typing_layout.specs.IrTypes.{ImageQuery, Size, NumLevels, NumLayers, NumSamples, SampleLevel, Auto, Zero, Exact, Bias, Gradient}
 use Rattle.ir_flags.specs.declared.stages.SubgroupOperationSet.{SubgroupOperationSet}
 use Rattle.ir_flags.specs.declared.stages.TheConstants.SubgroupOperationSet.{BALLOT, SHUFFLE, SHUFFLE_RELATIVE, QUAD}
-use Rattle.ir_blocks.specs.declared.operations.AtomicFunction.{AtomicFunction}
-use Rattle.ir_blocks.specs.declared.operations.AtomicFunction.TheVariants as does
-use Rattle.ir_blocks.specs.declared.operations.GatherMode.{GatherMode}
-use Rattle.ir_blocks.specs.declared.operations.GatherMode.TheVariants as mode
-use Rattle.ir_blocks.specs.declared.operations.RayQueryFunction.{RayQueryFunction}
-use Rattle.ir_blocks.specs.declared.operations.RayQueryFunction.TheVariants as ray
-use Rattle.ir_blocks.specs.declared.operations.RayPipelineFunction.{RayPipelineFunction}
-use Rattle.ir_blocks.specs.declared.operations.RayPipelineFunction.TheVariants as pipeline
+use Rattle.ir_items.specs.IrBlocks.{AtomicFunction, GatherMode, RayQueryFunction, RayPipelineFunction}
+use Rattle.ir_items.specs.IrBlocks.does as does
+use Rattle.ir_items.specs.IrBlocks.mode as mode
+use Rattle.ir_items.specs.IrBlocks.ray as ray
+use Rattle.ir_items.specs.IrBlocks.pipeline as pipeline
 use Rattle.spec_expressions.specs.declared.operand.Scoping.{Scoping}
 use Rattle.spec_expressions.specs.declared.operand.Scoping.TheVariants.{Always, Strictly, Apart}
 use Rattle.spec_expressions.specs.declared.operand.Slot.{Slot}

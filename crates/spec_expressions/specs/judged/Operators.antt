@@ -5,8 +5,8 @@ use Rattle.ir_kinds.specs.declared.operators.BinaryOperator.TheVariants.{Add, Su
 use Rattle.ir_kinds.specs.declared.scalars.Scalar.{Scalar}
 use Rattle.ir_kinds.specs.declared.scalars.VectorSize.{VectorSize}
 use Rattle.ir_kinds.specs.judged.Scalars.{boolean}
-use Rattle.typing_forms.specs.declared.form.Form.{Form}
-use Rattle.typing_forms.specs.declared.form.Form.TheVariants as form
+use Rattle.typing_layout.specs.TypingForms.{Form}
+use Rattle.typing_layout.specs.TypingForms.form as form
 use Rattle.spec_expressions.specs.declared.faults.TypingFault.{TypingFault}
 use Rattle.spec_expressions.specs.declared.faults.TypingFault.TheVariants.{IncompatibleOperands}
 

@@ -1,16 +1,15 @@
 -- Which items must come after others, and when they do.
 use Rattle.std.specs.Prelude.{◌≡◌, ℕ, ◌<◌, ◌≤◌, Some, Contains, slice_get}
-use Rattle.ir_types.specs.judged.ExpressionPlain.{PlainExpression}
+use Rattle.typing_layout.specs.IrTypes.{PlainExpression, PlainType}
 use Rattle.ir_items.specs.judged.GlobalPlain.{PlainConstant, PlainOverride, PlainFilterNode}
 use Rattle.ir_items.specs.judged.Plain.{PlainFunction, PlainEntry, PlainModule}
-use Rattle.ir_types.specs.judged.Plain.{PlainType}
 use Rattle.spec_expressions.specs.judged.ExpressionNames.{expression_operands, expression_item}
 use Rattle.spec_expressions.specs.judged.ItemNames.{pending_of}
 use Rattle.spec_expressions.specs.judged.References.{Site, item, Names}
 use Rattle.spec_expressions.specs.declared.item.ItemKind.{ItemKind}
 use Rattle.spec_expressions.specs.declared.item.ItemKind.TheVariants as kind
 use Rattle.spec_expressions.specs.declared.target.Target.TheVariants as target
-use Rattle.typing_forms.specs.judged.Order.{named_types}
+use Rattle.typing_layout.specs.TypingForms.{named_types}
 
 -- An item that must come after others of its arena: a type, a filter, a function, a global expression, an expression of a
 -- function, or one of the function of an entry point.

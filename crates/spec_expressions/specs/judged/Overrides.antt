@@ -4,11 +4,10 @@ use Rattle.ir_items.specs.judged.GlobalPlain.{PlainOverride}
 use Rattle.ir_items.specs.judged.Plain.{PlainModule}
 use Rattle.ir_kinds.specs.judged.Scalars.{boolean, signed, unsigned, floating}
 use Rattle.ir_kinds.specs.declared.scalars.Scalar.{Scalar}
-use Rattle.ir_types.specs.judged.Plain.{PlainType, plain}
-use Rattle.ir_types.specs.declared.types.TypeInner.TheVariants as inner
+use Rattle.typing_layout.specs.IrTypes.{PlainType, plain}
+use Rattle.typing_layout.specs.IrTypes.inner as inner
 use Rattle.spec_expressions.specs.judged.Typing.{HasGlobalType}
-use Rattle.typing_forms.specs.judged.Forms.{form_of_type}
-use Rattle.typing_forms.specs.judged.Resolutions.{inner_at}
+use Rattle.typing_layout.specs.TypingForms.{form_of_type, inner_at}
 use Rattle.typing_layout.specs.judged.Constness.{IsOfKind}
 use Rattle.typing_layout.specs.declared.constness.ExpressionKind.TheVariants as kind
 

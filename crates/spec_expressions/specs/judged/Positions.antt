@@ -1,6 +1,5 @@
 -- Places and the statements that contain them.
-use Rattle.ir_blocks.specs.judged.Shapes.{Part}
-use Rattle.ir_blocks.specs.judged.Places.{Place, here, later, inside}
+use Rattle.ir_items.specs.IrBlocks.{Part, Place, here, later, inside}
 
 -- The statement at r is the one at q, or nested in it.
 pub data Holds : Place → Place → Type 0 where

@@ -1,7 +1,6 @@
 -- Results of ray queries.
 use Rattle.std.specs.Prelude.{ℕ, Option, option_map, Result, ok_or}
-use Rattle.typing_forms.specs.declared.form.Form.{Form}
-use Rattle.typing_forms.specs.judged.Forms.{form_of_type}
+use Rattle.typing_layout.specs.TypingForms.{Form, form_of_type}
 use Rattle.spec_expressions.specs.judged.Context.{Context}
 use Rattle.spec_expressions.specs.declared.faults.TypingFault.{TypingFault}
 use Rattle.spec_expressions.specs.declared.faults.TypingFault.TheVariants.{MissingSpecialType}

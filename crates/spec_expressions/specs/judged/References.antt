@@ -1,8 +1,7 @@
 -- The references of a function: which part of it refers to what, and when it exists.
 use Rattle.std.specs.Prelude.{◌≡◌, ℕ, ◌<◌, ◌≤◌, length, Some, Contains, slice_get}
-use Rattle.ir_blocks.specs.judged.Places.{Place, OccursAt}
-use Rattle.ir_blocks.specs.judged.Plain.{PlainStatement}
-use Rattle.ir_types.specs.judged.ExpressionPlain.{PlainExpression}
+use Rattle.ir_items.specs.IrBlocks.{Place, OccursAt, PlainStatement}
+use Rattle.typing_layout.specs.IrTypes.{PlainExpression}
 use Rattle.ir_items.specs.judged.Plain.{PlainArgument, PlainLocal, PlainFunction, PlainModule}
 use Rattle.ir_items.specs.declared.functions.FunctionResult.{FunctionResult}
 use Rattle.spec_expressions.specs.judged.ExpressionNames.{expression_operands, expression_item}

@@ -1,8 +1,7 @@
 -- Results of calls, atomic operations and uniform loads from workgroup memory.
 use Rattle.std.specs.Prelude.{ℕ, Option, option_map, option_and_then, Result, ok_or, slice_get}
 use Rattle.ir_items.specs.declared.functions.FunctionResult.{FunctionResult}
-use Rattle.typing_forms.specs.declared.form.Form.{Form}
-use Rattle.typing_forms.specs.judged.Forms.{form_of_type}
+use Rattle.typing_layout.specs.TypingForms.{Form, form_of_type}
 use Rattle.spec_expressions.specs.judged.Context.{Context}
 use Rattle.spec_expressions.specs.declared.faults.TypingFault.{TypingFault}
 use Rattle.spec_expressions.specs.declared.faults.TypingFault.TheVariants.{FunctionReturnsVoid}

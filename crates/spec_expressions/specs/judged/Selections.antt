@@ -3,8 +3,8 @@ use Rattle.std.specs.Prelude.{Result, Ok}
 use Rattle.ir_kinds.specs.declared.operators.RelationalFunction.{RelationalFunction}
 use Rattle.ir_kinds.specs.declared.operators.RelationalFunction.TheVariants.{All, Any, IsNan, IsInf}
 use Rattle.ir_kinds.specs.judged.Scalars.{boolean}
-use Rattle.typing_forms.specs.declared.form.Form.{Form}
-use Rattle.typing_forms.specs.declared.form.Form.TheVariants as form
+use Rattle.typing_layout.specs.TypingForms.{Form}
+use Rattle.typing_layout.specs.TypingForms.form as form
 use Rattle.spec_expressions.specs.judged.Operators.{truth_of}
 use Rattle.spec_expressions.specs.declared.faults.TypingFault.{TypingFault}
 

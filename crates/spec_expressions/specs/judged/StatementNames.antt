@@ -1,6 +1,6 @@
 -- What statements refer to. Nested statements have their own references.
 use Rattle.std.specs.Prelude.{ℕ, List, Option, option_map}
-use Rattle.ir_blocks.specs.judged.Plain.{PlainStatement}
+use Rattle.ir_items.specs.IrBlocks.{PlainStatement}
 use Rattle.spec_expressions.specs.judged.Kinds.{Emitted, statement_row, statement_slots}
 use Rattle.spec_expressions.specs.judged.Operands.{handles_of}
 

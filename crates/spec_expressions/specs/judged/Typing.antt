@@ -1,12 +1,10 @@
 -- The type of an expression from the types of its operands: a rule for each kind, and the relation that the rules define.
 use Rattle.std.specs.Prelude.{◌≡◌, ℕ, List, Option, Some, None, Result, Ok, slice_get, option_map}
-use Rattle.ir_types.specs.judged.ExpressionPlain.{PlainExpression, compose, plain}
-use Rattle.ir_types.specs.declared.expressions.Expression.{Expression}
-use Rattle.ir_types.specs.declared.expressions.Expression.TheVariants as x
+use Rattle.typing_layout.specs.IrTypes.{PlainExpression, compose, plain_expression as plain, Expression}
+use Rattle.typing_layout.specs.IrTypes.x as x
 use Rattle.ir_items.specs.judged.Plain.{PlainFunction, PlainModule}
-use Rattle.typing_forms.specs.judged.Forms.{form_of_type}
-use Rattle.typing_forms.specs.declared.form.Form.{Form}
-use Rattle.typing_forms.specs.declared.form.Form.TheVariants as form
+use Rattle.typing_layout.specs.TypingForms.{form_of_type, Form}
+use Rattle.typing_layout.specs.TypingForms.form as form
 use Rattle.typing_rules.specs.judged.Laws.{IsAmong}
 use Rattle.spec_expressions.specs.judged.Kinds.{row_of_expression}
 use Rattle.spec_expressions.specs.judged.Access.{access_type, access_index_type}

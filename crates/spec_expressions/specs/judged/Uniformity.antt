@@ -5,8 +5,7 @@ use Rattle.ir_flags.specs.declared.settings.ValidationFlags.{ValidationFlags}
 use Rattle.ir_flags.specs.declared.settings.TheConstants.ValidationFlags.{CONTROL_FLOW_UNIFORMITY}
 use Rattle.ir_kinds.specs.declared.diagnostics.Severity.{Severity}
 use Rattle.ir_kinds.specs.declared.diagnostics.Severity.TheVariants.{Error}
-use Rattle.ir_blocks.specs.judged.Plain.{PlainStatement, PlainBlock}
-use Rattle.ir_blocks.specs.judged.Places.{Place, OccursAt}
+use Rattle.ir_items.specs.IrBlocks.{PlainStatement, PlainBlock, Place, OccursAt}
 use Rattle.spec_expressions.specs.judged.Kinds.{Emitted, statement_row}
 use Rattle.spec_expressions.specs.declared.uniformity.TheConstants.UniformityRequirements.{WORK_GROUP_BARRIER, DERIVATIVE, IMPLICIT_LEVEL, COOP_OPS}
 use Rattle.spec_expressions.specs.judged.Disruption.{Disrupted}

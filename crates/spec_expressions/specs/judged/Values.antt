@@ -11,10 +11,8 @@ use Rattle.ir_kinds.specs.declared.images.ImageClass.{ImageClass}
 use Rattle.ir_kinds.specs.declared.images.ImageClass.TheVariants as class
 use Rattle.ir_kinds.specs.declared.spaces.AddressSpace.{AddressSpace}
 use Rattle.ir_kinds.specs.declared.spaces.AddressSpace.TheVariants as space
-use Rattle.ir_types.specs.judged.Plain.{PlainInner, PlainType, plain as plain_inner}
-use Rattle.ir_types.specs.declared.types.TypeInner.TheVariants.{Image}
-use Rattle.ir_types.specs.judged.ExpressionPlain.{PlainExpression, plain}
-use Rattle.ir_types.specs.declared.expressions.Expression.TheVariants as x
+use Rattle.typing_layout.specs.IrTypes.{PlainInner, PlainType, plain as plain_inner, Image, PlainExpression, plain_expression as plain}
+use Rattle.typing_layout.specs.IrTypes.x as x
 use Rattle.ir_items.specs.judged.GlobalPlain.{PlainGlobal}
 use Rattle.ir_items.specs.judged.Plain.{PlainArgument, PlainFunction, PlainModule}
 use Rattle.spec_expressions.specs.judged.Kinds.{Variation, uniform, varying, as_argument, as_global, row_of_expression}

@@ -5,7 +5,7 @@ use Rattle.ir_flags.specs.declared.settings.ValidationFlags.{ValidationFlags}
 use Rattle.ir_items.specs.judged.GlobalPlain.{PlainGlobal}
 use Rattle.ir_items.specs.judged.Plain.{PlainModule}
 use Rattle.ir_kinds.specs.declared.spaces.AddressSpace.{AddressSpace}
-use Rattle.spec_expressions.specs.judged.Typing.{HasGlobalType}
+use Rattle.spec_statements.specs.SpecExpressions.{HasGlobalType}
 use Rattle.spec_interface.specs.judged.Globals.{BeginsBy, VariableBy}
 use Rattle.spec_interface.specs.judged.Spaces.{array_base, HasArrayCapability}
 use Rattle.ir_types.specs.judged.Plain.{PlainType}

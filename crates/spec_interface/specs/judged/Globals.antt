@@ -11,8 +11,7 @@ use Rattle.ir_items.specs.judged.GlobalPlain.{PlainGlobal}
 use Rattle.ir_items.specs.judged.Plain.{PlainModule}
 use Rattle.ir_kinds.specs.declared.spaces.AddressSpace.{AddressSpace}
 use Rattle.ir_kinds.specs.declared.spaces.AddressSpace.TheVariants.{Private}
-use Rattle.spec_expressions.specs.judged.Overrides.{IsKnownByOverrides}
-use Rattle.spec_expressions.specs.judged.Typing.{HasGlobalType}
+use Rattle.spec_statements.specs.SpecExpressions.{IsKnownByOverrides, HasGlobalType}
 use Rattle.spec_interface.specs.judged.Spaces.{array_base, effective_type, HasArrayCapability, space_row, space_capability, LiesIn, is_storage}
 use Rattle.typing_layout.specs.judged.View.{type_tree}
 use Rattle.typing_forms.specs.judged.Forms.{form_of_type}

@@ -1,8 +1,8 @@
 -- Allowed uses of global variables, by address space.
 use Rattle.std.specs.Prelude.{◌≡◌, ◌==◌, ◌⊎◌, ℕ, Bool, Option, Some, if◌then◌else◌, bit_and, bit_or, option_map}
 use Rattle.std.specs.Int.{bit_at}
-use Rattle.spec_expressions.specs.declared.global_use.GlobalUse.{GlobalUse}
-use Rattle.spec_expressions.specs.declared.global_use.TheConstants.GlobalUse as use_
+use Rattle.spec_statements.specs.SpecExpressions.{GlobalUse}
+use Rattle.spec_statements.specs.SpecExpressions.use_ as use_
 use Rattle.ir_flags.specs.declared.memory.StorageAccess.{StorageAccess}
 use Rattle.ir_flags.specs.declared.memory.TheConstants.StorageAccess as access
 use Rattle.ir_items.specs.judged.Plain.{PlainEntry}

@@ -1,7 +1,7 @@
 -- Laws of the functions of a module.
 use Rattle.std.specs.Prelude.{◌≡◌, ◌↔◌, ℕ, List, Option}
 use Rattle.ir_flags.specs.declared.settings.ValidationFlags.{ValidationFlags}
-use Rattle.ir_items.specs.judged.Plain.{PlainFunction, PlainModule}
+use Rattle.spec_expressions.specs.IrItems.{PlainFunction, PlainModule}
 use Rattle.spec_expressions.specs.judged.Summaries.{Summary, CalleesKnown, CallsBelow, IsFormFault}
 use Rattle.spec_statements.specs.judged.Analysis.{HasWrongForm}
 use Rattle.spec_statements.specs.judged.EarlierPayloads.{IsPayloadBefore}

@@ -4,7 +4,7 @@ use Rattle.ir_types.specs.judged.ExpressionPlain.{PlainExpression}
 use Rattle.ir_flags.specs.Sets.{IsWithin}
 use Rattle.ir_flags.specs.declared.settings.Capabilities.{Capabilities}
 use Rattle.ir_types.specs.judged.Plain.{PlainType}
-use Rattle.typing_forms.specs.declared.form.Form.{Form}
+use Rattle.spec_expressions.specs.TypingForms.{Form}
 use Rattle.spec_expressions.specs.judged.Context.{Context}
 use Rattle.spec_statements.specs.judged.Expressions.{ExpressionOK}
 use Rattle.spec_statements.specs.judged.Scene.{Scene, AreForms}

@@ -1,7 +1,7 @@
 -- Pointer base types.
 use Rattle.std.specs.Prelude.{ℕ, Option, Some, None}
-use Rattle.typing_forms.specs.declared.form.Form.{Form}
-use Rattle.typing_forms.specs.declared.form.Form.TheVariants as form
+use Rattle.spec_expressions.specs.TypingForms.{Form}
+use Rattle.spec_expressions.specs.TypingForms.form as form
 
 -- the base type of a pointer
 abbrev pub pointee_of : Form → Option ℕ

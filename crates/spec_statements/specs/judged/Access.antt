@@ -9,10 +9,8 @@ use Rattle.ir_types.specs.judged.Plain.{PlainInner, plain as plain_type, PlainTy
 use Rattle.ir_types.specs.declared.types.ArraySize.{ArraySize}
 use Rattle.ir_types.specs.declared.types.ArraySize.TheVariants as count
 use Rattle.ir_types.specs.declared.types.TypeInner.TheVariants as inner
-use Rattle.typing_forms.specs.declared.form.Form.{Form}
-use Rattle.typing_forms.specs.declared.form.Form.TheVariants as form
-use Rattle.typing_forms.specs.judged.Resolutions.{inner_at}
-use Rattle.typing_forms.specs.judged.Order.{declared_size}
+use Rattle.spec_expressions.specs.TypingForms.{Form, inner_at, declared_size}
+use Rattle.spec_expressions.specs.TypingForms.form as form
 use Rattle.spec_statements.specs.judged.Shapes.{IsIntegerScalar}
 
 -- ---- the number of components, if it is known statically

@@ -3,8 +3,8 @@ use Rattle.std.specs.Prelude.{◌≡◌, ◌⊎◌, ℕ, None}
 use Rattle.spec_expressions.specs.judged.Pairs.{SamplingPair}
 use Rattle.spec_expressions.specs.judged.Faults.{FunctionFault}
 use Rattle.ir_flags.specs.declared.settings.ValidationFlags.{ValidationFlags}
-use Rattle.ir_items.specs.judged.Plain.{PlainFunction, PlainModule}
-use Rattle.typing_rules.specs.judged.Laws.{IsAmong}
+use Rattle.spec_expressions.specs.IrItems.{PlainFunction, PlainModule}
+use Rattle.spec_expressions.specs.TypingRules.{IsAmong}
 use Rattle.spec_expressions.specs.judged.CallChains.{global_or_argument, Step, Calls, HasPair}
 use Rattle.spec_expressions.specs.judged.Effects.{samples, effects_of}
 use Rattle.spec_expressions.specs.judged.Summaries.{IsWrongArgument}

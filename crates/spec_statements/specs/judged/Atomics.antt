@@ -11,11 +11,9 @@ use Rattle.ir_kinds.specs.judged.Scalars.{floating, signed, unsigned}
 use Rattle.ir_kinds.specs.declared.scalars.Scalar.{Scalar}
 use Rattle.ir_types.specs.judged.Plain.{PlainInner, plain as plain_inner, PlainType}
 use Rattle.ir_types.specs.declared.types.TypeInner.TheVariants as inner
-use Rattle.typing_forms.specs.judged.Forms.{form_of_type}
-use Rattle.typing_forms.specs.judged.Resolutions.{inner_at}
-use Rattle.typing_forms.specs.declared.form.Form.{Form}
-use Rattle.typing_forms.specs.declared.form.Form.TheVariants as form
-use Rattle.typing_layout.specs.judged.Rules.{IsStorageSpace}
+use Rattle.spec_expressions.specs.TypingForms.{form_of_type, inner_at, Form}
+use Rattle.spec_expressions.specs.TypingForms.form as form
+use Rattle.spec_expressions.specs.TypingLayout.{IsStorageSpace}
 use Rattle.spec_statements.specs.judged.ExpressionResults.{IsExchangeOf}
 use Rattle.spec_statements.specs.judged.Shapes.{pointed_in}
 use Rattle.spec_expressions.specs.judged.Operands.{comparand}

@@ -2,8 +2,8 @@
 use Rattle.std.specs.Prelude.{◌≡◌, ℕ, List, Option, Some, None, IsSome, slice_get}
 use Rattle.ir_types.specs.judged.ExpressionPlain.{plain}
 use Rattle.ir_types.specs.declared.expressions.Expression.TheVariants as x
-use Rattle.ir_items.specs.judged.Plain.{PlainArgument, PlainFunction}
-use Rattle.typing_forms.specs.judged.Forms.{form_of_type}
+use Rattle.spec_expressions.specs.IrItems.{PlainArgument, PlainFunction}
+use Rattle.spec_expressions.specs.TypingForms.{form_of_type}
 use Rattle.spec_statements.specs.judged.BlockContext.{BlockContext, form_at}
 
 -- a result exactly if the function has one, and it is a `CallResult` of this function

@@ -4,9 +4,9 @@ use Rattle.ir_flags.specs.declared.settings.Capabilities.{Capabilities}
 use Rattle.ir_kinds.specs.declared.scalars.Scalar.{Scalar}
 use Rattle.ir_kinds.specs.declared.scalars.ScalarKind.{ScalarKind}
 use Rattle.ir_kinds.specs.declared.scalars.ScalarKind.TheVariants.{Bool}
-use Rattle.typing_forms.specs.declared.form.Form.{Form}
+use Rattle.spec_expressions.specs.TypingForms.{Form}
 use Rattle.spec_expressions.specs.judged.Conversions.{converted}
-use Rattle.typing_layout.specs.judged.Widths.{ScalarOK}
+use Rattle.spec_expressions.specs.TypingLayout.{ScalarOK}
 use Rattle.spec_statements.specs.judged.Shapes.{shaped_of}
 
 -- the target scalar is valid; a bit cast is neither from bools nor to them

@@ -3,8 +3,8 @@ use Rattle.std.specs.Prelude.{◌≡◌, IsSomeAnd}
 use Rattle.ir_kinds.specs.judged.Scalars.{unsigned}
 use Rattle.ir_kinds.specs.declared.scalars.CooperativeRole.TheVariants.{A, B, C}
 use Rattle.ir_kinds.specs.declared.scalars.CooperativeSize.{CooperativeSize}
-use Rattle.typing_forms.specs.declared.form.Form.{Form}
-use Rattle.typing_forms.specs.declared.form.Form.TheVariants as form
+use Rattle.spec_expressions.specs.TypingForms.{Form}
+use Rattle.spec_expressions.specs.TypingForms.form as form
 use Rattle.spec_statements.specs.judged.Shapes.{shaped_of}
 use Rattle.spec_statements.specs.declared.shapes.Shape.{Shape}
 use Rattle.spec_statements.specs.declared.shapes.Shape.TheVariants as shape

@@ -2,8 +2,8 @@
 use Rattle.std.specs.Prelude.{◌≡◌, ℕ, Option, Some, None}
 use Rattle.ir_types.specs.declared.expressions.CooperativeData.{CooperativeData}
 use Rattle.ir_kinds.specs.declared.scalars.Scalar.{Scalar}
-use Rattle.typing_forms.specs.declared.form.Form.{Form}
-use Rattle.typing_forms.specs.declared.form.Form.TheVariants as form
+use Rattle.spec_expressions.specs.TypingForms.{Form}
+use Rattle.spec_expressions.specs.TypingForms.form as form
 use Rattle.spec_expressions.specs.judged.CooperativeMatrices.{pointed_scalar}
 use Rattle.spec_statements.specs.judged.BlockContext.{BlockContext, form_at}
 use Rattle.spec_statements.specs.judged.Stores.{IsWritable}

@@ -1,5 +1,5 @@
 -- The rules of derivatives.
-use Rattle.typing_forms.specs.declared.form.Form.{Form}
+use Rattle.spec_expressions.specs.TypingForms.{Form}
 use Rattle.spec_statements.specs.judged.Shapes.{IsScalarOrVector, IsFloating, IsMadeOf}
 
 -- scalar or vector of floats

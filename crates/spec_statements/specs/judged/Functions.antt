@@ -9,8 +9,8 @@ use Rattle.ir_flags.specs.declared.settings.ValidationFlags.{ValidationFlags}
 use Rattle.ir_flags.specs.declared.settings.TheConstants.ValidationFlags.{EXPRESSIONS, BLOCKS, STRICT_SCOPE}
 use Rattle.ir_flags.specs.declared.stages.ShaderStages.{ShaderStages}
 use Rattle.ir_flags.specs.declared.settings.Settings.{Settings}
-use Rattle.ir_items.specs.judged.Plain.{PlainFunction, PlainModule}
-use Rattle.typing_forms.specs.declared.form.Form.{Form}
+use Rattle.spec_expressions.specs.IrItems.{PlainFunction, PlainModule}
+use Rattle.spec_expressions.specs.TypingForms.{Form}
 use Rattle.spec_expressions.specs.judged.CallArities.{AritiesMatch}
 use Rattle.spec_statements.specs.judged.BlockContext.{BlockContext}
 use Rattle.spec_statements.specs.judged.Interfaces.{InterfaceOK}

@@ -9,7 +9,7 @@ use Rattle.ir_kinds.specs.declared.images.ImageClass.{ImageClass}
 use Rattle.ir_kinds.specs.declared.images.ImageClass.TheVariants.{Sampled, Depth, External, Storage}
 use Rattle.ir_kinds.specs.declared.images.ImageDimension.{ImageDimension}
 use Rattle.ir_kinds.specs.declared.images.ImageDimension.TheVariants.{D1, D2, D3, Cube}
-use Rattle.typing_forms.specs.declared.form.Form.{Form}
+use Rattle.spec_expressions.specs.TypingForms.{Form}
 use Rattle.spec_statements.specs.judged.Scene.{form_among}
 use Rattle.spec_statements.specs.judged.Shapes.{shaped_of, IsInteger, IsIntegerScalar, ExactlyIf, coordinate_form, image_type_of}
 use Rattle.spec_statements.specs.declared.shapes.ImageType.{ImageType}

@@ -1,14 +1,10 @@
 -- The variables, arguments and result of a function.
 use Rattle.std.specs.Prelude.{◌≡◌, ◌⊎◌, ℕ, Some, None, Bool, false, IfSome, slice_get}
-use Rattle.ir_items.specs.judged.Plain.{PlainArgument, PlainLocal, PlainModule}
-use Rattle.ir_items.specs.declared.functions.FunctionResult.{FunctionResult}
+use Rattle.spec_expressions.specs.IrItems.{PlainArgument, PlainLocal, PlainModule, FunctionResult}
 use Rattle.ir_kinds.specs.declared.spaces.AddressSpace.{AddressSpace}
 use Rattle.ir_kinds.specs.declared.spaces.AddressSpace.TheVariants as space
-use Rattle.typing_layout.specs.judged.Flags.{HasFlag, Argument, Constructible}
-use Rattle.typing_layout.specs.judged.View.{type_tree}
-use Rattle.typing_forms.specs.judged.Forms.{form_of_type}
-use Rattle.typing_layout.specs.judged.Constness.{IsOfKind}
-use Rattle.typing_layout.specs.declared.constness.ExpressionKind.TheVariants.{Const, Override}
+use Rattle.spec_expressions.specs.TypingLayout.{HasFlag, Argument, Constructible, type_tree, IsOfKind, Const, Override}
+use Rattle.spec_expressions.specs.TypingForms.{form_of_type}
 use Rattle.spec_statements.specs.judged.BlockContext.{BlockContext, form_at}
 use Rattle.spec_statements.specs.judged.Stores.{pointer_space}
 

@@ -2,7 +2,7 @@
 use Rattle.std.specs.Prelude.{◌≡◌, ◌<◌, ℕ, List, false, Option, Some, length, slice_get}
 use Rattle.ir_flags.specs.declared.stages.ShaderStages.{ShaderStages}
 use Rattle.ir_flags.specs.declared.settings.Settings.{Settings}
-use Rattle.ir_items.specs.judged.Plain.{PlainFunction, PlainModule}
+use Rattle.spec_expressions.specs.IrItems.{PlainFunction, PlainModule}
 use Rattle.spec_statements.specs.judged.Expressions.{ExpressionOK}
 use Rattle.spec_statements.specs.judged.Scene.{scene_of}
 use Rattle.spec_statements.specs.judged.ExpressionStages.{IsRunBy}

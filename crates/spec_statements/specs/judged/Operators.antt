@@ -7,7 +7,7 @@ use Rattle.ir_kinds.specs.declared.operators.UnaryOperator.{UnaryOperator}
 use Rattle.ir_kinds.specs.declared.operators.UnaryOperator.TheVariants.{Negate, LogicalNot, BitwiseNot}
 use Rattle.ir_kinds.specs.declared.scalars.ScalarKind.{ScalarKind}
 use Rattle.ir_kinds.specs.declared.scalars.ScalarKind.TheVariants as kind
-use Rattle.typing_forms.specs.declared.form.Form.{Form}
+use Rattle.spec_expressions.specs.TypingForms.{Form}
 use Rattle.spec_statements.specs.judged.Shapes.{shaped_of, form_of_shape, AnyShape, IsScalarShape, IsScalarOrVector, IsInteger, IsNumeric, IsBool, IsMadeOf, AnyKind}
 use Rattle.spec_statements.specs.declared.shapes.Shape.{Shape}
 use Rattle.spec_statements.specs.declared.shapes.Shape.TheVariants as shape

@@ -6,7 +6,7 @@ use Rattle.ir_blocks.specs.declared.operations.RayPipelineFunction.TheVariants.{
 use Rattle.ir_flags.specs.Sets.{Has}
 use Rattle.ir_flags.specs.declared.settings.ValidationFlags.{ValidationFlags}
 use Rattle.ir_flags.specs.declared.settings.TheConstants.ValidationFlags.{BLOCKS}
-use Rattle.ir_items.specs.judged.Plain.{PlainFunction, PlainModule}
+use Rattle.spec_expressions.specs.IrItems.{PlainFunction, PlainModule}
 use Rattle.spec_statements.specs.judged.Variables.{variable_at}
 
 -- the function traces a ray with a payload of this type: that of a global variable

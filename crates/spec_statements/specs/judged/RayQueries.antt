@@ -4,12 +4,10 @@ use Rattle.ir_blocks.specs.declared.operations.RayQueryFunction.{RayQueryFunctio
 use Rattle.ir_blocks.specs.declared.operations.RayQueryFunction.TheVariants as ray
 use Rattle.ir_types.specs.judged.ExpressionPlain.{PlainExpression, plain}
 use Rattle.ir_types.specs.declared.expressions.Expression.TheVariants as x
-use Rattle.ir_items.specs.judged.Plain.{PlainFunction}
+use Rattle.spec_expressions.specs.IrItems.{PlainFunction}
 use Rattle.ir_types.specs.judged.Plain.{PlainType}
-use Rattle.typing_forms.specs.judged.Forms.{form_of_type}
-use Rattle.typing_forms.specs.judged.Resolutions.{inner_at}
-use Rattle.typing_forms.specs.declared.form.Form.{Form}
-use Rattle.typing_forms.specs.declared.form.Form.TheVariants as form
+use Rattle.spec_expressions.specs.TypingForms.{form_of_type, inner_at, Form}
+use Rattle.spec_expressions.specs.TypingForms.form as form
 use Rattle.spec_statements.specs.judged.ExpressionRayQueries.{query_of}
 use Rattle.spec_statements.specs.judged.Shapes.{IsMadeOf, IsScalarShape, IsFloating}
 use Rattle.spec_statements.specs.judged.BlockContext.{BlockContext, form_at}

@@ -7,7 +7,7 @@ use Rattle.ir_types.specs.declared.expressions.Expression.TheVariants as x
 use Rattle.ir_flags.specs.Sets.{Has}
 use Rattle.ir_flags.specs.declared.settings.ValidationFlags.{ValidationFlags}
 use Rattle.ir_flags.specs.declared.settings.TheConstants.ValidationFlags.{EXPRESSIONS}
-use Rattle.ir_items.specs.judged.Plain.{PlainFunction}
+use Rattle.spec_expressions.specs.IrItems.{PlainFunction}
 use Rattle.spec_expressions.specs.judged.Kinds.{statement_row}
 
 -- the result expression of a call or an atomic operation

@@ -1,6 +1,6 @@
 -- Return values.
 use Rattle.std.specs.Prelude.{◌≡◌, ℕ, Option, Some, None, IsSomeAnd}
-use Rattle.typing_forms.specs.judged.Forms.{form_of_type}
+use Rattle.spec_expressions.specs.TypingForms.{form_of_type}
 use Rattle.spec_statements.specs.judged.BlockContext.{BlockContext, form_at}
 
 -- a value exactly if the function has a result, and of its type

@@ -2,10 +2,10 @@
 use Rattle.std.specs.Prelude.{◌≡◌, ℕ, List, Some, length, slice_get, unwrap_or}
 use Rattle.ir_types.specs.judged.ExpressionPlain.{PlainExpression}
 use Rattle.ir_flags.specs.declared.settings.Capabilities.{Capabilities}
-use Rattle.ir_items.specs.judged.Plain.{PlainFunction, PlainModule}
+use Rattle.spec_expressions.specs.IrItems.{PlainFunction, PlainModule}
 use Rattle.ir_types.specs.judged.Plain.{PlainType}
-use Rattle.typing_forms.specs.declared.form.Form.{Form}
-use Rattle.typing_forms.specs.declared.form.Form.TheVariants as form
+use Rattle.spec_expressions.specs.TypingForms.{Form}
+use Rattle.spec_expressions.specs.TypingForms.form as form
 use Rattle.spec_expressions.specs.judged.Context.{Context}
 use Rattle.spec_expressions.specs.judged.Typing.{HasTypeAmong}
 

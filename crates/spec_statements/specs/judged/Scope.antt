@@ -3,7 +3,7 @@ use Rattle.std.specs.Prelude.{◌≡◌, ◌⊎◌, ℕ, Bool, true, false, Cont
 use Rattle.ir_blocks.specs.judged.Places.{Place, Before, spot_at}
 use Rattle.ir_blocks.specs.judged.Plain.{PlainBlock}
 use Rattle.ir_types.specs.judged.ExpressionPlain.{PlainExpression, compose, plain, always_in_scope}
-use Rattle.ir_items.specs.judged.Plain.{PlainFunction}
+use Rattle.spec_expressions.specs.IrItems.{PlainFunction}
 use Rattle.spec_statements.specs.judged.Tables.{checked_at, introduced_at}
 
 -- literals, constants, overrides, zero values, arguments and variables are always in scope, and never emitted

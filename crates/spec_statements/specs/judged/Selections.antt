@@ -2,7 +2,7 @@
 use Rattle.std.specs.Prelude.{◌≡◌, IsSomeAnd}
 use Rattle.ir_kinds.specs.declared.operators.RelationalFunction.{RelationalFunction}
 use Rattle.ir_kinds.specs.declared.operators.RelationalFunction.TheVariants.{All, Any, IsNan, IsInf}
-use Rattle.typing_forms.specs.declared.form.Form.{Form}
+use Rattle.spec_expressions.specs.TypingForms.{Form}
 use Rattle.spec_statements.specs.judged.Shapes.{shaped_of, IsVectorShape, IsScalarOrVector, IsFloating, IsBool, IsMadeOf}
 use Rattle.spec_statements.specs.declared.shapes.Shape.{Shape}
 use Rattle.spec_statements.specs.declared.shapes.Shape.TheVariants as shape

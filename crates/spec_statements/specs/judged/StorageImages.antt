@@ -15,10 +15,9 @@ use Rattle.ir_kinds.specs.declared.images.StorageFormat.{StorageFormat}
 use Rattle.ir_kinds.specs.declared.images.StorageFormat.TheVariants as format
 use Rattle.ir_kinds.specs.declared.scalars.VectorSize.TheVariants.{Quad}
 use Rattle.ir_types.specs.judged.Plain.{PlainType}
-use Rattle.ir_items.specs.judged.Plain.{PlainFunction, PlainModule}
-use Rattle.typing_forms.specs.judged.Forms.{form_of_type}
-use Rattle.typing_forms.specs.declared.form.Form.{Form}
-use Rattle.typing_forms.specs.declared.form.Form.TheVariants as form
+use Rattle.spec_expressions.specs.IrItems.{PlainFunction, PlainModule}
+use Rattle.spec_expressions.specs.TypingForms.{form_of_type, Form}
+use Rattle.spec_expressions.specs.TypingForms.form as form
 use Rattle.spec_statements.specs.judged.ImageLoads.{IsTexelCoordinate}
 use Rattle.spec_statements.specs.judged.Shapes.{ExactlyIf, IsIntegerScalar, image_type_of}
 use Rattle.spec_statements.specs.declared.shapes.ImageType.{ImageType}

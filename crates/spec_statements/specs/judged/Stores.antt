@@ -7,10 +7,9 @@ use Rattle.ir_flags.specs.declared.memory.TheConstants.StorageAccess.{STORE}
 use Rattle.ir_kinds.specs.judged.Spaces.{access_of}
 use Rattle.ir_kinds.specs.declared.spaces.AddressSpace.{AddressSpace}
 use Rattle.ir_types.specs.judged.Plain.{PlainType}
-use Rattle.ir_items.specs.judged.Bases.{base_of}
-use Rattle.typing_forms.specs.declared.form.Form.{Form}
-use Rattle.typing_forms.specs.declared.form.Form.TheVariants as form
-use Rattle.typing_forms.specs.judged.Resolutions.{inner_at}
+use Rattle.spec_expressions.specs.IrItems.{base_of}
+use Rattle.spec_expressions.specs.TypingForms.{Form, inner_at}
+use Rattle.spec_expressions.specs.TypingForms.form as form
 use Rattle.spec_expressions.specs.judged.Loads.{loaded, loaded_value}
 use Rattle.spec_statements.specs.judged.BlockContext.{BlockContext, form_at}
 

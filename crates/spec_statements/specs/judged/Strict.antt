@@ -6,7 +6,7 @@ use Rattle.ir_blocks.specs.judged.Shapes.{Part, inner, accepting, rejecting, cas
 use Rattle.ir_blocks.specs.declared.operations.RayQueryFunction.TheVariants.{Proceed}
 use Rattle.ir_types.specs.judged.ExpressionPlain.{PlainExpression, plain}
 use Rattle.ir_types.specs.declared.expressions.Expression.TheVariants.{RayQueryProceedResult, SubgroupBallotResult}
-use Rattle.ir_items.specs.judged.Plain.{PlainFunction}
+use Rattle.spec_expressions.specs.IrItems.{PlainFunction}
 use Rattle.spec_expressions.specs.judged.ExpressionNames.{expression_operands}
 use Rattle.spec_expressions.specs.judged.Operands.{given, looked_up}
 use Rattle.spec_expressions.specs.judged.Kinds.{statement_slots}

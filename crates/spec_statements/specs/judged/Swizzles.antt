@@ -3,7 +3,7 @@ use Rattle.std.specs.Prelude.{◌≡◌, ◌<◌, ℕ, List, Option, Some, None,
 use Rattle.ir_kinds.specs.judged.Scalars.{component_count, component_place}
 use Rattle.ir_kinds.specs.declared.scalars.SwizzleComponent.{SwizzleComponent}
 use Rattle.ir_kinds.specs.declared.scalars.VectorSize.{VectorSize}
-use Rattle.typing_forms.specs.declared.form.Form.{Form}
+use Rattle.spec_expressions.specs.TypingForms.{Form}
 use Rattle.spec_statements.specs.judged.Shapes.{shaped_of}
 use Rattle.spec_statements.specs.declared.shapes.Shape.{Shape}
 use Rattle.spec_statements.specs.declared.shapes.Shape.TheVariants as shape

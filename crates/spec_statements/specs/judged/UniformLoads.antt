@@ -4,9 +4,8 @@ use Rattle.ir_types.specs.judged.ExpressionPlain.{PlainExpression, plain}
 use Rattle.ir_types.specs.declared.expressions.Expression.TheVariants as x
 use Rattle.ir_kinds.specs.declared.spaces.AddressSpace.TheVariants.{WorkGroup}
 use Rattle.ir_types.specs.judged.Plain.{PlainType}
-use Rattle.typing_forms.specs.judged.Forms.{form_of_type}
-use Rattle.typing_forms.specs.declared.form.Form.{Form}
-use Rattle.typing_forms.specs.declared.form.Form.TheVariants as form
+use Rattle.spec_expressions.specs.TypingForms.{form_of_type, Form}
+use Rattle.spec_expressions.specs.TypingForms.form as form
 use Rattle.spec_expressions.specs.judged.Access.{pointer_to}
 use Rattle.spec_statements.specs.judged.Atomics.{changed_scalar}
 use Rattle.spec_statements.specs.judged.BlockContext.{BlockContext, form_at}

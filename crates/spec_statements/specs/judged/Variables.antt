@@ -1,8 +1,6 @@
 -- Expressions that are global variables.
 use Rattle.std.specs.Prelude.{ℕ, Option, option_and_then, slice_get}
-use Rattle.ir_items.specs.judged.GlobalPlain.{PlainGlobal}
-use Rattle.ir_items.specs.judged.Plain.{PlainFunction, PlainModule}
-use Rattle.ir_items.specs.judged.Bases.{base_of, global_of}
+use Rattle.spec_expressions.specs.IrItems.{PlainGlobal, PlainFunction, PlainModule, base_of, global_of}
 
 -- the global variable of a `GlobalVariable` expression
 abbrev pub variable_at : PlainModule → PlainFunction → ℕ → Option PlainGlobal

@@ -3,7 +3,7 @@ use Rattle.std.specs.Prelude.{◌↔◌, ◌⊎◌, ℕ, List, [], ◌++◌, Con
 use Rattle.ir_blocks.specs.judged.Places.{Place, here, later, inside, condition}
 use Rattle.ir_blocks.specs.judged.Plain.{PlainStatement, PlainBlock, stop, next}
 use Rattle.ir_blocks.specs.judged.Shapes.{Part, inner, accepting, rejecting, case_at, loop_body, loop_continuing, shape_of, part_of}
-use Rattle.ir_items.specs.judged.Plain.{PlainFunction}
+use Rattle.spec_expressions.specs.IrItems.{PlainFunction}
 use Rattle.spec_statements.specs.judged.Scope.{PreEmitted, InScope}
 use Rattle.spec_statements.specs.judged.Tables.{introduced}
 

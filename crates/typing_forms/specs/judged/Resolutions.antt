@@ -1,7 +1,6 @@
 -- Types of a module by their handles, and type resolutions of expressions, as mathematical values.
 use Rattle.std.specs.Prelude.{ℕ, ◌<◌, List, Option, Some, None, map, option_map, slice_get}
-use Rattle.ir_arena.specs.found.Arenas.{value_of_entry}
-use Rattle.ir_arena.specs.declared.span.Span.{Span}
+use Rattle.ir_types.specs.IrArena.{value_of_entry, Span}
 use Rattle.ir_types.specs.judged.Plain.{PlainInner, PlainType, inner_view, type_view}
 use Rattle.ir_types.specs.declared.types.IrType.{IrType}
 use Rattle.typing_forms.specs.declared.resolution.TypeResolution.{TypeResolution}

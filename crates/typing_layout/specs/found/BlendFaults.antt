@@ -3,7 +3,7 @@ use Rattle.std.specs.Prelude.{◌≡◌, ◌≢◌, ◌⊎◌, ℕ, List, Some, 
 use Rattle.ir_flags.specs.Sets.{Has}
 use Rattle.ir_flags.specs.declared.settings.Capabilities.{Capabilities}
 use Rattle.ir_flags.specs.declared.settings.TheConstants.Capabilities.{DUAL_SOURCE_BLENDING}
-use Rattle.ir_types.specs.judged.Plain.{PlainMember, PlainType}
+use Rattle.typing_forms.specs.IrTypes.{PlainMember, PlainType}
 use Rattle.typing_layout.specs.judged.Blends.{binding_location, source_at, HasSource}
 use Rattle.typing_layout.specs.judged.Flags.{HasFlag, IoShareable, blend_source}
 use Rattle.typing_layout.specs.judged.View.{type_tree}

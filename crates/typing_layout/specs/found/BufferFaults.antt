@@ -1,8 +1,7 @@
 -- Why a type is not host-shareable.
 use Rattle.std.specs.Prelude.{◌≡◌, ◌<◌, ◌⊎◌, ℕ, List, Some, slice_get}
 use Rattle.std.specs.Int.{◌∣◌}
-use Rattle.ir_types.specs.judged.Plain.{PlainType}
-use Rattle.ir_types.specs.declared.types.ArraySize.{ArraySize}
+use Rattle.typing_forms.specs.IrTypes.{PlainType, ArraySize}
 use Rattle.typing_layout.specs.judged.Buffers.{uniform_alignment, free_after}
 use Rattle.typing_layout.specs.judged.Flags.{HasFlag, HostShareable}
 use Rattle.typing_layout.specs.judged.Parts.{TreeMember, member_list, item_before, Somewhere}

@@ -14,10 +14,9 @@ use Rattle.ir_kinds.specs.declared.scalars.ScalarKind.{ScalarKind}
 use Rattle.ir_kinds.specs.declared.scalars.ScalarKind.TheVariants.{Sint, Uint, Float, AbstractInt, AbstractFloat}
 use Rattle.ir_kinds.specs.declared.scalars.ScalarKind.TheVariants as kind
 use Rattle.ir_kinds.specs.declared.spaces.AddressSpace.{AddressSpace}
-use Rattle.ir_types.specs.judged.Plain.{PlainInner, struct, plain, PlainType}
-use Rattle.ir_types.specs.declared.types.ArraySize.{ArraySize}
-use Rattle.ir_types.specs.declared.types.ArraySize.TheVariants as count
-use Rattle.ir_types.specs.declared.types.TypeInner.TheVariants as inner
+use Rattle.typing_forms.specs.IrTypes.{PlainInner, struct, plain, PlainType, ArraySize}
+use Rattle.typing_forms.specs.IrTypes.count as count
+use Rattle.typing_forms.specs.IrTypes.inner as inner
 use Rattle.typing_layout.specs.judged.Flags.{HasFlag, Data, Sized}
 use Rattle.typing_layout.specs.judged.Rules.{IsStorageSpace, BindingArrayOK}
 use Rattle.typing_layout.specs.judged.View.{type_tree}

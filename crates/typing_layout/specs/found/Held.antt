@@ -1,9 +1,7 @@
 -- The contents of a layouter, and layout errors.
 use Rattle.std.specs.Prelude.{◌≡◌, ◌<◌, ◌≤◌, ◌++◌, ℕ, List, [], Some, length, slice_get}
-use Rattle.ir_types.specs.declared.refusal.Refusal.{Refusal}
-use Rattle.ir_types.specs.declared.refusal.Refusal.TheVariants as refusal
-use Rattle.ir_types.specs.found.Faults.{error_of, spans_of}
-use Rattle.ir_types.specs.judged.Plain.{PlainType}
+use Rattle.typing_forms.specs.IrTypes.{Refusal, error_of, spans_of, PlainType}
+use Rattle.typing_forms.specs.IrTypes.refusal as refusal
 use Rattle.typing_forms.specs.judged.Order.{TypesGoBack}
 use Rattle.typing_forms.specs.declared.sizes.TheConstants.{MAX_TYPE_SIZE}
 use Rattle.typing_layout.specs.judged.Layout.{size, alignment, LayoutOK}

@@ -1,7 +1,7 @@
 -- The meaning of a type's info.
 use Rattle.std.specs.Prelude.{◌≡◌, ◌↔◌, List, MatchResult}
 use Rattle.ir_flags.specs.Sets.{Has}
-use Rattle.ir_types.specs.judged.Plain.{PlainType}
+use Rattle.typing_forms.specs.IrTypes.{PlainType}
 use Rattle.typing_layout.specs.judged.Buffers.{FitsStorageBuffer, FitsUniformBuffer, uniform_alignment}
 use Rattle.typing_layout.specs.judged.Flags.{TypeFlag, bit, HasFlag}
 use Rattle.typing_layout.specs.judged.Immediates.{FitsImmediates}

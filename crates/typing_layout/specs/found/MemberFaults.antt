@@ -1,6 +1,6 @@
 -- Errors of a struct's member.
 use Rattle.std.specs.Prelude.{◌≡◌, ◌≢◌, ◌<◌, ◌+◌, ℕ, suc, List, [], Some, length, slice_get}
-use Rattle.ir_types.specs.judged.Plain.{PlainMember, PlainType}
+use Rattle.typing_forms.specs.IrTypes.{PlainMember, PlainType}
 use Rattle.typing_layout.specs.judged.Flags.{HasFlag, Data, Sized}
 use Rattle.typing_layout.specs.judged.Parts.{item_before}
 use Rattle.typing_layout.specs.judged.Layout.{size}

@@ -2,7 +2,7 @@
 use Rattle.std.specs.Prelude.{ℕ, List, Bool}
 use Rattle.ir_flags.specs.Sets.{IsWithin}
 use Rattle.ir_flags.specs.declared.settings.Capabilities.{Capabilities}
-use Rattle.ir_types.specs.judged.Plain.{PlainType}
+use Rattle.typing_forms.specs.IrTypes.{PlainType}
 use Rattle.typing_layout.specs.judged.Rules.{TypeOK}
 
 -- what a smaller set of capabilities accepts, a larger one accepts

@@ -1,7 +1,7 @@
 -- Constness of expressions.
 use Rattle.std.specs.Prelude.{◌≡◌, ◌<◌, ◌++◌, ℕ, List, [], ◌∷◌, Some, map, option_to_list, slice_get, length, All}
-use Rattle.ir_types.specs.judged.ExpressionPlain.{PlainExpression, compose, plain}
-use Rattle.ir_types.specs.declared.expressions.Expression.TheVariants as expression
+use Rattle.typing_forms.specs.IrTypes.{PlainExpression, compose, plain_expression as plain}
+use Rattle.typing_forms.specs.IrTypes.expression as expression
 use Rattle.typing_layout.specs.declared.constness.ExpressionKind.{ExpressionKind}
 use Rattle.typing_layout.specs.declared.constness.ExpressionKind.TheVariants.{Const, Override, Runtime}
 

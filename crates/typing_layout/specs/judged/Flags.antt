@@ -6,8 +6,8 @@ use Rattle.ir_kinds.specs.declared.scalars.ScalarKind.{ScalarKind}
 use Rattle.ir_kinds.specs.declared.scalars.ScalarKind.TheVariants as kind
 use Rattle.ir_kinds.specs.declared.spaces.AddressSpace.{AddressSpace}
 use Rattle.ir_kinds.specs.declared.spaces.AddressSpace.TheVariants as space
-use Rattle.ir_types.specs.declared.types.ArraySize.{ArraySize}
-use Rattle.ir_types.specs.declared.types.ArraySize.TheVariants as count
+use Rattle.typing_forms.specs.IrTypes.{ArraySize}
+use Rattle.typing_forms.specs.IrTypes.count as count
 use Rattle.typing_layout.specs.declared.type_flags.TheConstants.TypeFlags.{DATA, SIZED, COPY, IO_SHAREABLE, HOST_SHAREABLE, CREATION_RESOLVED, ARGUMENT, CONSTRUCTIBLE}
 use Rattle.typing_layout.specs.judged.Tree.{Tree, scalar, vector, matrix, cooperative_matrix, atomic, pointer, value_pointer, array, struct, image, sampler, acceleration_structure, ray_query, binding_array, Members, no_members, member}
 use Rattle.typing_layout.specs.judged.Parts.{TreeMember, member_list, end_of, item_before}

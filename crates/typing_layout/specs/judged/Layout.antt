@@ -3,10 +3,9 @@ use Rattle.std.specs.Prelude.{◌≡◌, ◌≤◌, ◌<◌, ◌*◌, ℕ, Optio
 use Rattle.std.specs.Int.{IsPowerOfTwo, ◌∣◌}
 use Rattle.ir_kinds.specs.declared.scalars.Scalar.{Scalar}
 use Rattle.ir_kinds.specs.judged.Scalars.{component_count, cooperative_count}
-use Rattle.ir_types.specs.judged.Plain.{PlainInner}
+use Rattle.typing_forms.specs.IrTypes.{PlainInner, ArraySize}
 use Rattle.typing_forms.specs.judged.Sizes.{rounded_up, vector_alignment, column_size, counted, type_size}
 use Rattle.typing_forms.specs.declared.sizes.TheConstants.{MAX_TYPE_SIZE}
-use Rattle.ir_types.specs.declared.types.ArraySize.{ArraySize}
 use Rattle.typing_layout.specs.judged.Tree.{Tree, scalar, vector, matrix, cooperative_matrix, atomic, pointer, value_pointer, array, struct, image, sampler, acceleration_structure, ray_query, binding_array, Members, no_members, member}
 use Rattle.typing_layout.specs.judged.View.{tree_by}
 

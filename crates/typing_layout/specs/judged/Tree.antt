@@ -9,7 +9,7 @@ use Rattle.ir_kinds.specs.declared.scalars.CooperativeSize.{CooperativeSize}
 use Rattle.ir_kinds.specs.declared.scalars.Scalar.{Scalar}
 use Rattle.ir_kinds.specs.declared.scalars.VectorSize.{VectorSize}
 use Rattle.ir_kinds.specs.declared.spaces.AddressSpace.{AddressSpace}
-use Rattle.ir_types.specs.declared.types.ArraySize.{ArraySize}
+use Rattle.typing_forms.specs.IrTypes.{ArraySize}
 
 mutual
   -- a type, of one of the fourteen kinds

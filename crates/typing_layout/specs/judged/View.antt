@@ -1,7 +1,7 @@
 -- The types of a module as trees.
 use Rattle.std.specs.Prelude.{◌≡◌, ◌<◌, ℕ, zero, suc, List, [], ◌∷◌, ◌++◌, Option, Some, None, length}
-use Rattle.ir_types.specs.judged.Plain.{PlainMember, PlainInner, struct as written_struct, plain, PlainType}
-use Rattle.ir_types.specs.declared.types.TypeInner.TheVariants as inner
+use Rattle.typing_forms.specs.IrTypes.{PlainMember, PlainInner, struct as written_struct, plain, PlainType}
+use Rattle.typing_forms.specs.IrTypes.inner as inner
 use Rattle.typing_forms.specs.judged.Order.{TypesGoBack}
 use Rattle.typing_forms.specs.judged.Resolutions.{inner_at}
 use Rattle.typing_layout.specs.judged.Tree.{Tree, scalar, vector, matrix, cooperative_matrix, atomic, pointer, value_pointer, array, struct, image, sampler, acceleration_structure, ray_query, binding_array, Members, no_members, member, no_type}

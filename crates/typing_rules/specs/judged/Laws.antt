@@ -2,7 +2,7 @@
 use Rattle.std.specs.Prelude.{◌≡◌, ◌≤◌, ◌⊎◌, ℕ, List, [], ◌∷◌, Some, Bool, All, filter, length, slice_get}
 use Rattle.ir_kinds.specs.judged.Maths.{argument_count}
 use Rattle.ir_kinds.specs.declared.maths.MathFunction.{MathFunction}
-use Rattle.ir_types.specs.judged.Plain.{PlainInner}
+use Rattle.typing_forms.specs.IrTypes.{PlainInner}
 use Rattle.typing_rules.specs.declared.rules.Rule.{Rule}
 use Rattle.typing_rules.specs.declared.rules.ValueType.{ValueType}
 use Rattle.typing_rules.specs.judged.Types.{value_type_of, argument_list}

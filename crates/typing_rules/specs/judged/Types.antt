@@ -2,9 +2,8 @@
 use Rattle.std.specs.Prelude.{ℕ, ◌+◌, ◌-◌, ◌*◌, List, [], ◌∷◌, Option, Some, None}
 use Rattle.ir_kinds.specs.declared.scalars.Scalar.{Scalar}
 use Rattle.ir_kinds.specs.judged.Scalars.{component_count}
-use Rattle.ir_types.specs.judged.Plain.{PlainInner, plain}
-use Rattle.ir_types.specs.declared.types.TypeInner.{TypeInner}
-use Rattle.ir_types.specs.declared.types.TypeInner.TheVariants as inner
+use Rattle.typing_forms.specs.IrTypes.{PlainInner, plain, TypeInner}
+use Rattle.typing_forms.specs.IrTypes.inner as inner
 use Rattle.typing_rules.specs.declared.rules.ConstructorSize.{ConstructorSize}
 use Rattle.typing_rules.specs.declared.rules.ConstructorSize.TheVariants as size
 use Rattle.typing_rules.specs.declared.rules.ValueType.{ValueType}

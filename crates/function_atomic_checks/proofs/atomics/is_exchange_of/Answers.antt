@@ -1,5 +1,5 @@
 use Rattle.std.proofs.Common.{◌≡◌, ◌↔◌, Some, None, subst}
-use Rattle.module_expression_checks.proofs.OldValues.{by_test, by_none}
+use Rattle.module_expressions.proofs.ModuleExpressionChecks.{by_test, by_none}
 use Rattle.spec_statements.specs.judged.ExpressionResults.{IsExchangeOf}
 use Rattle.typing_forms.specs.judged.Resolutions.{inner_at}
 use Rattle.typing_forms.specs.declared.form.Form.{Form}

@@ -1,5 +1,5 @@
 use Rattle.std.proofs.Common.{map}
-use Rattle.function_entries.specs.Interfaces.{AreInterfacesKnown}
+use Rattle.function_whole.specs.FunctionEntries.{AreInterfacesKnown}
 use Rattle.function_whole.specs.EntryNames.{AreNamesBelow}
 use Rattle.function_modules.specs.JudgedEntries.{AreEntriesJudgedWith, EntryKeeps, note_of}
 use Rattle.ir_items.specs.found.View.{module_view}

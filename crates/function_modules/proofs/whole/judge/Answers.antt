@@ -6,8 +6,7 @@ use Rattle.function_errors.specs.declared.error.ValidationError.TheVariants as e
 use Rattle.ir_items.specs.found.View.{module_view}
 use Rattle.typing_infos.specs.declared.info.ModuleInfo.{ModuleInfo}
 use Rattle.typing_handles.proofs.Ordered.{order_gives_conditions}
-use Rattle.module_steps.specs.Faults.{IsModuleFault}
-use Rattle.module_steps.specs.Refusals.{IsVariableFault}
+use Rattle.function_errors.specs.ModuleSteps.{IsModuleFault, IsVariableFault}
 use Rattle.function_modules.specs.Made.{IsMadeOf}
 use Rattle.function_modules.proofs.whole.judge.Goals as goal
 

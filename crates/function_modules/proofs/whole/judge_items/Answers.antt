@@ -4,9 +4,8 @@ use Rattle.ir_flags.specs.declared.settings.Settings.{Settings}
 use Rattle.function_modules.proofs.Assembled.{if_err_as, items_refused}
 use Rattle.function_modules.specs.Validated.{IsRefusedWith}
 use Rattle.ir_items.specs.found.View.{module_view}
-use Rattle.module_steps.specs.Faults as items
-use Rattle.module_steps.specs.Faults.{IsModuleFault}
-use Rattle.module_steps.specs.Reported.{IsInfoOf}
+use Rattle.function_errors.specs.ModuleSteps.items as items
+use Rattle.function_errors.specs.ModuleSteps.{IsModuleFault, IsInfoOf}
 use Rattle.judgement.specs.judged.ModuleSteps.{ModuleOK}
 use Rattle.function_modules.proofs.whole.judge_items.Goals as goal
 

@@ -1,8 +1,8 @@
 use Rattle.function_modules.proofs.Assembled.{if_err_as, variables_refused}
 use Rattle.function_modules.specs.Validated.{IsRefusedWith}
 use Rattle.ir_items.specs.found.View.{module_view}
-use Rattle.module_steps.specs.Refusals as variables
-use Rattle.module_steps.specs.Refusals.{IsVariableFault}
+use Rattle.function_errors.specs.ModuleSteps.variables as variables
+use Rattle.function_errors.specs.ModuleSteps.{IsVariableFault}
 use Rattle.function_modules.proofs.whole.judge_variables.Goals as goal
 
 pub returns-clause-refused : goal.returns-clause-refused

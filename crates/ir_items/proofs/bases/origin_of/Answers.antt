@@ -1,5 +1,5 @@
 use Rattle.std.proofs.Common.{◌≡◌, ◌<◌, length, sym, ap, ◌∙◌, arith}
-use Rattle.ir_types.specs.judged.ExpressionPlain.{expression_view}
+use Rattle.ir_blocks.specs.IrTypes.{expression_view}
 use Rattle.ir_items.specs.judged.Bases.{itself, through, global_of}
 use Rattle.ir_items.proofs.Places.{plain_at}
 use Rattle.ir_items.proofs.bases.origin_of.Goals as goal

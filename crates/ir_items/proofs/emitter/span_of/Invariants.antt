@@ -1,5 +1,5 @@
 use Rattle.std.proofs.Common.{◌≡◌, take}
-use Rattle.ir_arena.specs.found.Spans.{total_span}
+use Rattle.ir_blocks.specs.IrArena.{total_span}
 use Rattle.ir_items.proofs.emitter.span_of.Given as goal
 
 -- the union of the spans so far

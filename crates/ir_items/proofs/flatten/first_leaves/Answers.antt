@@ -2,7 +2,7 @@ use Rattle.std.proofs.Common.{◌≡◌, ◌<◌, ◌++◌, [], ℕ, List, lengt
 use Rattle.std.specs.List.{All}
 use Rattle.std.proofs.lemmas.List.{reverse-reverse}
 use Rattle.std.proofs.lemmas.List.Elements.{All-pop}
-use Rattle.ir_types.specs.judged.ExpressionPlain.{expression_view}
+use Rattle.ir_blocks.specs.IrTypes.{expression_view}
 use Rattle.ir_items.specs.judged.Bases.{expressions_of}
 use Rattle.ir_items.specs.found.Flat.{AreLeaves}
 use Rattle.ir_items.proofs.FlatLemmas.{All-reverse, goes_on, stays_in, comes_nearer, one_more, empty, enough, nothing_left}

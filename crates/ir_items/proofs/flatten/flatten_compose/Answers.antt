@@ -1,6 +1,6 @@
 use Rattle.std.proofs.Common.{◌≡◌, ℕ, List, Option, sym, ap, subst, ◌∙◌}
 use Rattle.std.specs.Option.{option_and_then}
-use Rattle.ir_types.specs.judged.Plain.{PlainType, type_view}
+use Rattle.ir_blocks.specs.IrTypes.{PlainType, type_view}
 use Rattle.ir_items.specs.judged.Bases.{expressions_of}
 use Rattle.ir_items.specs.found.Flat.{types_of, size_at, vector_size, IsFlattened}
 use Rattle.ir_items.proofs.Places.{plain_at}

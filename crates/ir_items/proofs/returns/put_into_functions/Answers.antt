@@ -1,6 +1,6 @@
 use Rattle.std.proofs.Common.{◌<◌, ◌≤◌, length, arith, ◌∙◌}
 use Rattle.ir_blocks.proofs.RoomLemmas.{all_done}
-use Rattle.ir_arena.specs.found.Copies.{entry_of}
+use Rattle.ir_blocks.specs.IrArena.{entry_of}
 use Rattle.ir_items.specs.found.Copies.{spanned_function}
 use Rattle.ir_items.specs.judged.Returned.{FunctionHasRoom, returned_function_spans}
 use Rattle.ir_items.proofs.EachLemmas.{entry_done, entry_has, both_maps, unvisited_entry}

@@ -1,6 +1,6 @@
 use Rattle.std.proofs.Common.{◌≡◌, map, take}
 use Rattle.ir_blocks.proofs.RoomLemmas.{Unvisited}
-use Rattle.ir_arena.specs.found.Copies.{entry_of}
+use Rattle.ir_blocks.specs.IrArena.{entry_of}
 use Rattle.ir_items.specs.found.Copies.{spanned_function}
 use Rattle.ir_items.specs.judged.Returned.{returned_function_spans}
 use Rattle.ir_items.proofs.returns.put_into_functions.Given as goal

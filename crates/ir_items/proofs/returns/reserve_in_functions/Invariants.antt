@@ -1,5 +1,5 @@
 use Rattle.std.proofs.Common.{◌≡◌, length, map, take}
-use Rattle.ir_arena.specs.found.Copies.{entry_of}
+use Rattle.ir_blocks.specs.IrArena.{entry_of}
 use Rattle.ir_items.specs.found.Copies.{spanned_function}
 use Rattle.ir_items.specs.judged.Returned.{FunctionsHaveRoom}
 use Rattle.ir_items.proofs.returns.reserve_in_functions.Given as goal

@@ -1,4 +1,4 @@
-use Rattle.typing_forms.proofs.Lookups.{inner_found}
+use Rattle.typing_layout.proofs.TypingForms.{inner_found}
 use Rattle.module_type_checks.proofs.facts.type_at.Goals as goal
 
 pub returns : goal.returns

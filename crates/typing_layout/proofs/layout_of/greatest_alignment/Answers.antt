@@ -1,5 +1,5 @@
 use Rattle.std.proofs.Common.{◌≤◌, map, arith}
-use Rattle.ir_types.specs.judged.Plain.{member_view}
+use Rattle.typing_forms.specs.IrTypes.{member_view}
 use Rattle.typing_layout.specs.judged.Layout.{greatest_alignment}
 use Rattle.typing_layout.specs.judged.View.{members_by}
 use Rattle.typing_layout.proofs.Alignments.{member_aligned, one_or_more, greatest_next, next_greatest}

@@ -1,6 +1,6 @@
 -- The maximum so far, and of the rest, is the maximum of all.
 use Rattle.std.proofs.Common.{◌≡◌, ◌≤◌, ℕ, drop, map, max}
-use Rattle.ir_types.specs.judged.Plain.{member_view}
+use Rattle.typing_forms.specs.IrTypes.{member_view}
 use Rattle.typing_layout.specs.judged.Layout.{greatest_alignment}
 use Rattle.typing_layout.specs.judged.Tree.{Tree}
 use Rattle.typing_layout.specs.judged.View.{members_by}

@@ -1,4 +1,4 @@
-use Rattle.ir_types.specs.judged.Plain.{inner_view}
+use Rattle.typing_forms.specs.IrTypes.{inner_view}
 use Rattle.typing_forms.specs.judged.Resolutions.{types_view}
 use Rattle.typing_layout.proofs.Held.{type_at, names_below_at, one_layout_more_at, refused_here}
 use Rattle.typing_layout.proofs.layouter.lay_out.Goals as goal

@@ -1,6 +1,6 @@
 use Rattle.std.proofs.Common.{sym, ◌∙◌, refl, true≢false, map, arith}
-use Rattle.ir_arena.specs.found.Arenas.{value_of_entry}
-use Rattle.ir_types.specs.judged.ExpressionPlain.{expression_view}
+use Rattle.typing_forms.specs.IrArena.{value_of_entry}
+use Rattle.typing_forms.specs.IrTypes.{expression_view}
 use Rattle.typing_layout.proofs.Latest.{expression_here}
 use Rattle.typing_layout.proofs.Precedence.{one_precedes_more, all_precede}
 use Rattle.typing_layout.proofs.precede.origins_precede.Goals as goal

@@ -1,7 +1,7 @@
 -- The operands that determine the kinds of the expressions visited so far precede.
 use Rattle.std.proofs.Common.{map}
-use Rattle.ir_arena.specs.found.Arenas.{value_of_entry}
-use Rattle.ir_types.specs.judged.ExpressionPlain.{expression_view}
+use Rattle.typing_forms.specs.IrArena.{value_of_entry}
+use Rattle.typing_forms.specs.IrTypes.{expression_view}
 use Rattle.typing_layout.proofs.Precedence.{PrecedeBelow}
 use Rattle.typing_layout.proofs.precede.origins_precede.Given as goal
 

@@ -1,6 +1,6 @@
 use Rattle.std.proofs.Common.{map}
-use Rattle.ir_arena.specs.found.Arenas.{value_of_entry}
-use Rattle.ir_types.specs.judged.ExpressionPlain.{expression_view}
+use Rattle.typing_forms.specs.IrArena.{value_of_entry}
+use Rattle.typing_forms.specs.IrTypes.{expression_view}
 use Rattle.typing_layout.proofs.Latest.{expression_here, origins_below_at, one_kind_more_at}
 use Rattle.typing_layout.proofs.tracker.kinds_of.Goals as goal
 

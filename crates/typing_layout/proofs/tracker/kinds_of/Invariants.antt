@@ -1,7 +1,7 @@
 -- The kinds of the expressions before this one are computed.
 use Rattle.std.proofs.Common.{map}
-use Rattle.ir_arena.specs.found.Arenas.{value_of_entry}
-use Rattle.ir_types.specs.judged.ExpressionPlain.{expression_view}
+use Rattle.typing_forms.specs.IrArena.{value_of_entry}
+use Rattle.typing_forms.specs.IrTypes.{expression_view}
 use Rattle.typing_layout.proofs.Latest.{AreFirstKinds}
 use Rattle.typing_layout.proofs.tracker.kinds_of.Given as goal
 

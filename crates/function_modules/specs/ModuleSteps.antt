@@ -1,0 +1,3 @@
+-- What is used above of `module_steps`, re-exported.
+pub use Rattle.function_errors.specs.ModuleSteps.{IsExpressionRefused, IsModuleFault, ModuleError}
+pub use Rattle.function_errors.specs.ModuleSteps.step as error
