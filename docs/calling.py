@@ -12,8 +12,8 @@ TOP = Path(__file__).resolve().parent.parent
 CRATES = TOP / "crates"
 MOST = 120
 
-# a page: its crate, what it is for, the caller as (file, first lines of its functions), and the calls that it makes as
-# (crate, Owner::name)
+# a page: its crate, what it is for, the caller as (file, first lines of its functions), the calls that it makes as
+# (crate, Owner::name), and further callers as (sentence, file, first lines)
 PAGES = [
     ("check_ports", "Readers and writers with a mark that failed calls leave.",
      ("checker/src/main.rt", ["fn judge("]),
@@ -27,12 +27,14 @@ PAGES = [
      [("typing_overloads", "MathFunctionExt::overloads"), ("typing_overloads", "OverloadSet::arg"),
       ("typing_overloads", "OverloadSet::overload_list")]),
     ("module_validator", "The check of a module up to its overrides, and what is kept of it.",
-     ("test_layers/src/judged.rt", ["fn is_accepted<", "pub fn accepts_items("]),
+     ("test_layers/src/judged.rt", ["pub fn is_accepted<", "pub fn accepts_items("]),
      [("module_steps", "ModuleValidator::new"), ("module_steps", "ModuleValidator::validate")]),
     ("function_validator", "The check of functions, entry points and whole modules, over any layer beneath.",
-     ("test_layers/src/judged.rt", ["fn is_accepted<", "pub fn accepts("]),
+     ("test_layers/src/judged.rt", ["pub fn is_accepted<", "pub fn accepts("]),
      [("typing_infos", "ModuleInfo::new"), ("function_modules", "RealLower::new"), ("function_modules", "Validator::new"),
-      ("function_modules", "Validator::validate")]),
+      ("function_modules", "Validator::validate"), ("function_modules", "made_for_accepted"),
+      ("function_modules", "entries_are_ready")],
+     ("A caller that goes layer by layer", "test_layers/src/single.rt", ["pub fn accepts_entry("])),
     ("document_reader", "From bytes to a document.",
      ("test_items/src/modules.rt", ["pub fn document_of("]),
      [("document_reader", "read_document"), ("document_reader", "take_document"), ("document_reader", "Document::into_module")]),
@@ -114,14 +116,19 @@ def function(file, first):
     return lines[start: end + 1]
 
 
-def page(crate, purpose, caller, calls):
-    file, firsts = caller
-    out = [f"# Calling `{crate}`", "", purpose + " Written by `docs/calling.py` from the sources; the words of the clauses are "
-           "defined in each crate's `specs/`, and [THEOREMS.md](../../docs/THEOREMS.md) has the other calls.", "",
-           f"A caller, of `crates/{file}`, which is proved:", "", "```rust"]
+def quoted(sentence, file, firsts):
+    """A caller as it stands in its file."""
+    out = [f"{sentence}, of `crates/{file}`, which is proved:", "", "```rust"]
     for at, first in enumerate(firsts):
         out += ([""] if at else []) + function(file, first)
-    out += ["```", ""]
+    return [*out, "```", ""]
+
+
+def page(crate, purpose, caller, calls, *more):
+    out = [f"# Calling `{crate}`", "", purpose + " Written by `docs/calling.py` from the sources; the words of the clauses are "
+           "defined in each crate's `specs/`, and [THEOREMS.md](../../docs/THEOREMS.md) has the other calls.", ""]
+    for callers in [("A caller", *caller), *more]:
+        out += quoted(*callers)
     for part, name in calls:
         doc, text = contracts(part)[name]
         first = " ".join(doc).split("# Errors")[0].strip()

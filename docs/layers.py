@@ -17,7 +17,7 @@ CRATES = TOP / "crates"
 LAYERS = [("ir",), ("typing", "spec", "judgement"), ("module",), ("function",), ("document",), ("spirv",), ("wgsl",),
           ("check", "checker", "editor", "shader"), ("test",)]
 # a path costs 3 ms of each `rt ci`, in one thread
-MOST_PATHS = 800_000
+MOST_PATHS = 300_000
 # crates that hand a layer on, and stand in it; and what knows of lines and columns, on which the reading of WGSL stands
 DOORS = {"shader_ir": 0, "shader_typing": 1, "module_validator": 2, "function_validator": 3, "editor_text": 6, "shader_check": 7}
 

@@ -78,7 +78,8 @@ def calls():
     for crate in FRONT:
         for name, home in handed_on(crate).items():
             public.setdefault(name, set()).add(home)
-    homes = {home for all_ in public.values() for home in all_} | set(FRONT)
+    # of the forms of a document only parts of its error are handed on
+    homes = ({home for all_ in public.values() for home in all_} | set(FRONT)) - {"document_forms"}
     # a name that is handed on through a crate in between is defined in one of those beneath it
     for crate in sorted(p.name for p in CRATES.iterdir() if (p / "src/lib.rt").exists()):
         for file in sources(crate):

@@ -64,7 +64,7 @@ impl PlaceTest for AnswerTest<'_> {
 
     ghost passes = { λ t. is_answer_at (function_view t.function.now).expressions };
 
-    #[tactic(auto, using(module_context::proofs::Lookups::found, module_context::proofs::Lookups::missing))]
+    #[tactic(auto, using(ir_items::proofs::Lookups::found, ir_items::proofs::Lookups::missing))]
     fn passes(&self, place: usize) -> bool {
         match self.function.expressions.try_get(Handle::at(place)) {
             Ok(expression) => is_answer(expression),

@@ -125,6 +125,7 @@ impl Model for SpanIntoIter {
     ghost use Rattle.std.specs.List.{zip};
     ghost use Rattle.ir_blocks.specs.found.Padded.{padded};
     ghost use Rattle.std.specs.Vec.Iter.{into_iter_items};
+    ghost use Rattle.ir_types.specs.IrArena.{Span};
     ghost use Rattle.ir_blocks.specs.declared.statements.Statement.{Statement};
     ghost use Rattle.ir_blocks.specs.contracts.statements.Statement as e;
     ghost use Rattle.std.specs.Coded.{codes};

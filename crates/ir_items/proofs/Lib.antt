@@ -1,3 +1,4 @@
+pub mod Lookups
 pub mod CopyLemmas
 pub mod Returned
 pub mod EachLemmas

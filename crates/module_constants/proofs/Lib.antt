@@ -9,4 +9,3 @@ pub mod Compositions
 pub mod GlobalExpressions
 pub mod Items
 pub mod Literals
-mod Lookups

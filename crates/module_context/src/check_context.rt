@@ -96,7 +96,7 @@ impl<'a> CheckContext<'a> {
     }
 
     /// The literal at a handle, if the expression there is one.
-    #[tactic(auto, using(crate::proofs::Lookups::found, crate::proofs::Lookups::missing))]
+    #[tactic(auto, using(ir_items::proofs::Lookups::found, ir_items::proofs::Lookups::missing))]
     pub fn literal_at(&self, handle: Handle<key::Expression>) -> Option<Literal>
         ensures { result ≡ option_and_then literal_of (slice_get (expressions_in self.now) handle) }
     {

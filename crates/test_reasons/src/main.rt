@@ -1,12 +1,14 @@
-//! Results for the cases on standard input: first documents, each invalid for a known reason, then WGSL texts.
+//! Results for the cases on standard input: first documents, each invalid for a known reason, then WGSL texts and SPIR-V modules.
 //!
 //! A line of the first part is the path of the fault, a tab, and the document; the program prints how often the reported path
 //! leads to the fault. `try_reasons.py --write` of crates/test_cases makes these lines. Each text of the second part stands after
-//! a line `==== NAME`, for its verdict and report, `==== NAME --explain`, for its diagnostic, or `==== NAME --json`, for the JSON
-//! object of that.
+//! a line `==== NAME`, for its verdict and report, `==== NAME --explain`, for its diagnostic, `==== NAME --json`, for the JSON
+//! object of that, or `==== NAME --leaves`, for its buffers with their leaves. After `==== NAME --spirv` and `==== NAME --spirv
+//! --leaves` stand the words of a module as numbers. `make_modules.py` writes the modules.
 #![tactic(auto)]
 
 mod measure;
+mod modules;
 mod wgsl;
 
 use anyhow::{Result, bail};

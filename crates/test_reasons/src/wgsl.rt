@@ -1,5 +1,6 @@
-// The results for WGSL texts.
+// The results for WGSL texts and SPIR-V modules.
 
+use crate::modules::print_module;
 use check_explanation::Requested;
 use check_wgsl::{Diagnosed, check_wgsl, explain_wgsl, unread_object, unread_text};
 use std::alloc::{AllocError, Global};
@@ -48,6 +49,26 @@ fn print_diagnostic(rt: &HostRuntime, text: &[u8], is_object: bool) -> io::Resul
     }
 }
 
+// The buffers of a text with their leaves.
+fn listing(alloc: Global, text: &[u8]) -> Result<String, AllocError> {
+    match explain_wgsl(alloc, Requested::Leaves, text) {
+        Ok(found) => {
+            let answer = found.explanation.listing(alloc);
+            drop(found);
+            answer
+        }
+        Err(error) => unread_text(alloc, text, &error),
+    }
+}
+
+// Prints the buffers of a text with their leaves.
+fn print_listing(rt: &HostRuntime, text: &[u8]) -> io::Result<()> {
+    match listing(rt.alloc(), text) {
+        Ok(found) => print!(rt; "{found}"),
+        Err(_) => println!(rt; "out of memory"),
+    }
+}
+
 // Prints the verdict on a text and its report.
 fn print_verdict(rt: &HostRuntime, text: &[u8]) -> io::Result<()> {
     match check_wgsl(rt.alloc(), text) {
@@ -71,12 +92,18 @@ fn answer(rt: &HostRuntime, part: &str) -> io::Result<()> {
         print_diagnostic(rt, text.as_bytes(), false)
     } else if head.ends_with(" --json") {
         print_diagnostic(rt, text.as_bytes(), true)
+    } else if head.ends_with(" --spirv") {
+        print_module(rt, text, false)
+    } else if head.ends_with(" --spirv --leaves") {
+        print_module(rt, text, true)
+    } else if head.ends_with(" --leaves") {
+        print_listing(rt, text.as_bytes())
     } else {
         print_verdict(rt, text.as_bytes())
     }
 }
 
-/// Prints the results for all texts, each after the name in its first line.
+/// Prints the results for all texts and modules, each after the name in its first line.
 pub fn answer_all(rt: &HostRuntime, input: &str) -> io::Result<()> {
     for part in input.split(HEAD) {
         if !part.is_empty() {

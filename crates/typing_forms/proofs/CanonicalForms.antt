@@ -1,7 +1,7 @@
 -- A canonical form is its own canonical form.
 use Rattle.std.proofs.Common.{◌≡◌, ℕ, List, Option, Some, None, refl, subst}
 use Rattle.std.proofs.lemmas.Option.{same_Some}
-use Rattle.ir_types.specs.IrKinds.{AddressSpace}
+use Rattle.ir_kinds.specs.declared.spaces.AddressSpace.{AddressSpace}
 use Rattle.ir_types.specs.judged.Plain.{PlainInner, struct, plain, PlainType}
 use Rattle.ir_types.specs.declared.types.TypeInner.TheVariants as inner
 use Rattle.typing_forms.specs.judged.Forms.{form_in, pointing}

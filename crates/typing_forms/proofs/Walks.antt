@@ -1,7 +1,7 @@
 -- Chains of types, step by step.
 use Rattle.std.proofs.Common.{◌≡◌, ◌<◌, ◌-◌, ℕ, suc, List, [], ◌∷◌, map, length, All, Option, Some, None, slice_get, IfNone, refl, sym, ap, subst, ◌∙◌, arith, rules}
 use Rattle.std.proofs.lemmas.Option.{get_or_from_slice_get, same_Some, slice_get-map, slice_get_within}
-use Rattle.ir_types.specs.IrKinds.{Scalar}
+use Rattle.ir_kinds.specs.declared.scalars.Scalar.{Scalar}
 use Rattle.ir_types.specs.judged.Plain.{PlainInner, struct, plain, PlainMember, PlainType}
 use Rattle.ir_types.specs.declared.types.TypeInner.TheVariants as inner
 use Rattle.typing_forms.specs.judged.Order.{named_types, TypesGoBack}

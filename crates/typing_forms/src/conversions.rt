@@ -1,7 +1,7 @@
 //! Implicit conversions between types.
 
 ghost use Rattle.std.specs.Prelude.{◌≡◌, IsTrue, IfSome, IfNone, None};
-ghost use Rattle.ir_types.specs.IrKinds.{Scalar};
+ghost use Rattle.ir_kinds.specs.declared.scalars.Scalar.{Scalar};
 ghost use Rattle.ir_types.specs.judged.Plain.{inner_view};
 ghost use Rattle.typing_forms.specs.judged.Order.{TypesGoBack};
 ghost use Rattle.typing_forms.specs.judged.Ranks.{conversion};
@@ -9,9 +9,9 @@ ghost use Rattle.typing_forms.specs.judged.Resolutions.{types_view};
 ghost use Rattle.typing_forms.specs.found.Conversions.{same_size, same_count, scalars_of, bases_of, both_at, SameShape, SameShapeAt, Converts};
 
 use crate::{converted_rank, inner_of};
+use ir_kinds::{Scalar, VectorSize};
 use ir_sets::unique_arena::UniqueArena;
 use ir_types::ir_arena::handle::Handle;
-use ir_types::ir_kinds::{Scalar, VectorSize};
 use ir_types::{ArraySize, IrType, TypeInner, key};
 
 fn same_size(left: VectorSize, right: VectorSize) -> bool

@@ -1,16 +1,16 @@
 //! The innermost element types of arrays and the innermost last members of structs.
 
 ghost use Rattle.std.specs.Prelude.{◌≡◌, ◌↔◌, IsTrue, IfSome, IfNone};
-ghost use Rattle.ir_types.specs.IrKinds.{Scalar};
+ghost use Rattle.ir_kinds.specs.declared.scalars.Scalar.{Scalar};
 ghost use Rattle.ir_types.specs.judged.Plain.{PlainInner, inner_view};
 ghost use Rattle.typing_forms.specs.judged.Order.{TypesGoBack};
 ghost use Rattle.typing_forms.specs.judged.Resolutions.{types_view};
 ghost use Rattle.typing_forms.specs.found.Elements.{LeadsTo, base_of, last_of, converted_scalar, HasAbstractScalar, is_runtime_array, ConvertsBy, IsAbstract, IsDynamicallySized};
 
 use crate::inner_of;
+use ir_kinds::Scalar;
 use ir_sets::unique_arena::UniqueArena;
 use ir_types::ir_arena::handle::Handle;
-use ir_types::ir_kinds::Scalar;
 use ir_types::{ArraySize, IrType, TypeInner, key};
 
 // The type of an array's elements.

@@ -6,11 +6,11 @@ ghost use Rattle.typing_forms.specs.judged.Resolutions.{types_view, resolution_v
 ghost use Rattle.typing_forms.specs.judged.Forms.{pointing, struct_at, form_in, form_of_type, form_of};
 
 use crate::resolution::TypeResolution;
-use ir_sets::unique_arena::UniqueArena;
-use ir_types::ir_arena::handle::Handle;
-use ir_types::ir_kinds::{
+use ir_kinds::{
     AddressSpace, CooperativeRole, CooperativeSize, ImageClass, ImageDimension, Scalar, VectorSize,
 };
+use ir_sets::unique_arena::UniqueArena;
+use ir_types::ir_arena::handle::Handle;
 use ir_types::{ArraySize, IrType, TypeInner, key};
 
 /// The canonical form of a type: two types are equivalent exactly if their forms are equal.

@@ -3,7 +3,7 @@
 ghost use Rattle.std.specs.Prelude.{◌≡◌};
 ghost use Rattle.typing_forms.specs.judged.Ranks.{rank_in, float_ranks, integer_ranks, conversion, rank};
 
-use ir_types::ir_kinds::{Scalar, ScalarKind};
+use ir_kinds::{Scalar, ScalarKind};
 
 /// The rank of the conversion from `from` to the other scalar, the lower the better; `None` if there is
 /// no conversion (naga's `conversion_rank`). The rank of a scalar to itself is 0. Otherwise only abstract integers

@@ -1,13 +1,14 @@
 //! Types built from a scalar, and properties of scalar kinds.
 
 ghost use Rattle.std.specs.Prelude.{◌≡◌, ◌≢◌, ◌↔◌, IsTrue};
-ghost use Rattle.ir_types.specs.IrKinds.{Scalar, ScalarKind};
-ghost use Rattle.ir_types.specs.IrKinds.kind as kind;
+ghost use Rattle.ir_kinds.specs.declared.scalars.Scalar.{Scalar};
+ghost use Rattle.ir_kinds.specs.declared.scalars.ScalarKind.{ScalarKind};
+ghost use Rattle.ir_kinds.specs.declared.scalars.ScalarKind.TheVariants as kind;
 ghost use Rattle.ir_types.specs.judged.Plain.{plain, inner_view};
 ghost use Rattle.ir_types.specs.declared.types.TypeInner.TheVariants as inner;
 
+use ir_kinds::{Scalar, ScalarKind, VectorSize};
 use ir_types::TypeInner;
-use ir_types::ir_kinds::{Scalar, ScalarKind, VectorSize};
 
 /// The types that are built from one scalar (methods of naga's `Scalar`).
 pub trait ScalarExt: Sized {

@@ -2,10 +2,10 @@
 
 ghost use Rattle.std.specs.Prelude.{◌≡◌, ◌*◌, ◌≤◌, ◌<◌, ◌^◌};
 ghost use Rattle.ir_types.specs.judged.Plain.{inner_view};
-ghost use Rattle.ir_types.specs.IrKinds.{cooperative_count};
+ghost use Rattle.ir_kinds.specs.judged.Scalars.{cooperative_count};
 ghost use Rattle.typing_forms.specs.judged.Sizes.{column_size, counted, type_size};
 
-use ir_types::ir_kinds::{CooperativeSize, VectorSize};
+use ir_kinds::{CooperativeSize, VectorSize};
 use ir_types::{ArraySize, TypeInner};
 
 /// The greatest size that a type may have, in bytes (naga's `MAX_TYPE_SIZE`).

@@ -1,7 +1,7 @@
 //! Methods of types: what a type consists of, and what operations it allows.
 
 ghost use Rattle.std.specs.Prelude.{◌≡◌, ◌↔◌, IsTrue, IfSome, IfNone, IfOk, None, option_map};
-ghost use Rattle.ir_types.specs.IrKinds.{Scalar};
+ghost use Rattle.ir_kinds.specs.declared.scalars.Scalar.{Scalar};
 ghost use Rattle.ir_types.specs.judged.Plain.{PlainInner, inner_view};
 ghost use Rattle.typing_forms.specs.judged.Forms.{form_in};
 ghost use Rattle.typing_forms.specs.judged.Order.{TypesGoBack};
@@ -22,8 +22,8 @@ use crate::index::{IndexableLength, IndexableLengthError, length_of};
 use crate::laws::form_equality;
 use crate::sizes::{MAX_TYPE_SIZE, type_size};
 use crate::{TypeResolution, form_in, inner_of};
+use ir_kinds::{AddressSpace, Bytes, ImageDimension, Scalar, ScalarKind, VectorSize};
 use ir_sets::unique_arena::UniqueArena;
-use ir_types::ir_kinds::{AddressSpace, Bytes, ImageDimension, Scalar, ScalarKind, VectorSize};
 use ir_types::{ArraySize, IrType, TypeInner, key};
 use std::alloc::{AllocError, Global};
 

@@ -23,7 +23,7 @@ pub(crate) fn literal_type(value: Literal) -> TypeResolution
 }
 
 // The type of a constant: the declared one.
-#[tactic(auto, using(crate::proofs::Lookups::found))]
+#[tactic(auto, using(ir_items::proofs::Lookups::found))]
 pub(crate) fn constant_type(
     constants: &Arena<Constant, key::Constant>,
     constant: Handle<key::Constant>,
@@ -36,7 +36,7 @@ pub(crate) fn constant_type(
 }
 
 // The type of an override: the declared one.
-#[tactic(auto, using(crate::proofs::Lookups::found))]
+#[tactic(auto, using(ir_items::proofs::Lookups::found))]
 pub(crate) fn override_type(
     overrides: &Arena<Override, key::Override>,
     id: Handle<key::Override>,

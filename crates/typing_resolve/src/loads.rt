@@ -55,7 +55,7 @@ fn variable_type(ty: Handle<key::IrType>, space: AddressSpace) -> TypeResolution
 }
 
 // The global variable at a handle.
-#[tactic(auto, using(crate::proofs::Lookups::found))]
+#[tactic(auto, using(ir_items::proofs::Lookups::found))]
 fn global_at(
     globals: &Arena<GlobalVariable, key::GlobalVariable>,
     global: Handle<key::GlobalVariable>,
@@ -80,7 +80,7 @@ pub(crate) fn global_type(
 }
 
 // The type of a local variable: a pointer to the declared type.
-#[tactic(auto, using(crate::proofs::Lookups::found))]
+#[tactic(auto, using(ir_items::proofs::Lookups::found))]
 pub(crate) fn local_type(
     locals: &Arena<LocalVariable, key::LocalVariable>,
     local: Handle<key::LocalVariable>,

@@ -17,7 +17,7 @@ use spec_expressions::TypingFault;
 use typing_forms::TypeResolution;
 
 // The type of a call result: the function's declared one.
-#[tactic(auto, using(crate::proofs::Lookups::found))]
+#[tactic(auto, using(ir_items::proofs::Lookups::found))]
 pub(crate) fn call_result_type(
     functions: &Arena<Function, key::Function>,
     function: Handle<key::Function>,

@@ -1,6 +1,6 @@
 -- The canonical form of a pointer.
 use Rattle.std.specs.Prelude.{◌≡◌, List, Option, Some, None}
-use Rattle.ir_types.specs.IrKinds.{AddressSpace}
+use Rattle.ir_kinds.specs.declared.spaces.AddressSpace.{AddressSpace}
 use Rattle.ir_types.specs.judged.Plain.{PlainInner, plain, PlainType}
 use Rattle.ir_types.specs.declared.types.TypeInner.TheVariants as inner
 use Rattle.typing_forms.specs.judged.Forms.{form_in, IsStruct}

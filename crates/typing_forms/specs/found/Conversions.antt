@@ -1,6 +1,8 @@
 -- Implicit conversions between types.
 use Rattle.std.specs.Prelude.{◌≡◌, ℕ, List, Option, Some, None, Bool, true, false, ◌==◌, ◌&&◌, if◌then◌else◌, IsSome}
-use Rattle.ir_types.specs.IrKinds.{component_count, Scalar, VectorSize}
+use Rattle.ir_kinds.specs.judged.Scalars.{component_count}
+use Rattle.ir_kinds.specs.declared.scalars.Scalar.{Scalar}
+use Rattle.ir_kinds.specs.declared.scalars.VectorSize.{VectorSize}
 use Rattle.ir_types.specs.judged.Plain.{PlainInner, plain, PlainType}
 use Rattle.ir_types.specs.declared.types.ArraySize.{ArraySize}
 use Rattle.ir_types.specs.declared.types.ArraySize.TheVariants as count

@@ -1,7 +1,7 @@
 -- The innermost element types of arrays and the innermost last members of structs.
 use Rattle.std.specs.Prelude.{◌≡◌, ◌⊎◌, ℕ, List, Option, Some, None, Bool, true, false, option_map, slice_get, length, ◌-◌}
-use Rattle.ir_types.specs.IrKinds.{Scalar}
-use Rattle.ir_types.specs.IrKinds.kind as kind
+use Rattle.ir_kinds.specs.declared.scalars.Scalar.{Scalar}
+use Rattle.ir_kinds.specs.declared.scalars.ScalarKind.TheVariants as kind
 use Rattle.ir_types.specs.judged.Plain.{PlainInner, struct, plain, PlainType}
 use Rattle.ir_types.specs.declared.types.ArraySize.TheVariants as count
 use Rattle.ir_types.specs.declared.types.TypeInner.TheVariants as inner

@@ -1,6 +1,6 @@
 -- Lengths of indexable types.
 use Rattle.std.specs.Prelude.{List, Option, Some, None, Result, Ok, Err}
-use Rattle.ir_types.specs.IrKinds.{component_count}
+use Rattle.ir_kinds.specs.judged.Scalars.{component_count}
 use Rattle.ir_types.specs.judged.Plain.{PlainInner, plain, PlainType}
 use Rattle.ir_types.specs.declared.types.ArraySize.{ArraySize}
 use Rattle.ir_types.specs.declared.types.ArraySize.TheVariants as count

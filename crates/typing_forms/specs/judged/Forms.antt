@@ -1,6 +1,6 @@
 -- The canonical form of a type: it ignores names and whether the type is given by handle or by value.
 use Rattle.std.specs.Prelude.{ℕ, List, Option, Some, None}
-use Rattle.ir_types.specs.IrKinds.{AddressSpace}
+use Rattle.ir_kinds.specs.declared.spaces.AddressSpace.{AddressSpace}
 use Rattle.ir_types.specs.judged.Plain.{PlainInner, struct, plain, PlainType}
 use Rattle.ir_types.specs.declared.types.TypeInner.TheVariants as inner
 use Rattle.typing_forms.specs.judged.Resolutions.{inner_at, PlainResolution, by_handle, by_value}

@@ -1,8 +1,14 @@
 -- The parts of a type: its scalar, its components, its pointer base.
 use Rattle.std.specs.Prelude.{ℕ, List, Bool, true, false, Option, Some, None, option_map, slice_get, length}
-use Rattle.ir_types.specs.IrKinds.{component_count, ImageDimension, Scalar, ScalarKind, VectorSize, Bi, Tri, AddressSpace}
-use Rattle.ir_types.specs.IrKinds.dimension as dimension
-use Rattle.ir_types.specs.IrKinds.kind as kind
+use Rattle.ir_kinds.specs.judged.Scalars.{component_count}
+use Rattle.ir_kinds.specs.declared.images.ImageDimension.{ImageDimension}
+use Rattle.ir_kinds.specs.declared.scalars.Scalar.{Scalar}
+use Rattle.ir_kinds.specs.declared.scalars.ScalarKind.{ScalarKind}
+use Rattle.ir_kinds.specs.declared.scalars.VectorSize.{VectorSize}
+use Rattle.ir_kinds.specs.declared.scalars.VectorSize.TheVariants.{Bi, Tri}
+use Rattle.ir_kinds.specs.declared.spaces.AddressSpace.{AddressSpace}
+use Rattle.ir_kinds.specs.declared.images.ImageDimension.TheVariants as dimension
+use Rattle.ir_kinds.specs.declared.scalars.ScalarKind.TheVariants as kind
 use Rattle.ir_types.specs.judged.Plain.{PlainInner, struct, plain, PlainType}
 use Rattle.ir_types.specs.declared.types.ArraySize.TheVariants as count
 use Rattle.ir_types.specs.declared.types.TypeInner.TheVariants as inner

@@ -1,6 +1,7 @@
 -- Conversion ranks of scalars: the lower the rank, the better the conversion.
 use Rattle.std.specs.Prelude.{ℕ, List, [], ◌∷◌, Option, Some, None, if◌then◌else◌}
-use Rattle.ir_types.specs.IrKinds.{Scalar, signed, unsigned, floating, abstract_int, abstract_float, same_scalar}
+use Rattle.ir_kinds.specs.declared.scalars.Scalar.{Scalar}
+use Rattle.ir_kinds.specs.judged.Scalars.{signed, unsigned, floating, abstract_int, abstract_float, same_scalar}
 
 -- the scalars an abstract float converts to, with the ranks
 abbrev pub float_ranks : List (Scalar × ℕ)

@@ -1,7 +1,9 @@
 -- Sizes of types in bytes.
 use Rattle.typing_forms.specs.declared.sizes.TheConstants.{MAX_TYPE_SIZE}
 use Rattle.std.specs.Prelude.{ℕ, ◌+◌, ◌-◌, ◌*◌, ◌/◌, Option, Some, None, if◌then◌else◌, nat_le}
-use Rattle.ir_types.specs.IrKinds.{component_count, cooperative_count, VectorSize, Bi, Tri, Quad}
+use Rattle.ir_kinds.specs.judged.Scalars.{component_count, cooperative_count}
+use Rattle.ir_kinds.specs.declared.scalars.VectorSize.{VectorSize}
+use Rattle.ir_kinds.specs.declared.scalars.VectorSize.TheVariants.{Bi, Tri, Quad}
 use Rattle.ir_types.specs.judged.Plain.{PlainInner, struct, plain}
 use Rattle.ir_types.specs.declared.types.ArraySize.{ArraySize}
 use Rattle.ir_types.specs.declared.types.ArraySize.TheVariants as count

@@ -2,7 +2,7 @@ use Rattle.std.proofs.Common.{arith}
 use Rattle.ir_items.specs.found.GlobalView.{constant_view}
 use Rattle.module_constants.proofs.Reported.{constant_told}
 use Rattle.module_constants.specs.Known.{module_in}
-use Rattle.module_constants.proofs.Lookups.{found}
+use Rattle.ir_items.proofs.Lookups.{found}
 use Rattle.module_constants.proofs.constants.validate_constant.Goals as goal
 
 pub check_constant-requires-clause-ty : goal.check_constant-requires-clause-ty

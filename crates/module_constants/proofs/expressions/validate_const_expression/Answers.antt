@@ -4,7 +4,7 @@ use Rattle.ir_types.specs.judged.ExpressionPlain.{expression_view}
 use Rattle.module_constants.proofs.Reported.{expression_refused, expression_told}
 use Rattle.module_constants.specs.Known.{module_in}
 use Rattle.typing_layout.specs.declared.constness.ExpressionKind.TheVariants.{Runtime}
-use Rattle.module_constants.proofs.Lookups.{found}
+use Rattle.ir_items.proofs.Lookups.{found}
 use Rattle.module_constants.proofs.expressions.validate_const_expression.Goals as goal
 
 pub returns-then-eq : goal.returns-then-eq

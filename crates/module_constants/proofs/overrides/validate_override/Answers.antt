@@ -5,7 +5,7 @@ use Rattle.module_constants.proofs.IdLemmas.{noted_ids, own_is, taken_is, more_i
 use Rattle.module_constants.proofs.Reported.{override_fine, override_wrong}
 use Rattle.module_constants.specs.Known.{module_in}
 use Rattle.module_constants.specs.Refusals.{IsOverrideRefused}
-use Rattle.module_constants.proofs.Lookups.{found}
+use Rattle.ir_items.proofs.Lookups.{found}
 use Rattle.module_constants.proofs.overrides.validate_override.Goals as goal
 
 pub returns-then-not-branch-clause-refused : goal.returns-then-not-branch-clause-refused

@@ -4,7 +4,7 @@ use Rattle.ir_items.specs.found.GlobalView.{values_of}
 use Rattle.spec_expressions.specs.judged.Context.{NamesItem}
 use Rattle.typing_infos.specs.Types.{TypedSoFar}
 use Rattle.typing_errors.specs.Answers.{IsAnswer}
-use Rattle.typing_resolve.proofs.Lookups.{found}
+use Rattle.ir_items.proofs.Lookups.{found}
 use Rattle.typing_infos.proofs.TypeLemmas.{operands_below}
 use Rattle.typing_infos.proofs.constants.process_const_expression.Goals as goal
 
