@@ -15,11 +15,11 @@ MARK = "==== types nested 256 deep --leaves\n"
 
 
 def nested_types(depth):
-    """A storage buffer of a struct of structs, this many in all."""
+    """A storage buffer whose types nest this deep: a number in a struct in a struct .."""
     text = "struct S0 { a: u32 }\n"
-    for at in range(1, depth):
+    for at in range(1, depth - 1):
         text += f"struct S{at} {{ a: S{at - 1} }}\n"
-    return text + f"@group(0) @binding(0) var<storage> buffer: S{depth - 1};\n"
+    return text + f"@group(0) @binding(0) var<storage> buffer: S{depth - 2};\n"
 
 
 def else_ifs(count):
@@ -28,7 +28,7 @@ def else_ifs(count):
 
 
 def nested_ifs(count):
-    """The words of a module with this many ifs, one inside of the other."""
+    """The words of a module with this many ifs, one inside of the other: 38 before the first, and 9 up to the inside of each."""
     words, true, main = [], 4, 5
     labels = [(10 + 2 * at, 11 + 2 * at) for at in range(count)]
 
@@ -65,14 +65,14 @@ def lines_of(words):
 def parts():
     """Each part's line, what stands under it, and the answer."""
     yield "types nested 256 deep --leaves", nested_types(256), "out of memory\n"
-    yield "types nested 255 deep --leaves", nested_types(255), "accepted\nbuffer 0 size 4 alignment 4\nleaf " + ".".join(["a"] * 255) + " 0 4 4\n"
+    yield "types nested 255 deep --leaves", nested_types(255), "accepted\nbuffer 0 size 4 alignment 4\nleaf " + ".".join(["a"] * 254) + " 0 4 4\n"
     long = "struct Table { row: array<array<u32, 4>, 1000000>, last: u32 }\n@group(0) @binding(0) var<storage> table: Table;\n"
     yield "an array of a million rows --leaves", long, ("accepted\nbuffer 0 size 16000004 alignment 4\n"
-                                                       "leaf row[0..1000000][0..4] 0 4 4 stride 16 4\nleaf last 16000000 4 4\n")
+                                                       "leaf row[0..1000000][0..4] 0 4 4 stride 16 stride 4\nleaf last 16000000 4 4\n")
     yield "a chain of 60 else-ifs", else_ifs(60), "accepted\n"
-    yield "a chain of 61 else-ifs", else_ifs(61), "unsupported: blocks nested more than 60 deep at 62:7\n"
+    yield "a chain of 61 else-ifs", else_ifs(61), "unsupported: blocks nested more than 60 deep at 62:12\n"
     yield "ifs nested 60 deep --spirv", lines_of(nested_ifs(60)), "accepted\nentry 0\n"
-    yield "ifs nested 61 deep --spirv", lines_of(nested_ifs(61)), "unsupported: control flow nested more than 60 deep at word 0, 0x0\n"
+    yield "ifs nested 61 deep --spirv", lines_of(nested_ifs(61)), f"unsupported: control flow nested more than 60 deep at word {38 + 61 * 9}, 0x{4 * (38 + 61 * 9):08x}\n"
     for file in sorted(EXAMPLES.glob("*.spv")):
         data = file.read_bytes()
         answer = file.with_suffix(".answer")

@@ -1,4 +1,3 @@
-pub mod TypingLayout
 pub mod Capable
 pub mod ChainLaws
 pub mod DisruptionLaws

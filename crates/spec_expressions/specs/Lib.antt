@@ -1,5 +1,4 @@
 pub mod IrItems
-pub mod TypingLayout
 pub mod TypingRules
 pub mod TypingForms
 pub mod found

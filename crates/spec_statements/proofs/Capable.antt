@@ -18,8 +18,9 @@ use Rattle.spec_statements.specs.found.Laws.{MoreCapabilities, under}
 use Rattle.spec_statements.specs.judged.ExpressionResults.{IsAtomicValue, AreExchangeMembers, IsExchange, AtomicResultTypeOK}
 use Rattle.spec_statements.specs.judged.Shapes.{IsScalarShape}
 use Rattle.spec_statements.specs.declared.shapes.Shaped.{Shaped}
-use Rattle.spec_expressions.proofs.TypingLayout.{more_capabilities as more_types}
-use Rattle.spec_expressions.specs.TypingLayout.{ScalarOK, AtomicOK, type_tree, tree_along}
+use Rattle.typing_layout.proofs.Capable.{more_capabilities as more_types}
+use Rattle.typing_layout.specs.judged.Widths.{ScalarOK, AtomicOK}
+use Rattle.typing_layout.specs.judged.View.{type_tree, tree_along}
 use Rattle.spec_expressions.specs.TypingForms.{Form}
 
 -- a module of one type

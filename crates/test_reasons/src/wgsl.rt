@@ -2,7 +2,7 @@
 
 use crate::modules::print_module;
 use check_explanation::Requested;
-use check_wgsl::{Diagnosed, check_wgsl, explain_wgsl, unread_object, unread_text};
+use check_wgsl::{Cause, Diagnosed, check_wgsl, explain_wgsl, unread_object, unread_text};
 use std::alloc::{AllocError, Global};
 use std::io;
 
@@ -57,6 +57,7 @@ fn listing(alloc: Global, text: &[u8]) -> Result<String, AllocError> {
             drop(found);
             answer
         }
+        Err(error) if matches!(error.cause, Cause::Memory) => Err(AllocError),
         Err(error) => unread_text(alloc, text, &error),
     }
 }

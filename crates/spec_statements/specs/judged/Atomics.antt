@@ -13,7 +13,7 @@ use Rattle.ir_types.specs.judged.Plain.{PlainInner, plain as plain_inner, PlainT
 use Rattle.ir_types.specs.declared.types.TypeInner.TheVariants as inner
 use Rattle.spec_expressions.specs.TypingForms.{form_of_type, inner_at, Form}
 use Rattle.spec_expressions.specs.TypingForms.form as form
-use Rattle.spec_expressions.specs.TypingLayout.{IsStorageSpace}
+use Rattle.typing_layout.specs.judged.Rules.{IsStorageSpace}
 use Rattle.spec_statements.specs.judged.ExpressionResults.{IsExchangeOf}
 use Rattle.spec_statements.specs.judged.Shapes.{pointed_in}
 use Rattle.spec_expressions.specs.judged.Operands.{comparand}

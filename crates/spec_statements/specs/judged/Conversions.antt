@@ -6,7 +6,7 @@ use Rattle.ir_kinds.specs.declared.scalars.ScalarKind.{ScalarKind}
 use Rattle.ir_kinds.specs.declared.scalars.ScalarKind.TheVariants.{Bool}
 use Rattle.spec_expressions.specs.TypingForms.{Form}
 use Rattle.spec_expressions.specs.judged.Conversions.{converted}
-use Rattle.spec_expressions.specs.TypingLayout.{ScalarOK}
+use Rattle.typing_layout.specs.judged.Widths.{ScalarOK}
 use Rattle.spec_statements.specs.judged.Shapes.{shaped_of}
 
 -- the target scalar is valid; a bit cast is neither from bools nor to them

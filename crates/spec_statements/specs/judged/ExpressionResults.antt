@@ -2,7 +2,9 @@
 use Rattle.std.specs.Prelude.{◌≡◌, ℕ, List, [], ◌∷◌, Option, Some, Bool, true, false, IsSomeAnd, codes}
 use Rattle.ir_flags.specs.declared.settings.Capabilities.{Capabilities}
 use Rattle.ir_types.specs.judged.Plain.{PlainInner, PlainMember, struct, PlainType}
-use Rattle.spec_expressions.specs.TypingLayout.{HasFlag, Sized, Constructible, AtomicOK, type_tree}
+use Rattle.typing_layout.specs.judged.Flags.{HasFlag, Sized, Constructible}
+use Rattle.typing_layout.specs.judged.Widths.{AtomicOK}
+use Rattle.typing_layout.specs.judged.View.{type_tree}
 use Rattle.spec_expressions.specs.TypingForms.{form_of_type, inner_at, Form}
 use Rattle.spec_statements.specs.judged.Shapes.{shaped_of, IsScalarShape, IsBool, IsMadeOf}
 

@@ -14,7 +14,8 @@ use Rattle.ir_kinds.specs.declared.scalars.SwizzleComponent.{SwizzleComponent}
 use Rattle.ir_kinds.specs.declared.scalars.SwizzleComponent.TheVariants.{X}
 use Rattle.spec_expressions.specs.TypingForms.{Form}
 use Rattle.spec_expressions.specs.TypingForms.form as form
-use Rattle.spec_expressions.specs.TypingLayout.{IsOfKind, Const}
+use Rattle.typing_layout.specs.judged.Constness.{IsOfKind}
+use Rattle.typing_layout.specs.declared.constness.ExpressionKind.TheVariants.{Const}
 use Rattle.spec_statements.specs.judged.Scene.{form_among}
 use Rattle.spec_statements.specs.judged.Shapes.{IsIntegerScalar, ExactlyIf, coordinate_form, image_type_of, sampler_of}
 use Rattle.spec_statements.specs.declared.shapes.ImageType.{ImageType}

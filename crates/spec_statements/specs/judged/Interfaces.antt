@@ -3,7 +3,10 @@ use Rattle.std.specs.Prelude.{◌≡◌, ◌⊎◌, ℕ, Some, None, Bool, false
 use Rattle.spec_expressions.specs.IrItems.{PlainArgument, PlainLocal, PlainModule, FunctionResult}
 use Rattle.ir_kinds.specs.declared.spaces.AddressSpace.{AddressSpace}
 use Rattle.ir_kinds.specs.declared.spaces.AddressSpace.TheVariants as space
-use Rattle.spec_expressions.specs.TypingLayout.{HasFlag, Argument, Constructible, type_tree, IsOfKind, Const, Override}
+use Rattle.typing_layout.specs.judged.Flags.{HasFlag, Argument, Constructible}
+use Rattle.typing_layout.specs.judged.View.{type_tree}
+use Rattle.typing_layout.specs.judged.Constness.{IsOfKind}
+use Rattle.typing_layout.specs.declared.constness.ExpressionKind.TheVariants.{Const, Override}
 use Rattle.spec_expressions.specs.TypingForms.{form_of_type}
 use Rattle.spec_statements.specs.judged.BlockContext.{BlockContext, form_at}
 use Rattle.spec_statements.specs.judged.Stores.{pointer_space}

@@ -1,7 +1,8 @@
 -- Types of zero values. The rule of literals is in `spec_expressions`.
 use Rattle.std.specs.Prelude.{ℕ, List}
 use Rattle.ir_types.specs.judged.Plain.{PlainType}
-use Rattle.spec_expressions.specs.TypingLayout.{HasFlag, Constructible, type_tree}
+use Rattle.typing_layout.specs.judged.Flags.{HasFlag, Constructible}
+use Rattle.typing_layout.specs.judged.View.{type_tree}
 
 -- values of the type can be constructed
 abbrev pub ZeroOK : List PlainType → (type : ℕ) → Type 0

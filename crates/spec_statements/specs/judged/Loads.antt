@@ -3,7 +3,8 @@ use Rattle.std.specs.Prelude.{List, Option, Some}
 use Rattle.ir_types.specs.judged.Plain.{PlainInner, plain, PlainType}
 use Rattle.ir_types.specs.declared.types.ArraySize.TheVariants as count
 use Rattle.ir_types.specs.declared.types.TypeInner.TheVariants as inner
-use Rattle.spec_expressions.specs.TypingLayout.{HasFlag, Data, Sized, type_tree}
+use Rattle.typing_layout.specs.judged.Flags.{HasFlag, Data, Sized}
+use Rattle.typing_layout.specs.judged.View.{type_tree}
 use Rattle.spec_expressions.specs.TypingForms.{Form}
 use Rattle.spec_expressions.specs.TypingForms.form as form
 use Rattle.spec_statements.specs.judged.Shapes.{pointed_in}

@@ -17,7 +17,8 @@ use Rattle.ir_kinds.specs.declared.subgroups.SubgroupOperation.{SubgroupOperatio
 use Rattle.ir_kinds.specs.declared.subgroups.SubgroupOperation.TheVariants as op
 use Rattle.spec_expressions.specs.TypingForms.{form_of_type}
 use Rattle.spec_expressions.specs.TypingForms.form as form
-use Rattle.spec_expressions.specs.TypingLayout.{IsOfKind, Const}
+use Rattle.typing_layout.specs.judged.Constness.{IsOfKind}
+use Rattle.typing_layout.specs.declared.constness.ExpressionKind.TheVariants.{Const}
 use Rattle.spec_statements.specs.judged.Shapes.{IsScalarShape, IsInteger, IsScalarOrVector, IsBool, IsMadeOf, shaped_of}
 use Rattle.spec_statements.specs.declared.shapes.Shape.{Shape}
 use Rattle.spec_expressions.specs.judged.Operands.{gather_index, gather_row}
