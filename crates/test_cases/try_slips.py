@@ -70,6 +70,13 @@ SLIPS = [
     (SUM, "a size of the workgroup that is left to the host", [13, 0, 3, 0], 0),
     (LIT, "two variables at one binding", [11, 2, 2, 1], 0),
     (SUM, "a fragment's discard in a compute shader", [13, 0, 6, 5, 4], ["Kill"]),
+    (SUM, "a value before it is emitted", [13, 0, 6, 5, 1, 2], 33),
+    (LIT, "a component of a vector that is not there", [13, 1, 6, 4, 8, 2], 4),
+    (SUM, "an index that is a float", [13, 0, 6, 4, 34, 2], 10),
+    (LIT, "coordinates of three numbers for an image of two dimensions", [13, 1, 6, 4, 7, 4], 10),
+    (LIT, "a result that is not returned", [13, 1, 6, 5, 3, 1], None),
+    (LIT, "a varying without a location", [5, 7, 1, 1, 2, 2], None),
+    (SUM, "an argument of a compute shader that is no built-in value", [13, 0, 6, 1, 0, 2], None),
 ]
 
 
