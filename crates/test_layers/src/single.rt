@@ -3,7 +3,7 @@
 use crate::judged::{freeing, is_accepted, is_number_type};
 use function_validator::laws::{entries_are_ready, made_for_accepted};
 use function_validator::{
-    BlockContext, ExpressionError, Lower, RealLower, Validator, descriptors_of, next_answers,
+    BlockContext, ExpressionError, Lower, RealLower, Validator, next_answers,
 };
 use module_validator::laws::{
     expressions_are_known, order_gives_conditions, order_gives_origins, types_are_known,
@@ -183,11 +183,6 @@ pub fn computes(
                 Ok(found) if expression.index() < found.expressions.len() => {
                     let kinds = ExpressionKindTracker::from_arena(alloc, &found.expressions)?;
                     let answers = next_answers(alloc, found)?;
-                    let descriptors = descriptors_of(
-                        alloc,
-                        &module.types,
-                        module.special_types.ray_desc,
-                    )?;
                     let context = BlockContext {
                         capabilities: settings.capabilities,
                         operations: settings.subgroup_operations,
@@ -196,7 +191,7 @@ pub fn computes(
                         forms: &[],
                         kinds: &kinds,
                         answers: &answers,
-                        descriptors: &descriptors,
+                        descriptors: &[],
                         roots: &[],
                     };
                     Ok(is_computed(&lower.check_expression(&context, expression, &[])))
