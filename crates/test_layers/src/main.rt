@@ -20,7 +20,7 @@ use shader_ir::{
     AddressSpace, Capabilities, Handle, Module, ShaderStages, StorageAccess, SubgroupOperationSet,
     ValidationFlags,
 };
-use single::{accepts_entry, accepts_type, accepts_value, analysed, computes, is_global_number};
+use single::{Firsts, firsts_of};
 use std::alloc::{AllocError, Global};
 
 // The results of the layers for a module.
@@ -34,12 +34,6 @@ struct Said {
     functions: bool,
     first_function: bool,
     variable: bool,
-    entry: bool,
-    ty: bool,
-    value: (bool, bool),
-    analysed: Option<usize>,
-    computes: bool,
-    global_number: bool,
     begins_with_number: bool,
     is_mesh_output: bool,
     leaf: Option<(u64, u64, u64)>,
@@ -56,14 +50,19 @@ fn first_of(leaves: Option<Vec<Leaf>>) -> Option<(u64, u64, u64)> {
     freeing(first, leaves)
 }
 
-// The results of all of them for a module with a variable in an address space.
-fn ask(alloc: Global, module: &mut Module, space: AddressSpace) -> Result<Said, AllocError> {
-    let settings = Settings {
+// The default flags, without capabilities and subgroup operations.
+fn default_settings() -> Settings {
+    Settings {
         flags: ValidationFlags::default(),
         capabilities: Capabilities(0),
         subgroup_stages: ShaderStages(0),
         subgroup_operations: SubgroupOperationSet(0),
-    };
+    }
+}
+
+// The results of all of them for a module with a variable in an address space.
+fn ask(alloc: Global, module: &mut Module, space: AddressSpace) -> Result<Said, AllocError> {
+    let settings = default_settings();
     let variable = build(alloc, module, space)?;
     Ok(Said {
         in_order: is_in_order(module),
@@ -74,12 +73,6 @@ fn ask(alloc: Global, module: &mut Module, space: AddressSpace) -> Result<Said, 
         functions: accepts_functions(alloc, settings, module)?,
         first_function: accepts_function(alloc, settings, module, Handle::at(0))?,
         variable: accepts_variable(alloc, settings, module, variable)?,
-        entry: accepts_entry(alloc, settings, module, 0)?,
-        ty: accepts_type(alloc, settings, module, Handle::at(0))?,
-        value: accepts_value(alloc, settings, module, Handle::at(0))?,
-        analysed: analysed(alloc, settings, module, Handle::at(0))?,
-        computes: computes(alloc, settings, module, Handle::at(0), Handle::at(0))?,
-        global_number: is_global_number(alloc, settings, module, Handle::at(0))?,
         begins_with_number: begins_with_number(alloc, module),
         is_mesh_output: is_mesh_output(alloc, module, variable),
         leaf: first_of(leaves_of(alloc, settings, module, variable)?),
@@ -91,6 +84,7 @@ fn print(rt: &HostRuntime, space: AddressSpace) -> Result<()> {
     let alloc = rt.alloc();
     let mut module = Module::new(alloc);
     let said = ask(alloc, &mut module, space);
+    let firsts = firsts_of(alloc, default_settings(), &module);
     drop(module);
     let said = said?;
     println!(rt;
@@ -104,17 +98,9 @@ fn print(rt: &HostRuntime, space: AddressSpace) -> Result<()> {
         said.functions, said.begins_with_number, said.is_mesh_output
     )?;
     println!(rt;
-        "the first function {}, the variable {}, the entry point {}, the first type {}",
-        said.first_function, said.variable, said.entry, said.ty
+        "the first function {}, the variable {}",
+        said.first_function, said.variable
     )?;
-    let (is_constant, is_expression) = said.value;
-    println!(rt;
-        "the first value {is_constant} and {is_expression}, a number {}, computed {}",
-        said.global_number, said.computes
-    )?;
-    if let Some(count) = said.analysed {
-        println!(rt; "expressions of the first function {count}")?;
-    }
     if let Some((offset, length, alignment)) = said.leaf {
         println!(rt; "leaf at {offset}, length {length}, alignment {alignment}")?;
     }
@@ -126,6 +112,23 @@ fn print(rt: &HostRuntime, space: AddressSpace) -> Result<()> {
         if let Some(count) = kept.of_entry {
             println!(rt; "expressions of the first entry point {count}")?;
         }
+    }
+    print_firsts(rt, firsts?)
+}
+
+// Prints the results for the first items of the module.
+fn print_firsts(rt: &HostRuntime, firsts: Firsts) -> Result<()> {
+    println!(rt;
+        "the first entry point {}, the first type {}, computed {}",
+        firsts.entry, firsts.ty, firsts.computes
+    )?;
+    let (is_constant, is_expression) = firsts.value;
+    println!(rt;
+        "the first value {is_constant} and {is_expression}, a number {}",
+        firsts.number
+    )?;
+    if let Some(count) = firsts.analysed {
+        println!(rt; "expressions of the first function {count}")?;
     }
     Ok(())
 }

@@ -16,8 +16,43 @@ use shader_ir::{Handle, Module, Refusal, key};
 use shader_typing::{ExpressionKindTracker, Layouter, ShaderStages};
 use std::alloc::{AllocError, Global};
 
-/// Whether a type of the module is valid, given the layouts and the `TypeInfo`s of all. The error is out of memory.
-pub fn accepts_type(
+/// The results for the first items of a module.
+#[derive(Clone, Copy)]
+pub struct Firsts {
+    /// Whether its first entry point is valid.
+    pub entry: bool,
+    /// Whether its first type is.
+    pub ty: bool,
+    /// Whether its first global expression is valid as one, and as an expression.
+    pub value: (bool, bool),
+    /// Whether the type of that is `u32`.
+    pub number: bool,
+    /// The number of expressions of its first function, if the analysis accepts it.
+    pub analysed: Option<usize>,
+    /// Whether a compute shader may run the first of them.
+    pub computes: bool,
+}
+
+/// The results for the first items of the module. The error is out of memory.
+pub fn firsts_of(alloc: Global, settings: Settings, module: &Module) -> Result<Firsts, AllocError> {
+    let entry = accepts_entry(alloc, settings, module, 0)?;
+    let ty = accepts_type(alloc, settings, module, Handle::at(0))?;
+    let value = accepts_value(alloc, settings, module, Handle::at(0))?;
+    let number = is_global_number(alloc, settings, module, Handle::at(0))?;
+    let analysed = analysed(alloc, settings, module, Handle::at(0))?;
+    let computes = computes(alloc, settings, module, Handle::at(0), Handle::at(0))?;
+    Ok(Firsts {
+        entry,
+        ty,
+        value,
+        number,
+        analysed,
+        computes,
+    })
+}
+
+// Whether a type of the module is valid, given the layouts and the `TypeInfo`s of all. The error is out of memory.
+fn accepts_type(
     alloc: Global,
     settings: Settings,
     module: &Module,
@@ -50,8 +85,8 @@ pub fn accepts_type(
     }
 }
 
-/// Whether a global expression of the module is valid as one, and as an expression. The error is out of memory.
-pub fn accepts_value(
+// Whether a global expression of the module is valid as one, and as an expression. The error is out of memory.
+fn accepts_value(
     alloc: Global,
     settings: Settings,
     module: &Module,
@@ -136,9 +171,9 @@ fn is_computed(answer: &Result<ShaderStages, ExpressionError>) -> bool {
     }
 }
 
-/// The number of expressions of a function of the module, as one that calls no other, from its analysis over the layer made of
-/// the `ModuleInfo` of the module; if the module is valid up to its overrides, and so is the analysis. The error is out of memory.
-pub fn analysed(
+// The number of expressions of a function of the module, as one that calls no other, from its analysis over the layer made of
+// the `ModuleInfo` of the module; if the module is valid up to its overrides, and so is the analysis. The error is out of memory.
+fn analysed(
     alloc: Global,
     settings: Settings,
     module: &Module,
@@ -164,9 +199,9 @@ pub fn analysed(
     }
 }
 
-/// Whether a compute shader may run an expression of a function of the module, over the layer made of its `ModuleInfo`. The
-/// error is out of memory.
-pub fn computes(
+// Whether a compute shader may run an expression of a function of the module, over the layer made of its `ModuleInfo`. The
+// error is out of memory.
+fn computes(
     alloc: Global,
     settings: Settings,
     module: &Module,
@@ -205,9 +240,9 @@ pub fn computes(
     }
 }
 
-/// Whether the type of a global expression of the module is `u32`, by the layer made of its `ModuleInfo`. The error is out of
-/// memory.
-pub fn is_global_number(
+// Whether the type of a global expression of the module is `u32`, by the layer made of its `ModuleInfo`. The error is out of
+// memory.
+fn is_global_number(
     alloc: Global,
     settings: Settings,
     module: &Module,
