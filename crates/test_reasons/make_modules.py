@@ -73,6 +73,11 @@ def parts():
     yield "a chain of 61 else-ifs", else_ifs(61), "unsupported: blocks nested more than 60 deep at 62:12\n"
     yield "ifs nested 60 deep --spirv", lines_of(nested_ifs(60)), "accepted\nentry 0\n"
     yield "ifs nested 61 deep --spirv", lines_of(nested_ifs(61)), f"unsupported: control flow nested more than 60 deep at word {38 + 61 * 9}, 0x{4 * (38 + 61 * 9):08x}\n"
+    scene = EXAMPLES / "laid_out_scene.spvasm.spv"
+    words = struct.unpack(f"<{scene.stat().st_size // 4}I", scene.read_bytes())
+    # by the decorations of the module
+    yield "laid_out_scene.spvasm --spirv --leaves", lines_of(words), ("accepted\nbuffer 0 size 96 alignment 16\nleaf view 0 64 16\n"
+                                                                     "leaf weights[0..4] 64 4 4 stride 4\nleaf sum 80 4 4\n")
     for file in sorted(EXAMPLES.glob("*.spv")):
         data = file.read_bytes()
         answer = file.with_suffix(".answer")
